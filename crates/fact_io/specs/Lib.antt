@@ -1,0 +1,5 @@
+pub mod Faults
+pub mod InputError
+pub mod Memory
+pub mod Streams
+pub mod Transfers

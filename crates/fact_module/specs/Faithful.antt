@@ -1,0 +1,90 @@
+-- What a fused module promises.
+use Rattle.std.specs.Prelude.{◌≡◌, ℕ, Bool, true, false, ◌||◌, ◌&&◌, not, nat_eq, List, [], ◌∷◌, ◌++◌, Option, Some, None, slice_get, codes, if◌then◌else◌}
+use Rattle.std.specs.List.{flat_map, AllZip}
+use Rattle.fact_wasm.specs.declared.types.FuncType.{FuncType}
+use Rattle.fact_wasm.specs.declared.instr.FuncName.{FuncName}
+use Rattle.fact_wasm.specs.declared.instr.FuncName.TheVariants as func
+use Rattle.fact_wasm.specs.declared.module.WasmFunc.{WasmFunc}
+use Rattle.fact_wasm.specs.declared.module.WasmImport.{WasmImport}
+use Rattle.fact_wasm.specs.declared.module.WasmExport.{WasmExport}
+use Rattle.fact_wasm.specs.declared.module.WasmModule.{WasmModule}
+use Rattle.fact_wasm.specs.Ranges.{InRange}
+use Rattle.fact_wasm.specs.Spelling.{Spells, is_function}
+use Rattle.fact_plan.specs.declared.plain.CoreDef.{CoreDef}
+use Rattle.fact_plan.specs.declared.plan.FusePlan.{FusePlan}
+use Rattle.fact_module.specs.declared.plain.Import.{Import}
+use Rattle.fact_module.specs.declared.plain.Import.TheVariants as known
+use Rattle.fact_module.specs.declared.fusion.Fused.{Fused}
+use Rattle.fact_module.specs.Adapters.{Adapter, adapters_of}
+use Rattle.fact_module.specs.Imports.{NamesImports}
+
+-- ---- exports
+
+-- an adapter is async where a side is or either function type is marked so, and crossing where its instances differ
+abbrev pub is_async : Adapter → Bool
+is_async a = a.lift.async_side || a.lower.async_side || a.lift.async_type || a.lower.async_type
+
+abbrev pub is_crossing : Adapter → Bool
+is_crossing a = not (nat_eq a.lift.instance a.lower.instance)
+
+-- what an export is: an adapter's function of this type, a part of an async adapter, or the callee of one
+pub data Exported : Type 0 where
+  Whole : (name : List ℕ) → (ty : FuncType) → Exported
+  Part : (name : List ℕ) → Exported
+  Callee : (name : List ℕ) → (def : CoreDef) → Exported
+
+-- the functions of an adapter that are exported, and the callee of an async one between two instances
+abbrev pub functions_of : Adapter → List Exported
+functions_of a =
+    if is_async a && is_crossing a
+    then Part (codes "[async-start]" ++ a.name) ∷ Part (codes "[async-return]" ++ a.name) ∷ Whole a.name a.lower.core_type ∷ []
+    else Whole a.name a.lower.core_type ∷ []
+
+abbrev pub callee_of : Adapter → List Exported
+callee_of a = if is_async a && is_crossing a then Callee (codes "[adapter-callee]" ++ a.name) a.callee ∷ [] else []
+
+abbrev pub exported : List Adapter → List Exported
+exported adapters = flat_map functions_of adapters ++ flat_map callee_of adapters
+
+abbrev pub type_of : WasmModule → Option WasmFunc → Option FuncType
+type_of m None = None
+type_of m (Some f) = slice_get m.types f.ty
+
+-- the type of a function that the module defines; none of another
+abbrev pub defined_type : WasmModule → FuncName → Option FuncType
+defined_type m (func.Defined k) = type_of m (slice_get m.funcs k)
+defined_type m (func.Import k) = None
+
+abbrev pub IsDefined : WasmModule → FuncName → Type 0
+IsDefined m f = (ty : FuncType) × (defined_type m f ≡ Some ty)
+
+-- the imported functions among the imports
+abbrev pub imported_functions : List WasmImport → List Import → List Import
+imported_functions (w ∷ ws) (i ∷ is) = if is_function w then i ∷ imported_functions ws is else imported_functions ws is
+imported_functions _ _ = []
+
+abbrev pub imported_function : WasmModule → List Import → FuncName → Option Import
+imported_function m is (func.Import k) = slice_get (imported_functions m.imports is) k
+imported_function m is (func.Defined k) = None
+
+abbrev pub IsExport : WasmModule → List Import → WasmExport → Exported → Type 0
+IsExport m is e (Whole name ty) = (e.name ≡ name) × (defined_type m e.func ≡ Some ty)
+IsExport m is e (Part name) = (e.name ≡ name) × IsDefined m e.func
+IsExport m is e (Callee name d) = (e.name ≡ name) × (imported_function m is e.func ≡ Some (known.CoreDef d))
+
+-- ---- the promise
+
+-- The import section names the imports, and the exports are exactly the adapters' names.
+pub record Faithful (m : WasmModule) (is : List Import) (adapters : List Adapter) : Type 0 where
+  pub imports : NamesImports m is adapters
+  pub exports : AllZip (IsExport m is) m.exports (exported adapters)
+
+-- all that a fused module promises, whose import section names the imports
+pub record Promised (m : WasmModule) (is : List Import) (p : FusePlan) : Type 0 where
+  pub faithful : Faithful m is (adapters_of p)
+
+-- a module in range, its bytes and its imports, with all that it promises
+pub record IsFused (f : Fused) (p : FusePlan) : Type 0 where
+  pub in_range : InRange f.module
+  pub spelled : Spells f.bytes f.module
+  pub promised : Promised f.module f.imports p

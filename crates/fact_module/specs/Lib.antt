@@ -1,0 +1,4 @@
+pub mod Adapters
+pub mod Faithful
+pub mod Imports
+pub mod Body

@@ -1,0 +1,17 @@
+//! Fused adapter modules: from a plan of adapters to one core module that joins, for each adapter, the function that one
+//! component lifts to the function that another lowers (Component Model, canonical ABI, `canon lift`, `canon lower`).
+#![tactic(auto)]
+
+mod emit;
+mod error;
+mod fusion;
+mod plain;
+
+pub use error::{FuseError, Place};
+pub use fact_plan::{
+    CoreDef, FusePlan, PlanAdapter, PlanFunc, PlanMemory, PlanRef, PlanSide, PlanTunables,
+    PlanType, PrimitiveValType, RuntimeComponentInstanceIndex, RuntimeInstanceIndex,
+    StringEncoding, TrampolineIndex,
+};
+pub use fusion::{Fused, fuse};
+pub use plain::{FixedEncoding, Import, Transcode, Trap, UnsafeIntrinsic};

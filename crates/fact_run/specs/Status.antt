@@ -1,0 +1,20 @@
+-- The numbers and the lines of the ends of a run.
+use Rattle.std.specs.Prelude.{ℕ, List, [], codes}
+use Rattle.fact_run.specs.declared.status.Status.{Status}
+use Rattle.fact_run.specs.declared.status.Status.TheVariants as status
+
+abbrev pub number_of : Status → ℕ
+number_of status.Done = 0
+number_of status.Usage = 2
+number_of status.ReadFault = 3
+number_of status.WriteFault = 4
+number_of status.OutOfMemory = 9
+number_of status.NotBuilt = 10
+
+abbrev pub line_of : Status → List ℕ
+line_of status.Done = []
+line_of status.Usage = codes "usage: factc\n"
+line_of status.ReadFault = codes "read fault\n"
+line_of status.WriteFault = codes "write fault\n"
+line_of status.OutOfMemory = codes "out of memory\n"
+line_of status.NotBuilt = codes "not built\n"

@@ -1,0 +1,15 @@
+//! The program's top call: a plan in JSON from a source, the adapter module in hex to a sink.
+#![tactic(auto)]
+
+mod answer;
+mod page;
+mod status;
+mod top;
+
+pub use fact_io::{
+    BytesSink, BytesSource, ReadFailed, Sink, Source, StderrSink, StdinSource, StdoutSink,
+    WriteFailed,
+};
+pub use fact_plan::{PlanFault, plan_of};
+pub use status::Status;
+pub use top::run;

@@ -1,0 +1,51 @@
+//! How a run ends.
+
+ghost use Rattle.std.specs.Prelude.{◌≡◌};
+ghost use Rattle.fact_run.specs.Status.{line_of, number_of};
+
+/// How a run ended.
+#[derive(Clone, Copy, Debug, Drop, PartialEq, Eq)]
+pub enum Status {
+    /// The module was printed.
+    Done,
+    /// The words are no command.
+    Usage,
+    /// The source failed.
+    ReadFault,
+    /// The sink failed.
+    WriteFault,
+    /// There was no memory.
+    OutOfMemory,
+    /// The input is no plan of a form that is built so far.
+    NotBuilt,
+}
+
+impl Status {
+    /// The exit status of the program.
+    pub fn number(self) -> u8
+        ensures { result ≡ number_of self }
+    {
+        match self {
+            Status::Done => 0,
+            Status::Usage => 2,
+            Status::ReadFault => 3,
+            Status::WriteFault => 4,
+            Status::OutOfMemory => 9,
+            Status::NotBuilt => 10,
+        }
+    }
+
+    /// The line that tells it, with its newline; nothing for [`Status::Done`].
+    pub fn line(self) -> &'static str
+        ensures { result.now ≡ line_of self }
+    {
+        match self {
+            Status::Done => "",
+            Status::Usage => "usage: factc\n",
+            Status::ReadFault => "read fault\n",
+            Status::WriteFault => "write fault\n",
+            Status::OutOfMemory => "out of memory\n",
+            Status::NotBuilt => "not built\n",
+        }
+    }
+}

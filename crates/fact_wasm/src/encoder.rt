@@ -1,0 +1,262 @@
+//! The bytes of modules (core specification, "Binary format", "Modules").
+
+ghost use Rattle.std.specs.Prelude.{◌≡◌, ℕ, ◌<◌, ◌^◌, ◌++◌, ◌∷◌, [], OnOk, IfOk, length, count_by};
+ghost use Rattle.std.specs.List.{AllByRecursion};
+ghost use Rattle.fact_wasm.specs.Numbers.{unsigned};
+ghost use Rattle.fact_wasm.specs.Grammar.{list, val_type};
+ghost use Rattle.fact_wasm.specs.Ranges.{InRange};
+ghost use Rattle.fact_wasm.specs.Spelling.{value_types, func_type, name, import_type, import_item, is_function, imported_functions, locals_run, func_body, sized, section, export_item, type_section, import_section, function_section, export_section, code_section, Spells, IsImport, IsImportType, IsExport, IsRun, IsBody, IsTyped};
+
+use crate::OutOfMemory;
+use crate::code::{push_body, push_function, value_type_byte};
+use crate::list::{Item, push_list};
+use crate::module::{ImportType, WasmExport, WasmFunc, WasmImport, WasmModule};
+use crate::number::push_unsigned;
+use crate::range::count_functions;
+use crate::text::Text;
+use crate::types::{FuncType, ValType};
+use std::alloc::{AllocError, Global};
+
+/// Value types of a list.
+struct ValueTypes;
+
+impl Item<ValType> for ValueTypes {
+    ghost code = { λ n t. val_type t ∷ [] };
+
+    ghost fits = { λ n t. Unit {0} };
+
+    fn push(
+        _alloc: Global,
+        out: &mut Vec<u8>,
+        _imports: u32,
+        ty: &ValType,
+    ) -> Result<(), OutOfMemory> {
+        out.push(value_type_byte(*ty))?;
+        Ok(())
+    }
+}
+
+/// Items of the type section.
+struct Types;
+
+impl Item<FuncType> for Types {
+    ghost code = { λ n t. func_type t };
+
+    ghost fits = { λ n t. Unit {0} };
+
+    fn push(
+        alloc: Global,
+        out: &mut Vec<u8>,
+        imports: u32,
+        ty: &FuncType,
+    ) -> Result<(), OutOfMemory> {
+        out.push(0x60)?;
+        push_list::<ValueTypes, ValType>(alloc, out, imports, ty.params.as_slice())?;
+        push_list::<ValueTypes, ValType>(alloc, out, imports, ty.results.as_slice())?;
+        Ok(())
+    }
+}
+
+fn push_name(out: &mut Vec<u8>, text: &Text) -> Result<(), OutOfMemory>
+    ensures { OnOk result (out.new.items ≡ out.old.items ++ name text.now) }
+{
+    let bytes = text.as_str().as_bytes();
+    push_unsigned(out, bytes.len() as u64)?;
+    out.extend_from_slice(bytes)?;
+    Ok(())
+}
+
+fn push_import_type(out: &mut Vec<u8>, ty: &ImportType) -> Result<(), OutOfMemory>
+    ensures { OnOk result (IsImportType ty.now × (out.new.items ≡ out.old.items ++ import_type ty.now)) }
+{
+    match ty {
+        ImportType::Func(index) => {
+            out.push(0x00)?;
+            push_unsigned(out, *index as u64)?;
+            Ok(())
+        }
+        ImportType::Memory {
+            minimum,
+            memory64,
+            page_size_log2: None,
+        } => {
+            out.push(0x02)?;
+            out.push(if *memory64 { 4 } else { 0 })?;
+            push_unsigned(out, *minimum)?;
+            Ok(())
+        }
+        ImportType::Memory {
+            minimum,
+            memory64,
+            page_size_log2: Some(log2),
+        } => {
+            out.push(0x02)?;
+            out.push(if *memory64 { 12 } else { 8 })?;
+            push_unsigned(out, *minimum)?;
+            push_unsigned(out, *log2 as u64)?;
+            Ok(())
+        }
+        ImportType::Global { ty, mutable } => {
+            out.push(0x03)?;
+            out.push(value_type_byte(*ty))?;
+            out.push(if *mutable { 1 } else { 0 })?;
+            Ok(())
+        }
+    }
+}
+
+/// Items of the import section.
+struct Imports;
+
+impl Item<WasmImport> for Imports {
+    ghost code = { λ n i. import_item i };
+
+    ghost fits = { λ n i. IsImport i };
+
+    fn push(
+        _alloc: Global,
+        out: &mut Vec<u8>,
+        _imports: u32,
+        import: &WasmImport,
+    ) -> Result<(), OutOfMemory> {
+        push_name(out, &import.module)?;
+        push_name(out, &import.name)?;
+        push_import_type(out, &import.ty)?;
+        Ok(())
+    }
+}
+
+/// Items of the function section.
+struct Functions;
+
+impl Item<WasmFunc> for Functions {
+    ghost code = { λ n f. unsigned f.ty };
+
+    ghost fits = { λ n f. IsTyped f };
+
+    fn push(
+        _alloc: Global,
+        out: &mut Vec<u8>,
+        _imports: u32,
+        func: &WasmFunc,
+    ) -> Result<(), OutOfMemory> {
+        push_unsigned(out, func.ty as u64)?;
+        Ok(())
+    }
+}
+
+/// Items of the export section.
+struct Exports;
+
+impl Item<WasmExport> for Exports {
+    ghost code = { export_item };
+
+    ghost fits = { IsExport };
+
+    fn push(
+        _alloc: Global,
+        out: &mut Vec<u8>,
+        imports: u32,
+        export: &WasmExport,
+    ) -> Result<(), OutOfMemory> {
+        push_name(out, &export.name)?;
+        out.push(0x00)?;
+        push_function(out, imports, export.func)?;
+        Ok(())
+    }
+}
+
+/// Runs of locals of one type.
+struct Locals;
+
+impl Item<(u32, ValType)> for Locals {
+    ghost code = { λ n r. locals_run r };
+
+    ghost fits = { λ n r. IsRun r };
+
+    fn push(
+        _alloc: Global,
+        out: &mut Vec<u8>,
+        _imports: u32,
+        run: &(u32, ValType),
+    ) -> Result<(), OutOfMemory> {
+        push_unsigned(out, run.0 as u64)?;
+        out.push(value_type_byte(run.1))?;
+        Ok(())
+    }
+}
+
+/// Writes bytes behind their number.
+fn push_sized(out: &mut Vec<u8>, content: &[u8]) -> Result<(), OutOfMemory>
+    ensures { OnOk result (out.new.items ≡ out.old.items ++ sized content.now) }
+{
+    push_unsigned(out, content.len() as u64)?;
+    out.extend_from_slice(content)?;
+    Ok(())
+}
+
+fn body_bytes(alloc: Global, imports: u32, func: &WasmFunc) -> Result<Vec<u8>, OutOfMemory>
+    ensures { IfOk result (λ v. IsBody imports func.now × (v.items ≡ func_body imports func.now)) }
+{
+    let mut content = Vec::new(alloc);
+    push_list::<Locals, (u32, ValType)>(alloc, &mut content, imports, func.locals.as_slice())?;
+    push_body(&mut content, imports, func.body.as_slice())?;
+    content.push(0x0B)?;
+    Ok(content)
+}
+
+/// Items of the code section.
+struct Bodies;
+
+impl Item<WasmFunc> for Bodies {
+    ghost code = { λ n f. sized (func_body n f) };
+
+    ghost fits = { IsBody };
+
+    fn push(
+        alloc: Global,
+        out: &mut Vec<u8>,
+        imports: u32,
+        func: &WasmFunc,
+    ) -> Result<(), OutOfMemory> {
+        let content = body_bytes(alloc, imports, func)?;
+        push_sized(out, content.as_slice())?;
+        Ok(())
+    }
+}
+
+/// Writes a section, a list. Its content of 2^32 bytes or more is a want of memory.
+fn push_section<I: Item<T>, T>(
+    alloc: Global,
+    out: &mut Vec<u8>,
+    id: u8,
+    imports: u32,
+    items: &[T],
+) -> Result<(), OutOfMemory>
+    ensures { OnOk result ((length (list (I.code imports) items.now) < 2 ^ 32) × AllByRecursion (I.fits imports) items.now × (out.new.items ≡ out.old.items ++ section id (list (I.code imports) items.now))) }
+{
+    let mut content = Vec::new(alloc);
+    push_list::<I, T>(alloc, &mut content, imports, items)?;
+    if content.len() > u32::MAX as usize {
+        return Err(AllocError);
+    }
+    out.push(id)?;
+    push_sized(out, content.as_slice())?;
+    Ok(())
+}
+
+/// The bytes that spell the module, by the binary format. A length or an index that the format cannot hold, from 2^32 on, is
+/// a want of memory.
+pub fn encode(alloc: Global, module: &WasmModule) -> Result<Vec<u8>, OutOfMemory>
+    requires { InRange «module».now }
+    ensures { IfOk result (λ bytes. Spells bytes.items «module».now) }
+{
+    let imports = count_functions(module.imports.as_slice()) as u32;
+    let mut out = Vec::from_slice(alloc, &[0x00, 0x61, 0x73, 0x6D, 0x01, 0x00, 0x00, 0x00])?;
+    push_section::<Types, FuncType>(alloc, &mut out, 0x01, imports, module.types.as_slice())?;
+    push_section::<Imports, WasmImport>(alloc, &mut out, 0x02, imports, module.imports.as_slice())?;
+    push_section::<Functions, WasmFunc>(alloc, &mut out, 0x03, imports, module.funcs.as_slice())?;
+    push_section::<Exports, WasmExport>(alloc, &mut out, 0x07, imports, module.exports.as_slice())?;
+    push_section::<Bodies, WasmFunc>(alloc, &mut out, 0x0A, imports, module.funcs.as_slice())?;
+    Ok(out)
+}

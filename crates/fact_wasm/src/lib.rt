@@ -1,0 +1,27 @@
+//! WebAssembly core modules as values, and the bytes that spell them.
+//!
+//! The types are those of the core specification ("Structure"), restricted to what adapter modules use, with
+//! multi-memory, memory64, custom page sizes and exception handling. [`encode`] gives the bytes of a module by the
+//! binary format ("Binary Format"). [`Seq`] and [`Text`] are the lists and texts that all types here are made of.
+#![tactic(auto)]
+
+mod code;
+mod encoder;
+mod instr;
+mod list;
+mod module;
+mod number;
+mod range;
+mod seq;
+mod text;
+mod types;
+
+pub use encoder::encode;
+pub use instr::{BlockType, FuncName, Instr, MemArg};
+pub use module::{ImportType, WasmExport, WasmFunc, WasmImport, WasmModule};
+pub use seq::Seq;
+pub use text::Text;
+pub use types::{FuncType, ValType};
+
+/// Want of memory, the one free answer of each call that allocates.
+pub type OutOfMemory = std::alloc::AllocError;
