@@ -1,4 +1,4 @@
--- What a transfer takes from a source and appends to a sink.
+-- What a transfer takes from a source and appends to a sink, where these tell their bytes.
 use Rattle.std.specs.Prelude.{ℕ, ◌≡◌, ◌+◌, ◌≤◌, List, ◌++◌, length, Option}
 use Rattle.std.specs.Io.KnownBytes.{Consumes, IsAtEnd, Appends}
 

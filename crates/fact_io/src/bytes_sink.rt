@@ -35,7 +35,8 @@ impl Model for BytesSink {
       faults = s.faults;
     } };
 
-    ghost invariant = { λ s. (vec_len s.bytes ≤ s.room) × (s.room ≤ vec_capacity s.bytes) × (1 ≤ s.piece) };
+    ghost invariant = { λ s.
+        (vec_len s.bytes ≤ s.room) × (s.room ≤ vec_capacity s.bytes) × (1 ≤ s.piece) };
 }
 
 impl BytesSink {
@@ -48,8 +49,14 @@ impl BytesSink {
         failing: Vec<u64>,
     ) -> Result<BytesSink, OutOfMemory>
         requires { 1 ≤ piece }
-        ensures { IfOk result (λ s. s ≡
-            record { written = []; room = room; piece = piece; failing = failing.items; calls = 0; faults = 0 }) }
+        ensures { IfOk result (λ s. s ≡ record {
+          written = [];
+          room = room;
+          piece = piece;
+          failing = failing.items;
+          calls = 0;
+          faults = 0;
+        }) }
     {
         let bytes = Vec::with_capacity(alloc, room)?;
         Ok(BytesSink {
@@ -85,8 +92,10 @@ impl Sink for BytesSink {
         // Exactly the listed calls fail, and those that have bytes to write and no room for them. Each other call takes
         // all that it may.
         ensures fails { IsErr result ↔
-            (Contains self.old.failing (self.old.calls + 1) ⊎ ((0 < length piece.now) × (self.old.room ≡ 0))) }
-        ensures count { IfOk result (λ n. n ≡ min (length piece.now) (min self.old.piece self.old.room)) }
+            (Contains self.old.failing (self.old.calls + 1)
+            ⊎ ((0 < length piece.now) × (self.old.room ≡ 0))) }
+        ensures count { IfOk result (λ n.
+            n ≡ min (length piece.now) (min self.old.piece self.old.room)) }
 
         // What a call changes.
         ensures ok { IfOk result (λ n. self.new ≡ record self.old {
@@ -94,8 +103,10 @@ impl Sink for BytesSink {
           room = self.old.room - n;
           calls = next_count self.old.calls;
         }) }
-        ensures err { OnErr result (self.new ≡
-            record self.old { calls = next_count self.old.calls; faults = next_count self.old.faults }) }
+        ensures err { OnErr result (self.new ≡ record self.old {
+          calls = next_count self.old.calls;
+          faults = next_count self.old.faults;
+        }) }
     {
         let is_listed = count_call(&mut self.calls, &self.failing);
         let room = self.room - self.bytes.len();

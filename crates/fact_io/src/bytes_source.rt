@@ -40,7 +40,13 @@ impl BytesSource {
     /// `failing` are to fail.
     pub fn new(bytes: Vec<u8>, piece: usize, failing: Vec<u64>) -> BytesSource
         requires { 1 ≤ piece }
-        ensures { result ≡ record { left = bytes.items; piece = piece; failing = failing.items; calls = 0; faults = 0 } }
+        ensures { result ≡ record {
+          left = bytes.items;
+          piece = piece;
+          failing = failing.items;
+          calls = 0;
+          faults = 0;
+        } }
     {
         BytesSource {
             bytes,
@@ -66,13 +72,18 @@ impl Source for BytesSource {
 
         // Exactly the listed calls fail, and each other call takes all that it may.
         ensures fails { IsErr result ↔ Contains self.old.failing (self.old.calls + 1) }
-        ensures count { IfOk result (λ n. n ≡ min (length buf.old) (min self.old.piece (length self.old.left))) }
+        ensures count { IfOk result (λ n.
+            n ≡ min (length buf.old) (min self.old.piece (length self.old.left))) }
 
         // What a call changes.
-        ensures ok { IfOk result (λ n. self.new ≡
-            record self.old { left = drop n self.old.left; calls = next_count self.old.calls }) }
-        ensures err { OnErr result (self.new ≡
-            record self.old { calls = next_count self.old.calls; faults = next_count self.old.faults }) }
+        ensures ok { IfOk result (λ n. self.new ≡ record self.old {
+          left = drop n self.old.left;
+          calls = next_count self.old.calls;
+        }) }
+        ensures err { OnErr result (self.new ≡ record self.old {
+          calls = next_count self.old.calls;
+          faults = next_count self.old.faults;
+        }) }
     {
         if count_call(&mut self.calls, &self.failing) {
             self.faults = self.faults.saturating_add(1);

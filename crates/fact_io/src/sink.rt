@@ -31,7 +31,7 @@ pub trait Sink {
     /// How many writes failed, by a count that stops at its last value.
     ghost faults: { Self → ℕ };
 
-    /// Appends some first bytes of the piece, and gives their number.
+    /// Appends some first bytes of the piece, and gives their number: 0 only where the piece is empty.
     fn write(&mut self, piece: &[u8]) -> Result<usize, WriteFailed>
         ensures bound { WritesAtMost result piece.now }
         ensures some { IfOk result (λ n. 0 < length piece.now → 1 ≤ n) }

@@ -67,13 +67,16 @@ fn read_piece<S: Source>(
     bytes: &mut Vec<u8>,
 ) -> Result<usize, InputError>
     requires { 0 < length buf.old }
-    ensures took { IfOk result (λ n. (n ≤ length buf.old) × (vec_len bytes.new ≡ vec_len bytes.old + n)) }
-    ensures piece { IfOk result (λ n. (piece : List ℕ) × (bytes.new.items ≡ bytes.old.items ++ piece)
+    ensures took { IfOk result (λ n.
+        (n ≤ length buf.old) × (vec_len bytes.new ≡ vec_len bytes.old + n)) }
+    ensures piece { OnOk result ((piece : List ℕ) × (bytes.new.items ≡ bytes.old.items ++ piece)
         × Consumes (S.left source.old) (S.left source.new) piece) }
     ensures ended { IfOk result (λ n. n ≡ 0 → IsAtEnd (S.left source.new)) }
-    ensures err { OnErr result (TakesUpTo (S.left source.old) (S.left source.new) (length buf.old)) }
+    ensures err { OnErr result
+        (TakesUpTo (S.left source.old) (S.left source.new) (length buf.old)) }
     ensures not_too_long { result ≢ Err InputError.TooLong }
-    ensures fault { IsErrOf result InputError.Fault → Rose (S.faults source.old) (S.faults source.new) }
+    ensures fault { IsErrOf result InputError.Fault
+        → Rose (S.faults source.old) (S.faults source.new) }
     ensures never_falls { S.faults source.old ≤ S.faults source.new }
 {
     let count = source.read(buf)?;
@@ -84,12 +87,15 @@ fn read_piece<S: Source>(
 /// Reads to the end of a source, or until one byte more than [`INPUT_LIMIT`] was taken. Each turn takes at least one
 /// byte. After an error the source has lost what was taken.
 pub fn read_all<S: Source>(alloc: Global, source: &mut S) -> Result<Vec<u8>, InputError>
-    ensures all { IfOk result (λ bytes. TakesAll (S.left source.old) (S.left source.new) bytes.items) }
+    ensures all { IfOk result (λ bytes.
+        TakesAll (S.left source.old) (S.left source.new) bytes.items) }
     ensures within { IfOk result (λ bytes. vec_len bytes ≤ INPUT_LIMIT) }
     ensures too_long { IsErrOf result InputError.TooLong
         → TakesPast (S.left source.old) (S.left source.new) INPUT_LIMIT }
-    ensures err { OnErr result (TakesUpTo (S.left source.old) (S.left source.new) (INPUT_LIMIT + 1)) }
-    ensures fault { IsErrOf result InputError.Fault → Rose (S.faults source.old) (S.faults source.new) }
+    ensures err { OnErr result
+        (TakesUpTo (S.left source.old) (S.left source.new) (INPUT_LIMIT + 1)) }
+    ensures fault { IsErrOf result InputError.Fault
+        → Rose (S.faults source.old) (S.faults source.new) }
     ensures never_falls { S.faults source.old ≤ S.faults source.new }
 {
     let mut buf = [0; PIECE];

@@ -1,1 +1,7 @@
+pub mod PlainBehaves
 pub mod PlainForm
+pub mod PlainFused
+pub mod PlainRange
+pub mod PlainRuns
+pub mod PlainValues
+pub mod Pushed

@@ -1,22 +1,23 @@
 -- What a fused module promises.
-use Rattle.std.specs.Prelude.{◌≡◌, ℕ, Bool, true, false, ◌||◌, ◌&&◌, not, nat_eq, List, [], ◌∷◌, ◌++◌, Option, Some, None, slice_get, codes, if◌then◌else◌}
+use Rattle.std.specs.Prelude.{◌≡◌, ℕ, Bool, ◌||◌, ◌&&◌, not, nat_eq, List, [], ◌∷◌, ◌++◌, Option, Some, None, slice_get, codes, if◌then◌else◌, All, IsTrue}
+use Rattle.std.specs.Str.{bytes_eq}
 use Rattle.std.specs.List.{flat_map, AllZip}
 use Rattle.fact_wasm.specs.declared.types.FuncType.{FuncType}
 use Rattle.fact_wasm.specs.declared.instr.FuncName.{FuncName}
 use Rattle.fact_wasm.specs.declared.instr.FuncName.TheVariants as func
 use Rattle.fact_wasm.specs.declared.module.WasmFunc.{WasmFunc}
-use Rattle.fact_wasm.specs.declared.module.WasmImport.{WasmImport}
 use Rattle.fact_wasm.specs.declared.module.WasmExport.{WasmExport}
 use Rattle.fact_wasm.specs.declared.module.WasmModule.{WasmModule}
 use Rattle.fact_wasm.specs.Ranges.{InRange}
-use Rattle.fact_wasm.specs.Spelling.{Spells, is_function}
+use Rattle.fact_wasm.specs.Spelling.{Spells}
 use Rattle.fact_plan.specs.declared.plain.CoreDef.{CoreDef}
 use Rattle.fact_plan.specs.declared.plan.FusePlan.{FusePlan}
 use Rattle.fact_module.specs.declared.plain.Import.{Import}
 use Rattle.fact_module.specs.declared.plain.Import.TheVariants as known
 use Rattle.fact_module.specs.declared.fusion.Fused.{Fused}
 use Rattle.fact_module.specs.Adapters.{Adapter, adapters_of}
-use Rattle.fact_module.specs.Imports.{NamesImports}
+use Rattle.fact_module.specs.Imports.{NamesImports, imported_function}
+use Rattle.fact_module.specs.Runs.{Behaves}
 
 -- ---- exports
 
@@ -58,30 +59,28 @@ defined_type m (func.Import k) = None
 abbrev pub IsDefined : WasmModule → FuncName → Type 0
 IsDefined m f = (ty : FuncType) × (defined_type m f ≡ Some ty)
 
--- the imported functions among the imports
-abbrev pub imported_functions : List WasmImport → List Import → List Import
-imported_functions (w ∷ ws) (i ∷ is) = if is_function w then i ∷ imported_functions ws is else imported_functions ws is
-imported_functions _ _ = []
-
-abbrev pub imported_function : WasmModule → List Import → FuncName → Option Import
-imported_function m is (func.Import k) = slice_get (imported_functions m.imports is) k
-imported_function m is (func.Defined k) = None
-
 abbrev pub IsExport : WasmModule → List Import → WasmExport → Exported → Type 0
 IsExport m is e (Whole name ty) = (e.name ≡ name) × (defined_type m e.func ≡ Some ty)
 IsExport m is e (Part name) = (e.name ≡ name) × IsDefined m e.func
 IsExport m is e (Callee name d) = (e.name ≡ name) × (imported_function m is e.func ≡ Some (known.CoreDef d))
 
+-- what is exported under a name
+abbrev pub exported_as : List ℕ → List WasmExport → Option FuncName
+exported_as name [] = None
+exported_as name (e ∷ es) = if bytes_eq e.name name then Some e.func else exported_as name es
+
 -- ---- the promise
 
--- The import section names the imports, and the exports are exactly the adapters' names.
-pub record Faithful (m : WasmModule) (is : List Import) (adapters : List Adapter) : Type 0 where
+-- The import section names the imports, the exports are exactly the adapters' names, and each sync adapter between two
+-- instances carries its values.
+pub record Faithful (m : WasmModule) (is : List Import) (debug : Bool) (adapters : List Adapter) : Type 0 where
   pub imports : NamesImports m is adapters
   pub exports : AllZip (IsExport m is) m.exports (exported adapters)
+  pub behaves : All (λ a. IsTrue (not (is_async a) && is_crossing a) → (k : ℕ) → exported_as a.name m.exports ≡ Some (func.Defined k) → Behaves m is debug a k) adapters
 
 -- all that a fused module promises, whose import section names the imports
 pub record Promised (m : WasmModule) (is : List Import) (p : FusePlan) : Type 0 where
-  pub faithful : Faithful m is (adapters_of p)
+  pub faithful : Faithful m is p.tunables.debug (adapters_of p)
 
 -- a module in range, its bytes and its imports, with all that it promises
 pub record IsFused (f : Fused) (p : FusePlan) : Type 0 where

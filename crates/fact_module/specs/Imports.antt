@@ -6,6 +6,8 @@ use Rattle.std.specs.Fmt.{decimal}
 use Rattle.fact_wasm.specs.declared.types.ValType.{ValType}
 use Rattle.fact_wasm.specs.declared.types.ValType.TheVariants as val
 use Rattle.fact_wasm.specs.declared.types.FuncType.{FuncType}
+use Rattle.fact_wasm.specs.declared.instr.FuncName.{FuncName}
+use Rattle.fact_wasm.specs.declared.instr.FuncName.TheVariants as func
 use Rattle.fact_wasm.specs.declared.module.ImportType.{ImportType}
 use Rattle.fact_wasm.specs.declared.module.ImportType.TheVariants as import
 use Rattle.fact_wasm.specs.declared.module.WasmImport.{WasmImport}
@@ -146,3 +148,22 @@ AreNamed m before _ _ _ = ⊥
 -- the import section names these imports, its core definitions being those of the adapters
 abbrev pub NamesImports : WasmModule → List Import → List Adapter → Type 0
 NamesImports m is adapters = AreNamed m [] (mentions adapters) m.imports is
+
+-- ---- what an index of the module names
+
+-- the imported functions, in order
+abbrev pub imported_functions : List WasmImport → List Import → List Import
+imported_functions (w ∷ ws) (i ∷ is) = if is_function w then i ∷ imported_functions ws is else imported_functions ws is
+imported_functions _ _ = []
+
+abbrev pub imported_function : WasmModule → List Import → FuncName → Option Import
+imported_function m is (func.Import k) = slice_get (imported_functions m.imports is) k
+imported_function m is (func.Defined k) = None
+
+abbrev pub is_global : WasmImport → Bool
+is_global i = elim i.ty [ import.Func t ↦ false | import.Memory a b c ↦ false | import.Global a b ↦ true ]
+
+-- the imported globals, in order
+abbrev pub imported_globals : List WasmImport → List Import → List Import
+imported_globals (w ∷ ws) (i ∷ is) = if is_global w then i ∷ imported_globals ws is else imported_globals ws is
+imported_globals _ _ = []

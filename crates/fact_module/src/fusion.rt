@@ -1,11 +1,10 @@
 //! The fused module of a plan.
 
-ghost use Rattle.std.specs.Prelude.{◌≡◌, ◌≤◌, ◌∷◌, [], ◌++◌, codes, IfOk, IfErr, true};
-ghost use Rattle.std.specs.Fmt.{decimal};
-ghost use Rattle.fact_wasm.specs.declared.module.ImportType.TheVariants as import_type;
+ghost use Rattle.std.specs.Prelude.{◌≡◌, ◌≤◌, ◌<◌, ◌^◌, ◌+◌, ◌∷◌, [], length, codes, IfOk, IfErr};
 ghost use Rattle.fact_plan.specs.Built.{IsBuilt};
 ghost use Rattle.fact_module.specs.Body.{body};
 ghost use Rattle.fact_module.specs.Faithful.{IsFused};
+ghost use Rattle.fact_module.specs.PlainModule.{IsPlainModule, flags_import, function_import, has_result, plain_imports, saved};
 
 use crate::emit::{emit_body, import_flags, import_function};
 use crate::error::FuseError;
@@ -25,15 +24,22 @@ pub struct Fused {
     pub imports: Seq<Import>,
 }
 
-/// The type of the adapter and of its callee, and the type of a trap.
-fn types(alloc: Global) -> Result<Seq<FuncType>, OutOfMemory>
-    ensures { IfOk result (λ types. types ≡ record { params = ValType.I32 ∷ []; results = [] } ∷ record { params = []; results = [] } ∷ []) }
+fn copy_type(alloc: Global, ty: &FuncType) -> Result<FuncType, OutOfMemory>
+    ensures { IfOk result (λ copy. copy ≡ ty.now) }
 {
-    let params = Seq::from_vec(vec![in alloc; ValType::I32]?);
-    let of_adapter = FuncType {
-        params,
-        results: Seq::new(alloc),
-    };
+    let params = Vec::from_slice(alloc, ty.params.as_slice())?;
+    let results = Vec::from_slice(alloc, ty.results.as_slice())?;
+    Ok(FuncType {
+        params: Seq::from_vec(params),
+        results: Seq::from_vec(results),
+    })
+}
+
+/// The type of the adapter and of its callee, and the type of a trap.
+fn types(alloc: Global, ty: &FuncType) -> Result<Seq<FuncType>, OutOfMemory>
+    ensures { IfOk result (λ types. types ≡ ty.now ∷ record { params = []; results = [] } ∷ []) }
+{
+    let of_adapter = copy_type(alloc, ty)?;
     let of_trap = FuncType {
         params: Seq::new(alloc),
         results: Seq::new(alloc),
@@ -43,10 +49,8 @@ fn types(alloc: Global) -> Result<Seq<FuncType>, OutOfMemory>
 
 fn import_section(alloc: Global, adapter: &PlanAdapter) -> Result<Seq<WasmImport>, OutOfMemory>
     ensures { IfOk result (λ imports. imports ≡
-        record { «module» = codes "flags"; name = codes "instance" ++ decimal adapter.now.lift.instance; ty = import_type.Global ValType.I32 true }
-        ∷ record { «module» = codes "flags"; name = codes "instance" ++ decimal adapter.now.lower.instance; ty = import_type.Global ValType.I32 true }
-        ∷ record { «module» = codes "callee"; name = adapter.now.name; ty = import_type.Func 0 }
-        ∷ record { «module» = codes "runtime"; name = codes "trap0"; ty = import_type.Func 1 } ∷ []) }
+        flags_import adapter.now.lift.instance ∷ flags_import adapter.now.lower.instance
+        ∷ function_import (codes "callee") adapter.now.name 0 ∷ function_import (codes "runtime") (codes "trap0") 1 ∷ []) }
 {
     let lift_flags = import_flags(alloc, adapter.lift.instance)?;
     let lower_flags = import_flags(alloc, adapter.lower.instance)?;
@@ -62,11 +66,7 @@ fn imports(
     adapter: &PlanAdapter,
     callee: &CoreDef,
 ) -> Result<Seq<Import>, OutOfMemory>
-    ensures { IfOk result (λ imports. imports ≡
-        Import.CoreDef (CoreDef.InstanceFlags (record { 0 = adapter.now.lift.instance }))
-        ∷ Import.CoreDef (CoreDef.InstanceFlags (record { 0 = adapter.now.lower.instance }))
-        ∷ Import.CoreDef callee.now
-        ∷ Import.Trap Trap.CannotLeaveComponent ∷ []) }
+    ensures { IfOk result (λ imports. imports ≡ plain_imports callee.now adapter.now.lift.instance adapter.now.lower.instance) }
 {
     let lift_flags = CoreDef::InstanceFlags(RuntimeComponentInstanceIndex(adapter.lift.instance));
     let lower_flags = CoreDef::InstanceFlags(RuntimeComponentInstanceIndex(adapter.lower.instance));
@@ -80,12 +80,28 @@ fn imports(
     Ok(Seq::from_vec(imports))
 }
 
-/// The adapter's function: its code, and a local for each saved flag.
-fn function(alloc: Global) -> Result<WasmFunc, OutOfMemory>
-    ensures { IfOk result (λ f. f ≡ record { ty = 0; locals = (2, ValType.I32) ∷ []; body = body }) }
+/// Runs of locals behind the parameters: the two saved flags, and the result where there is one.
+fn locals(alloc: Global, results: &[ValType]) -> Result<Seq<(u32, ValType)>, OutOfMemory>
+    requires { length results.now ≤ 1 }
+    ensures { IfOk result (λ locals. locals ≡ saved results.now) }
 {
-    let locals = Seq::from_vec(vec![in alloc; (2u32, ValType::I32)]?);
-    let body = emit_body(alloc)?;
+    let runs = match results {
+        [] => vec![in alloc; (2u32, ValType::I32)]?,
+        [ty, ..] => vec![in alloc; (2u32, ValType::I32), (1u32, *ty)]?,
+    };
+    Ok(Seq::from_vec(runs))
+}
+
+/// The adapter's function: its code, and its locals.
+fn function(alloc: Global, ty: &FuncType) -> Result<WasmFunc, OutOfMemory>
+    requires params { length ty.now.params ≤ 16 }
+    requires results { length ty.now.results ≤ 1 }
+    ensures { IfOk result (λ f. f ≡ record { ty = 0; locals = saved ty.now.results; body = body (length ty.now.params) (has_result ty.now.results) }) }
+{
+    let params = ty.params.len() as u32;
+    let returns = !ty.results.as_slice().is_empty();
+    let locals = locals(alloc, ty.results.as_slice())?;
+    let body = emit_body(alloc, params, returns)?;
     Ok(WasmFunc {
         ty: 0,
         locals,
@@ -93,8 +109,31 @@ fn function(alloc: Global) -> Result<WasmFunc, OutOfMemory>
     })
 }
 
+/// The module of an adapter between two sides of this core type.
+fn plain_module(
+    alloc: Global,
+    adapter: &PlanAdapter,
+    ty: &FuncType,
+) -> Result<WasmModule, OutOfMemory>
+    requires params { length ty.now.params ≤ 16 }
+    requires results { length ty.now.results ≤ 1 }
+    ensures { IfOk result (λ m. IsPlainModule m adapter.now.name adapter.now.lift.instance adapter.now.lower.instance ty.now) }
+{
+    let func = function(alloc, ty)?;
+    let export = WasmExport {
+        name: adapter.name.try_clone()?,
+        func: FuncName::Defined(0),
+    };
+    Ok(WasmModule {
+        types: types(alloc, ty)?,
+        imports: import_section(alloc, adapter)?,
+        funcs: Seq::from_vec(vec![in alloc; func]?),
+        exports: Seq::from_vec(vec![in alloc; export]?),
+    })
+}
+
 /// The module that joins the two sides of each adapter of a plan that is built so far. Its imports and exports are those
-/// of the plan ([`Import`], and each adapter's name).
+/// of the plan ([`Import`], and each adapter's name), and its functions carry values unchanged.
 pub fn fuse(alloc: Global, plan: &FusePlan) -> Result<Fused, FuseError>
     requires built { IsBuilt plan.now }
     requires fuel { 1 ≤ plan.now.tunables.fuel }
@@ -103,17 +142,8 @@ pub fn fuse(alloc: Global, plan: &FusePlan) -> Result<Fused, FuseError>
 {
     let adapter = &plan.adapters.as_slice()[0];
     let callee = &plan.core_defs.as_slice()[0];
-    let func = function(alloc)?;
-    let export = WasmExport {
-        name: adapter.name.try_clone()?,
-        func: FuncName::Defined(0),
-    };
-    let module = WasmModule {
-        types: types(alloc)?,
-        imports: import_section(alloc, adapter)?,
-        funcs: Seq::from_vec(vec![in alloc; func]?),
-        exports: Seq::from_vec(vec![in alloc; export]?),
-    };
+    let ty = &plan.core_types.as_slice()[0];
+    let module = plain_module(alloc, adapter, ty)?;
     let bytes = encode(alloc, &module)?;
     let imports = imports(alloc, adapter, callee)?;
     Ok(Fused {

@@ -1,9 +1,12 @@
--- The plans that are built so far.
-use Rattle.std.specs.Prelude.{◌≡◌, ◌≢◌, ℕ, ◌<◌, ◌≤◌, Bool, false, List, [], ◌∷◌, None}
+-- The plans that are built so far: those of plain numbers.
+use Rattle.std.specs.Prelude.{◌≡◌, ◌≢◌, ℕ, ◌<◌, ◌≤◌, false, List, [], ◌∷◌, None, length, map}
+use Rattle.std.specs.List.{AllByRecursion}
+use Rattle.fact_wasm.specs.declared.types.ValType.{ValType}
 use Rattle.fact_wasm.specs.declared.types.FuncType.{FuncType}
 use Rattle.fact_wasm.specs.declared.types.ValType.TheVariants as val
 use Rattle.fact_plan.specs.declared.plain.CoreDef.{CoreDef}
 use Rattle.fact_plan.specs.declared.plain.CoreDef.TheVariants as def
+use Rattle.fact_plan.specs.declared.plain.PrimitiveValType.{PrimitiveValType}
 use Rattle.fact_plan.specs.declared.plain.PrimitiveValType.TheVariants as word
 use Rattle.fact_plan.specs.declared.plain.StringEncoding.TheVariants.{Utf8}
 use Rattle.fact_plan.specs.declared.plan.PlanRef.{PlanRef}
@@ -20,14 +23,46 @@ One P [] = ⊥
 One P (x ∷ []) = P x
 One P (x ∷ y ∷ xs) = ⊥
 
--- one parameter, of u32, and no result
+-- the words of plain numbers
+abbrev pub IsPlainWord : PrimitiveValType → Type 0
+IsPlainWord word.U32 = Unit {0}
+IsPlainWord word.U64 = Unit {0}
+IsPlainWord _ = ⊥
+
+abbrev pub IsPlain : PlanRef → Type 0
+IsPlain (ref.Word w) = IsPlainWord w
+IsPlain (ref.Entry k) = ⊥
+
+-- the core type of a plain number
+abbrev pub core_word : PrimitiveValType → ValType
+core_word word.U64 = val.I64
+core_word _ = val.I32
+
+abbrev pub core_of : PlanRef → ValType
+core_of (ref.Word w) = core_word w
+core_of (ref.Entry k) = val.I32
+
+-- the name is none of these parameters'
+abbrev pub IsNew : List ℕ → List (List ℕ × PlanRef) → Type 0
+IsNew name [] = Unit {0}
+IsNew name (x ∷ xs) = (name ≢ x.0) × IsNew name xs
+
+abbrev pub AreDistinct : List (List ℕ × PlanRef) → Type 0
+AreDistinct [] = Unit {0}
+AreDistinct (x ∷ xs) = IsNew x.0 xs × AreDistinct xs
+
+-- at most 16 parameters with distinct names and at most one result, all of plain numbers
 pub record IsPlainFunc (f : PlanFunc) : Type 0 where
-  pub params : One (λ x. x.1 ≡ ref.Word word.U32) f.params
-  pub results : f.results ≡ []
+  pub params : AllByRecursion (λ x. IsPlain x.1) f.params
+  pub few_params : length f.params ≤ 16
+  pub distinct : AreDistinct f.params
+  pub results : AllByRecursion IsPlain f.results
+  pub few_results : length f.results ≤ 1
   pub sync : f.async_ ≡ false
 
-abbrev pub plain_type : FuncType
-plain_type = record { params = val.I32 ∷ []; results = [] }
+-- the core type of such a function
+abbrev pub plain_type : PlanFunc → FuncType
+plain_type f = record { params = map (λ x. core_of x.1) f.params; results = map core_of f.results }
 
 abbrev pub IsExportDef : CoreDef → Type 0
 IsExportDef (def.Export i name) = Unit {0}
@@ -58,12 +93,11 @@ pub record AreOff (t : PlanTunables) : Type 0 where
   pub concurrency : t.concurrency ≡ false
   pub exceptions : t.exceptions ≡ false
 
--- A plan with one adapter between two instances, of a function of one u32 parameter.
+-- A plan with one adapter between two instances, of a function of plain numbers, and nothing else.
 pub record IsBuilt (p : FusePlan) : Type 0 where
   pub types : p.types ≡ []
   pub tables : p.tables ≡ []
-  pub funcs : One IsPlainFunc p.funcs
-  pub core_types : p.core_types ≡ plain_type ∷ []
+  pub func : One (λ f. IsPlainFunc f × (p.core_types ≡ plain_type f ∷ [])) p.funcs
   pub core_defs : One IsExportDef p.core_defs
   pub adapters : One (IsPlainAdapter p.instances) p.adapters
   pub tunables : AreOff p.tunables

@@ -1,0 +1,16 @@
+pub mod Causes
+pub mod Cuts
+pub mod Declared
+pub mod Entries
+pub mod Grows
+pub mod Laws
+pub mod OneMore
+pub mod OutsideCalls
+pub mod Plans
+pub mod Pushes
+pub mod RowLaws
+pub mod Steps
+pub mod Structure
+pub mod Traces
+pub mod Typing
+pub mod WholeRuns

@@ -1,0 +1,145 @@
+-- What a row of the instruction table does is chosen by the state alone, without the answers and the trace.
+use Rattle.std.proofs.Common.{◌≡◌, ℕ, zero, suc, List, [], ◌∷◌, ◌++◌, Option, Some, None, Bool, true, false, length, reverse, refl}
+use Rattle.std.specs.Prelude.{slice_get}
+use Rattle.fact_wasm.specs.declared.types.FuncType.{FuncType}
+use Rattle.fact_wasm.specs.declared.instr.BlockType.{BlockType}
+use Rattle.fact_wasm.specs.declared.instr.FuncName.TheVariants.{Import, Defined}
+use Rattle.fact_wasm.specs.declared.instr.Instr.{Instr}
+use Rattle.fact_wasm.specs.declared.instr.Instr.TheOpen.{Instr-F, Unreachable, Block, BrIf, Call, LocalGet, LocalSet, LocalTee, GlobalGet, GlobalSet, I32Const}
+use Rattle.fact_wasm.specs.declared.module.WasmModule.{WasmModule}
+use Rattle.fact_machine.specs.declared.types.CoreValue.{CoreValue}
+use Rattle.fact_machine.specs.declared.types.CoreValue.TheVariants.{I32, I64, F32, F64, Func}
+use Rattle.fact_machine.specs.declared.types.MachineState.{MachineState}
+use Rattle.fact_machine.specs.declared.types.Answer.{Answer}
+use Rattle.fact_machine.specs.declared.types.TraceEntry.{TraceEntry}
+use Rattle.fact_machine.specs.declared.types.End.{End}
+use Rattle.fact_machine.specs.declared.types.End.TheVariants.{Trapped, Thrown, Lacks, Going, Stuck}
+use Rattle.fact_machine.specs.World.{World, set_global}
+use Rattle.fact_machine.specs.Machine.{Around, Bottom, Label, Frame, At, Did, Goes, Ends, or_stuck, check, grab, has_type, have_types, type_of, block_arity, func_import, branch, throw, call_outside, call_inside, call_import, enter, with_top, with_i32, when, set_local, act, takes}
+
+-- an end that comes from neither the answers nor the steps
+abbrev pub IsPlain : End → Type 0
+IsPlain Lacks = ⊥
+IsPlain Going = ⊥
+IsPlain _ = Unit {0}
+
+-- what needs no more than the frames: to go on elsewhere, or to end
+pub data Leap : Type 0 where
+  To : (vs : List CoreValue) (ls : List (Option CoreValue)) (code : List Instr) (k : Around) → Leap
+  Stops : (e : End) → IsPlain e → Leap
+
+abbrev pub leaps : Leap → World → Did
+leaps (To vs ls code k) w = Goes (At w vs ls code k)
+leaps (Stops e h) w = Ends e w
+
+pub data Plan : Type 0 where
+  Leaps : Leap → Plan
+  Sets : (n : ℕ) (v : CoreValue) (vs : List CoreValue) (ls : List (Option CoreValue)) (code : List Instr) (k : Around) → Plan
+  Asks : (f : ℕ) (args : List CoreValue) (vs : List CoreValue) (ls : List (Option CoreValue)) (code : List Instr) (k : Around) → Plan
+
+abbrev pub does : Plan → World → Did
+does (Leaps l) w = leaps l w
+does (Sets n v vs ls code k) w = Goes (At (set_global n v w) vs ls code k)
+does (Asks f args vs ls code k) w = call_outside f args w vs ls code k
+
+abbrev pub world : MachineState → List Answer → List TraceEntry → World
+world s a t = record { state = s; answers = a; trace = t }
+
+-- one plan serves all answers and traces
+pub record Planned (s : MachineState) (go : List Answer → List TraceEntry → Did) : Type 0 where
+  pub plan : Plan
+  pub is : (a : List Answer) (t : List TraceEntry) → go a t ≡ does plan (world s a t)
+
+-- ---- branches and throws
+
+pub record Leaping (go : World → Did) : Type 0 where
+  pub leap : Leap
+  pub is : (w : World) → go w ≡ leaps leap w
+
+ends : (e : End) → IsPlain e → Leaping (λ w. Ends e w)
+ends e h = record { leap = Stops e h; is = λ w. refl }
+
+or_leaping : {A : Type 0} → (o : Option A) (go : A → World → Did) → ((x : A) → Leaping (go x)) → Leaping (λ w. or_stuck w o (λ x. go x w))
+or_leaping None go h = ends Stuck tt
+or_leaping (Some x) go h = h x
+
+pub branch_leaping : (l : ℕ) (vs : List CoreValue) (ls : List (Option CoreValue)) (k : Around) → Leaping (λ w. branch w l vs ls k)
+branch_leaping l vs ls Bottom = ends Stuck tt
+branch_leaping l vs ls (Frame f below rest k) = ends Stuck tt
+branch_leaping zero vs ls (Label a below to rest cs k) =
+    or_leaping (grab a vs) (λ p w. Goes (At w (p.0 ++ below) ls to k)) (λ p. record { leap = To (p.0 ++ below) ls to k; is = λ w. refl })
+branch_leaping (suc l) vs ls (Label a below to rest cs k) = branch_leaping l vs ls k
+
+pub throw_leaping : (ls : List (Option CoreValue)) (k : Around) → Leaping (λ w. throw w ls k)
+throw_leaping ls Bottom = ends Thrown tt
+throw_leaping ls (Frame f below rest k) = throw_leaping f k
+throw_leaping ls (Label a below to rest [] k) = throw_leaping ls k
+throw_leaping ls (Label a below to rest (c ∷ cs) k) = branch_leaping c [] ls k
+
+-- ---- rows
+
+leaping : (s : MachineState) (go : World → Did) → Leaping go → Planned s (λ a t. go (world s a t))
+leaping s go h = record { plan = Leaps h.leap; is = λ a t. h.is (world s a t) }
+
+goes : (s : MachineState) (vs : List CoreValue) (ls : List (Option CoreValue)) (code : List Instr) (k : Around) → Planned s (λ a t. Goes (At (world s a t) vs ls code k))
+goes s vs ls code k = record { plan = Leaps (To vs ls code k); is = λ a t. refl }
+
+stuck : (s : MachineState) → Planned s (λ a t. Ends Stuck (world s a t))
+stuck s = record { plan = Leaps (Stops Stuck tt); is = λ a t. refl }
+
+or_planned : {A : Type 0} → (s : MachineState) (o : Option A) (go : A → List Answer → List TraceEntry → Did) → ((x : A) → Planned s (go x)) → Planned s (λ a t. or_stuck (world s a t) o (λ x. go x a t))
+or_planned s None go h = stuck s
+or_planned s (Some x) go h = h x
+
+check_planned : (s : MachineState) (b : Bool) (go : List Answer → List TraceEntry → Did) → Planned s go → Planned s (λ a t. check (world s a t) b (go a t))
+check_planned s true go h = h
+check_planned s false go h = stuck s
+
+top_planned : (s : MachineState) (vs : List CoreValue) (go : CoreValue → List CoreValue → List Answer → List TraceEntry → Did) → ((v : CoreValue) (us : List CoreValue) → Planned s (go v us)) → Planned s (λ a t. with_top (world s a t) vs (λ v us. go v us a t))
+top_planned s [] go h = stuck s
+top_planned s (v ∷ vs) go h = h v vs
+
+i32_planned : (s : MachineState) (vs : List CoreValue) (go : ℕ → List CoreValue → List Answer → List TraceEntry → Did) → ((n : ℕ) (us : List CoreValue) → Planned s (go n us)) → Planned s (λ a t. with_i32 (world s a t) vs (λ n us. go n us a t))
+i32_planned s [] go h = stuck s
+i32_planned s (I32 n ∷ vs) go h = h n vs
+i32_planned s (I64 n ∷ vs) go h = stuck s
+i32_planned s (F32 n ∷ vs) go h = stuck s
+i32_planned s (F64 n ∷ vs) go h = stuck s
+i32_planned s (Func n ∷ vs) go h = stuck s
+
+when_planned : (s : MachineState) (n : ℕ) (on off : List Answer → List TraceEntry → Did) → Planned s on → Planned s off → Planned s (λ a t. when n (on a t) (off a t))
+when_planned s zero on off h g = g
+when_planned s (suc n) on off h g = h
+
+enter_planned : (s : MachineState) (types : List FuncType) (bt : BlockType) (vs : List CoreValue) (go : ℕ → ℕ → List CoreValue → List CoreValue → List Answer → List TraceEntry → Did)
+    → ((m n : ℕ) (top below : List CoreValue) → Planned s (go m n top below)) → Planned s (λ a t. enter types bt (world s a t) vs (λ m n top below. go m n top below a t))
+enter_planned s types bt vs go h = or_planned s (block_arity types bt) _ (λ b. or_planned s (grab b.0 vs) _ (λ p. h b.0 b.1 p.0 p.1))
+
+local_planned : (s : MachineState) (n : ℕ) (v : CoreValue) (ls : List (Option CoreValue)) (go : List (Option CoreValue) → List Answer → List TraceEntry → Did) → ((l : List (Option CoreValue)) → Planned s (go l)) → Planned s (λ a t. set_local (world s a t) n v ls (λ l. go l a t))
+local_planned s n v ls go h = or_planned s (slice_get ls n) _ (λ old. check_planned s _ _ (h _))
+
+inside_planned : (M : WasmModule) (n : ℕ) (s : MachineState) (vs : List CoreValue) (ls : List (Option CoreValue)) (rest : List Instr) (k : Around) → Planned s (λ a t. call_inside M n (world s a t) vs ls rest k)
+inside_planned M n s vs ls rest k =
+    or_planned s (slice_get M.funcs n) _ (λ f. or_planned s (slice_get M.types f.ty) _ (λ t. or_planned s (grab (length t.params) vs) _ (λ p. check_planned s (have_types (reverse p.0) t.params) _ (goes s _ _ _ _))))
+
+import_planned : (M : WasmModule) (n : ℕ) (s : MachineState) (vs : List CoreValue) (ls : List (Option CoreValue)) (rest : List Instr) (k : Around) → Planned s (λ a t. call_import M n (world s a t) vs ls rest k)
+import_planned M n s vs ls rest k =
+    or_planned s (func_import M.imports n) _ (λ ty. or_planned s (slice_get M.types ty) _ (λ t. or_planned s (grab (length t.params) vs) _ (λ p. check_planned s (have_types (reverse p.0) t.params) _
+    (record { plan = Asks n (reverse p.0) p.1 ls rest k; is = λ a t. refl }))))
+
+pub act_planned : (M : WasmModule) (i : Instr-F Instr) (s : MachineState) (vs : List CoreValue) (ls : List (Option CoreValue)) (rest : List Instr) (k : Around) → Planned s (λ a t. act M i (world s a t) vs ls rest k)
+act_planned M Unreachable s vs ls rest k = leaping s _ (ends Trapped tt)
+act_planned M (Block bt body) s vs ls rest k = enter_planned s M.types bt vs _ (λ m n top below. goes s _ _ _ _)
+act_planned M (BrIf l) s vs ls rest k = i32_planned s vs _ (λ c us. when_planned s c _ _ (leaping s _ (branch_leaping l us ls k)) (goes s _ _ _ _))
+act_planned M (Call (Import n)) s vs ls rest k = import_planned M n s vs ls rest k
+act_planned M (Call (Defined n)) s vs ls rest k = inside_planned M n s vs ls rest k
+act_planned M (LocalGet n) s vs ls rest k = or_planned s (slice_get ls n) _ (λ o. or_planned s o _ (λ v. goes s _ _ _ _))
+act_planned M (LocalSet n) s vs ls rest k = top_planned s vs _ (λ v us. local_planned s n v ls _ (λ l. goes s us l rest k))
+act_planned M (LocalTee n) s vs ls rest k = top_planned s vs _ (λ v us. local_planned s n v ls _ (λ l. goes s vs l rest k))
+act_planned M (GlobalGet n) s vs ls rest k = or_planned s (slice_get s.globals n) _ (λ v. goes s _ _ _ _)
+act_planned M (GlobalSet n) s vs ls rest k =
+    top_planned s vs _ (λ v us. or_planned s (slice_get s.globals n) _ (λ old. check_planned s (has_type v (type_of old)) _ (record { plan = Sets n v us ls rest k; is = λ a t. refl })))
+act_planned M (I32Const n) s vs ls rest k = goes s _ _ _ _
+
+pub start_planned : (M : WasmModule) (f : ℕ) (args : List CoreValue) (s : MachineState) → Planned s (λ a t. let w : World = world s a t in check w (takes M f args) (call_inside M f w (reverse args) [] [] Bottom))
+start_planned M f args s = check_planned s (takes M f args) _ (inside_planned M f s (reverse args) [] [] Bottom)

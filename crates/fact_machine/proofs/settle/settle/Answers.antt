@@ -1,0 +1,15 @@
+use Rattle.std.proofs.Common.{◌∙◌}
+use Rattle.fact_machine.proofs.Entries.{left_label, left_frame}
+use Rattle.fact_machine.proofs.settle.settle.Goals as goal
+
+pub loop-run-preserved-in-Some-Label : goal.loop-run-preserved-in-Some-Label
+loop-run-preserved-in-Some-Label c =
+    left_label c.loop-run.run c.lay_on.new.self c.in-Some-Label.below c.pop.new.self c.in-Some-Label.field-0 _ _ c.in-Some-Label.rest _
+    c.loop-run-test.ensures c.in-Some-Label.ensures c.in-Some-Label.field-0-is c.in_ok-lay_on-in-Some-Label.ensures
+    ∙ c.loop-run.invariant
+
+pub loop-run-preserved : goal.loop-run-preserved
+loop-run-preserved c =
+    left_frame c.loop-run.run c.lay_on-in-Some-Frame.new.self c.in-Some-Frame.below c.in-Some-Frame.locals c.pop.new.self c.in-Some-Frame.field-0 c.in-Some-Frame.rest
+    c.loop-run-test.ensures c.in-Some-Frame.ensures c.in-Some-Frame.field-0-is c.in_ok-lay_on-in-Some-Frame.ensures
+    ∙ c.loop-run.invariant

@@ -1,0 +1,23 @@
+//! A machine for the subset of WebAssembly that adapters use.
+#![tactic(auto)]
+
+mod begin;
+mod branches;
+mod calls;
+mod copies;
+mod entering;
+mod locals;
+mod outside;
+mod rows;
+mod run;
+mod running;
+mod settle;
+mod stack;
+mod types;
+mod values;
+
+pub use run::Machine;
+pub use types::{Answer, CoreValue, End, Event, MachineState, Outcome, TraceEntry};
+
+/// Want of memory, the one free answer of each call that allocates.
+pub type OutOfMemory = std::alloc::AllocError;

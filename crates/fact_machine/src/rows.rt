@@ -1,0 +1,92 @@
+//! Rows of the instruction table: constants, locals and globals (core specification, "Execution", "Instructions").
+
+ghost use Rattle.std.specs.Prelude.{◌≡◌, IfOk};
+ghost use Rattle.fact_wasm.specs.declared.instr.Instr.TheOpen as instr;
+ghost use Rattle.fact_machine.specs.Running.{did_of, at, row, assign as assigned};
+
+use crate::running::{Running, Step};
+use crate::types::{CoreValue, End, TraceEntry};
+use crate::values::{has_type, may_follow, type_of};
+
+/// `i32.const`.
+pub fn i32_const(run: &mut Running, n: u32) -> Step
+    ensures { IfOk result (λ end. did_of end run.new ≡ at run.old (row (instr.I32Const n))) }
+{
+    run.stack.push(CoreValue::I32(n))?;
+    Ok(None)
+}
+
+/// `local.get`.
+pub fn local_get(run: &mut Running, n: u32) -> Step
+    ensures { IfOk result (λ end. did_of end run.new ≡ at run.old (row (instr.LocalGet n))) }
+{
+    let Some(&Some(value)) = run.locals.get(n as usize) else {
+        return Ok(Some(End::Stuck));
+    };
+    run.stack.push(value)?;
+    Ok(None)
+}
+
+/// Sets a local that is there to a value of its type.
+fn assign(run: &mut Running, n: u32, value: CoreValue) -> Option<End>
+    ensures { did_of result run.new ≡ at run.old (assigned n value) }
+{
+    let Some(&old) = run.locals.get(n as usize) else {
+        return Some(End::Stuck);
+    };
+    if !may_follow(old, value) {
+        return Some(End::Stuck);
+    }
+    let _old = run.locals.set(n as usize, Some(value));
+    None
+}
+
+/// `local.set`.
+pub fn local_set(run: &mut Running, n: u32) -> Option<End>
+    ensures { did_of result run.new ≡ at run.old (row (instr.LocalSet n)) }
+{
+    let Some(value) = run.stack.pop() else {
+        return Some(End::Stuck);
+    };
+    assign(run, n, value)
+}
+
+/// `local.tee`.
+pub fn local_tee(run: &mut Running, n: u32) -> Step
+    ensures { IfOk result (λ end. did_of end run.new ≡ at run.old (row (instr.LocalTee n))) }
+{
+    let Some(value) = run.stack.pop() else {
+        return Ok(Some(End::Stuck));
+    };
+    run.stack.push(value)?;
+    Ok(assign(run, n, value))
+}
+
+/// `global.get`.
+pub fn global_get(run: &mut Running, n: u32) -> Step
+    ensures { IfOk result (λ end. did_of end run.new ≡ at run.old (row (instr.GlobalGet n))) }
+{
+    let Some(&value) = run.state.globals.get(n as usize) else {
+        return Ok(Some(End::Stuck));
+    };
+    run.stack.push(value)?;
+    Ok(None)
+}
+
+/// `global.set`.
+pub fn global_set(run: &mut Running, n: u32) -> Step
+    ensures { IfOk result (λ end. did_of end run.new ≡ at run.old (row (instr.GlobalSet n))) }
+{
+    let Some(value) = run.stack.pop() else {
+        return Ok(Some(End::Stuck));
+    };
+    let Some(&old) = run.state.globals.get(n as usize) else {
+        return Ok(Some(End::Stuck));
+    };
+    if !has_type(value, type_of(old)) {
+        return Ok(Some(End::Stuck));
+    }
+    run.trace.push(TraceEntry::GlobalSet { index: n, value })?;
+    let _old = run.state.globals.set(n as usize, value);
+    Ok(None)
+}

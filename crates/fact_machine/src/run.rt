@@ -1,0 +1,142 @@
+//! Runs.
+
+ghost use Rattle.std.specs.Prelude.{◌≡◌, [], ◌∷◌, ◌++◌, IfOk, reverse};
+ghost use Rattle.fact_machine.specs.declared.types.Answer.{Answer};
+ghost use Rattle.fact_machine.specs.Causes.{steps_of, answers_of};
+ghost use Rattle.fact_machine.specs.World.{calls};
+ghost use Rattle.fact_machine.specs.Machine.{run_of, outcome as outcome_at, begin as begin_of, next, exec, after, at_rest, check, takes as takes_of};
+ghost use Rattle.fact_machine.specs.Running.{world_of, config_of, did_of, at, defined};
+
+use crate::OutOfMemory;
+use crate::begin::begin;
+use crate::calls::{call_defined, takes};
+use crate::running::{Running, Step};
+use crate::settle::settle;
+use crate::stack::Stack;
+use crate::types::{Answer, CoreValue, End, Event, MachineState, Outcome, TraceEntry};
+use fact_wasm::{Seq, WasmModule};
+use std::alloc::Global;
+use std::mem;
+
+/// The machine that the definition of runs describes.
+pub struct Machine;
+
+impl Machine {
+    /// Runs the nth function that a module defines, with these arguments, from a state, over the answers of the outside,
+    /// for at most so many steps. Beginning an instruction is one step. The answers beyond those that the run asks for
+    /// stay unused.
+    pub fn run(
+        alloc: Global,
+        module: &WasmModule,
+        func: u32,
+        args: &[CoreValue],
+        state: &MachineState,
+        answers: &[Answer],
+        steps: u64,
+    ) -> Result<Outcome, OutOfMemory>
+        ensures outcome { IfOk result (λ outcome. outcome ≡ run_of «module».now func args.now state.now answers.now steps) }
+
+        // A run that is still going took all its steps.
+        ensures going { IfOk result (λ outcome. outcome.end ≡ End.Going → steps_of «module».now func args.now state.now answers.now steps ≡ steps) }
+
+        // A run that lacks an answer took all that it was given, and would take one more.
+        ensures lacks { IfOk result (λ outcome. outcome.end ≡ End.Lacks → answers_of outcome.log ≡ answers.now) }
+        ensures asks { IfOk result (λ outcome. outcome.end ≡ End.Lacks → (more : Answer) → answers_of (run_of «module».now func args.now state.now (answers.now ++ more ∷ []) steps).log ≡ answers.now ++ more ∷ []) }
+    {
+        let mut run = Running {
+            state: state.try_clone()?,
+            answers,
+            trace: Seq::new(alloc),
+            stack: Stack::from_slice(alloc, args)?,
+            locals: Seq::new(alloc),
+            code: &[],
+            around: Seq::new(alloc),
+        };
+        let end = call_and_go_on(&mut run, alloc, module, func, args, steps)?;
+        let Running { state, trace, .. } = run;
+        Ok(Outcome {
+            end,
+            state,
+            log: calls_of(alloc, trace)?,
+        })
+    }
+}
+
+/// The outside calls of a trace.
+fn calls_of(alloc: Global, trace: Seq<TraceEntry>) -> Result<Seq<Event>, OutOfMemory>
+    ensures { IfOk result (λ log. log ≡ calls trace) }
+{
+    let mut log = Seq::new(alloc);
+    for entry in trace.into_vec() {
+        if let TraceEntry::Called(event) = entry {
+            log.push(event)?;
+        }
+    }
+    Ok(log)
+}
+
+/// Calls the nth function that the module defines, where it takes the arguments, and goes on for at most so many steps.
+fn call_and_go_on<'m>(
+    run: &mut Running<'m>,
+    alloc: Global,
+    module: &'m WasmModule,
+    n: u32,
+    args: &[CoreValue],
+    steps: u64,
+) -> Result<End, OutOfMemory>
+    ensures { IfOk result (λ end. outcome_at end (world_of run.new) ≡ after (exec «module».now steps) (check (world_of run.old) (takes_of «module».now n args.now) (at run.old (defined «module».now n)))) }
+{
+    if !takes(module, n, args) {
+        return Ok(End::Stuck);
+    }
+    match call_defined(run, alloc, module, n)? {
+        Some(end) => Ok(end),
+        None => go_on(run, alloc, module, steps),
+    }
+}
+
+/// Goes on for at most so many steps, and answers how that ended.
+fn go_on<'m>(
+    run: &mut Running<'m>,
+    alloc: Global,
+    module: &'m WasmModule,
+    steps: u64,
+) -> Result<End, OutOfMemory>
+    ensures { IfOk result (λ end. outcome_at end (world_of run.new) ≡ exec «module».now steps (config_of run.old)) }
+{
+    for _ in 0..steps {
+        if let Some(end) = advance(run, alloc, module)? {
+            return Ok(end);
+        }
+    }
+    rest(run, alloc)
+}
+
+/// One step.
+fn advance<'m>(run: &mut Running<'m>, alloc: Global, module: &'m WasmModule) -> Step
+    ensures { IfOk result (λ end. did_of end run.new ≡ begin_of «module».now (next (config_of run.old))) }
+{
+    if !settle(run)? {
+        return Ok(Some(End::Returned(results(run, alloc))));
+    }
+    begin(run, alloc, module)
+}
+
+/// How the run stands with no step left.
+fn rest(run: &mut Running, alloc: Global) -> Result<End, OutOfMemory>
+    ensures { IfOk result (λ end. outcome_at end (world_of run.new) ≡ at_rest (next (config_of run.old))) }
+{
+    if settle(run)? {
+        Ok(End::Going)
+    } else {
+        Ok(End::Returned(results(run, alloc)))
+    }
+}
+
+/// Takes the results off the stack.
+fn results(run: &mut Running, alloc: Global) -> Seq<CoreValue>
+    ensures results { result ≡ reverse run.old.stack }
+    ensures world { world_of run.new ≡ world_of run.old }
+{
+    mem::replace(&mut run.stack, Stack::new(alloc)).into_values()
+}

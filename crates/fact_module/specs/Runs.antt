@@ -1,0 +1,203 @@
+-- Runs of an adapter: typed, honest, and what they carry.
+use Rattle.std.specs.Prelude.{◌≡◌, ◌≢◌, ℕ, ◌+◌, ◌*◌, ◌%◌, ◌/◌, ◌<◌, ◌≤◌, ◌^◌, Bool, true, false, nat_eq, List, [], ◌∷◌, Option, Some, None, slice_get, All, filter, length, ◌⊎◌, if◌then◌else◌, IsSome, unwrap_or}
+use Rattle.std.specs.List.{AllZip, flat_map, filter_map}
+use Rattle.fact_wasm.specs.declared.types.ValType.{ValType}
+use Rattle.fact_wasm.specs.declared.types.FuncType.{FuncType}
+use Rattle.fact_wasm.specs.declared.instr.FuncName.TheVariants as func
+use Rattle.fact_wasm.specs.declared.module.ImportType.TheVariants as import
+use Rattle.fact_wasm.specs.declared.module.WasmImport.{WasmImport}
+use Rattle.fact_wasm.specs.declared.module.WasmModule.{WasmModule}
+use Rattle.fact_plan.specs.declared.plain.CoreDef.{CoreDef}
+use Rattle.fact_plan.specs.declared.plain.CoreDef.TheVariants as def
+use Rattle.fact_machine.specs.declared.types.CoreValue.{CoreValue}
+use Rattle.fact_machine.specs.declared.types.CoreValue.TheVariants.{I32, I64, F32, F64, Func}
+use Rattle.fact_machine.specs.declared.types.MachineState.{MachineState}
+use Rattle.fact_machine.specs.declared.types.Answer.{Answer}
+use Rattle.fact_machine.specs.declared.types.Answer.TheVariants.{Returns, Traps, Throws}
+use Rattle.fact_machine.specs.declared.types.Event.{Event}
+use Rattle.fact_machine.specs.declared.types.Outcome.{Outcome}
+use Rattle.fact_machine.specs.declared.types.End.{End}
+use Rattle.fact_machine.specs.declared.types.End.TheVariants.{Returned, Lacks}
+use Rattle.fact_machine.specs.Machine.{has_type, func_import, run_of}
+use Rattle.fact_module.specs.declared.plain.Import.{Import}
+use Rattle.fact_module.specs.declared.plain.Import.TheVariants as known
+use Rattle.fact_module.specs.Adapters.{Adapter}
+use Rattle.fact_module.specs.Imports.{same_def, imported_function, imported_globals}
+use Rattle.fact_module.specs.Values.{Value, lift_all, carry_all, weights}
+
+-- ---- typed runs
+
+-- the bits of a value are as many as its type has
+abbrev pub IsBits : CoreValue → Type 0
+IsBits (I32 n) = n < 2 ^ 32
+IsBits (I64 n) = n < 2 ^ 64
+IsBits (F32 n) = n < 2 ^ 32
+IsBits (F64 n) = n < 2 ^ 64
+IsBits (Func f) = Unit {0}
+
+-- a value of a core type
+abbrev pub IsValue : CoreValue → ValType → Type 0
+IsValue v t = (has_type v t ≡ true) × IsBits v
+
+abbrev pub page_bytes : Option ℕ → ℕ
+page_bytes None = 2 ^ 16
+page_bytes (Some k) = 2 ^ k
+
+-- a memory of 64 bits has fewer than 2 ^ 64 bytes, one of 32 at most 2 ^ 32 bytes and fewer than 2 ^ 32 pages
+abbrev pub FitsWidth : Bool → (bytes pages : ℕ) → Type 0
+FitsWidth true bytes pages = bytes < 2 ^ 64
+FitsWidth false bytes pages = (bytes ≤ 2 ^ 32) × (pages < 2 ^ 32)
+
+-- the bytes of a memory, a whole number of pages
+pub record IsMemory (wide : Bool) (page : Option ℕ) (bytes : List ℕ) : Type 0 where
+  pub are_bytes : All (λ b. b < 256) bytes
+  pub whole : length bytes % page_bytes page ≡ 0
+  pub fits : FitsWidth wide (length bytes) (length bytes / page_bytes page)
+
+abbrev pub memory_type : WasmImport → Option (Bool × Option ℕ)
+memory_type w = elim w.ty [ import.Func t ↦ None | import.Memory least wide page ↦ Some (wide, page) | import.Global t mutable ↦ None ]
+
+abbrev pub global_type : WasmImport → Option ValType
+global_type w = elim w.ty [ import.Func t ↦ None | import.Memory least wide page ↦ None | import.Global t mutable ↦ Some t ]
+
+-- one memory for each memory import, and one value for each global import
+pub record TypedState (m : WasmModule) (s : MachineState) : Type 0 where
+  pub memories : AllZip (λ t bytes. IsMemory t.0 t.1 bytes) (filter_map memory_type m.imports) s.memories
+  pub globals : AllZip (λ t v. IsValue v t) (filter_map global_type m.imports) s.globals
+
+infixl 10 ◌>>=◌
+abbrev ◌>>=◌ : {A B : Type 0} → Option A → (A → Option B) → Option B
+None >>= f = None
+Some x >>= f = f x
+
+-- the type of the nth imported function
+abbrev pub type_of_import : WasmModule → ℕ → Option FuncType
+type_of_import m n = func_import m.imports n >>= slice_get m.types
+
+abbrev pub AreResults : Option FuncType → List CoreValue → Type 0
+AreResults None vs = ⊥
+AreResults (Some t) vs = AllZip (λ v t. IsValue v t) vs t.results
+
+-- an answer that traps, throws, or returns results of the import's type with a state in which no memory is shorter
+abbrev pub TypedAnswer : WasmModule → ℕ → MachineState → Answer → Type 0
+TypedAnswer m f before (Returns results after) =
+    AreResults (type_of_import m f) results × TypedState m after × AllZip (λ old new. length old ≤ length new) before.memories after.memories
+TypedAnswer m f before Traps = Unit {0}
+TypedAnswer m f before Throws = Unit {0}
+
+-- ---- honest runs
+
+-- What an imported function does to the memories. The callee may do anything; traps, transfers, context slots, entering and
+-- leaving change none. No other imported function is called by the adapters that are built so far.
+abbrev pub HonestChange : Option Import → (before after : MachineState) → Type 0
+HonestChange None before after = ⊥
+HonestChange (Some (known.CoreDef d)) before after = Unit {0}
+HonestChange (Some (known.Transcode op from from64 to to64)) before after = Unit {0}
+HonestChange (Some (known.PrepareCall memory)) before after = Unit {0}
+HonestChange (Some (known.StartCall callback post_return)) before after = Unit {0}
+HonestChange (Some _) before after = after.memories ≡ before.memories
+
+abbrev pub HonestAnswer : Option Import → MachineState → Answer → Type 0
+HonestAnswer i before (Returns results after) = HonestChange i before after
+HonestAnswer i before Traps = ⊥
+HonestAnswer i before Throws = ⊥
+
+-- a typed and honest answer, neither a trap nor a throw
+abbrev pub IsHonest : WasmModule → List Import → Event → Type 0
+IsHonest m is e = TypedAnswer m e.func e.before e.answer × HonestAnswer (imported_function m is (func.Import e.func)) e.before e.answer
+
+-- ---- what a run is read by
+
+abbrev pub is_flags : ℕ → Import → Bool
+is_flags instance (known.CoreDef (def.InstanceFlags i)) = nat_eq i.0 instance
+is_flags instance _ = false
+
+abbrev pub flags_among : ℕ → List Import → List CoreValue → Option CoreValue
+flags_among instance (i ∷ is) (v ∷ vs) = if is_flags instance i then Some v else flags_among instance is vs
+flags_among instance _ _ = None
+
+-- the flags of an instance, in a state
+abbrev pub flags_of : WasmModule → List Import → ℕ → MachineState → Option CoreValue
+flags_of m is instance s = flags_among instance (imported_globals m.imports is) s.globals
+
+-- the instance may be left
+abbrev pub IsSet : Option CoreValue → Type 0
+IsSet (Some (I32 n)) = n ≢ 0
+IsSet _ = ⊥
+
+abbrev pub is_def : CoreDef → Option Import → Bool
+is_def d (Some (known.CoreDef e)) = same_def e d
+is_def d _ = false
+
+-- the calls of a core definition
+abbrev pub calls_of : WasmModule → List Import → CoreDef → List Event → List Event
+calls_of m is d log = filter (λ e. is_def d (imported_function m is (func.Import e.func))) log
+
+abbrev pub is_transfer : Option Import → Bool
+is_transfer (Some known.ResourceTransferOwn) = true
+is_transfer (Some known.ResourceTransferBorrow) = true
+is_transfer (Some known.FutureTransfer) = true
+is_transfer (Some known.StreamTransfer) = true
+is_transfer (Some known.ErrorContextTransfer) = true
+is_transfer _ = false
+
+abbrev pub transfers_of : WasmModule → List Import → List Event → List Event
+transfers_of m is log = filter (λ e. is_transfer (imported_function m is (func.Import e.func))) log
+
+-- the values that an answer of the callee gives
+abbrev pub answered_values : Adapter → Answer → Option (List Value)
+answered_values a (Returns results after) = lift_all a.lift.results results
+answered_values a Traps = Some []
+answered_values a Throws = Some []
+
+-- the values of all answers of the callee
+abbrev pub results_in : WasmModule → List Import → Adapter → List Event → List Value
+results_in m is a log = flat_map (λ e. unwrap_or (answered_values a e.answer) []) (calls_of m is a.callee log)
+
+-- ---- the promise on runs
+
+-- What a run that returned these results did: the caller could be left, the callee was called once, its arguments are the
+-- caller's, and its results are what the caller got.
+pub record Carried (m : WasmModule) (is : List Import) (a : Adapter) (before : MachineState) (args : List CoreValue) (log : List Event) (results : List CoreValue) : Type 0 where
+  pub flag : IsSet (flags_of m is a.lower.instance before)
+  pub call : Event
+  pub called_once : calls_of m is a.callee log ≡ call ∷ []
+  pub callee_results : List CoreValue
+  pub after : MachineState
+  pub answer : call.answer ≡ Returns callee_results after
+  pub sent : List Value
+  pub received : List Value
+  pub arguments : lift_all a.lower.params args ≡ Some sent
+  pub carried_in : carry_all a.lower.params a.lift.params sent ≡ Some received
+  pub callee_arguments : lift_all a.lift.params call.args ≡ Some received
+  pub returned : List Value
+  pub given : List Value
+  pub callee_returned : lift_all a.lift.results callee_results ≡ Some returned
+  pub carried_out : carry_all a.lift.results a.lower.results returned ≡ Some given
+  pub caller_results : lift_all a.lower.results results ≡ Some given
+  pub transfers : transfers_of m is log ≡ []
+
+abbrev pub IsOver : End → Type 0
+IsOver e = ((results : List CoreValue) × (e ≡ Returned results)) ⊎ (e ≡ Lacks)
+
+-- A run that ended, by returning or for want of an answer, with no more outside calls than its values account for.
+pub record EndsSoon (m : WasmModule) (is : List Import) (a : Adapter) (args : List CoreValue) (o : Outcome) : Type 0 where
+  pub over : IsOver o.end
+  pub few_calls : length o.log ≤ 30 * (weights (unwrap_or (lift_all a.lower.params args) []) + weights (results_in m is a o.log) + 1)
+
+-- What every run of an adapter's function, on a typed state and typed arguments, does.
+pub record Behaves (m : WasmModule) (is : List Import) (debug : Bool) (a : Adapter) (f : ℕ) : Type 0 where
+  -- where all answers so far were typed and honest and the run has returned, values were carried
+  pub carries : (before : MachineState) (args : List CoreValue) (answers : List Answer) (steps : ℕ) (results : List CoreValue)
+      → TypedState m before → AllZip (λ v t. IsValue v t) args a.lower.core_type.params
+      → All (IsHonest m is) (run_of m f args before answers steps).log
+      → (run_of m f args before answers steps).end ≡ Returned results
+      → Carried m is a before args (run_of m f args before answers steps).log results
+  -- Where all answers are typed and honest, the caller may be left, and the values exist, the run ends.
+  pub ends : (before : MachineState) (args : List CoreValue) (answers : List Answer)
+      → debug ≡ false → TypedState m before → AllZip (λ v t. IsValue v t) args a.lower.core_type.params
+      → ((steps : ℕ) → All (IsHonest m is) (run_of m f args before answers steps).log)
+      → IsSet (flags_of m is a.lower.instance before)
+      → IsSome (lift_all a.lower.params args)
+      → ((steps : ℕ) → All (λ e. IsSome (answered_values a e.answer)) (calls_of m is a.callee (run_of m f args before answers steps).log))
+      → (steps : ℕ) × EndsSoon m is a args (run_of m f args before answers steps)
