@@ -1,5 +1,5 @@
 -- What the ends Going and Lacks come from.
-use Rattle.std.proofs.Common.{◌≡◌, ℕ, zero, suc, ◌≤◌, List, [], ◌∷◌, ◌++◌, Option, length, reverse, refl, sym, ap, ◌∙◌, subst, arith, append_assoc, append-nil}
+use Rattle.std.proofs.Common.{◌≡◌, ℕ, zero, suc, ◌%◌, ◌^◌, ◌≤◌, List, [], ◌∷◌, ◌++◌, Option, length, reverse, refl, sym, ap, ◌∙◌, subst, arith, append_assoc, append-nil}
 use Rattle.std.proofs.lemmas.List.{map-append}
 use Rattle.fact_wasm.specs.declared.instr.Instr.{Instr, out-Instr}
 use Rattle.fact_wasm.specs.declared.module.WasmModule.{WasmModule}
@@ -9,7 +9,7 @@ use Rattle.fact_machine.specs.declared.types.Answer.{Answer}
 use Rattle.fact_machine.specs.declared.types.Answer.TheVariants.{Returns, Traps, Throws}
 use Rattle.fact_machine.specs.declared.types.Event.{Event}
 use Rattle.fact_machine.specs.declared.types.TraceEntry.{TraceEntry}
-use Rattle.fact_machine.specs.declared.types.TraceEntry.TheVariants.{Called, GlobalSet}
+use Rattle.fact_machine.specs.declared.types.TraceEntry.TheVariants.{Called, Stored, GlobalSet}
 use Rattle.fact_machine.specs.declared.types.End.{End}
 use Rattle.fact_machine.specs.declared.types.End.TheVariants.{Returned, Trapped, Thrown, Lacks, Going, Stuck}
 use Rattle.fact_machine.specs.declared.types.Outcome.{Outcome}
@@ -17,7 +17,7 @@ use Rattle.fact_machine.specs.World.{World, calls, log_of, asked, answered}
 use Rattle.fact_machine.specs.Machine.{Around, Bottom, Label, Frame, Config, At, Did, Goes, Ends, Next, Begins, Finished, on_res, throw, act, next_of, next, begin, at_rest, after, exec, start, run_of}
 use Rattle.fact_machine.specs.Causes.{answers_of, taken_after, taken_from, taken, steps_of}
 use Rattle.fact_machine.proofs.Traces.{calls-append}
-use Rattle.fact_machine.proofs.Plans.{IsPlain, Leap, To, Stops, leaps, Plan, Leaps, Sets, Asks, does, world, Planned, throw_leaping, act_planned, start_planned}
+use Rattle.fact_machine.proofs.Plans.{IsPlain, Leap, To, Stops, leaps, Plan, Leaps, Sets, Writes, Asks, does, world, Planned, throw_leaping, act_planned, start_planned}
 
 -- ---- the answers in the log and those that are left are always the answers given
 
@@ -73,6 +73,8 @@ does_kept : (p : Plan) (w : World) (all : List Answer) (n : ℕ) → Keeps all n
 does_kept (Leaps l) w all n h = leaps_kept l w all n h
 does_kept (Sets i v vs ls code k) w all n h =
     record { told = ap (λ l. answers_of l ++ w.answers) (calls-append w.trace (GlobalSet i v ∷ []) ∙ append-nil (calls w.trace)) ∙ h.told; fewer = h.fewer }
+does_kept (Writes i index memory address value vs ls code k) w all n h =
+    record { told = ap (λ l. answers_of l ++ w.answers) (calls-append w.trace (Stored index address i (value % 256 ^ i) ∷ []) ∙ append-nil (calls w.trace)) ∙ h.told; fewer = h.fewer }
 does_kept (Asks f args vs ls code k) w all n h = asked_kept f args w w.answers all n vs ls code k refl h
 
 planned_kept : (w : World) (go : List Answer → List TraceEntry → Did) (all : List Answer) (n : ℕ) → Planned w.state go → Keeps all n w → Kept all n (go w.answers w.trace)

@@ -1,10 +1,14 @@
 -- A trace only grows.
 use Rattle.std.proofs.Common.{◌≡◌, ℕ, zero, suc, ◌+◌, ◌-◌, ◌≤◌, List, [], ◌∷◌, ◌++◌, Option, Some, None, refl, sym, ap, ◌∙◌, arith, append_assoc, append-nil, Bool, true, false, length, reverse, slice_get}
+use Rattle.std.specs.Prelude.{◌/◌, nat_le, if◌then◌else◌}
 use Rattle.fact_wasm.specs.declared.types.FuncType.{FuncType}
 use Rattle.fact_wasm.specs.declared.instr.BlockType.{BlockType}
+use Rattle.fact_wasm.specs.declared.instr.FuncName.{FuncName}
 use Rattle.fact_wasm.specs.declared.instr.FuncName.TheVariants.{Import, Defined}
 use Rattle.fact_wasm.specs.declared.instr.Instr.{Instr, out-Instr}
-use Rattle.fact_wasm.specs.declared.instr.Instr.TheOpen.{Instr-F, Unreachable, Block, BrIf, Call, LocalGet, LocalSet, LocalTee, GlobalGet, GlobalSet, I32Const}
+use Rattle.fact_wasm.specs.declared.instr.MemArg.{MemArg}
+use Rattle.fact_wasm.specs.declared.instr.Instr.TheOpen as instr
+use Rattle.fact_wasm.specs.declared.instr.Instr.TheOpen.{Instr-F}
 use Rattle.fact_wasm.specs.declared.module.WasmModule.{WasmModule}
 use Rattle.fact_machine.specs.declared.types.CoreValue.{CoreValue}
 use Rattle.fact_machine.specs.declared.types.CoreValue.TheVariants.{I32, I64, F32, F64, Func}
@@ -14,8 +18,9 @@ use Rattle.fact_machine.specs.declared.types.Answer.TheVariants.{Returns, Traps,
 use Rattle.fact_machine.specs.declared.types.TraceEntry.{TraceEntry}
 use Rattle.fact_machine.specs.declared.types.TraceEntry.TheVariants as entry
 use Rattle.fact_machine.specs.declared.types.Outcome.{Outcome}
-use Rattle.fact_machine.specs.World.{World, calls, log_of, Res, Done, Halt, Trap, Throw, Lack, asked, outside}
-use Rattle.fact_machine.specs.Machine.{Around, Bottom, Label, Frame, Config, At, Did, Goes, Ends, Next, Begins, Finished, or_stuck, check, grab, has_type, type_of, have_types, may_follow, block_arity, func_import, branch, throw, on_res, call_inside, call_import, enter, with_top, with_i32, when, set_local, act, next_of, next, begin, exec, start, run_of}
+use Rattle.fact_machine.specs.World.{World, calls, log_of, Res, Done, Halt, Trap, Throw, Lack, asked, outside, read, write, written}
+use Rattle.fact_machine.specs.Operands.{operate}
+use Rattle.fact_machine.specs.Machine.{Around, Bottom, Label, Frame, Config, At, Did, Goes, Ends, Next, Begins, Finished, or_stuck, check, grab, has_type, type_of, have_types, may_follow, block_arity, func_import, branch, throw, on_res, call_inside, call_import, memory_import, enter, with_top, with_i32, with_i64, with_address, when, set_local, block, or_empty, label_at, ref_func, i32_of, i64_of, f32_of, f64_of, load, store, page_bytes, size_value, act, next_of, next, begin, exec, start, run_of}
 use Rattle.fact_machine.specs.Trace.{Reached, reached_at_rest, reached_after, reach, world_at, trace_of, Grows}
 use Rattle.fact_machine.proofs.Laws.{exec_is, run_is, Exit, Leaves, leads}
 use Rattle.fact_machine.proofs.Laws as exit
@@ -110,6 +115,18 @@ i32_later w (F32 n ∷ vs) go h = grows_none w.trace
 i32_later w (F64 n ∷ vs) go h = grows_none w.trace
 i32_later w (Func n ∷ vs) go h = grows_none w.trace
 
+i64_later : (w : World) (vs : List CoreValue) (go : ℕ → List CoreValue → Did) → ((n : ℕ) (us : List CoreValue) → Later w (go n us)) → Later w (with_i64 w vs go)
+i64_later w [] go h = grows_none w.trace
+i64_later w (I32 n ∷ vs) go h = grows_none w.trace
+i64_later w (I64 n ∷ vs) go h = h n vs
+i64_later w (F32 n ∷ vs) go h = grows_none w.trace
+i64_later w (F64 n ∷ vs) go h = grows_none w.trace
+i64_later w (Func n ∷ vs) go h = grows_none w.trace
+
+address_later : (w : World) (memory64 : Bool) (vs : List CoreValue) (go : ℕ → List CoreValue → Did) → ((n : ℕ) (us : List CoreValue) → Later w (go n us)) → Later w (with_address memory64 w vs go)
+address_later w true vs go h = i64_later w vs go h
+address_later w false vs go h = i32_later w vs go h
+
 when_later : (w : World) (n : ℕ) (a b : Did) → Later w a → Later w b → Later w (when n a b)
 when_later w zero a b p q = q
 when_later w (suc n) a b p q = p
@@ -149,19 +166,66 @@ inside_later : (M : WasmModule) (n : ℕ) (w : World) (vs : List CoreValue) (ls 
 inside_later M n w vs ls rest k =
     or_later w (slice_get M.funcs n) _ (λ f. or_later w (slice_get M.types f.ty) _ (λ t. or_later w (grab (length t.params) vs) _ (λ p. check_later w (have_types (reverse p.0) t.params) _ (grows_none w.trace))))
 
--- each row: here stand the new cases of new rows
+block_later : (M : WasmModule) (bt : BlockType) (body : List Instr) (w : World) (vs : List CoreValue) (ls : List (Option CoreValue)) (rest : List Instr) (k : Around) → Later w (block M bt body w vs ls rest k)
+block_later M bt body w vs ls rest k = enter_later w M.types bt vs _ (λ m n a b. grows_none w.trace)
+
+branch_later : (w : World) (l : ℕ) (vs : List CoreValue) (ls : List (Option CoreValue)) (k : Around) → Later w (branch w l vs ls k)
+branch_later w l vs ls k = same_later w (branch w l vs ls k) (branch_world w l vs ls k)
+
+ref_later : (M : WasmModule) (f : FuncName) (w : World) (vs : List CoreValue) (ls : List (Option CoreValue)) (rest : List Instr) (k : Around) → Later w (ref_func M f w vs ls rest k)
+ref_later M (Import n) w vs ls rest k = or_later w (func_import M.imports n) _ (λ ty. grows_none w.trace)
+ref_later M (Defined n) w vs ls rest k = or_later w (slice_get M.funcs n) _ (λ f. grows_none w.trace)
+
+-- a primitive that goes on where a test holds, and traps where it does not
+tested_later : {A : Type 0} (w u : World) (b : Bool) (x : A) → Grows w.trace u.trace → Grows w.trace (res_world (if b then Done x u else Halt Trap w)).trace
+tested_later w u true x h = h
+tested_later w u false x h = grows_none w.trace
+
+load_later : (M : WasmModule) (n : ℕ) (value : ℕ → CoreValue) (m : MemArg) (w : World) (vs : List CoreValue) (ls : List (Option CoreValue)) (rest : List Instr) (k : Around) → Later w (load M n value m w vs ls rest k)
+load_later M n value m w vs ls rest k =
+    or_later w (memory_import M.imports m.memory_index) _ (λ t. address_later w t.0 vs _ (λ base us. or_later w (slice_get w.state.memories m.memory_index) _ (λ bytes.
+    res_later w (read n bytes (base + m.offset) w) ls k _ (tested_later w w (nat_le (base + m.offset + n) (length bytes)) _ (grows_none w.trace)) (λ number u. grows_none u.trace))))
+
+store_later : (M : WasmModule) (n : ℕ) (number : CoreValue → Option ℕ) (m : MemArg) (w : World) (vs : List CoreValue) (ls : List (Option CoreValue)) (rest : List Instr) (k : Around) → Later w (store M n number m w vs ls rest k)
+store_later M n number m w vs ls rest k =
+    top_later w vs _ (λ v us. or_later w (number v) _ (λ value. or_later w (memory_import M.imports m.memory_index) _ (λ t. address_later w t.0 us _ (λ base us'. or_later w (slice_get w.state.memories m.memory_index) _ (λ bytes.
+    res_later w (write n m.memory_index bytes (base + m.offset) value w) ls k _
+    (tested_later w (written n m.memory_index bytes (base + m.offset) value w) (nat_le (base + m.offset + n) (length bytes)) tt (grows_by w.trace _)) (λ done u. grows_none u.trace))))))
+
+-- each row
 act_later : (M : WasmModule) (f : Instr-F Instr) (w : World) (vs : List CoreValue) (ls : List (Option CoreValue)) (rest : List Instr) (k : Around) → Later w (act M f w vs ls rest k)
-act_later M Unreachable w vs ls rest k = grows_none w.trace
-act_later M (Block bt body) w vs ls rest k = enter_later w M.types bt vs _ (λ m n a b. grows_none w.trace)
-act_later M (BrIf l) w vs ls rest k = i32_later w vs _ (λ c us. when_later w c _ _ (same_later w (branch w l us ls k) (branch_world w l us ls k)) (grows_none w.trace))
-act_later M (Call (Import n)) w vs ls rest k = import_later M n w vs ls rest k
-act_later M (Call (Defined n)) w vs ls rest k = inside_later M n w vs ls rest k
-act_later M (LocalGet n) w vs ls rest k = or_later w (slice_get ls n) _ (λ o. or_later w o _ (λ v. grows_none w.trace))
-act_later M (LocalSet n) w vs ls rest k = top_later w vs _ (λ v us. local_later w n v ls (λ l. Goes (At w us l rest k)) (λ l. grows_none w.trace))
-act_later M (LocalTee n) w vs ls rest k = top_later w vs _ (λ v us. local_later w n v ls (λ l. Goes (At w vs l rest k)) (λ l. grows_none w.trace))
-act_later M (GlobalGet n) w vs ls rest k = or_later w (slice_get w.state.globals n) _ (λ v. grows_none w.trace)
-act_later M (GlobalSet n) w vs ls rest k = top_later w vs _ (λ v us. or_later w (slice_get w.state.globals n) _ (λ old. check_later w (has_type v (type_of old)) _ (grows_by w.trace _)))
-act_later M (I32Const n) w vs ls rest k = grows_none w.trace
+act_later M instr.Unreachable w vs ls rest k = grows_none w.trace
+act_later M (instr.Block bt body) w vs ls rest k = block_later M bt body w vs ls rest k
+act_later M (instr.Loop bt body) w vs ls rest k = enter_later w M.types bt vs _ (λ m n a b. grows_none w.trace)
+act_later M (instr.If bt body other) w vs ls rest k = i32_later w vs _ (λ c us. when_later w c _ _ (block_later M bt body w us ls rest k) (block_later M bt (or_empty other) w us ls rest k))
+act_later M (instr.TryTable bt catches body) w vs ls rest k = enter_later w M.types bt vs _ (λ m n a b. grows_none w.trace)
+act_later M (instr.Br l) w vs ls rest k = branch_later w l vs ls k
+act_later M (instr.BrIf l) w vs ls rest k = i32_later w vs _ (λ c us. when_later w c _ _ (branch_later w l us ls k) (grows_none w.trace))
+act_later M (instr.BrTable labels last) w vs ls rest k = i32_later w vs _ (λ i us. branch_later w (label_at labels last i) us ls k)
+act_later M (instr.Call (Import n)) w vs ls rest k = import_later M n w vs ls rest k
+act_later M (instr.Call (Defined n)) w vs ls rest k = inside_later M n w vs ls rest k
+act_later M (instr.RefFunc f) w vs ls rest k = ref_later M f w vs ls rest k
+act_later M (instr.LocalGet n) w vs ls rest k = or_later w (slice_get ls n) _ (λ o. or_later w o _ (λ v. grows_none w.trace))
+act_later M (instr.LocalSet n) w vs ls rest k = top_later w vs _ (λ v us. local_later w n v ls (λ l. Goes (At w us l rest k)) (λ l. grows_none w.trace))
+act_later M (instr.LocalTee n) w vs ls rest k = top_later w vs _ (λ v us. local_later w n v ls (λ l. Goes (At w vs l rest k)) (λ l. grows_none w.trace))
+act_later M (instr.GlobalGet n) w vs ls rest k = or_later w (slice_get w.state.globals n) _ (λ v. grows_none w.trace)
+act_later M (instr.GlobalSet n) w vs ls rest k = top_later w vs _ (λ v us. or_later w (slice_get w.state.globals n) _ (λ old. check_later w (has_type v (type_of old)) _ (grows_by w.trace _)))
+act_later M (instr.I32Load m) w vs ls rest k = load_later M 4 _ m w vs ls rest k
+act_later M (instr.I64Load m) w vs ls rest k = load_later M 8 _ m w vs ls rest k
+act_later M (instr.F32Load m) w vs ls rest k = load_later M 4 _ m w vs ls rest k
+act_later M (instr.F64Load m) w vs ls rest k = load_later M 8 _ m w vs ls rest k
+act_later M (instr.I32Load8S m) w vs ls rest k = load_later M 1 _ m w vs ls rest k
+act_later M (instr.I32Load8U m) w vs ls rest k = load_later M 1 _ m w vs ls rest k
+act_later M (instr.I32Load16S m) w vs ls rest k = load_later M 2 _ m w vs ls rest k
+act_later M (instr.I32Load16U m) w vs ls rest k = load_later M 2 _ m w vs ls rest k
+act_later M (instr.I32Store m) w vs ls rest k = store_later M 4 i32_of m w vs ls rest k
+act_later M (instr.I64Store m) w vs ls rest k = store_later M 8 i64_of m w vs ls rest k
+act_later M (instr.F32Store m) w vs ls rest k = store_later M 4 f32_of m w vs ls rest k
+act_later M (instr.F64Store m) w vs ls rest k = store_later M 8 f64_of m w vs ls rest k
+act_later M (instr.I32Store8 m) w vs ls rest k = store_later M 1 i32_of m w vs ls rest k
+act_later M (instr.I32Store16 m) w vs ls rest k = store_later M 2 i32_of m w vs ls rest k
+act_later M (instr.MemorySize n) w vs ls rest k = or_later w (memory_import M.imports n) _ (λ t. or_later w (slice_get w.state.memories n) _ (λ bytes. or_later w (size_value t.0 (length bytes / page_bytes t.1)) _ (λ v. grows_none w.trace)))
+act_later M i w vs ls rest k = or_later w (operate i vs) (λ us. Goes (At w us ls rest k)) (λ us. grows_none w.trace)
 
 -- ---- any number of steps
 

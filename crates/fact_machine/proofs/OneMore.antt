@@ -12,7 +12,7 @@ use Rattle.fact_machine.specs.declared.types.End.TheVariants.{Lacks}
 use Rattle.fact_machine.specs.World.{World, log_of, asked}
 use Rattle.fact_machine.specs.Machine.{Around, Bottom, Label, Frame, Config, At, Did, Goes, Ends, Next, Begins, Finished, on_res, throw, next_of, next, begin, at_rest, after, exec, act, start, run_of}
 use Rattle.fact_machine.specs.Causes.{answers_of}
-use Rattle.fact_machine.proofs.Plans.{IsPlain, Leap, To, Stops, leaps, Plan, Leaps, Sets, Asks, does, world, Planned, throw_leaping, act_planned, start_planned}
+use Rattle.fact_machine.proofs.Plans.{IsPlain, Leap, To, Stops, leaps, Plan, Leaps, Sets, Writes, Asks, does, world, Planned, throw_leaping, act_planned, start_planned}
 use Rattle.fact_machine.proofs.Causes.{Keeps, Kept, Told, config_world, next_world, answered_kept, begin_kept, step_keeps, after_told, exec_told, start_kept}
 
 -- the same world with one answer more
@@ -55,6 +55,7 @@ asked_beside f args w (Throws ∷ more) all a vs ls code k e h = throw_beside _ 
 does_beside : (p : Plan) (w : World) (all : List Answer) (a : Answer) → answers_of (log_of w) ++ w.answers ≡ all → Beside all a (does p w) (does p (given a w))
 does_beside (Leaps l) w all a h = leaps_beside l w all a
 does_beside (Sets i v vs ls code k) w all a h = refl
+does_beside (Writes n index memory address value vs ls code k) w all a h = refl
 does_beside (Asks f args vs ls code k) w all a h = asked_beside f args w w.answers all a vs ls code k refl h
 
 planned_beside : (w : World) (go : List Answer → List TraceEntry → Did) (all : List Answer) (a : Answer) → Planned w.state go → answers_of (log_of w) ++ w.answers ≡ all → Beside all a (go w.answers w.trace) (go (w.answers ++ a ∷ []) w.trace)

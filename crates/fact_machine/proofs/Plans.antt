@@ -1,11 +1,14 @@
 -- What a row of the instruction table does is chosen by the state alone, without the answers and the trace.
 use Rattle.std.proofs.Common.{◌≡◌, ℕ, zero, suc, List, [], ◌∷◌, ◌++◌, Option, Some, None, Bool, true, false, length, reverse, refl}
-use Rattle.std.specs.Prelude.{slice_get}
+use Rattle.std.specs.Prelude.{◌+◌, ◌/◌, nat_le, if◌then◌else◌, slice_get}
 use Rattle.fact_wasm.specs.declared.types.FuncType.{FuncType}
 use Rattle.fact_wasm.specs.declared.instr.BlockType.{BlockType}
+use Rattle.fact_wasm.specs.declared.instr.FuncName.{FuncName}
 use Rattle.fact_wasm.specs.declared.instr.FuncName.TheVariants.{Import, Defined}
 use Rattle.fact_wasm.specs.declared.instr.Instr.{Instr}
-use Rattle.fact_wasm.specs.declared.instr.Instr.TheOpen.{Instr-F, Unreachable, Block, BrIf, Call, LocalGet, LocalSet, LocalTee, GlobalGet, GlobalSet, I32Const}
+use Rattle.fact_wasm.specs.declared.instr.MemArg.{MemArg}
+use Rattle.fact_wasm.specs.declared.instr.Instr.TheOpen as instr
+use Rattle.fact_wasm.specs.declared.instr.Instr.TheOpen.{Instr-F}
 use Rattle.fact_wasm.specs.declared.module.WasmModule.{WasmModule}
 use Rattle.fact_machine.specs.declared.types.CoreValue.{CoreValue}
 use Rattle.fact_machine.specs.declared.types.CoreValue.TheVariants.{I32, I64, F32, F64, Func}
@@ -14,8 +17,9 @@ use Rattle.fact_machine.specs.declared.types.Answer.{Answer}
 use Rattle.fact_machine.specs.declared.types.TraceEntry.{TraceEntry}
 use Rattle.fact_machine.specs.declared.types.End.{End}
 use Rattle.fact_machine.specs.declared.types.End.TheVariants.{Trapped, Thrown, Lacks, Going, Stuck}
-use Rattle.fact_machine.specs.World.{World, set_global}
-use Rattle.fact_machine.specs.Machine.{Around, Bottom, Label, Frame, At, Did, Goes, Ends, or_stuck, check, grab, has_type, have_types, type_of, block_arity, func_import, branch, throw, call_outside, call_inside, call_import, enter, with_top, with_i32, when, set_local, act, takes}
+use Rattle.fact_machine.specs.World.{World, Done, Halt, Trap, set_global, written}
+use Rattle.fact_machine.specs.Operands.{operate}
+use Rattle.fact_machine.specs.Machine.{Around, Bottom, Label, Frame, At, Did, Goes, Ends, or_stuck, check, grab, has_type, have_types, type_of, block_arity, func_import, branch, throw, call_outside, call_inside, call_import, memory_import, enter, with_top, with_i32, with_i64, with_address, when, set_local, on_res, block, or_empty, label_at, ref_func, i32_of, i64_of, f32_of, f64_of, load, store, page_bytes, size_value, act, takes}
 
 -- an end that comes from neither the answers nor the steps
 abbrev pub IsPlain : End → Type 0
@@ -35,11 +39,13 @@ leaps (Stops e h) w = Ends e w
 pub data Plan : Type 0 where
   Leaps : Leap → Plan
   Sets : (n : ℕ) (v : CoreValue) (vs : List CoreValue) (ls : List (Option CoreValue)) (code : List Instr) (k : Around) → Plan
+  Writes : (n index : ℕ) (memory : List ℕ) (address value : ℕ) (vs : List CoreValue) (ls : List (Option CoreValue)) (code : List Instr) (k : Around) → Plan
   Asks : (f : ℕ) (args : List CoreValue) (vs : List CoreValue) (ls : List (Option CoreValue)) (code : List Instr) (k : Around) → Plan
 
 abbrev pub does : Plan → World → Did
 does (Leaps l) w = leaps l w
 does (Sets n v vs ls code k) w = Goes (At (set_global n v w) vs ls code k)
+does (Writes n index memory address value vs ls code k) w = Goes (At (written n index memory address value w) vs ls code k)
 does (Asks f args vs ls code k) w = call_outside f args w vs ls code k
 
 abbrev pub world : MachineState → List Answer → List TraceEntry → World
@@ -107,6 +113,24 @@ i32_planned s (F32 n ∷ vs) go h = stuck s
 i32_planned s (F64 n ∷ vs) go h = stuck s
 i32_planned s (Func n ∷ vs) go h = stuck s
 
+i64_planned : (s : MachineState) (vs : List CoreValue) (go : ℕ → List CoreValue → List Answer → List TraceEntry → Did) → ((n : ℕ) (us : List CoreValue) → Planned s (go n us)) → Planned s (λ a t. with_i64 (world s a t) vs (λ n us. go n us a t))
+i64_planned s [] go h = stuck s
+i64_planned s (I32 n ∷ vs) go h = stuck s
+i64_planned s (I64 n ∷ vs) go h = h n vs
+i64_planned s (F32 n ∷ vs) go h = stuck s
+i64_planned s (F64 n ∷ vs) go h = stuck s
+i64_planned s (Func n ∷ vs) go h = stuck s
+
+address_planned : (s : MachineState) (memory64 : Bool) (vs : List CoreValue) (go : ℕ → List CoreValue → List Answer → List TraceEntry → Did) → ((n : ℕ) (us : List CoreValue) → Planned s (go n us)) → Planned s (λ a t. with_address memory64 (world s a t) vs (λ n us. go n us a t))
+address_planned s true vs go h = i64_planned s vs go h
+address_planned s false vs go h = i32_planned s vs go h
+
+-- a primitive that goes on where a test holds, and traps where it does not
+tested_planned : {A : Type 0} → (s : MachineState) (b : Bool) (x : A) (after : World → World) (ls : List (Option CoreValue)) (k : Around) (go : A → World → Did)
+    → Planned s (λ a t. go x (after (world s a t))) → Planned s (λ a t. on_res (if b then Done x (after (world s a t)) else Halt Trap (world s a t)) ls k go)
+tested_planned s true x after ls k go h = h
+tested_planned s false x after ls k go h = record { plan = Leaps (Stops Trapped tt); is = λ a t. refl }
+
 when_planned : (s : MachineState) (n : ℕ) (on off : List Answer → List TraceEntry → Did) → Planned s on → Planned s off → Planned s (λ a t. when n (on a t) (off a t))
 when_planned s zero on off h g = g
 when_planned s (suc n) on off h g = h
@@ -127,19 +151,58 @@ import_planned M n s vs ls rest k =
     or_planned s (func_import M.imports n) _ (λ ty. or_planned s (slice_get M.types ty) _ (λ t. or_planned s (grab (length t.params) vs) _ (λ p. check_planned s (have_types (reverse p.0) t.params) _
     (record { plan = Asks n (reverse p.0) p.1 ls rest k; is = λ a t. refl }))))
 
+block_planned : (M : WasmModule) (bt : BlockType) (body : List Instr) (s : MachineState) (vs : List CoreValue) (ls : List (Option CoreValue)) (rest : List Instr) (k : Around) → Planned s (λ a t. block M bt body (world s a t) vs ls rest k)
+block_planned M bt body s vs ls rest k = enter_planned s M.types bt vs _ (λ m n top below. goes s _ _ _ _)
+
+load_planned : (M : WasmModule) (n : ℕ) (value : ℕ → CoreValue) (m : MemArg) (s : MachineState) (vs : List CoreValue) (ls : List (Option CoreValue)) (rest : List Instr) (k : Around) → Planned s (λ a t. load M n value m (world s a t) vs ls rest k)
+load_planned M n value m s vs ls rest k =
+    or_planned s (memory_import M.imports m.memory_index) _ (λ t. address_planned s t.0 vs _ (λ base us. or_planned s (slice_get s.memories m.memory_index) _ (λ bytes.
+    tested_planned s (nat_le (base + m.offset + n) (length bytes)) _ (λ w. w) ls k (λ number w. Goes (At w (value number ∷ us) ls rest k)) (goes s _ _ _ _))))
+
+store_planned : (M : WasmModule) (n : ℕ) (number : CoreValue → Option ℕ) (m : MemArg) (s : MachineState) (vs : List CoreValue) (ls : List (Option CoreValue)) (rest : List Instr) (k : Around) → Planned s (λ a t. store M n number m (world s a t) vs ls rest k)
+store_planned M n number m s vs ls rest k =
+    top_planned s vs _ (λ v us. or_planned s (number v) _ (λ value. or_planned s (memory_import M.imports m.memory_index) _ (λ t. address_planned s t.0 us _ (λ base us'. or_planned s (slice_get s.memories m.memory_index) _ (λ bytes.
+    tested_planned s (nat_le (base + m.offset + n) (length bytes)) tt (written n m.memory_index bytes (base + m.offset) value) ls k (λ done w. Goes (At w us' ls rest k))
+    (record { plan = Writes n m.memory_index bytes (base + m.offset) value us' ls rest k; is = λ a t. refl }))))))
+
+ref_planned : (M : WasmModule) (f : FuncName) (s : MachineState) (vs : List CoreValue) (ls : List (Option CoreValue)) (rest : List Instr) (k : Around) → Planned s (λ a t. ref_func M f (world s a t) vs ls rest k)
+ref_planned M (Import n) s vs ls rest k = or_planned s (func_import M.imports n) _ (λ ty. goes s _ _ _ _)
+ref_planned M (Defined n) s vs ls rest k = or_planned s (slice_get M.funcs n) _ (λ f. goes s _ _ _ _)
+
 pub act_planned : (M : WasmModule) (i : Instr-F Instr) (s : MachineState) (vs : List CoreValue) (ls : List (Option CoreValue)) (rest : List Instr) (k : Around) → Planned s (λ a t. act M i (world s a t) vs ls rest k)
-act_planned M Unreachable s vs ls rest k = leaping s _ (ends Trapped tt)
-act_planned M (Block bt body) s vs ls rest k = enter_planned s M.types bt vs _ (λ m n top below. goes s _ _ _ _)
-act_planned M (BrIf l) s vs ls rest k = i32_planned s vs _ (λ c us. when_planned s c _ _ (leaping s _ (branch_leaping l us ls k)) (goes s _ _ _ _))
-act_planned M (Call (Import n)) s vs ls rest k = import_planned M n s vs ls rest k
-act_planned M (Call (Defined n)) s vs ls rest k = inside_planned M n s vs ls rest k
-act_planned M (LocalGet n) s vs ls rest k = or_planned s (slice_get ls n) _ (λ o. or_planned s o _ (λ v. goes s _ _ _ _))
-act_planned M (LocalSet n) s vs ls rest k = top_planned s vs _ (λ v us. local_planned s n v ls _ (λ l. goes s us l rest k))
-act_planned M (LocalTee n) s vs ls rest k = top_planned s vs _ (λ v us. local_planned s n v ls _ (λ l. goes s vs l rest k))
-act_planned M (GlobalGet n) s vs ls rest k = or_planned s (slice_get s.globals n) _ (λ v. goes s _ _ _ _)
-act_planned M (GlobalSet n) s vs ls rest k =
+act_planned M instr.Unreachable s vs ls rest k = leaping s _ (ends Trapped tt)
+act_planned M (instr.Block bt body) s vs ls rest k = block_planned M bt body s vs ls rest k
+act_planned M (instr.Loop bt body) s vs ls rest k = enter_planned s M.types bt vs _ (λ m n top below. goes s _ _ _ _)
+act_planned M (instr.If bt body other) s vs ls rest k = i32_planned s vs _ (λ c us. when_planned s c _ _ (block_planned M bt body s us ls rest k) (block_planned M bt (or_empty other) s us ls rest k))
+act_planned M (instr.TryTable bt catches body) s vs ls rest k = enter_planned s M.types bt vs _ (λ m n top below. goes s _ _ _ _)
+act_planned M (instr.Br l) s vs ls rest k = leaping s _ (branch_leaping l vs ls k)
+act_planned M (instr.BrIf l) s vs ls rest k = i32_planned s vs _ (λ c us. when_planned s c _ _ (leaping s _ (branch_leaping l us ls k)) (goes s _ _ _ _))
+act_planned M (instr.BrTable labels last) s vs ls rest k = i32_planned s vs _ (λ i us. leaping s _ (branch_leaping (label_at labels last i) us ls k))
+act_planned M (instr.Call (Import n)) s vs ls rest k = import_planned M n s vs ls rest k
+act_planned M (instr.Call (Defined n)) s vs ls rest k = inside_planned M n s vs ls rest k
+act_planned M (instr.RefFunc f) s vs ls rest k = ref_planned M f s vs ls rest k
+act_planned M (instr.LocalGet n) s vs ls rest k = or_planned s (slice_get ls n) _ (λ o. or_planned s o _ (λ v. goes s _ _ _ _))
+act_planned M (instr.LocalSet n) s vs ls rest k = top_planned s vs _ (λ v us. local_planned s n v ls _ (λ l. goes s us l rest k))
+act_planned M (instr.LocalTee n) s vs ls rest k = top_planned s vs _ (λ v us. local_planned s n v ls _ (λ l. goes s vs l rest k))
+act_planned M (instr.GlobalGet n) s vs ls rest k = or_planned s (slice_get s.globals n) _ (λ v. goes s _ _ _ _)
+act_planned M (instr.GlobalSet n) s vs ls rest k =
     top_planned s vs _ (λ v us. or_planned s (slice_get s.globals n) _ (λ old. check_planned s (has_type v (type_of old)) _ (record { plan = Sets n v us ls rest k; is = λ a t. refl })))
-act_planned M (I32Const n) s vs ls rest k = goes s _ _ _ _
+act_planned M (instr.I32Load m) s vs ls rest k = load_planned M 4 _ m s vs ls rest k
+act_planned M (instr.I64Load m) s vs ls rest k = load_planned M 8 _ m s vs ls rest k
+act_planned M (instr.F32Load m) s vs ls rest k = load_planned M 4 _ m s vs ls rest k
+act_planned M (instr.F64Load m) s vs ls rest k = load_planned M 8 _ m s vs ls rest k
+act_planned M (instr.I32Load8S m) s vs ls rest k = load_planned M 1 _ m s vs ls rest k
+act_planned M (instr.I32Load8U m) s vs ls rest k = load_planned M 1 _ m s vs ls rest k
+act_planned M (instr.I32Load16S m) s vs ls rest k = load_planned M 2 _ m s vs ls rest k
+act_planned M (instr.I32Load16U m) s vs ls rest k = load_planned M 2 _ m s vs ls rest k
+act_planned M (instr.I32Store m) s vs ls rest k = store_planned M 4 i32_of m s vs ls rest k
+act_planned M (instr.I64Store m) s vs ls rest k = store_planned M 8 i64_of m s vs ls rest k
+act_planned M (instr.F32Store m) s vs ls rest k = store_planned M 4 f32_of m s vs ls rest k
+act_planned M (instr.F64Store m) s vs ls rest k = store_planned M 8 f64_of m s vs ls rest k
+act_planned M (instr.I32Store8 m) s vs ls rest k = store_planned M 1 i32_of m s vs ls rest k
+act_planned M (instr.I32Store16 m) s vs ls rest k = store_planned M 2 i32_of m s vs ls rest k
+act_planned M (instr.MemorySize n) s vs ls rest k = or_planned s (memory_import M.imports n) _ (λ t. or_planned s (slice_get s.memories n) _ (λ bytes. or_planned s (size_value t.0 (length bytes / page_bytes t.1)) _ (λ v. goes s _ _ _ _)))
+act_planned M i s vs ls rest k = or_planned s (operate i vs) _ (λ us. goes s us ls rest k)
 
 pub start_planned : (M : WasmModule) (f : ℕ) (args : List CoreValue) (s : MachineState) → Planned s (λ a t. let w : World = world s a t in check w (takes M f args) (call_inside M f w (reverse args) [] [] Bottom))
 start_planned M f args s = check_planned s (takes M f args) _ (inside_planned M f s (reverse args) [] [] Bottom)

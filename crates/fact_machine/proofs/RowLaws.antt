@@ -1,14 +1,17 @@
--- How each instruction is left, one lemma for each row. Blocks and calls are in Structure and OutsideCalls.
+-- How each control and variable instruction is left, one lemma for each row. Those with a body and calls are in Structure and
+-- OutsideCalls, the others in NumericLaws and MemoryRows.
 use Rattle.std.proofs.Common.{◌≡◌, ◌≢◌, ℕ, zero, suc, true, List, [], ◌∷◌, Option, Some, refl, ap, ◌∙◌, slice_get, slice_set}
+use Rattle.fact_wasm.specs.declared.instr.FuncName.TheVariants.{Import, Defined}
 use Rattle.fact_wasm.specs.declared.instr.Instr.{Instr, out-Instr}
 use Rattle.fact_wasm.specs.declared.instr.Instr.TheOpen.{Instr-F}
 use Rattle.fact_wasm.specs.declared.instr.Instr.TheVariants as I
+use Rattle.fact_wasm.specs.declared.module.WasmFunc.{WasmFunc}
 use Rattle.fact_wasm.specs.declared.module.WasmModule.{WasmModule}
 use Rattle.fact_machine.specs.declared.types.CoreValue.{CoreValue}
-use Rattle.fact_machine.specs.declared.types.CoreValue.TheVariants.{I32}
+use Rattle.fact_machine.specs.declared.types.CoreValue.TheVariants.{I32, Func}
 use Rattle.fact_machine.specs.declared.types.End.TheVariants.{Trapped}
 use Rattle.fact_machine.specs.World.{World, set_global}
-use Rattle.fact_machine.specs.Machine.{Around, At, Did, Goes, act, or_stuck, check, may_follow, has_type, type_of, set_local}
+use Rattle.fact_machine.specs.Machine.{Around, At, Did, Goes, act, or_stuck, check, may_follow, has_type, type_of, set_local, label_at, func_import}
 use Rattle.fact_machine.proofs.Laws.{Exit, Falls, Branches, Halts, leads, Leaves, leaves_one}
 
 assigned : (w : World) (ls : List (Option CoreValue)) (n : ℕ) (v : CoreValue) (old : Option CoreValue) (go : List (Option CoreValue) → Did)
@@ -75,3 +78,20 @@ module _ {M : WasmModule} {w : World} {vs : List CoreValue} {ls : List (Option C
   pub leaves_br_if_taken : (c : ℕ) → c ≢ 0 → Leaves M 1 (I.BrIf l ∷ []) w (I32 c ∷ vs) ls (Branches w l vs ls)
   leaves_br_if_taken zero h = absurd (h refl)
   leaves_br_if_taken (suc c) h = leaves_br_if (suc c)
+
+module _ {M : WasmModule} {w : World} {vs : List CoreValue} {ls : List (Option CoreValue)} where
+  -- br
+  pub leaves_br : {l : ℕ} → Leaves M 1 (I.Br l ∷ []) w vs ls (Branches w l vs ls)
+  leaves_br {l} = leaves_row _ (I.outs-Br l) (λ rest k. refl)
+
+  -- br_table
+  pub leaves_br_table : {labels : List ℕ} {last i : ℕ} → Leaves M 1 (I.BrTable labels last ∷ []) w (I32 i ∷ vs) ls (Branches w (label_at labels last i) vs ls)
+  leaves_br_table {labels} {last} = leaves_row _ (I.outs-BrTable labels last) (λ rest k. refl)
+
+  -- ref.func of an imported function
+  pub leaves_ref_import : {n ty : ℕ} → func_import M.imports n ≡ Some ty → Leaves M 1 (I.RefFunc (Import n) ∷ []) w vs ls (Falls w (Func (Import n) ∷ vs) ls)
+  leaves_ref_import {n} h = leaves_row _ (I.outs-RefFunc (Import n)) (λ rest k. ap (λ o. or_stuck w o (λ ty. Goes (At w (Func (Import n) ∷ vs) ls rest k))) h)
+
+  -- ref.func of a function that the module defines
+  pub leaves_ref_defined : {n : ℕ} {f : WasmFunc} → slice_get M.funcs n ≡ Some f → Leaves M 1 (I.RefFunc (Defined n) ∷ []) w vs ls (Falls w (Func (Defined n) ∷ vs) ls)
+  leaves_ref_defined {n} h = leaves_row _ (I.outs-RefFunc (Defined n)) (λ rest k. ap (λ o. or_stuck w o (λ f. Goes (At w (Func (Defined n) ∷ vs) ls rest k))) h)

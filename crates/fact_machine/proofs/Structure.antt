@@ -1,5 +1,6 @@
 -- Blocks, branches and calls.
-use Rattle.std.proofs.Common.{◌≡◌, ℕ, zero, suc, ◌+◌, ◌<◌, List, [], ◌∷◌, ◌++◌, Option, Some, None, refl, ap, ◌∙◌, arith, append-nil, Bool, true, false, ◌&&◌, length, map, reverse, slice_get}
+use Rattle.std.proofs.Common.{◌≡◌, ◌≢◌, ℕ, zero, suc, ◌+◌, ◌-◌, ◌≤◌, ◌<◌, ◌⊎◌, inl, inr, List, [], ◌∷◌, ◌++◌, Option, Some, None, refl, ap, ◌∙◌, arith, append-nil, Bool, true, false, ◌&&◌, length, map, reverse, slice_get}
+use Rattle.std.proofs.lemmas.Bool.{cases_lt}
 use Rattle.std.proofs.lemmas.List.{reverse-reverse, length-reverse}
 use Rattle.fact_wasm.specs.declared.types.ValType.{ValType}
 use Rattle.fact_wasm.specs.declared.types.FuncType.{FuncType}
@@ -11,10 +12,11 @@ use Rattle.fact_wasm.specs.declared.instr.Instr.TheVariants as I
 use Rattle.fact_wasm.specs.declared.module.WasmFunc.{WasmFunc}
 use Rattle.fact_wasm.specs.declared.module.WasmModule.{WasmModule}
 use Rattle.fact_machine.specs.declared.types.CoreValue.{CoreValue}
+use Rattle.fact_machine.specs.declared.types.CoreValue.TheVariants.{I32}
 use Rattle.fact_machine.specs.declared.types.End.TheVariants.{Going, Stuck}
 use Rattle.fact_machine.specs.World.{World}
-use Rattle.fact_machine.specs.Machine.{Around, Label, Frame, At, Did, Goes, act, onto, grab, or_stuck, block_arity, have_types, has_type, some_of, locals_of, call_inside, enter, next_of}
-use Rattle.fact_machine.specs.Trace.{reach, reached_after}
+use Rattle.fact_machine.specs.Machine.{Around, Label, Frame, At, Did, Goes, act, onto, grab, or_stuck, block_arity, have_types, has_type, some_of, locals_of, call_inside, enter, or_empty, throw, next_of}
+use Rattle.fact_machine.specs.Trace.{Reached, reach, reached_after}
 use Rattle.fact_machine.proofs.Laws.{Exit, Falls, Branches, Throws, Halts, leads, Leaves, same_next, leaves_whole, leaves_whole_going, leaves_as, leaves_early, leaves_steps}
 
 -- ---- into code that stands in other code
@@ -98,6 +100,137 @@ module _ {M : WasmModule} {bt : BlockType} {body : List Instr} {w : World} {vs :
   pub leaves_block_target : {t : ℕ} {w' : World} {us : List CoreValue} {ls' : List (Option CoreValue)} {taken dropped : List CoreValue} → Enters M bt vs m n top below
       → Leaves M t body w top ls (Branches w' 0 us ls') → grab n us ≡ Some (taken, dropped) → Leaves M (suc t) (I.Block bt body ∷ []) w vs ls (Falls w' (taken ++ below) ls')
   leaves_block_target {w' = w'} {ls' = ls'} h p g = leaves_as (ap (λ o. or_halts w' o (λ p. Falls w' (p.0 ++ below) ls')) g) (leaves_block h p)
+
+-- ---- conditions, loops, handlers
+
+module _ (body : List Instr) (other : Option (List Instr)) {M : WasmModule} {bt : BlockType} {w : World} {vs : List CoreValue} {ls : List (Option CoreValue)} {m n : ℕ} {top below : List CoreValue} where
+  in_if : (c : ℕ) → c ≢ 0 → Enters M bt vs m n top below → (rest : List Instr) (k : Around) → Within M (I.If bt body other) w (I32 c ∷ vs) ls rest k top ls body (Label n below rest rest [] k)
+  in_if zero taken h rest k = absurd (taken refl)
+  in_if (suc c) taken h rest k = record {
+    enters =
+        ap (λ o. act M o w (I32 (suc c) ∷ vs) ls rest k) (I.outs-If bt body other)
+        ∙ enter_is M bt w vs m n top below (λ m n top below. Goes (At w top ls body (Label n below rest rest [] k))) h;
+  }
+
+  in_else : Enters M bt vs m n top below → (rest : List Instr) (k : Around) → Within M (I.If bt body other) w (I32 0 ∷ vs) ls rest k top ls (or_empty other) (Label n below rest rest [] k)
+  in_else h rest k = record {
+    enters =
+        ap (λ o. act M o w (I32 0 ∷ vs) ls rest k) (I.outs-If bt body other)
+        ∙ enter_is M bt w vs m n top below (λ m n top below. Goes (At w top ls (or_empty other) (Label n below rest rest [] k))) h;
+  }
+
+  -- an if whose condition is not 0 is left as a block of its first body
+  pub leaves_if : (c : ℕ) {t : ℕ} {x : Exit} → c ≢ 0 → Enters M bt vs m n top below → Leaves M t body w top ls x → Leaves M (suc t) (I.If bt body other ∷ []) w (I32 c ∷ vs) ls (block_exit n below x)
+  leaves_if c {x = x} taken h p =
+      record {
+        by = λ rest k j. within (in_if c taken h rest k) p j ∙ under_block M n below x rest k j;
+        going = λ rest k j lt. within_going (in_if c taken h rest k) p j lt;
+      }
+
+  -- and one whose condition is 0 as a block of its second one
+  pub leaves_else : {t : ℕ} {x : Exit} → Enters M bt vs m n top below → Leaves M t (or_empty other) w top ls x → Leaves M (suc t) (I.If bt body other ∷ []) w (I32 0 ∷ vs) ls (block_exit n below x)
+  leaves_else {x = x} h p =
+      record {
+        by = λ rest k j. within (in_else h rest k) p j ∙ under_block M n below x rest k j;
+        going = λ rest k j lt. within_going (in_else h rest k) p j lt;
+      }
+
+-- a throw at a block with these handlers
+abbrev pub catch_exit : List ℕ → World → List (Option CoreValue) → Exit
+catch_exit [] w ls = Throws w ls
+catch_exit (l ∷ more) w ls = Branches w l [] ls
+
+-- how a block with handlers is left, by how its body is
+abbrev pub try_exit : ℕ → List ℕ → List CoreValue → Exit → Exit
+try_exit n catches below (Throws w ls) = catch_exit catches w ls
+try_exit n catches below x = block_exit n below x
+
+catch_same : (catches : List ℕ) (n : ℕ) (w : World) (below : List CoreValue) (ls : List (Option CoreValue)) (rest : List Instr) (k : Around)
+    → throw w ls (Label n below rest rest catches k) ≡ leads (catch_exit catches w ls) rest k
+catch_same [] n w below ls rest k = refl
+catch_same (l ∷ more) n w below ls rest k = refl
+
+under_try : (M : WasmModule) (n : ℕ) (catches : List ℕ) (below : List CoreValue) (x : Exit) (rest : List Instr) (k : Around) (j : ℕ)
+    → reached_after (reach M j) (leads x [] (Label n below rest rest catches k)) ≡ reached_after (reach M j) (leads (try_exit n catches below x) rest k)
+under_try M n catches below (Falls w vs ls) rest k j = same_next M j _ _ refl
+under_try M n catches below (Branches w zero vs ls) rest k j = ap (reached_after (reach M j)) (halts_same w (grab n vs) below ls rest k)
+under_try M n catches below (Branches w (suc l) vs ls) rest k j = refl
+under_try M n catches below (Throws w ls) rest k j = ap (reached_after (reach M j)) (catch_same catches n w below ls rest k)
+under_try M n catches below (Halts e w) rest k j = refl
+
+module _ {M : WasmModule} {bt : BlockType} {body : List Instr} {w : World} {vs : List CoreValue} {ls : List (Option CoreValue)} {m n : ℕ} {top below : List CoreValue} where
+  in_try : (catches : List ℕ) → Enters M bt vs m n top below → (rest : List Instr) (k : Around) → Within M (I.TryTable bt catches body) w vs ls rest k top ls body (Label n below rest rest catches k)
+  in_try catches h rest k = record {
+    enters =
+        ap (λ o. act M o w vs ls rest k) (I.outs-TryTable bt catches body)
+        ∙ enter_is M bt w vs m n top below (λ m n top below. Goes (At w top ls body (Label n below rest rest catches k))) h;
+  }
+
+  -- a block with handlers: a throw in it becomes a branch to its first handler's label, with nothing on the stack
+  pub leaves_try : (catches : List ℕ) {t : ℕ} {x : Exit} → Enters M bt vs m n top below → Leaves M t body w top ls x
+      → Leaves M (suc t) (I.TryTable bt catches body ∷ []) w vs ls (try_exit n catches below x)
+  leaves_try catches {x = x} h p =
+      record {
+        by = λ rest k j. within (in_try catches h rest k) p j ∙ under_try M n catches below x rest k j;
+        going = λ rest k j lt. within_going (in_try catches h rest k) p j lt;
+      }
+
+  in_loop : Enters M bt vs m n top below → (rest : List Instr) (k : Around) → Within M (I.Loop bt body) w vs ls rest k top ls body (Label m below (I.Loop bt body ∷ rest) rest [] k)
+  in_loop h rest k = record {
+    enters =
+        ap (λ o. act M o w vs ls rest k) (I.outs-Loop bt body)
+        ∙ enter_is M bt w vs m n top below (λ m n top below. Goes (At w top ls body (Label m below (I.Loop bt body ∷ rest) rest [] k))) h;
+  }
+
+-- not by a branch to the innermost label
+abbrev pub IsOut : Exit → Type 0
+IsOut (Branches w zero vs ls) = ⊥
+IsOut _ = Unit {0}
+
+under_loop : (M : WasmModule) (m n : ℕ) (below : List CoreValue) (x : Exit) (to rest : List Instr) (k : Around) (j : ℕ) → IsOut x
+    → reached_after (reach M j) (leads x [] (Label m below to rest [] k)) ≡ reached_after (reach M j) (leads (block_exit n below x) rest k)
+under_loop M m n below (Falls w vs ls) to rest k j out = same_next M j _ _ refl
+under_loop M m n below (Branches w zero vs ls) to rest k j out = absurd out
+under_loop M m n below (Branches w (suc l) vs ls) to rest k j out = refl
+under_loop M m n below (Throws w ls) to rest k j out = refl
+under_loop M m n below (Halts e w) to rest k j out = refl
+
+module _ {M : WasmModule} {bt : BlockType} {body : List Instr} {w : World} {vs : List CoreValue} {ls : List (Option CoreValue)} {m n : ℕ} {top below : List CoreValue} where
+  -- a loop whose body is left otherwise than by a branch to the loop is left so
+  pub leaves_loop : {t : ℕ} {x : Exit} → Enters M bt vs m n top below → IsOut x → Leaves M t body w top ls x → Leaves M (suc t) (I.Loop bt body ∷ []) w vs ls (block_exit n below x)
+  leaves_loop {x = x} h out p =
+      record {
+        by = λ rest k j. within (in_loop h rest k) p j ∙ under_loop M m n below x (I.Loop bt body ∷ rest) rest k j out;
+        going = λ rest k j lt. within_going (in_loop h rest k) p j lt;
+      }
+
+  again_going : {t u : ℕ} {w' : World} {us taken dropped : List CoreValue} {ls' : List (Option CoreValue)} {x : Exit} → Enters M bt vs m n top below
+      → Leaves M t body w top ls (Branches w' 0 us ls') → grab m us ≡ Some (taken, dropped) → Leaves M u (I.Loop bt body ∷ []) w' (taken ++ below) ls' x
+      → (rest : List Instr) (k : Around) (j : ℕ) → j < suc t + u → (j < suc t) ⊎ (suc t ≤ j) → (reach M j (At w vs ls (I.Loop bt body ∷ rest) k)).end ≡ Going
+  again_going h p g q rest k j lt (inl less) = within_going (in_loop h rest k) p j less
+  again_going {t} {u} {w'} {ls' = ls'} h p g q rest k j lt (inr le) =
+      let e : j ≡ suc t + (j - suc t) = omega arith in
+      ap (λ i. (reach M i (At w vs ls (I.Loop bt body ∷ rest) k)).end) e
+      ∙ ap (λ (r : Reached). r.end) (within (in_loop h rest k) p (j - suc t)
+      ∙ ap (λ o. reached_after (reach M (j - suc t)) (or_stuck w' o (λ p. Goes (At w' (p.0 ++ below) ls' (I.Loop bt body ∷ rest) k)))) g)
+      ∙ q.going rest k (j - suc t) (omega arith)
+
+  -- a branch to the loop begins it again, with its parameters, and after these steps and those of the rest it is left as then
+  pub leaves_loop_again : {t u : ℕ} {w' : World} {us taken dropped : List CoreValue} {ls' : List (Option CoreValue)} {x : Exit} → Enters M bt vs m n top below
+      → Leaves M t body w top ls (Branches w' 0 us ls') → grab m us ≡ Some (taken, dropped) → Leaves M u (I.Loop bt body ∷ []) w' (taken ++ below) ls' x
+      → Leaves M (suc t + u) (I.Loop bt body ∷ []) w vs ls x
+  leaves_loop_again {t} {u} {w'} {us} {ls' = ls'} h p g q =
+      record {
+        by = λ rest k j.
+            let e : suc t + u + j ≡ suc t + (u + j) = omega arith in
+            ap (λ i. reach M i (At w vs ls (I.Loop bt body ∷ rest) k)) e
+            ∙ within (in_loop h rest k) p (u + j)
+            ∙ ap (λ o. reached_after (reach M (u + j)) (or_stuck w' o (λ p. Goes (At w' (p.0 ++ below) ls' (I.Loop bt body ∷ rest) k)))) g
+            ∙ q.by rest k j;
+        going = λ rest k j lt. again_going h p g q rest k j lt (cases_lt j (suc t));
+      }
+
+-- ---- nested blocks
 
 -- code in empty blocks, each with the code behind it, the innermost first
 abbrev pub nest : List (List Instr) → List Instr → List Instr

@@ -1,6 +1,9 @@
 pub mod Causes
 pub mod Cut
 pub mod Machine
+pub mod MemoryLaws
+pub mod Numerics
+pub mod Operands
 pub mod Running
 pub mod Trace
 pub mod World

@@ -1,5 +1,5 @@
 -- The machine: what one instruction does, and runs of it (core specification, "Execution").
-use Rattle.std.specs.Prelude.{ℕ, zero, suc, Bool, true, false, ◌&&◌, List, [], ◌∷◌, ◌++◌, length, map, reverse, Option, Some, None, slice_get, slice_set}
+use Rattle.std.specs.Prelude.{ℕ, zero, suc, ◌+◌, ◌/◌, ◌^◌, Bool, true, false, ◌&&◌, nat_lt, if◌then◌else◌, List, [], ◌∷◌, ◌++◌, length, map, reverse, Option, Some, None, slice_get, slice_set}
 use Rattle.fact_wasm.specs.declared.types.ValType.{ValType}
 use Rattle.fact_wasm.specs.declared.types.ValType.TheVariants as val
 use Rattle.fact_wasm.specs.declared.types.FuncType.{FuncType}
@@ -7,8 +7,11 @@ use Rattle.fact_wasm.specs.declared.instr.FuncName.{FuncName}
 use Rattle.fact_wasm.specs.declared.instr.FuncName.TheVariants.{Import, Defined}
 use Rattle.fact_wasm.specs.declared.instr.BlockType.{BlockType}
 use Rattle.fact_wasm.specs.declared.instr.BlockType.TheVariants.{Empty, Result, FunctionType}
+use Rattle.fact_wasm.specs.declared.instr.MemArg.{MemArg}
 use Rattle.fact_wasm.specs.declared.instr.Instr.{Instr, out-Instr}
-use Rattle.fact_wasm.specs.declared.instr.Instr.TheOpen.{Instr-F, Unreachable, Block, BrIf, Call, LocalGet, LocalSet, LocalTee, GlobalGet, GlobalSet, I32Const}
+use Rattle.fact_wasm.specs.declared.instr.Instr.TheVariants as whole
+use Rattle.fact_wasm.specs.declared.instr.Instr.TheOpen as instr
+use Rattle.fact_wasm.specs.declared.instr.Instr.TheOpen.{Instr-F}
 use Rattle.fact_wasm.specs.declared.module.ImportType.TheVariants as import
 use Rattle.fact_wasm.specs.declared.module.WasmImport.{WasmImport}
 use Rattle.fact_wasm.specs.declared.module.WasmFunc.{WasmFunc}
@@ -20,7 +23,9 @@ use Rattle.fact_machine.specs.declared.types.Answer.{Answer}
 use Rattle.fact_machine.specs.declared.types.End.{End}
 use Rattle.fact_machine.specs.declared.types.End.TheVariants.{Returned, Trapped, Thrown, Lacks, Going, Stuck}
 use Rattle.fact_machine.specs.declared.types.Outcome.{Outcome}
-use Rattle.fact_machine.specs.World.{World, log_of, Res, Done, Halt, Stop, Trap, Throw, Lack, outside, set_global}
+use Rattle.fact_machine.specs.World.{World, log_of, Res, Done, Halt, Stop, Trap, Throw, Lack, outside, set_global, read, write}
+use Rattle.fact_machine.specs.Numerics.{extend_s}
+use Rattle.fact_machine.specs.Operands.{operate}
 
 -- What stands around the code that runs. The operand stack has its top first; what stands around keeps the stack below
 -- it.
@@ -75,6 +80,23 @@ zero_of val.F32 = Some (F32 0)
 zero_of val.F64 = Some (F64 0)
 zero_of val.FuncRef = None
 
+-- the number in a value of a type
+abbrev pub i32_of : CoreValue → Option ℕ
+i32_of (I32 n) = Some n
+i32_of _ = None
+
+abbrev pub i64_of : CoreValue → Option ℕ
+i64_of (I64 n) = Some n
+i64_of _ = None
+
+abbrev pub f32_of : CoreValue → Option ℕ
+f32_of (F32 n) = Some n
+f32_of _ = None
+
+abbrev pub f64_of : CoreValue → Option ℕ
+f64_of (F64 n) = Some n
+f64_of _ = None
+
 abbrev pub some_of : CoreValue → Option CoreValue
 some_of v = Some v
 
@@ -112,6 +134,11 @@ block_arity types (FunctionType n) = elim (slice_get types n) [ None ↦ None | 
 abbrev pub func_import : List WasmImport → ℕ → Option ℕ
 func_import [] n = None
 func_import (i ∷ is) n = elim i.ty [ import.Func t ↦ elim n [ zero ↦ Some t | suc m ↦ func_import is m ] | import.Memory a b c ↦ func_import is n | import.Global a b ↦ func_import is n ]
+
+-- the nth imported memory: whether its addresses have 64 bits, and the exponent of its page size where that is a custom one
+abbrev pub memory_import : List WasmImport → ℕ → Option (Bool × Option ℕ)
+memory_import [] n = None
+memory_import (i ∷ is) n = elim i.ty [ import.Func t ↦ memory_import is n | import.Memory minimum memory64 log2 ↦ elim n [ zero ↦ Some (memory64, log2) | suc m ↦ memory_import is m ] | import.Global a b ↦ memory_import is n ]
 
 -- a branch to a label
 abbrev pub branch : World → ℕ → List CoreValue → List (Option CoreValue) → Around → Did
@@ -186,6 +213,14 @@ with_i32 w (F32 n ∷ vs) go = Ends Stuck w
 with_i32 w (F64 n ∷ vs) go = Ends Stuck w
 with_i32 w (Func n ∷ vs) go = Ends Stuck w
 
+abbrev pub with_i64 : World → List CoreValue → (ℕ → List CoreValue → Did) → Did
+with_i64 w [] go = Ends Stuck w
+with_i64 w (I32 n ∷ vs) go = Ends Stuck w
+with_i64 w (I64 n ∷ vs) go = go n vs
+with_i64 w (F32 n ∷ vs) go = Ends Stuck w
+with_i64 w (F64 n ∷ vs) go = Ends Stuck w
+with_i64 w (Func n ∷ vs) go = Ends Stuck w
+
 abbrev pub when : ℕ → Did → Did → Did
 when zero on off = off
 when (suc n) on off = on
@@ -193,20 +228,114 @@ when (suc n) on off = on
 abbrev pub set_local : World → ℕ → CoreValue → List (Option CoreValue) → (List (Option CoreValue) → Did) → Did
 set_local w i v locals go = or_stuck w (slice_get locals i) (λ old. check w (may_follow old v) (go (slice_set locals i (Some v))))
 
--- The meaning of an instruction, with what comes after it.
+-- ---- blocks and references ("Instructions", "Control Instructions" and "Reference Instructions")
+
+-- a block: a branch to its label ends it
+abbrev pub block : WasmModule → BlockType → List Instr → World → List CoreValue → List (Option CoreValue) → List Instr → Around → Did
+block M bt body w vs locals rest k = enter M.types bt w vs (λ m n top below. Goes (At w top locals body (Label n below rest rest [] k)))
+
+-- a loop: a branch to its label takes its parameters and begins it again
+abbrev pub loop : WasmModule → BlockType → List Instr → World → List CoreValue → List (Option CoreValue) → List Instr → Around → Did
+loop M bt body w vs locals rest k = enter M.types bt w vs (λ m n top below. Goes (At w top locals body (Label m below (whole.Loop bt body ∷ rest) rest [] k)))
+
+-- a block that catches: each catch_all clause has a label, counted from outside the block
+abbrev pub try_table : WasmModule → BlockType → List ℕ → List Instr → World → List CoreValue → List (Option CoreValue) → List Instr → Around → Did
+try_table M bt catches body w vs locals rest k = enter M.types bt w vs (λ m n top below. Goes (At w top locals body (Label n below rest rest catches k)))
+
+-- the code where the condition is 0
+abbrev pub or_empty : Option (List Instr) → List Instr
+or_empty None = []
+or_empty (Some code) = code
+
+-- the label at a place of a table, and past its end the last one
+abbrev pub label_at : List ℕ → ℕ → ℕ → ℕ
+label_at labels last i = elim (slice_get labels i) [ None ↦ last | Some l ↦ l ]
+
+-- a reference to a function that is there
+abbrev pub ref_func : WasmModule → FuncName → World → List CoreValue → List (Option CoreValue) → List Instr → Around → Did
+ref_func M (Import n) w vs locals rest k = or_stuck w (func_import M.imports n) (λ ty. Goes (At w (Func (Import n) ∷ vs) locals rest k))
+ref_func M (Defined n) w vs locals rest k = or_stuck w (slice_get M.funcs n) (λ f. Goes (At w (Func (Defined n) ∷ vs) locals rest k))
+
+-- ---- memories ("Instructions", "Memory Instructions")
+
+-- an address: an i64 for a memory of 64-bit addresses, an i32 for any other
+abbrev pub with_address : Bool → World → List CoreValue → (ℕ → List CoreValue → Did) → Did
+with_address true w vs go = with_i64 w vs go
+with_address false w vs go = with_i32 w vs go
+
+-- A load of n bytes, lowest first, which make a value. The effective address is the operand plus the offset, and it does not
+-- wrap. Any alignment serves. Without a memory of that index in the module and in the state no rule applies.
+abbrev pub load : WasmModule → ℕ → (ℕ → CoreValue) → MemArg → World → List CoreValue → List (Option CoreValue) → List Instr → Around → Did
+load M n value m w vs locals rest k =
+    or_stuck w (memory_import M.imports m.memory_index) (λ t.
+    with_address t.0 w vs (λ base vs'.
+    or_stuck w (slice_get w.state.memories m.memory_index) (λ bytes.
+    on_res (read n bytes (base + m.offset) w) locals k (λ number w'. Goes (At w' (value number ∷ vs') locals rest k)))))
+
+-- A store of the n lowest bytes of the number on top of the stack, which has to be of the right type.
+abbrev pub store : WasmModule → ℕ → (CoreValue → Option ℕ) → MemArg → World → List CoreValue → List (Option CoreValue) → List Instr → Around → Did
+store M n number m w vs locals rest k =
+    with_top w vs (λ v vs'.
+    or_stuck w (number v) (λ value.
+    or_stuck w (memory_import M.imports m.memory_index) (λ t.
+    with_address t.0 w vs' (λ base vs''.
+    or_stuck w (slice_get w.state.memories m.memory_index) (λ bytes.
+    on_res (write n m.memory_index bytes (base + m.offset) value w) locals k (λ done w'. Goes (At w' vs'' locals rest k)))))))
+
+-- the bytes of a page
+abbrev pub page_bytes : Option ℕ → ℕ
+page_bytes None = 65536
+page_bytes (Some log2) = 2 ^ log2
+
+-- a number of pages as a value of the type of a memory's addresses
+abbrev pub size_value : Bool → ℕ → Option CoreValue
+size_value true n = if nat_lt n (2 ^ 64) then Some (I64 n) else None
+size_value false n = if nat_lt n (2 ^ 32) then Some (I32 n) else None
+
+-- the size of a memory, in pages of its own size
+abbrev pub memory_size : WasmModule → ℕ → World → List CoreValue → List (Option CoreValue) → List Instr → Around → Did
+memory_size M n w vs locals rest k =
+    or_stuck w (memory_import M.imports n) (λ t.
+    or_stuck w (slice_get w.state.memories n) (λ bytes.
+    or_stuck w (size_value t.0 (length bytes / page_bytes t.1)) (λ v. Goes (At w (v ∷ vs) locals rest k))))
+
+-- ---- the table of instructions
+
+-- The meaning of an instruction, with what comes after it. The rows that are left out change the operand stack alone.
 abbrev pub act : WasmModule → Instr-F Instr → World → List CoreValue → List (Option CoreValue) → List Instr → Around → Did
-act M Unreachable w vs locals rest k = Ends Trapped w
-act M (Block bt body) w vs locals rest k = enter M.types bt w vs (λ m n top below. Goes (At w top locals body (Label n below rest rest [] k)))
-act M (BrIf l) w vs locals rest k = with_i32 w vs (λ c vs'. when c (branch w l vs' locals k) (Goes (At w vs' locals rest k)))
-act M (Call f) w vs locals rest k = call M f w vs locals rest k
-act M (LocalGet n) w vs locals rest k = or_stuck w (slice_get locals n) (λ o. or_stuck w o (λ v. Goes (At w (v ∷ vs) locals rest k)))
-act M (LocalSet n) w vs locals rest k = with_top w vs (λ v vs'. set_local w n v locals (λ ls. Goes (At w vs' ls rest k)))
-act M (LocalTee n) w vs locals rest k = with_top w vs (λ v vs'. set_local w n v locals (λ ls. Goes (At w vs ls rest k)))
-act M (GlobalGet n) w vs locals rest k = or_stuck w (slice_get w.state.globals n) (λ v. Goes (At w (v ∷ vs) locals rest k))
-act M (GlobalSet n) w vs locals rest k =
+act M instr.Unreachable w vs locals rest k = Ends Trapped w
+act M (instr.Block bt body) w vs locals rest k = block M bt body w vs locals rest k
+act M (instr.Loop bt body) w vs locals rest k = loop M bt body w vs locals rest k
+act M (instr.If bt body other) w vs locals rest k = with_i32 w vs (λ c vs'. when c (block M bt body w vs' locals rest k) (block M bt (or_empty other) w vs' locals rest k))
+act M (instr.TryTable bt catches body) w vs locals rest k = try_table M bt catches body w vs locals rest k
+act M (instr.Br l) w vs locals rest k = branch w l vs locals k
+act M (instr.BrIf l) w vs locals rest k = with_i32 w vs (λ c vs'. when c (branch w l vs' locals k) (Goes (At w vs' locals rest k)))
+act M (instr.BrTable labels last) w vs locals rest k = with_i32 w vs (λ i vs'. branch w (label_at labels last i) vs' locals k)
+act M (instr.Call f) w vs locals rest k = call M f w vs locals rest k
+act M (instr.RefFunc f) w vs locals rest k = ref_func M f w vs locals rest k
+act M (instr.LocalGet n) w vs locals rest k = or_stuck w (slice_get locals n) (λ o. or_stuck w o (λ v. Goes (At w (v ∷ vs) locals rest k)))
+act M (instr.LocalSet n) w vs locals rest k = with_top w vs (λ v vs'. set_local w n v locals (λ ls. Goes (At w vs' ls rest k)))
+act M (instr.LocalTee n) w vs locals rest k = with_top w vs (λ v vs'. set_local w n v locals (λ ls. Goes (At w vs ls rest k)))
+act M (instr.GlobalGet n) w vs locals rest k = or_stuck w (slice_get w.state.globals n) (λ v. Goes (At w (v ∷ vs) locals rest k))
+act M (instr.GlobalSet n) w vs locals rest k =
     with_top w vs (λ v vs'. or_stuck w (slice_get w.state.globals n) (λ old. check w (has_type v (type_of old))
     (Goes (At (set_global n v w) vs' locals rest k))))
-act M (I32Const n) w vs locals rest k = Goes (At w (I32 n ∷ vs) locals rest k)
+act M (instr.I32Load m) w vs locals rest k = load M 4 (λ n. I32 n) m w vs locals rest k
+act M (instr.I64Load m) w vs locals rest k = load M 8 (λ n. I64 n) m w vs locals rest k
+act M (instr.F32Load m) w vs locals rest k = load M 4 (λ n. F32 n) m w vs locals rest k
+act M (instr.F64Load m) w vs locals rest k = load M 8 (λ n. F64 n) m w vs locals rest k
+act M (instr.I32Load8S m) w vs locals rest k = load M 1 (λ n. I32 (extend_s 8 32 n)) m w vs locals rest k
+act M (instr.I32Load8U m) w vs locals rest k = load M 1 (λ n. I32 n) m w vs locals rest k
+act M (instr.I32Load16S m) w vs locals rest k = load M 2 (λ n. I32 (extend_s 16 32 n)) m w vs locals rest k
+act M (instr.I32Load16U m) w vs locals rest k = load M 2 (λ n. I32 n) m w vs locals rest k
+act M (instr.I32Store m) w vs locals rest k = store M 4 i32_of m w vs locals rest k
+act M (instr.I64Store m) w vs locals rest k = store M 8 i64_of m w vs locals rest k
+act M (instr.F32Store m) w vs locals rest k = store M 4 f32_of m w vs locals rest k
+act M (instr.F64Store m) w vs locals rest k = store M 8 f64_of m w vs locals rest k
+act M (instr.I32Store8 m) w vs locals rest k = store M 1 i32_of m w vs locals rest k
+act M (instr.I32Store16 m) w vs locals rest k = store M 2 i32_of m w vs locals rest k
+act M (instr.MemorySize n) w vs locals rest k = memory_size M n w vs locals rest k
+act M i w vs locals rest k = or_stuck w (operate i vs) (λ us. Goes (At w us locals rest k))
 
 -- the instruction that is begun next, or the end: the end of a body is silent
 pub data Next : Type 0 where

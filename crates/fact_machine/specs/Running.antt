@@ -1,12 +1,15 @@
 -- The configuration that a running machine stands for, and what its functions do to it. These definitions serve the clauses
 -- of private functions alone: the public ones cite `Machine` and `World`.
-use Rattle.std.specs.Prelude.{◌≡◌, ◌≢◌, ℕ, Bool, true, false, List, [], ◌∷◌, ◌++◌, length, map, reverse, Option, Some, None}
+use Rattle.std.specs.Prelude.{◌≡◌, ◌≢◌, ℕ, Bool, true, false, bit_and, bit_or, bit_xor, slice_get, List, [], ◌∷◌, ◌++◌, length, map, reverse, Option, Some, None}
 use Rattle.fact_wasm.specs.declared.types.FuncType.{FuncType}
+use Rattle.fact_wasm.specs.declared.instr.BlockType.{BlockType}
+use Rattle.fact_wasm.specs.declared.instr.MemArg.{MemArg}
 use Rattle.fact_wasm.specs.declared.instr.Instr.{Instr}
 use Rattle.fact_wasm.specs.declared.instr.Instr.TheOpen.{Instr-F}
 use Rattle.fact_wasm.specs.declared.module.WasmFunc.{WasmFunc}
 use Rattle.fact_wasm.specs.declared.module.WasmModule.{WasmModule}
 use Rattle.fact_machine.specs.declared.types.CoreValue.{CoreValue}
+use Rattle.fact_machine.specs.declared.types.CoreValue.TheVariants.{I32, I64, F32, F64}
 use Rattle.fact_machine.specs.declared.types.Answer.{Answer}
 use Rattle.fact_machine.specs.declared.types.Answer.TheVariants.{Returns, Traps, Throws}
 use Rattle.fact_machine.specs.declared.types.End.{End}
@@ -14,8 +17,19 @@ use Rattle.fact_machine.specs.declared.types.End.TheVariants.{Trapped}
 use Rattle.fact_machine.specs.declared.running.Entry.{Entry}
 use Rattle.fact_machine.specs.declared.running.Entry.TheVariants as entry
 use Rattle.fact_machine.specs.declared.running.Running.{Running}
-use Rattle.fact_machine.specs.World.{World}
-use Rattle.fact_machine.specs.Machine.{Around, Bottom, Label, Frame, Config, At, Did, Goes, Ends, next, or_stuck, check, grab, have_types, set_local, branch, throw, call_outside, call_inside, call_import, some_of, locals_of, act}
+use Rattle.fact_machine.specs.declared.numeric.Binary.{Binary}
+use Rattle.fact_machine.specs.declared.numeric.Binary.TheVariants as binary
+use Rattle.fact_machine.specs.declared.numeric.UnaryI32.{UnaryI32}
+use Rattle.fact_machine.specs.declared.numeric.UnaryI32.TheVariants as unary32
+use Rattle.fact_machine.specs.declared.numeric.UnaryI64.{UnaryI64}
+use Rattle.fact_machine.specs.declared.numeric.UnaryI64.TheVariants as unary64
+use Rattle.fact_machine.specs.declared.memory.LoadKind.{LoadKind}
+use Rattle.fact_machine.specs.declared.memory.LoadKind.TheVariants as load_kind
+use Rattle.fact_machine.specs.declared.memory.StoreKind.{StoreKind}
+use Rattle.fact_machine.specs.declared.memory.StoreKind.TheVariants as store_kind
+use Rattle.fact_machine.specs.World.{World, read, write}
+use Rattle.fact_machine.specs.Numerics.{iadd, isub, imul, ishl, ishr_u, ieqz, ieq, ine, ilt_u, igt_u, ige_u, wrap_32, extend_s}
+use Rattle.fact_machine.specs.Machine.{Around, Bottom, Label, Frame, Config, At, Did, Goes, Ends, next, or_stuck, check, grab, have_types, set_local, branch, throw, call_outside, call_inside, call_import, some_of, locals_of, enter, with_address, on_res, load, store, i32_of, i64_of, f32_of, f64_of, act}
 
 -- an entry on what stands around it
 abbrev pub put : Entry → Around → Around
@@ -102,3 +116,104 @@ imported_typed n t w vs ls rest k =
 
 abbrev pub imported : WasmModule → ℕ → Row
 imported M n w vs ls rest k = call_import M n w vs ls rest k
+
+-- ---- the operand stack
+
+-- the operand stack alone changes
+abbrev pub operated : (List CoreValue → Option (List CoreValue)) → Row
+operated f w vs ls rest k = or_stuck w (f vs) (λ us. Goes (At w us ls rest k))
+
+abbrev pub pushing : CoreValue → Row
+pushing v w vs ls rest k = Goes (At w (v ∷ vs) ls rest k)
+
+-- what an instruction of two operands of n bits computes, where `value` makes a value of their type
+abbrev pub binary_meaning : ℕ → (ℕ → CoreValue) → Binary → ℕ → ℕ → CoreValue
+binary_meaning n value binary.Eq i j = I32 (ieq i j)
+binary_meaning n value binary.Ne i j = I32 (ine i j)
+binary_meaning n value binary.LtU i j = I32 (ilt_u i j)
+binary_meaning n value binary.GtU i j = I32 (igt_u i j)
+binary_meaning n value binary.GeU i j = I32 (ige_u i j)
+binary_meaning n value binary.Add i j = value (iadd n i j)
+binary_meaning n value binary.Sub i j = value (isub n i j)
+binary_meaning n value binary.Mul i j = value (imul n i j)
+binary_meaning n value binary.And i j = value (bit_and i j)
+binary_meaning n value binary.Or i j = value (bit_or i j)
+binary_meaning n value binary.Xor i j = value (bit_xor i j)
+binary_meaning n value binary.Shl i j = value (ishl n i j)
+binary_meaning n value binary.ShrU i j = value (ishr_u n i j)
+
+abbrev pub unary_i32_meaning : UnaryI32 → ℕ → CoreValue
+unary_i32_meaning unary32.Eqz i = I32 (ieqz i)
+unary_i32_meaning unary32.ExtendU i = I64 i
+unary_i32_meaning unary32.Reinterpret i = F32 i
+unary_i32_meaning unary32.Extend8S i = I32 (extend_s 8 32 i)
+unary_i32_meaning unary32.Extend16S i = I32 (extend_s 16 32 i)
+
+abbrev pub unary_i64_meaning : UnaryI64 → ℕ → CoreValue
+unary_i64_meaning unary64.Eqz i = I32 (ieqz i)
+unary_i64_meaning unary64.Wrap i = I32 (wrap_32 i)
+unary_i64_meaning unary64.Reinterpret i = F64 i
+
+-- ---- blocks
+
+-- a block whose branches take its parameters and go on at some code
+abbrev pub looping : WasmModule → BlockType → List Instr → List Instr → Row
+looping M bt body to w vs ls rest k = enter M.types bt w vs (λ m n top below. Goes (At w top ls body (Label m below to rest [] k)))
+
+-- ---- memories
+
+abbrev pub load_length : LoadKind → ℕ
+load_length load_kind.I32 = 4
+load_length load_kind.I64 = 8
+load_length load_kind.F32 = 4
+load_length load_kind.F64 = 8
+load_length load_kind.I32From8S = 1
+load_length load_kind.I32From8U = 1
+load_length load_kind.I32From16S = 2
+load_length load_kind.I32From16U = 2
+
+abbrev pub load_value : LoadKind → ℕ → CoreValue
+load_value load_kind.I32 n = I32 n
+load_value load_kind.I64 n = I64 n
+load_value load_kind.F32 n = F32 n
+load_value load_kind.F64 n = F64 n
+load_value load_kind.I32From8S n = I32 (extend_s 8 32 n)
+load_value load_kind.I32From8U n = I32 n
+load_value load_kind.I32From16S n = I32 (extend_s 16 32 n)
+load_value load_kind.I32From16U n = I32 n
+
+abbrev pub store_length : StoreKind → ℕ
+store_length store_kind.I32 = 4
+store_length store_kind.I64 = 8
+store_length store_kind.F32 = 4
+store_length store_kind.F64 = 8
+store_length store_kind.I32To8 = 1
+store_length store_kind.I32To16 = 2
+
+abbrev pub store_number : StoreKind → CoreValue → Option ℕ
+store_number store_kind.I32 v = i32_of v
+store_number store_kind.I64 v = i64_of v
+store_number store_kind.F32 v = f32_of v
+store_number store_kind.F64 v = f64_of v
+store_number store_kind.I32To8 v = i32_of v
+store_number store_kind.I32To16 v = i32_of v
+
+abbrev pub loaded : WasmModule → LoadKind → MemArg → Row
+loaded M kind m w vs ls rest k = load M (load_length kind) (load_value kind) m w vs ls rest k
+
+-- a load with its address off the stack
+abbrev pub loading : LoadKind → ℕ → ℕ → Row
+loading kind index address w vs ls rest k =
+    or_stuck w (slice_get w.state.memories index) (λ bytes. on_res (read (load_length kind) bytes address w) ls k (λ number w'. Goes (At w' (load_value kind number ∷ vs) ls rest k)))
+
+abbrev pub stored : WasmModule → StoreKind → MemArg → Row
+stored M kind m w vs ls rest k = store M (store_length kind) (store_number kind) m w vs ls rest k
+
+-- a store with its operands off the stack
+abbrev pub storing : StoreKind → ℕ → ℕ → ℕ → Row
+storing kind index address value w vs ls rest k =
+    or_stuck w (slice_get w.state.memories index) (λ bytes. on_res (write (store_length kind) index bytes address value w) ls k (λ done w'. Goes (At w' vs ls rest k)))
+
+-- a store with the number off the stack
+abbrev pub addressed : Bool → (ℕ → Row) → Row
+addressed memory64 go w vs ls rest k = with_address memory64 w vs (λ base us. go base w us ls rest k)

@@ -78,13 +78,22 @@ set_memory index memory w trace = record {
   trace = trace;
 }
 
+-- the number that the n bytes at an address make
+abbrev pub number_at : ℕ → List ℕ → ℕ → ℕ
+number_at n memory address = number_of (take n (drop address memory))
+
+-- a memory with the n lowest bytes of a number at an address
+abbrev pub with_number : ℕ → List ℕ → ℕ → ℕ → List ℕ
+with_number n memory address value = put_at memory address (bytes_of n value)
+
 -- a read of n bytes of a memory; it traps where they are not all there
 abbrev pub read : ℕ → List ℕ → ℕ → World → Res ℕ
-read n memory address w = if nat_le (address + n) (length memory) then Done (number_of (take n (drop address memory))) w else Halt Trap w
+read n memory address w = if nat_le (address + n) (length memory) then Done (number_at n memory address) w else Halt Trap w
+
+-- the world after a write of the n lowest bytes of a number
+abbrev pub written : ℕ → ℕ → List ℕ → ℕ → ℕ → World → World
+written n index memory address value w = set_memory index (with_number n memory address value) w (w.trace ++ Stored index address n (value % 256 ^ n) ∷ [])
 
 -- a write of the n lowest bytes of a number; it traps where there is no room for all, and then changes nothing
 abbrev pub write : ℕ → ℕ → List ℕ → ℕ → ℕ → World → Res (Unit {0})
-write n index memory address value w =
-    if nat_le (address + n) (length memory)
-    then Done tt (set_memory index (put_at memory address (bytes_of n value)) w (w.trace ++ Stored index address n (value % 256 ^ n) ∷ []))
-    else Halt Trap w
+write n index memory address value w = if nat_le (address + n) (length memory) then Done tt (written n index memory address value w) else Halt Trap w

@@ -4,9 +4,11 @@ ghost use Rattle.std.specs.Prelude.{◌≡◌, ◌≢◌, [], IfOk};
 ghost use Rattle.fact_machine.specs.Machine.{next, begin as begin_of};
 ghost use Rattle.fact_machine.specs.Running.{did_of, config_of};
 
+use crate::memory::{LoadKind, StoreKind};
+use crate::numeric::{Binary, UnaryI32, UnaryI64};
 use crate::running::{Running, Step};
-use crate::types::End;
-use crate::{branches, entering, outside, rows};
+use crate::types::{CoreValue, End};
+use crate::{branches, entering, memory, numeric, outside, rows};
 use fact_wasm::{Instr, WasmModule};
 use std::alloc::Global;
 
@@ -15,20 +17,85 @@ pub fn begin<'m>(run: &mut Running<'m>, alloc: Global, module: &'m WasmModule) -
     requires { run.old.code.now ≢ [] }
     ensures { IfOk result (λ end. did_of end run.new ≡ begin_of «module».now (next (config_of run.old))) }
 {
-    let [instr, rest @ ..] = run.code else {
+    let code = run.code;
+    let [instr, rest @ ..] = code else {
         unreachable!();
     };
     run.code = rest;
     match instr {
         Instr::Unreachable => Ok(Some(End::Trapped)),
-        Instr::Block(ty, body) => entering::block(run, module, *ty, body.as_slice()),
+        Instr::Block(ty, body) => entering::block(run, module, *ty, &[], body.as_slice()),
+        Instr::Loop(ty, body) => entering::again(run, module, *ty, body.as_slice(), code),
+        Instr::If(ty, body, other) => entering::if_else(run, module, *ty, body.as_slice(), other),
+        Instr::Br(label) => branches::branch(run, *label),
         Instr::BrIf(label) => branches::br_if(run, *label),
+        Instr::BrTable(labels, last) => branches::br_table(run, labels.as_slice(), *last),
         Instr::Call(func) => outside::call(run, alloc, module, *func),
+        Instr::Drop => Ok(rows::drop_one(run)),
+        Instr::Select => rows::select(run),
+        Instr::TryTable(ty, catches, body) => {
+            entering::block(run, module, *ty, catches.as_slice(), body.as_slice())
+        }
         Instr::LocalGet(n) => rows::local_get(run, *n),
         Instr::LocalSet(n) => Ok(rows::local_set(run, *n)),
         Instr::LocalTee(n) => rows::local_tee(run, *n),
         Instr::GlobalGet(n) => rows::global_get(run, *n),
         Instr::GlobalSet(n) => rows::global_set(run, *n),
-        Instr::I32Const(n) => rows::i32_const(run, *n),
+        Instr::I32Load(arg) => memory::load(run, module, LoadKind::I32, *arg),
+        Instr::I64Load(arg) => memory::load(run, module, LoadKind::I64, *arg),
+        Instr::F32Load(arg) => memory::load(run, module, LoadKind::F32, *arg),
+        Instr::F64Load(arg) => memory::load(run, module, LoadKind::F64, *arg),
+        Instr::I32Load8S(arg) => memory::load(run, module, LoadKind::I32From8S, *arg),
+        Instr::I32Load8U(arg) => memory::load(run, module, LoadKind::I32From8U, *arg),
+        Instr::I32Load16S(arg) => memory::load(run, module, LoadKind::I32From16S, *arg),
+        Instr::I32Load16U(arg) => memory::load(run, module, LoadKind::I32From16U, *arg),
+        Instr::I32Store(arg) => memory::store(run, module, StoreKind::I32, *arg),
+        Instr::I64Store(arg) => memory::store(run, module, StoreKind::I64, *arg),
+        Instr::F32Store(arg) => memory::store(run, module, StoreKind::F32, *arg),
+        Instr::F64Store(arg) => memory::store(run, module, StoreKind::F64, *arg),
+        Instr::I32Store8(arg) => memory::store(run, module, StoreKind::I32To8, *arg),
+        Instr::I32Store16(arg) => memory::store(run, module, StoreKind::I32To16, *arg),
+        Instr::MemorySize(n) => memory::memory_size(run, module, *n),
+        Instr::I32Const(n) => rows::constant(run, CoreValue::I32(*n)),
+        Instr::I64Const(n) => rows::constant(run, CoreValue::I64(*n)),
+        Instr::F32Const(n) => rows::constant(run, CoreValue::F32(*n)),
+        Instr::F64Const(n) => rows::constant(run, CoreValue::F64(*n)),
+        Instr::I32Eqz => numeric::unary_i32(run, UnaryI32::Eqz),
+        Instr::I32Eq => numeric::binary_i32(run, Binary::Eq),
+        Instr::I32Ne => numeric::binary_i32(run, Binary::Ne),
+        Instr::I32LtU => numeric::binary_i32(run, Binary::LtU),
+        Instr::I32GtU => numeric::binary_i32(run, Binary::GtU),
+        Instr::I32GeU => numeric::binary_i32(run, Binary::GeU),
+        Instr::I64Eqz => numeric::unary_i64(run, UnaryI64::Eqz),
+        Instr::I64Eq => numeric::binary_i64(run, Binary::Eq),
+        Instr::I64Ne => numeric::binary_i64(run, Binary::Ne),
+        Instr::I64LtU => numeric::binary_i64(run, Binary::LtU),
+        Instr::I64GtU => numeric::binary_i64(run, Binary::GtU),
+        Instr::I64GeU => numeric::binary_i64(run, Binary::GeU),
+        Instr::I32Add => numeric::binary_i32(run, Binary::Add),
+        Instr::I32Sub => numeric::binary_i32(run, Binary::Sub),
+        Instr::I32Mul => numeric::binary_i32(run, Binary::Mul),
+        Instr::I32And => numeric::binary_i32(run, Binary::And),
+        Instr::I32Or => numeric::binary_i32(run, Binary::Or),
+        Instr::I32Xor => numeric::binary_i32(run, Binary::Xor),
+        Instr::I32Shl => numeric::binary_i32(run, Binary::Shl),
+        Instr::I32ShrU => numeric::binary_i32(run, Binary::ShrU),
+        Instr::I64Add => numeric::binary_i64(run, Binary::Add),
+        Instr::I64Sub => numeric::binary_i64(run, Binary::Sub),
+        Instr::I64Mul => numeric::binary_i64(run, Binary::Mul),
+        Instr::I64And => numeric::binary_i64(run, Binary::And),
+        Instr::I64Or => numeric::binary_i64(run, Binary::Or),
+        Instr::I64Xor => numeric::binary_i64(run, Binary::Xor),
+        Instr::I64Shl => numeric::binary_i64(run, Binary::Shl),
+        Instr::I64ShrU => numeric::binary_i64(run, Binary::ShrU),
+        Instr::I32WrapI64 => numeric::unary_i64(run, UnaryI64::Wrap),
+        Instr::I64ExtendI32U => numeric::unary_i32(run, UnaryI32::ExtendU),
+        Instr::I32ReinterpretF32 => numeric::i32_reinterpret_f32(run),
+        Instr::I64ReinterpretF64 => numeric::i64_reinterpret_f64(run),
+        Instr::F32ReinterpretI32 => numeric::unary_i32(run, UnaryI32::Reinterpret),
+        Instr::F64ReinterpretI64 => numeric::unary_i64(run, UnaryI64::Reinterpret),
+        Instr::I32Extend8S => numeric::unary_i32(run, UnaryI32::Extend8S),
+        Instr::I32Extend16S => numeric::unary_i32(run, UnaryI32::Extend16S),
+        Instr::RefFunc(func) => outside::ref_func(run, module, *func),
     }
 }

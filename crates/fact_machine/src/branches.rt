@@ -60,6 +60,19 @@ pub fn br_if(run: &mut Running, label: u32) -> Step
     }
 }
 
+/// `br_table`.
+pub fn br_table(run: &mut Running, labels: &[u32], last: u32) -> Step
+    ensures { IfOk result (λ end. did_of end run.new ≡ at run.old (row (instr.BrTable labels.now last))) }
+{
+    let Some(CoreValue::I32(i)) = run.stack.pop() else {
+        return Ok(Some(End::Stuck));
+    };
+    match labels.get(i as usize) {
+        Some(label) => branch(run, *label),
+        None => branch(run, last),
+    }
+}
+
 /// A throw, to the innermost label that catches.
 #[tactic(auto, using(crate::proofs::Entries::around_push))]
 pub fn throw(run: &mut Running, alloc: Global) -> Step

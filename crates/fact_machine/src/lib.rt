@@ -7,6 +7,9 @@ mod calls;
 mod copies;
 mod entering;
 mod locals;
+mod memory;
+mod memory_laws;
+mod numeric;
 mod outside;
 mod rows;
 mod run;
@@ -16,6 +19,7 @@ mod stack;
 mod types;
 mod values;
 
+pub use memory_laws::laws_of_memory;
 pub use run::Machine;
 pub use types::{Answer, CoreValue, End, Event, MachineState, Outcome, TraceEntry};
 

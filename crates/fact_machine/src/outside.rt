@@ -2,7 +2,7 @@
 
 ghost use Rattle.std.specs.Prelude.{◌≡◌, IfOk};
 ghost use Rattle.fact_wasm.specs.declared.instr.Instr.TheOpen as instr;
-ghost use Rattle.fact_machine.specs.Machine.{act, func_import};
+ghost use Rattle.fact_machine.specs.Machine.{act, func_import, ref_func as ref_func_of};
 ghost use Rattle.fact_machine.specs.Running.{did_of, at, answering, asking, imported_typed, imported};
 
 use crate::branches::throw;
@@ -104,4 +104,19 @@ pub fn call<'m>(
         FuncName::Import(n) => call_import(run, alloc, module, n),
         FuncName::Defined(n) => call_defined(run, alloc, module, n),
     }
+}
+
+/// `ref.func`.
+pub fn ref_func(run: &mut Running, module: &WasmModule, func: FuncName) -> Step
+    ensures { IfOk result (λ end. did_of end run.new ≡ at run.old (ref_func_of «module».now func)) }
+{
+    let is_there = match func {
+        FuncName::Import(n) => import_type(module.imports.as_slice(), n).is_some(),
+        FuncName::Defined(n) => module.funcs.get(n as usize).is_some(),
+    };
+    if !is_there {
+        return Ok(Some(End::Stuck));
+    }
+    run.stack.push(CoreValue::Func(func))?;
+    Ok(None)
 }

@@ -1,18 +1,62 @@
-//! Rows of the instruction table: constants, locals and globals (core specification, "Execution", "Instructions").
+//! Rows of the instruction table: constants, `drop`, `select`, locals and globals (core specification, "Execution", "Instructions").
 
 ghost use Rattle.std.specs.Prelude.{◌≡◌, IfOk};
 ghost use Rattle.fact_wasm.specs.declared.instr.Instr.TheOpen as instr;
-ghost use Rattle.fact_machine.specs.Running.{did_of, at, row, assign as assigned};
+ghost use Rattle.fact_machine.specs.Running.{did_of, at, row, pushing, assign as assigned};
+ghost use Rattle.fact_machine.specs.Operands.{alike as alike_of};
 
 use crate::running::{Running, Step};
 use crate::types::{CoreValue, End, TraceEntry};
 use crate::values::{has_type, may_follow, type_of};
 
-/// `i32.const`.
-pub fn i32_const(run: &mut Running, n: u32) -> Step
-    ensures { IfOk result (λ end. did_of end run.new ≡ at run.old (row (instr.I32Const n))) }
+/// A constant.
+pub fn constant(run: &mut Running, value: CoreValue) -> Step
+    ensures { IfOk result (λ end. did_of end run.new ≡ at run.old (pushing value)) }
 {
-    run.stack.push(CoreValue::I32(n))?;
+    run.stack.push(value)?;
+    Ok(None)
+}
+
+/// `drop`.
+pub fn drop_one(run: &mut Running) -> Option<End>
+    ensures { did_of result run.new ≡ at run.old (row instr.Drop) }
+{
+    match run.stack.pop() {
+        Some(_) => None,
+        None => Some(End::Stuck),
+    }
+}
+
+/// Whether two values are numbers of one type.
+fn alike(u: CoreValue, v: CoreValue) -> bool
+    ensures { result ≡ alike_of u v }
+{
+    match (u, v) {
+        (CoreValue::I32(_), CoreValue::I32(_)) => true,
+        (CoreValue::I64(_), CoreValue::I64(_)) => true,
+        (CoreValue::F32(_), CoreValue::F32(_)) => true,
+        (CoreValue::F64(_), CoreValue::F64(_)) => true,
+        _ => false,
+    }
+}
+
+/// `select`.
+pub fn select(run: &mut Running) -> Step
+    ensures { IfOk result (λ end. did_of end run.new ≡ at run.old (row instr.Select)) }
+{
+    let Some(CoreValue::I32(condition)) = run.stack.pop() else {
+        return Ok(Some(End::Stuck));
+    };
+    let Some(v) = run.stack.pop() else {
+        return Ok(Some(End::Stuck));
+    };
+    let Some(u) = run.stack.pop() else {
+        return Ok(Some(End::Stuck));
+    };
+    if !alike(u, v) {
+        return Ok(Some(End::Stuck));
+    }
+    run.stack.push(if condition != 0 { u } else { v })?;
     Ok(None)
 }
 

@@ -11,8 +11,9 @@ use Rattle.fact_wasm.specs.declared.instr.FuncName.TheVariants as func
 use Rattle.fact_wasm.specs.declared.instr.Instr.{Instr}
 use Rattle.fact_wasm.specs.declared.instr.Instr.TheVariants.{Call, Unreachable}
 use Rattle.fact_wasm.specs.declared.module.WasmModule.{WasmModule}
-use Rattle.fact_plan.specs.declared.plain.RuntimeInstanceIndex.{RuntimeInstanceIndex}
-use Rattle.fact_plan.specs.declared.plain.CoreDef.TheVariants as def
+use Rattle.fact_entity.specs.declared.id.Id.{Id}
+use Rattle.fact_entity.specs.declared.table.RuntimeInstances.{RuntimeInstances}
+use Rattle.fact_types.specs.declared.outside.CoreDef.TheVariants as def
 use Rattle.fact_plan.specs.declared.plain.PrimitiveValType.{PrimitiveValType}
 use Rattle.fact_machine.specs.declared.types.CoreValue.{CoreValue}
 use Rattle.fact_machine.specs.declared.types.CoreValue.TheVariants.{I32, I64, F32, F64, Func}
@@ -96,7 +97,7 @@ returned-over e rs h = subst Over (sym h) tt
 end_of : Outcome → End
 end_of o = o.end
 
-module _ (m : WasmModule) (is : List Import) (name : List ℕ) (i : RuntimeInstanceIndex) (callee : List ℕ) (lift lower : ℕ) (params results : List PrimitiveValType)
+module _ (m : WasmModule) (is : List Import) (name : List ℕ) (i : Id RuntimeInstances) (callee : List ℕ) (lift lower : ℕ) (params results : List PrimitiveValType)
     (h : IsPlainModule m name lift lower (core_type params results)) (known_as : is ≡ plain_imports (def.Export i callee) lift lower) (words : AreWords params) (out : AreWords results) (few : length results ≤ 1) (apart : lift ≢ lower) where
   flags-are : (memories : List (List ℕ)) (a b : ℕ) → flags_of m is lower (state memories a b) ≡ Some (I32 b)
   flags-are memories a b = rw (h.imports, known_as, other-number lift lower apart, same-number lower) refl
@@ -108,7 +109,7 @@ module _ (m : WasmModule) (is : List Import) (name : List ℕ) (i : RuntimeInsta
       (g.0, g.1, ap at g.2)
 
   is-callee : is_def (def.Export i callee) (imported_function m is (func.Import 0)) ≡ true
-  is-callee = rw (h.imports, known_as, same-number i.0, same-bytes callee) refl
+  is-callee = rw (h.imports, known_as, same-number i.number, same-bytes callee) refl
 
   no-transfer : is_transfer (imported_function m is (func.Import 0)) ≡ false
   no-transfer = rw (h.imports, known_as) refl

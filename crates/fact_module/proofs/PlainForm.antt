@@ -5,13 +5,14 @@ use Rattle.std.specs.Fmt.{decimal, digits}
 use Rattle.fact_wasm.specs.declared.types.ValType.{ValType}
 use Rattle.fact_wasm.specs.declared.types.FuncType.{FuncType}
 use Rattle.fact_wasm.specs.declared.module.WasmModule.{WasmModule}
-use Rattle.fact_plan.specs.declared.plain.RuntimeInstanceIndex.{RuntimeInstanceIndex}
-use Rattle.fact_plan.specs.declared.plain.CoreDef.{CoreDef}
-use Rattle.fact_plan.specs.declared.plain.CoreDef.TheVariants as def
+use Rattle.fact_entity.specs.declared.id.Id.{Id}
+use Rattle.fact_entity.specs.declared.table.RuntimeInstances.{RuntimeInstances}
+use Rattle.fact_types.specs.declared.outside.CoreDef.{CoreDef}
+use Rattle.fact_types.specs.declared.outside.CoreDef.TheVariants as def
 use Rattle.fact_plan.specs.declared.plain.PrimitiveValType.{PrimitiveValType}
 use Rattle.fact_plan.specs.declared.plain.PrimitiveValType.TheVariants as word
-use Rattle.fact_plan.specs.declared.plain.StringEncoding.{StringEncoding}
-use Rattle.fact_plan.specs.declared.plain.StringEncoding.TheVariants.{Utf8}
+use Rattle.fact_types.specs.declared.outside.StringEncoding.{StringEncoding}
+use Rattle.fact_types.specs.declared.outside.StringEncoding.TheVariants.{Utf8}
 use Rattle.fact_plan.specs.declared.plan.PlanRef.{PlanRef}
 use Rattle.fact_plan.specs.declared.plan.PlanRef.TheVariants as ref
 use Rattle.fact_plan.specs.declared.plan.PlanMemory.{PlanMemory}
@@ -116,7 +117,7 @@ length-word : (words : List PrimitiveValType) → length (map ref.Word words) �
 length-word [] = refl
 length-word (w ∷ words) = ap suc (length-word words)
 
-export-is : (d : CoreDef) → IsExportDef d → (i : RuntimeInstanceIndex) × (name : List ℕ) × (d ≡ def.Export i name)
+export-is : (d : CoreDef) → IsExportDef d → (i : Id RuntimeInstances) × (name : List ℕ) × (d ≡ def.Export i name)
 export-is (def.Export i name) h = (i, name, refl)
 export-is (def.InstanceFlags i) h = absurd h
 export-is (def.Trampoline i) h = absurd h
@@ -125,7 +126,7 @@ same-type : (ps qs rs ss : List ValType) → ps ≡ qs → rs ≡ ss → ◌≡�
 same-type ps qs rs ss e f = rw (e, f) refl
 
 -- what all its names come to
-form : (p : FusePlan) (f : PlanFunc) (i : RuntimeInstanceIndex) (name : List ℕ) (a : PlanAdapter) (params results : List PrimitiveValType)
+form : (p : FusePlan) (f : PlanFunc) (i : Id RuntimeInstances) (name : List ℕ) (a : PlanAdapter) (params results : List PrimitiveValType)
     → p.funcs ≡ f ∷ [] → map (λ x. x.1) f.params ≡ map ref.Word params → f.results ≡ map ref.Word results → f.async_ ≡ false
     → p.core_types ≡ core_type params results ∷ [] → p.core_defs ≡ def.Export i name ∷ [] → p.adapters ≡ one_adapter a ∷ []
     → adapters_of p ≡ plain_adapter a.name (def.Export i name) a.lift.instance a.lower.instance params results ∷ []
@@ -136,7 +137,7 @@ form p f i name a params results funcs_are params_are results_are sync types_are
 pub record Parts (p : FusePlan) : Type 0 where
   pub params : List PrimitiveValType
   pub results : List PrimitiveValType
-  pub exporter : RuntimeInstanceIndex
+  pub exporter : Id RuntimeInstances
   pub name : List ℕ
   pub adapter : PlanAdapter
   pub types_are : p.core_types ≡ core_type params results ∷ []
@@ -183,10 +184,10 @@ parts p h =
 unlike : (a b : ℕ) → a ≢ b → nat_eq b a ≡ false
 unlike a b n = grind (arith, nat_tests)
 
-module _ (name : List ℕ) (i : RuntimeInstanceIndex) (callee : List ℕ) (lift lower : ℕ) (params results : List PrimitiveValType) where
+module _ (name : List ℕ) (i : Id RuntimeInstances) (callee : List ℕ) (lift lower : ℕ) (params results : List PrimitiveValType) where
   mentions-plain : lift ≢ lower → mentions (plain_adapter name (def.Export i callee) lift lower params results ∷ []) ≡
-      record { def = def.InstanceFlags (record { 0 = lift }); role = Flags lift }
-      ∷ record { def = def.InstanceFlags (record { 0 = lower }); role = Flags lower }
+      record { def = def.InstanceFlags (record { table = _; number = lift }); role = Flags lift }
+      ∷ record { def = def.InstanceFlags (record { table = _; number = lower }); role = Flags lower }
       ∷ record { def = def.Export i callee; role = Callee name (core_type params results) } ∷ []
   mentions-plain apart = rw (unlike lift lower apart) refl
 

@@ -4,7 +4,7 @@ use Rattle.std.specs.Prelude.{All, IsTrue, not, ◌&&◌}
 use Rattle.fact_wasm.specs.declared.instr.FuncName.TheVariants as func
 use Rattle.fact_wasm.specs.declared.module.WasmModule.{WasmModule}
 use Rattle.fact_wasm.specs.Spelling.{Spells}
-use Rattle.fact_plan.specs.declared.plain.CoreDef.TheVariants as def
+use Rattle.fact_types.specs.declared.outside.CoreDef.TheVariants as def
 use Rattle.fact_plan.specs.declared.plan.FusePlan.{FusePlan}
 use Rattle.fact_module.specs.declared.fusion.Fused.{Fused}
 use Rattle.fact_module.specs.Adapters.{Adapter}

@@ -5,24 +5,24 @@ use Rattle.fact_wasm.specs.declared.types.FuncType.{FuncType}
 use Rattle.fact_wasm.specs.declared.instr.BlockType.TheVariants as block
 use Rattle.fact_wasm.specs.declared.instr.Instr.{Instr, the_lemmas}
 use Rattle.fact_wasm.specs.declared.module.WasmModule.{WasmModule}
-use Rattle.fact_wasm.specs.Ranges.{InRange, names, AreNamed, IsFunction}
-use Rattle.fact_wasm.proofs.Ranged.{names-block, together, all-append}
+use Rattle.fact_wasm.specs.Ranges.{InRange, points, AreRanged, IsPoint}
+use Rattle.fact_wasm.proofs.Ranged.{points-block, together, all-append}
 use Rattle.fact_module.specs.Body.{guard, gets, enter, call, leave, body}
 use Rattle.fact_module.specs.PlainModule.{IsPlainModule, has_result}
 
 -- code of which each part names the two imported functions alone
 abbrev Named : List Instr → Type 0
-Named = AreNamed 2 1
+Named = AreRanged 2 1
 
 named-append : (a b : List Instr) → Named a → Named b → Named (a ++ b)
-named-append = all-append (λ i. AllByRecursion (IsFunction 2 1) (names i))
+named-append = all-append (λ i. AllByRecursion (IsPoint 2 1) (points i))
 
 guard-named : (n : ℕ) → Named (guard n)
 guard-named n = (simp the_lemmas tt, (simp the_lemmas tt, (simp the_lemmas tt, (simp the_lemmas (omega arith, tt), (simp the_lemmas tt, tt)))))
 
 enter-named : (n : ℕ) → Named (enter n)
 enter-named n = (
-  rw (names-block block.Empty (guard n)) (together 2 1 (guard n) (guard-named n)),
+  rw (points-block block.Empty (guard n)) (together (IsPoint 2 1) (guard n) (guard-named n)),
   (simp the_lemmas tt, (simp the_lemmas tt, (simp the_lemmas tt, (simp the_lemmas tt, tt)))),
 )
 

@@ -2,8 +2,8 @@
 use Rattle.std.specs.Prelude.{ℕ, Bool, List, Option, Some, None, slice_get, map}
 use Rattle.std.specs.List.{filter_map}
 use Rattle.fact_wasm.specs.declared.types.FuncType.{FuncType}
-use Rattle.fact_plan.specs.declared.plain.CoreDef.{CoreDef}
-use Rattle.fact_plan.specs.declared.plain.StringEncoding.{StringEncoding}
+use Rattle.fact_types.specs.declared.outside.CoreDef.{CoreDef}
+use Rattle.fact_types.specs.declared.outside.StringEncoding.{StringEncoding}
 use Rattle.fact_plan.specs.declared.plan.PlanRef.{PlanRef}
 use Rattle.fact_plan.specs.declared.plan.PlanMemory.{PlanMemory}
 use Rattle.fact_plan.specs.declared.plan.PlanSide.{PlanSide}

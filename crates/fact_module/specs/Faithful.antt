@@ -10,7 +10,7 @@ use Rattle.fact_wasm.specs.declared.module.WasmExport.{WasmExport}
 use Rattle.fact_wasm.specs.declared.module.WasmModule.{WasmModule}
 use Rattle.fact_wasm.specs.Ranges.{InRange}
 use Rattle.fact_wasm.specs.Spelling.{Spells}
-use Rattle.fact_plan.specs.declared.plain.CoreDef.{CoreDef}
+use Rattle.fact_types.specs.declared.outside.CoreDef.{CoreDef}
 use Rattle.fact_plan.specs.declared.plan.FusePlan.{FusePlan}
 use Rattle.fact_module.specs.declared.plain.Import.{Import}
 use Rattle.fact_module.specs.declared.plain.Import.TheVariants as known

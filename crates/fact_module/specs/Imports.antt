@@ -13,11 +13,11 @@ use Rattle.fact_wasm.specs.declared.module.ImportType.TheVariants as import
 use Rattle.fact_wasm.specs.declared.module.WasmImport.{WasmImport}
 use Rattle.fact_wasm.specs.declared.module.WasmModule.{WasmModule}
 use Rattle.fact_wasm.specs.Spelling.{is_function}
-use Rattle.fact_plan.specs.declared.plain.CoreDef.{CoreDef}
-use Rattle.fact_plan.specs.declared.plain.CoreDef.TheVariants as def
+use Rattle.fact_types.specs.declared.outside.CoreDef.{CoreDef}
+use Rattle.fact_types.specs.declared.outside.CoreDef.TheVariants as def
 use Rattle.fact_plan.specs.declared.plan.FusePlan.{FusePlan}
-use Rattle.fact_module.specs.declared.plain.Trap.{Trap}
-use Rattle.fact_module.specs.declared.plain.Trap.TheVariants as trap
+use Rattle.fact_types.specs.declared.outside.Trap.{Trap}
+use Rattle.fact_types.specs.declared.outside.Trap.TheVariants as trap
 use Rattle.fact_module.specs.declared.plain.Import.{Import}
 use Rattle.fact_module.specs.declared.plain.Import.TheVariants as known
 use Rattle.fact_module.specs.Adapters.{Memory, Side, Adapter, adapters_of}
@@ -52,7 +52,7 @@ memory_mention (Some m) = record { def = m.def; role = Storage m.memory64 m.page
 -- flags, memory, realloc and callback of a side
 abbrev pub side_mentions : Side → List Mention
 side_mentions s =
-    record { def = def.InstanceFlags (record { 0 = s.instance }); role = Flags s.instance }
+    record { def = def.InstanceFlags (record { table = _; number = s.instance }); role = Flags s.instance }
     ∷ (memory_mention s.memory ++ (mention (Realloc (is_wide s.memory)) s.realloc ++ mention Callback s.callback))
 
 -- the lift side's, the lower side's, the callee, the post-return
@@ -63,9 +63,9 @@ adapter_mentions a =
 
 -- definitions are equal by content
 abbrev pub same_def : CoreDef → CoreDef → Bool
-same_def (def.Export i x) (def.Export j y) = nat_eq i.0 j.0 && bytes_eq x y
-same_def (def.InstanceFlags i) (def.InstanceFlags j) = nat_eq i.0 j.0
-same_def (def.Trampoline i) (def.Trampoline j) = nat_eq i.0 j.0
+same_def (def.Export i x) (def.Export j y) = nat_eq i.number j.number && bytes_eq x y
+same_def (def.InstanceFlags i) (def.InstanceFlags j) = nat_eq i.number j.number
+same_def (def.Trampoline i) (def.Trampoline j) = nat_eq i.number j.number
 same_def _ _ = false
 
 -- the first mention of each definition, past those that were seen

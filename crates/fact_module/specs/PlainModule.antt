@@ -8,15 +8,15 @@ use Rattle.fact_wasm.specs.declared.instr.FuncName.TheVariants as func
 use Rattle.fact_wasm.specs.declared.module.ImportType.TheVariants as import
 use Rattle.fact_wasm.specs.declared.module.WasmImport.{WasmImport}
 use Rattle.fact_wasm.specs.declared.module.WasmModule.{WasmModule}
-use Rattle.fact_plan.specs.declared.plain.CoreDef.{CoreDef}
-use Rattle.fact_plan.specs.declared.plain.CoreDef.TheVariants as def
+use Rattle.fact_types.specs.declared.outside.CoreDef.{CoreDef}
+use Rattle.fact_types.specs.declared.outside.CoreDef.TheVariants as def
 use Rattle.fact_plan.specs.declared.plain.PrimitiveValType.{PrimitiveValType}
 use Rattle.fact_plan.specs.Built.{core_word}
-use Rattle.fact_plan.specs.declared.plain.StringEncoding.TheVariants.{Utf8}
+use Rattle.fact_types.specs.declared.outside.StringEncoding.TheVariants.{Utf8}
 use Rattle.fact_plan.specs.declared.plan.PlanRef.TheVariants.{Word}
 use Rattle.fact_module.specs.declared.plain.Import.{Import}
 use Rattle.fact_module.specs.declared.plain.Import.TheVariants as known
-use Rattle.fact_module.specs.declared.plain.Trap.TheVariants as trap
+use Rattle.fact_types.specs.declared.outside.Trap.TheVariants as trap
 use Rattle.fact_module.specs.Adapters.{Adapter}
 use Rattle.fact_module.specs.Body.{body}
 
@@ -82,4 +82,4 @@ pub record IsPlainModule (m : WasmModule) (name : List ℕ) (lift lower : ℕ) (
 -- what its imports are
 abbrev pub plain_imports : CoreDef → (lift lower : ℕ) → List Import
 plain_imports callee lift lower =
-    known.CoreDef (def.InstanceFlags (record { 0 = lift })) ∷ known.CoreDef (def.InstanceFlags (record { 0 = lower })) ∷ known.CoreDef callee ∷ known.Trap trap.CannotLeaveComponent ∷ []
+    known.CoreDef (def.InstanceFlags (record { table = _; number = lift })) ∷ known.CoreDef (def.InstanceFlags (record { table = _; number = lower })) ∷ known.CoreDef callee ∷ known.Trap trap.CannotLeaveComponent ∷ []

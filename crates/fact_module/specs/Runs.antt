@@ -7,8 +7,8 @@ use Rattle.fact_wasm.specs.declared.instr.FuncName.TheVariants as func
 use Rattle.fact_wasm.specs.declared.module.ImportType.TheVariants as import
 use Rattle.fact_wasm.specs.declared.module.WasmImport.{WasmImport}
 use Rattle.fact_wasm.specs.declared.module.WasmModule.{WasmModule}
-use Rattle.fact_plan.specs.declared.plain.CoreDef.{CoreDef}
-use Rattle.fact_plan.specs.declared.plain.CoreDef.TheVariants as def
+use Rattle.fact_types.specs.declared.outside.CoreDef.{CoreDef}
+use Rattle.fact_types.specs.declared.outside.CoreDef.TheVariants as def
 use Rattle.fact_machine.specs.declared.types.CoreValue.{CoreValue}
 use Rattle.fact_machine.specs.declared.types.CoreValue.TheVariants.{I32, I64, F32, F64, Func}
 use Rattle.fact_machine.specs.declared.types.MachineState.{MachineState}
@@ -109,7 +109,7 @@ IsHonest m is e = TypedAnswer m e.func e.before e.answer × HonestAnswer (import
 -- ---- what a run is read by
 
 abbrev pub is_flags : ℕ → Import → Bool
-is_flags instance (known.CoreDef (def.InstanceFlags i)) = nat_eq i.0 instance
+is_flags instance (known.CoreDef (def.InstanceFlags i)) = nat_eq i.number instance
 is_flags instance _ = false
 
 abbrev pub flags_among : ℕ → List Import → List CoreValue → Option CoreValue

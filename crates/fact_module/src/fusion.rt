@@ -8,8 +8,10 @@ ghost use Rattle.fact_module.specs.PlainModule.{IsPlainModule, flags_import, fun
 
 use crate::emit::{emit_body, import_flags, import_function};
 use crate::error::FuseError;
-use crate::plain::{Import, Trap};
-use fact_plan::{CoreDef, FusePlan, PlanAdapter, RuntimeComponentInstanceIndex};
+use crate::plain::Import;
+use fact_entity::EntityRef;
+use fact_plan::{FusePlan, PlanAdapter};
+use fact_types::{CoreDef, RuntimeComponentInstanceIndex, Trap};
 use fact_wasm::{
     FuncName, FuncType, OutOfMemory, Seq, ValType, WasmExport, WasmFunc, WasmImport, WasmModule,
     encode,
@@ -68,8 +70,12 @@ fn imports(
 ) -> Result<Seq<Import>, OutOfMemory>
     ensures { IfOk result (λ imports. imports ≡ plain_imports callee.now adapter.now.lift.instance adapter.now.lower.instance) }
 {
-    let lift_flags = CoreDef::InstanceFlags(RuntimeComponentInstanceIndex(adapter.lift.instance));
-    let lower_flags = CoreDef::InstanceFlags(RuntimeComponentInstanceIndex(adapter.lower.instance));
+    let lift_flags = CoreDef::InstanceFlags(RuntimeComponentInstanceIndex::from_u32(
+        adapter.lift.instance,
+    ));
+    let lower_flags = CoreDef::InstanceFlags(RuntimeComponentInstanceIndex::from_u32(
+        adapter.lower.instance,
+    ));
     let callee = callee.try_clone()?;
     let imports = vec![in alloc;
         Import::CoreDef(lift_flags),

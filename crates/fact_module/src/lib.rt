@@ -9,9 +9,12 @@ mod plain;
 
 pub use error::{FuseError, Place};
 pub use fact_plan::{
-    CoreDef, FusePlan, PlanAdapter, PlanFunc, PlanMemory, PlanRef, PlanSide, PlanTunables,
-    PlanType, PrimitiveValType, RuntimeComponentInstanceIndex, RuntimeInstanceIndex,
-    StringEncoding, TrampolineIndex,
+    FusePlan, PlanAdapter, PlanFunc, PlanMemory, PlanRef, PlanSide, PlanTunables, PlanType,
+    PrimitiveValType,
+};
+pub use fact_types::{
+    CoreDef, FixedEncoding, RuntimeComponentInstanceIndex, RuntimeInstanceIndex, StringEncoding,
+    TrampolineIndex, Transcode, Trap, UnsafeIntrinsic,
 };
 pub use fusion::{Fused, fuse};
-pub use plain::{FixedEncoding, Import, Transcode, Trap, UnsafeIntrinsic};
+pub use plain::Import;

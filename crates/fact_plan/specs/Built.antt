@@ -4,11 +4,11 @@ use Rattle.std.specs.List.{AllByRecursion}
 use Rattle.fact_wasm.specs.declared.types.ValType.{ValType}
 use Rattle.fact_wasm.specs.declared.types.FuncType.{FuncType}
 use Rattle.fact_wasm.specs.declared.types.ValType.TheVariants as val
-use Rattle.fact_plan.specs.declared.plain.CoreDef.{CoreDef}
-use Rattle.fact_plan.specs.declared.plain.CoreDef.TheVariants as def
+use Rattle.fact_types.specs.declared.outside.CoreDef.{CoreDef}
+use Rattle.fact_types.specs.declared.outside.CoreDef.TheVariants as def
 use Rattle.fact_plan.specs.declared.plain.PrimitiveValType.{PrimitiveValType}
 use Rattle.fact_plan.specs.declared.plain.PrimitiveValType.TheVariants as word
-use Rattle.fact_plan.specs.declared.plain.StringEncoding.TheVariants.{Utf8}
+use Rattle.fact_types.specs.declared.outside.StringEncoding.TheVariants.{Utf8}
 use Rattle.fact_plan.specs.declared.plan.PlanRef.{PlanRef}
 use Rattle.fact_plan.specs.declared.plan.PlanRef.TheVariants as ref
 use Rattle.fact_plan.specs.declared.plan.PlanSide.{PlanSide}

@@ -2,8 +2,8 @@
 use Rattle.std.specs.Prelude.{ℕ, List, [], ◌∷◌, Option, Some, None, Result, Ok, Err, codes, ⊤}
 use Rattle.serde_json.specs.Data.{Data, Members, no_members, member, null, boolean, number, string, array, object}
 use Rattle.serde_json.specs.Find.{get}
-use Rattle.fact_plan.specs.declared.plain.CoreDef.{CoreDef}
-use Rattle.fact_plan.specs.declared.plain.CoreDef.TheVariants.{Export, Trampoline}
+use Rattle.fact_types.specs.declared.outside.CoreDef.{CoreDef}
+use Rattle.fact_types.specs.declared.outside.CoreDef.TheVariants.{Export, Trampoline}
 use Rattle.fact_plan.specs.declared.plan.PlanType.{PlanType}
 use Rattle.fact_plan.specs.declared.plan.PlanType.TheVariants as ty
 use Rattle.fact_plan.specs.declared.fault.PlanFault.{PlanFault}
@@ -79,8 +79,8 @@ def_keys = codes "export" ∷ codes "trampoline" ∷ []
 -- a core definition, by the first of the keys that is there
 unfoldable pub def_by_key : Data → Result CoreDef PlanFault
 def_by_key d =
-    at_or (codes "export") (pair_in u32_in text_in) (λ p. Export (record { 0 = p.0 }) p.1) d
-    (at_or (codes "trampoline") u32_in (λ n. Trampoline (record { 0 = n })) d (Err (Missing [])))
+    at_or (codes "export") (pair_in u32_in text_in) (λ p. Export (record { table = _; number = p.0 }) p.1) d
+    (at_or (codes "trampoline") u32_in (λ n. Trampoline (record { table = _; number = n })) d (Err (Missing [])))
 
 -- a core definition
 unfoldable pub def_in : Data → Result CoreDef PlanFault

@@ -2,7 +2,7 @@
 use Rattle.std.specs.Prelude.{ℕ, List, [], ◌∷◌, None, false, Result, Ok, codes}
 use Rattle.serde_json.specs.Data.{Data}
 use Rattle.fact_wasm.specs.declared.types.FuncType.{FuncType}
-use Rattle.fact_plan.specs.declared.plain.StringEncoding.TheVariants.{Utf8}
+use Rattle.fact_types.specs.declared.outside.StringEncoding.TheVariants.{Utf8}
 use Rattle.fact_plan.specs.declared.plan.PlanFunc.{PlanFunc}
 use Rattle.fact_plan.specs.declared.plan.PlanSide.{PlanSide}
 use Rattle.fact_plan.specs.declared.plan.PlanAdapter.{PlanAdapter}

@@ -4,8 +4,9 @@ ghost use Rattle.std.specs.Prelude.{◌≡◌, ◌≢◌, ◌↔◌, ◌≤◌, 
 ghost use Rattle.std.specs.List.{AllByRecursion};
 ghost use Rattle.fact_plan.specs.Built.{AreDistinct, AreOff, IsBuilt, IsExportDef, IsNew, IsPlain, IsPlainAdapter, IsPlainFunc, IsPlainSide, One, core_of, plain_type};
 
-use crate::plain::{CoreDef, PrimitiveValType, StringEncoding};
+use crate::plain::PrimitiveValType;
 use crate::plan::{FusePlan, PlanAdapter, PlanFunc, PlanRef, PlanSide, PlanTunables};
+use fact_types::{CoreDef, StringEncoding};
 use fact_wasm::{FuncType, Text, ValType};
 
 const MAX_INSTANCE: u32 = 2_147_483_647;

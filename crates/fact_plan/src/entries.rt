@@ -5,8 +5,9 @@ ghost use Rattle.fact_plan.specs.Entries.{def_by_key, def_in, entry_by_key, entr
 
 use crate::fault::PlanFault;
 use crate::parts::{FromJson, check_known, read_member};
-use crate::plain::{CoreDef, RuntimeInstanceIndex, TrampolineIndex};
 use crate::plan::PlanType;
+use fact_entity::EntityRef;
+use fact_types::{CoreDef, RuntimeInstanceIndex, TrampolineIndex};
 use serde_json::Value;
 use std::alloc::Global;
 
@@ -126,13 +127,13 @@ fn def_by_key(alloc: Global, value: &Value) -> Result<CoreDef, PlanFault>
     if let Some(inner) = value.get("export") {
         let (instance, name) = read_member(alloc, "export", inner)?;
         return Ok(CoreDef::Export {
-            instance: RuntimeInstanceIndex(instance),
+            instance: RuntimeInstanceIndex::from_u32(instance),
             name,
         });
     }
     if let Some(inner) = value.get("trampoline") {
         let number = read_member(alloc, "trampoline", inner)?;
-        return Ok(CoreDef::Trampoline(TrampolineIndex(number)));
+        return Ok(CoreDef::Trampoline(TrampolineIndex::from_u32(number)));
     }
     Err(PlanFault::no_key(alloc))
 }

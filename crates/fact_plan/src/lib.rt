@@ -16,10 +16,7 @@ mod words;
 
 pub use fault::{PlanFault, fault_line};
 pub use objects::plan_of;
-pub use plain::{
-    CoreDef, PrimitiveValType, RuntimeComponentInstanceIndex, RuntimeInstanceIndex, StringEncoding,
-    TrampolineIndex,
-};
+pub use plain::PrimitiveValType;
 pub use plan::{
     FusePlan, PlanAdapter, PlanFunc, PlanMemory, PlanRef, PlanSide, PlanTunables, PlanType,
 };

@@ -5,8 +5,8 @@ ghost use Rattle.fact_plan.specs.Plan.{adapter_in, core_type_in, func_in, plan_i
 
 use crate::fault::PlanFault;
 use crate::parts::{FromJson, check_known, check_required, field};
-use crate::plain::StringEncoding;
 use crate::plan::{FusePlan, PlanAdapter, PlanFunc, PlanSide, PlanTunables};
+use fact_types::StringEncoding;
 use fact_wasm::FuncType;
 use serde_json::Value;
 use std::alloc::Global;

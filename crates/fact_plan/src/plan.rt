@@ -3,7 +3,8 @@
 //! Each list is numbered from 0, and a number names the item at that place. No number has been looked up: it may be past
 //! the end of its list.
 
-use crate::plain::{CoreDef, PrimitiveValType, StringEncoding};
+use crate::plain::PrimitiveValType;
+use fact_types::{CoreDef, StringEncoding};
 use fact_wasm::{FuncType, Seq, Text};
 
 /// A type: a word, or the number of an entry of the plan's types. No word of JSON is `ErrorContext`, which has an entry.

@@ -1,7 +1,7 @@
 -- How the ends of a run follow from what was read and written.
-use Rattle.std.proofs.Common.{◌≡◌, ℕ, ◌<◌, ◌≤◌, List, [], ◌∷◌, ◌++◌, length, Option, None, Some, Result, Ok, Err, OnOk, OnErr, IfSome, ◌⊎◌, inl, inr, refl, sym, subst, ap, ◌∙◌, arith, append-nil, length-append}
+use Rattle.std.proofs.Common.{◌≡◌, ℕ, ◌≤◌, List, [], ◌++◌, length, Option, None, Some, Result, Ok, Err, OnOk, OnErr, IfSome, ◌⊎◌, inl, inr, refl, sym, subst, ap, ◌∙◌, arith, append-nil, length-append}
 use Rattle.std.specs.Prelude.{⊤}
-use Rattle.std.specs.Io.KnownBytes.{Appends, Consumes}
+use Rattle.std.specs.Io.KnownBytes.{Appends}
 use Rattle.fact_io.specs.Transfers.{AppendsFront, TakesAll}
 use Rattle.fact_io.specs.Faults.{Rose}
 use Rattle.fact_plan.specs.declared.plan.FusePlan.{FusePlan}

@@ -1,5 +1,5 @@
 -- What an inner answer and a status say of the source and of the sink.
-use Rattle.std.specs.Prelude.{ℕ, ◌≡◌, List, Option, Some, None, MatchOption, string_bytes}
+use Rattle.std.specs.Prelude.{ℕ, ◌≡◌, List, Option, MatchOption, string_bytes}
 use Rattle.std.specs.Io.KnownBytes.{Appends, Keeps}
 use Rattle.fact_io.specs.Transfers.{AppendsFront}
 use Rattle.fact_plan.specs.declared.plan.FusePlan.{FusePlan}

@@ -3,6 +3,9 @@ use Rattle.std.specs.Prelude.{ℕ, ◌≡◌, ◌≤◌, ◌<◌, List, [], ◌�
 use Rattle.std.specs.Io.KnownBytes.{Appends, Consumes}
 use Rattle.hex.specs.Hex.{encode_lower}
 use Rattle.serde_json.specs.Data.{Data}
+use Rattle.fact_wasm.specs.declared.module.WasmModule.{WasmModule}
+use Rattle.fact_wasm.specs.Ranges.{InRange}
+use Rattle.fact_wasm.specs.Spelling.{Spells}
 use Rattle.fact_io.specs.Faults.{Rose}
 use Rattle.fact_io.specs.Transfers.{AppendsFront, TakesAll}
 use Rattle.fact_plan.specs.declared.plan.FusePlan.{FusePlan}
@@ -36,10 +39,11 @@ configured p = record p { tunables = record p.tunables { fuel = 1000 } }
 abbrev pub page : List ℕ → List ℕ
 page bytes = encode_lower bytes ++ 10 ∷ []
 
--- The text prints a module of the plan.
+-- The text prints the module of the plan: its bytes spell it, and no other module in range.
 pub record Prints (text : List ℕ) (p : FusePlan) : Type 0 where
   pub fused : Fused
   pub is_fused : IsFused fused (configured p)
+  pub is_only : (m : WasmModule) → InRange m → Spells fused.bytes m → m ≡ fused.module
   pub is_page : text ≡ page fused.bytes
 
 -- A plan that is built was read in all the bytes of the source, and of the text that prints its module this was sent.

@@ -10,7 +10,7 @@ use crate::page::page_text;
 use fact_io::{InputError, Source, read_all};
 use fact_module::{FusePlan, PlanTunables, fuse};
 use fact_plan::{PlanFault, plan_of, read_value};
-use fact_wasm::OutOfMemory;
+use fact_wasm::{OutOfMemory, bytes_spell_one_module};
 use std::alloc::{AllocError, Global};
 
 const FUEL: u32 = 1000;
@@ -69,9 +69,13 @@ fn print(alloc: Global, plan: FusePlan) -> Result<String, OutOfMemory>
     requires { IsBuilt plan }
     ensures { IfOk result (λ text. Prints (string_bytes text) plan) }
 {
+    bytes_spell_one_module();
     let plan = configure(plan);
     match fuse(alloc, &plan) {
-        Ok(fused) => page_text(alloc, fused.bytes.as_slice()),
+        Ok(fused) => {
+            let text = page_text(alloc, fused.bytes.as_slice())?;
+            Ok(text)
+        }
         Err(_) => Err(AllocError),
     }
 }

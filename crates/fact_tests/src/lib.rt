@@ -2,6 +2,8 @@
 #![tactic(auto)]
 
 #[cfg(test)]
+mod decoded;
+#[cfg(test)]
 mod lists;
 #[cfg(test)]
 mod machine;

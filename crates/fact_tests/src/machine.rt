@@ -12,7 +12,7 @@ use std::test::Fail;
 const STEPS: u64 = 1000;
 
 /// The fused module of a text of plain numbers.
-fn fused(rt: &impl Abort, alloc: Global, text: &str) -> Result<Fused, Fail> {
+pub fn fused(rt: &impl Abort, alloc: Global, text: &str) -> Result<Fused, Fail> {
     let value = read_value(alloc, text.as_bytes())?.ok_or("no value")?;
     let plan = plan_of(alloc, &value).ok().ok_or("no plan")?;
     assert!(rt; plan.built());

@@ -1,11 +1,11 @@
 //! The bytes of modules (core specification, "Binary format", "Modules").
 
-ghost use Rattle.std.specs.Prelude.{◌≡◌, ℕ, ◌<◌, ◌^◌, ◌++◌, ◌∷◌, [], OnOk, IfOk, length, count_by};
-ghost use Rattle.std.specs.List.{AllByRecursion};
+ghost use Rattle.std.specs.Prelude.{◌≡◌, ℕ, ◌<◌, ◌^◌, ◌++◌, ◌∷◌, [], OnOk, IfOk, length, count_by, IsUtf8};
 ghost use Rattle.fact_wasm.specs.Numbers.{unsigned};
-ghost use Rattle.fact_wasm.specs.Grammar.{list, val_type};
+ghost use Rattle.fact_wasm.specs.Grammar.{list, IsList, val_type, AreNodes, body_nodes};
+ghost use Rattle.fact_wasm.specs.Encode.{ArePlaced};
 ghost use Rattle.fact_wasm.specs.Ranges.{InRange};
-ghost use Rattle.fact_wasm.specs.Spelling.{value_types, func_type, name, import_type, import_item, is_function, imported_functions, locals_run, func_body, sized, section, export_item, type_section, import_section, function_section, export_section, code_section, Spells, IsImport, IsImportType, IsExport, IsRun, IsBody, IsTyped};
+ghost use Rattle.fact_wasm.specs.Spelling.{value_types, func_type, name, import_type, import_item, is_function, imported_functions, locals_run, func_body, sized, section, export_item, type_section, import_section, function_section, export_section, code_section, Spells, IsValueType, IsFuncType, IsName, code_item, IsCode, IsImport, IsImportType, IsExport, IsRun, IsBody, IsTyped};
 
 use crate::OutOfMemory;
 use crate::code::{push_body, push_function, value_type_byte};
@@ -23,7 +23,7 @@ struct ValueTypes;
 impl Item<ValType> for ValueTypes {
     ghost code = { λ n t. val_type t ∷ [] };
 
-    ghost fits = { λ n t. Unit {0} };
+    ghost fits = { λ n t. IsValueType t };
 
     fn push(
         _alloc: Global,
@@ -42,7 +42,7 @@ struct Types;
 impl Item<FuncType> for Types {
     ghost code = { λ n t. func_type t };
 
-    ghost fits = { λ n t. Unit {0} };
+    ghost fits = { λ n t. IsFuncType t };
 
     fn push(
         alloc: Global,
@@ -57,12 +57,23 @@ impl Item<FuncType> for Types {
     }
 }
 
-fn push_name(out: &mut Vec<u8>, text: &Text) -> Result<(), OutOfMemory>
-    ensures { OnOk result (out.new.items ≡ out.old.items ++ name text.now) }
+/// Writes bytes behind their number. More of them than a u32 counts are a want of memory.
+fn push_sized(out: &mut Vec<u8>, content: &[u8]) -> Result<(), OutOfMemory>
+    ensures size { OnOk result (length content.now < 2 ^ 32) }
+    ensures bytes { OnOk result (out.new.items ≡ out.old.items ++ sized content.now) }
 {
-    let bytes = text.as_str().as_bytes();
-    push_unsigned(out, bytes.len() as u64)?;
-    out.extend_from_slice(bytes)?;
+    if content.len() > u32::MAX as usize {
+        return Err(AllocError);
+    }
+    push_unsigned(out, content.len() as u64)?;
+    out.extend_from_slice(content)?;
+    Ok(())
+}
+
+fn push_name(out: &mut Vec<u8>, text: &Text) -> Result<(), OutOfMemory>
+    ensures { OnOk result (IsName text.now × (out.new.items ≡ out.old.items ++ name text.now)) }
+{
+    push_sized(out, text.as_str().as_bytes())?;
     Ok(())
 }
 
@@ -186,21 +197,14 @@ impl Item<(u32, ValType)> for Locals {
     }
 }
 
-/// Writes bytes behind their number.
-fn push_sized(out: &mut Vec<u8>, content: &[u8]) -> Result<(), OutOfMemory>
-    ensures { OnOk result (out.new.items ≡ out.old.items ++ sized content.now) }
-{
-    push_unsigned(out, content.len() as u64)?;
-    out.extend_from_slice(content)?;
-    Ok(())
-}
-
 fn body_bytes(alloc: Global, imports: u32, func: &WasmFunc) -> Result<Vec<u8>, OutOfMemory>
-    ensures { IfOk result (λ v. IsBody imports func.now × (v.items ≡ func_body imports func.now)) }
+    ensures bytes { IfOk result (λ v. v.items ≡ func_body imports func.now.locals func.now.body) }
+    ensures runs { OnOk result (IsList IsRun func.now.locals) }
+    ensures nodes { OnOk result (ArePlaced func.now.body → AreNodes (body_nodes imports func.now.body)) }
 {
     let mut content = Vec::new(alloc);
     push_list::<Locals, (u32, ValType)>(alloc, &mut content, imports, func.locals.as_slice())?;
-    push_body(&mut content, imports, func.body.as_slice())?;
+    push_body(alloc, &mut content, imports, func.body.as_slice())?;
     content.push(0x0B)?;
     Ok(content)
 }
@@ -209,9 +213,9 @@ fn body_bytes(alloc: Global, imports: u32, func: &WasmFunc) -> Result<Vec<u8>, O
 struct Bodies;
 
 impl Item<WasmFunc> for Bodies {
-    ghost code = { λ n f. sized (func_body n f) };
+    ghost code = { code_item };
 
-    ghost fits = { IsBody };
+    ghost fits = { λ n f. ArePlaced f.body → IsCode n f };
 
     fn push(
         alloc: Global,
@@ -233,20 +237,19 @@ fn push_section<I: Item<T>, T>(
     imports: u32,
     items: &[T],
 ) -> Result<(), OutOfMemory>
-    ensures { OnOk result ((length (list (I.code imports) items.now) < 2 ^ 32) × AllByRecursion (I.fits imports) items.now × (out.new.items ≡ out.old.items ++ section id (list (I.code imports) items.now))) }
+    ensures size { OnOk result (length (list (I.code imports) items.now) < 2 ^ 32) }
+    ensures items { OnOk result (IsList (I.fits imports) items.now) }
+    ensures bytes { OnOk result (out.new.items ≡ out.old.items ++ section id (list (I.code imports) items.now)) }
 {
     let mut content = Vec::new(alloc);
     push_list::<I, T>(alloc, &mut content, imports, items)?;
-    if content.len() > u32::MAX as usize {
-        return Err(AllocError);
-    }
     out.push(id)?;
     push_sized(out, content.as_slice())?;
     Ok(())
 }
 
-/// The bytes that spell the module, by the binary format. A length or an index that the format cannot hold, from 2^32 on, is
-/// a want of memory.
+/// The bytes that spell the module, by the binary format. A list or a section of 2^32 or more items or bytes, which the format
+/// cannot hold, is a want of memory.
 pub fn encode(alloc: Global, module: &WasmModule) -> Result<Vec<u8>, OutOfMemory>
     requires { InRange «module».now }
     ensures { IfOk result (λ bytes. Spells bytes.items «module».now) }

@@ -1,8 +1,8 @@
-//! Whether the function names of a module name functions.
+//! Whether a module is in the range of the binary format.
 
 ghost use Rattle.std.specs.Prelude.{◌≡◌, ◌↔◌, ℕ, ◌<◌, IsTrue, count_by};
 ghost use Rattle.std.specs.List.{AllByRecursion};
-ghost use Rattle.fact_wasm.specs.Ranges.{IsFunction, AreNamed, AreBodiesNamed, AreExportsNamed, InRange, names};
+ghost use Rattle.fact_wasm.specs.Ranges.{IsFunction, IsPoint, AreRanged, AreBodiesRanged, AreExportsNamed, InRange, points};
 ghost use Rattle.fact_wasm.specs.Spelling.{is_function};
 
 use crate::instr::{FuncName, Instr};
@@ -18,34 +18,63 @@ fn names_function(imports: usize, funcs: usize, func: FuncName) -> bool
     }
 }
 
-#[cycle(named)]
-fn is_named(imports: usize, funcs: usize, instr: &Instr) -> bool
-    ensures { IsTrue result ↔ AllByRecursion (IsFunction imports funcs) (names instr.now) }
+#[cycle(ranged)]
+fn is_ranged(imports: usize, funcs: usize, instr: &Instr) -> bool
+    ensures { IsTrue result ↔ AllByRecursion (IsPoint imports funcs) (points instr.now) }
 {
     match instr {
+        Instr::Block(_, body) => are_ranged(imports, funcs, body.as_slice()),
+        Instr::Loop(_, body) => are_ranged(imports, funcs, body.as_slice()),
+        Instr::TryTable(_, _, body) => are_ranged(imports, funcs, body.as_slice()),
+        Instr::If(_, body, other) => match other {
+            None => are_ranged(imports, funcs, body.as_slice()),
+            Some(other) => {
+                if other.len() == 0 {
+                    return false;
+                }
+                if !are_ranged(imports, funcs, body.as_slice()) {
+                    return false;
+                }
+                are_ranged(imports, funcs, other.as_slice())
+            }
+        },
         Instr::Call(func) => names_function(imports, funcs, *func),
-        Instr::Block(_, body) => are_named(imports, funcs, body.as_slice()),
+        Instr::RefFunc(func) => names_function(imports, funcs, *func),
+        Instr::I32Load(place) => place.align < 64,
+        Instr::I64Load(place) => place.align < 64,
+        Instr::F32Load(place) => place.align < 64,
+        Instr::F64Load(place) => place.align < 64,
+        Instr::I32Load8S(place) => place.align < 64,
+        Instr::I32Load8U(place) => place.align < 64,
+        Instr::I32Load16S(place) => place.align < 64,
+        Instr::I32Load16U(place) => place.align < 64,
+        Instr::I32Store(place) => place.align < 64,
+        Instr::I64Store(place) => place.align < 64,
+        Instr::F32Store(place) => place.align < 64,
+        Instr::F64Store(place) => place.align < 64,
+        Instr::I32Store8(place) => place.align < 64,
+        Instr::I32Store16(place) => place.align < 64,
         _ => true,
     }
 }
 
-#[cycle(named)]
-fn are_named(imports: usize, funcs: usize, body: &[Instr]) -> bool
-    ensures { IsTrue result ↔ AreNamed imports funcs body.now }
+#[cycle(ranged)]
+fn are_ranged(imports: usize, funcs: usize, body: &[Instr]) -> bool
+    ensures { IsTrue result ↔ AreRanged imports funcs body.now }
 {
     for instr in body {
-        if !is_named(imports, funcs, instr) {
+        if !is_ranged(imports, funcs, instr) {
             return false;
         }
     }
     true
 }
 
-fn are_bodies_named(imports: usize, funcs: usize, bodies: &[WasmFunc]) -> bool
-    ensures { IsTrue result ↔ AreBodiesNamed imports funcs bodies.now }
+fn are_bodies_ranged(imports: usize, funcs: usize, bodies: &[WasmFunc]) -> bool
+    ensures { IsTrue result ↔ AreBodiesRanged imports funcs bodies.now }
 {
     for func in bodies {
-        if !are_named(imports, funcs, func.body.as_slice()) {
+        if !are_ranged(imports, funcs, func.body.as_slice()) {
             return false;
         }
     }
@@ -74,8 +103,8 @@ pub fn count_functions(imports: &[WasmImport]) -> usize
 }
 
 impl WasmModule {
-    /// Whether each function name names a function that is there, and the number of functions, imported and defined, is a
-    /// u32. It takes no memory.
+    /// Whether each function name names a function that is there, the number of functions, imported and defined, is a u32,
+    /// the `align` of each `MemArg` is below 64, and no else body that is there is empty. It takes no memory.
     pub fn in_range(&self) -> bool
         ensures { IsTrue result ↔ InRange self.now }
     {
@@ -84,7 +113,7 @@ impl WasmModule {
         if imports > u32::MAX as usize || funcs > u32::MAX as usize - imports {
             return false;
         }
-        are_bodies_named(imports, funcs, self.funcs.as_slice())
+        are_bodies_ranged(imports, funcs, self.funcs.as_slice())
             && are_exports_named(imports, funcs, self.exports.as_slice())
     }
 }

@@ -1,6 +1,7 @@
 //! Lists.
 
 ghost use Rattle.std.specs.Prelude.{◌≡◌, ◌<◌, [], ◌∷◌, ◌++◌, length, slice_get, slice_set, OnOk, OnErr, OnSome, MatchOption};
+ghost use Rattle.std.specs.List.{AllZip};
 ghost use Rattle.std.specs.Option.{option_copied};
 ghost use Rattle.std.specs.Hash as fed;
 ghost use Rattle.std.specs.Hash.{items_Alike};
@@ -111,6 +112,15 @@ impl<T: Drop> Seq<T> {
     {
         self.items.push(value)?;
         Ok(())
+    }
+}
+
+impl<T: Clone> Clone for Seq<T> {
+    ghost is_clone = { AllZip T.is_clone };
+
+    fn clone(&self) -> Result<Seq<T>, OutOfMemory> {
+        let items = self.items.clone()?;
+        Ok(Seq { items })
     }
 }
 

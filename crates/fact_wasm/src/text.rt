@@ -58,6 +58,14 @@ impl Text {
     }
 }
 
+impl Clone for Text {
+    ghost is_clone = { λ text copy. copy ≡ text };
+
+    fn clone(&self) -> Result<Text, OutOfMemory> {
+        self.try_clone()
+    }
+}
+
 impl PartialEq for Text {
     ghost eq = { pointwise nat_eq };
 

@@ -1,5 +1,5 @@
 use Rattle.std.proofs.Common.{◌≡◌, ◌∙◌}
-use Rattle.fact_plan.specs.declared.plain.CoreDef.TheVariants.{Export}
+use Rattle.fact_types.specs.declared.outside.CoreDef.TheVariants.{Export}
 use Rattle.fact_module.specs.PlainModule.{core_type}
 use Rattle.fact_module.proofs.PlainForm.{parts, one_adapter, first-is}
 use Rattle.fact_module.proofs.PlainFused.{plain-fused}

@@ -1,4 +1,3 @@
-use Rattle.std.proofs.Common.{refl}
 use Rattle.fact_run.proofs.Ends.{none-built}
 use Rattle.fact_run.proofs.answer.built_in.Goals as goal
 

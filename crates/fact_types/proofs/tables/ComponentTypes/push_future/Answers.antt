@@ -1,0 +1,5 @@
+use Rattle.fact_types.proofs.PushLaws.{pushed_future}
+use Rattle.fact_types.proofs.tables.ComponentTypes.push_future.Goals as goal
+
+pub invariant_of-self : goal.invariant_of-self
+invariant_of-self c = pushed_future _ _ c.self.view_is _ _ _ c.push.ensures.list c.push.ensures.refused c.self.invariant c.requires

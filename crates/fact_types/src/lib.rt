@@ -1,0 +1,58 @@
+//! The types of components: the tables that hold them, how values of a type are laid out in memory, and which core types
+//! stand for them.
+//!
+//! Layout follows the Component Model's canonical ABI ("Alignment", "Element Size", "Flattening"). Each call takes the
+//! exact numbers to fit 32 bits, and stands beside a test of that condition. None of them takes memory.
+#![tactic(auto)]
+
+mod abi;
+mod externs;
+mod fields;
+mod flats;
+mod interface;
+mod kinds;
+mod lookup;
+mod module_types;
+mod ordered;
+mod outside;
+mod pushes;
+mod records;
+mod signature;
+mod sizes;
+mod tables;
+mod variants;
+mod widths;
+
+pub use abi::CanonicalAbiInfo;
+pub use externs::{
+    ComponentExtern, ComponentExternData, EngineOrModuleTypeIndex, EntityType, TypeComponent,
+    TypeComponentInstance, TypeModule,
+};
+pub use fact_entity::{
+    AbstractResourceIndex, AdapterId, ComponentFuncIndex, ComponentIndex, ComponentInstanceIndex,
+    ExportIndex, FuncIndex, GlobalIndex, MemoryIndex, ModuleIndex, ModuleInternedTypeIndex,
+    OutOfMemory, ResourceIndex, RuntimeComponentInstanceIndex, RuntimeInstanceIndex,
+    TrampolineIndex, TypeComponentIndex, TypeComponentInstanceIndex,
+    TypeComponentLocalErrorContextTableIndex, TypeEnumIndex, TypeFixedLengthListIndex,
+    TypeFlagsIndex, TypeFuncIndex, TypeFutureIndex, TypeFutureTableIndex, TypeListIndex,
+    TypeMapIndex, TypeModuleIndex, TypeOptionIndex, TypeRecordIndex, TypeResourceTableIndex,
+    TypeResultIndex, TypeStreamIndex, TypeStreamTableIndex, TypeTupleIndex, TypeVariantIndex,
+};
+pub use fields::FieldPlace;
+pub use flats::{
+    FlatType, FlatTypes, MAX_FLAT_ASYNC_PARAMS, MAX_FLAT_PARAMS, MAX_FLAT_RESULTS, MAX_FLAT_TYPES,
+};
+pub use interface::{ComponentItem, InterfaceType, TypeDef};
+pub use kinds::{
+    RecordField, TypeErrorContextTable, TypeFixedLengthList, TypeFunc, TypeFuture, TypeFutureTable,
+    TypeList, TypeMap, TypeOption, TypeRecord, TypeResourceTable, TypeResult, TypeStream,
+    TypeStreamTable, TypeTuple,
+};
+pub use lookup::Lookup;
+pub use module_types::{ModuleTypes, ModuleTypesBuilder};
+pub use ordered::{TypeEnum, TypeFlags, TypeVariant};
+pub use outside::{CoreDef, FixedEncoding, StringEncoding, Transcode, Trap, UnsafeIntrinsic};
+pub use signature::{SideSig, Signature};
+pub use sizes::{DiscriminantSize, FlagsSize};
+pub use tables::ComponentTypes;
+pub use variants::VariantInfo;

@@ -1,0 +1,208 @@
+//! Equal copies.
+
+ghost use Rattle.std.specs.Prelude.{◌≡◌, IfOk};
+
+use crate::OutOfMemory;
+use crate::instr::Instr;
+use crate::module::{ImportType, WasmExport, WasmFunc, WasmImport, WasmModule};
+use crate::seq::Seq;
+use crate::types::FuncType;
+
+/// What a list can be copied of.
+trait Copied: Drop {
+    fn copied(&self) -> Result<Self, OutOfMemory>
+        ensures { IfOk result (λ copy. copy ≡ self.now) };
+}
+
+fn copy_list<T: Copied>(items: &Seq<T>) -> Result<Seq<T>, OutOfMemory>
+    ensures { IfOk result (λ copy. copy ≡ items.now) }
+{
+    let mut copies = items.empty_like();
+    for item in items.as_slice() {
+        copies.push(item.copied()?)?;
+    }
+    Ok(copies)
+}
+
+fn copy_items<T: Copy>(items: &Seq<T>) -> Result<Seq<T>, OutOfMemory>
+    ensures { IfOk result (λ copy. copy ≡ items.now) }
+{
+    let mut copy = items.empty_like().into_vec();
+    copy.extend_from_slice(items.as_slice())?;
+    Ok(Seq::from_vec(copy))
+}
+
+impl Copied for FuncType {
+    fn copied(&self) -> Result<FuncType, OutOfMemory> {
+        let params = copy_items(&self.params)?;
+        let results = copy_items(&self.results)?;
+        Ok(FuncType { params, results })
+    }
+}
+
+fn copy_import_type(ty: &ImportType) -> ImportType
+    ensures { result ≡ ty.now }
+{
+    match ty {
+        ImportType::Func(index) => ImportType::Func(*index),
+        ImportType::Memory {
+            minimum,
+            memory64,
+            page_size_log2,
+        } => ImportType::Memory {
+            minimum: *minimum,
+            memory64: *memory64,
+            page_size_log2: *page_size_log2,
+        },
+        ImportType::Global { ty, mutable } => ImportType::Global {
+            ty: *ty,
+            mutable: *mutable,
+        },
+    }
+}
+
+impl Copied for WasmImport {
+    fn copied(&self) -> Result<WasmImport, OutOfMemory> {
+        let module = self.module.try_clone()?;
+        let name = self.name.try_clone()?;
+        let ty = copy_import_type(&self.ty);
+        Ok(WasmImport { module, name, ty })
+    }
+}
+
+impl Copied for WasmExport {
+    fn copied(&self) -> Result<WasmExport, OutOfMemory> {
+        let name = self.name.try_clone()?;
+        Ok(WasmExport {
+            name,
+            func: self.func,
+        })
+    }
+}
+
+impl Copied for WasmFunc {
+    fn copied(&self) -> Result<WasmFunc, OutOfMemory> {
+        let locals = copy_items(&self.locals)?;
+        let body = copy_body(&self.body)?;
+        Ok(WasmFunc {
+            ty: self.ty,
+            locals,
+            body,
+        })
+    }
+}
+
+#[cycle(copied)]
+fn copy_body(body: &Seq<Instr>) -> Result<Seq<Instr>, OutOfMemory>
+    ensures { IfOk result (λ copy. copy ≡ body.now) }
+{
+    let mut copies = body.empty_like();
+    for instr in body.as_slice() {
+        copies.push(copy_instr(instr)?)?;
+    }
+    Ok(copies)
+}
+
+#[cycle(copied)]
+fn copy_instr(instr: &Instr) -> Result<Instr, OutOfMemory>
+    ensures { IfOk result (λ copy. copy ≡ instr.now) }
+{
+    let copy = match instr {
+        Instr::Unreachable => Instr::Unreachable,
+        Instr::Block(ty, body) => Instr::Block(*ty, copy_body(body)?),
+        Instr::Loop(ty, body) => Instr::Loop(*ty, copy_body(body)?),
+        Instr::If(ty, body, other) => match other {
+            None => Instr::If(*ty, copy_body(body)?, None),
+            Some(other) => Instr::If(*ty, copy_body(body)?, Some(copy_body(other)?)),
+        },
+        Instr::Br(label) => Instr::Br(*label),
+        Instr::BrIf(label) => Instr::BrIf(*label),
+        Instr::BrTable(labels, default) => Instr::BrTable(copy_items(labels)?, *default),
+        Instr::Call(func) => Instr::Call(*func),
+        Instr::Drop => Instr::Drop,
+        Instr::Select => Instr::Select,
+        Instr::TryTable(ty, catches, body) => {
+            Instr::TryTable(*ty, copy_items(catches)?, copy_body(body)?)
+        }
+        Instr::LocalGet(index) => Instr::LocalGet(*index),
+        Instr::LocalSet(index) => Instr::LocalSet(*index),
+        Instr::LocalTee(index) => Instr::LocalTee(*index),
+        Instr::GlobalGet(index) => Instr::GlobalGet(*index),
+        Instr::GlobalSet(index) => Instr::GlobalSet(*index),
+        Instr::I32Load(place) => Instr::I32Load(*place),
+        Instr::I64Load(place) => Instr::I64Load(*place),
+        Instr::F32Load(place) => Instr::F32Load(*place),
+        Instr::F64Load(place) => Instr::F64Load(*place),
+        Instr::I32Load8S(place) => Instr::I32Load8S(*place),
+        Instr::I32Load8U(place) => Instr::I32Load8U(*place),
+        Instr::I32Load16S(place) => Instr::I32Load16S(*place),
+        Instr::I32Load16U(place) => Instr::I32Load16U(*place),
+        Instr::I32Store(place) => Instr::I32Store(*place),
+        Instr::I64Store(place) => Instr::I64Store(*place),
+        Instr::F32Store(place) => Instr::F32Store(*place),
+        Instr::F64Store(place) => Instr::F64Store(*place),
+        Instr::I32Store8(place) => Instr::I32Store8(*place),
+        Instr::I32Store16(place) => Instr::I32Store16(*place),
+        Instr::MemorySize(index) => Instr::MemorySize(*index),
+        Instr::I32Const(bits) => Instr::I32Const(*bits),
+        Instr::I64Const(bits) => Instr::I64Const(*bits),
+        Instr::F32Const(bits) => Instr::F32Const(*bits),
+        Instr::F64Const(bits) => Instr::F64Const(*bits),
+        Instr::I32Eqz => Instr::I32Eqz,
+        Instr::I32Eq => Instr::I32Eq,
+        Instr::I32Ne => Instr::I32Ne,
+        Instr::I32LtU => Instr::I32LtU,
+        Instr::I32GtU => Instr::I32GtU,
+        Instr::I32GeU => Instr::I32GeU,
+        Instr::I64Eqz => Instr::I64Eqz,
+        Instr::I64Eq => Instr::I64Eq,
+        Instr::I64Ne => Instr::I64Ne,
+        Instr::I64LtU => Instr::I64LtU,
+        Instr::I64GtU => Instr::I64GtU,
+        Instr::I64GeU => Instr::I64GeU,
+        Instr::I32Add => Instr::I32Add,
+        Instr::I32Sub => Instr::I32Sub,
+        Instr::I32Mul => Instr::I32Mul,
+        Instr::I32And => Instr::I32And,
+        Instr::I32Or => Instr::I32Or,
+        Instr::I32Xor => Instr::I32Xor,
+        Instr::I32Shl => Instr::I32Shl,
+        Instr::I32ShrU => Instr::I32ShrU,
+        Instr::I64Add => Instr::I64Add,
+        Instr::I64Sub => Instr::I64Sub,
+        Instr::I64Mul => Instr::I64Mul,
+        Instr::I64And => Instr::I64And,
+        Instr::I64Or => Instr::I64Or,
+        Instr::I64Xor => Instr::I64Xor,
+        Instr::I64Shl => Instr::I64Shl,
+        Instr::I64ShrU => Instr::I64ShrU,
+        Instr::I32WrapI64 => Instr::I32WrapI64,
+        Instr::I64ExtendI32U => Instr::I64ExtendI32U,
+        Instr::I32ReinterpretF32 => Instr::I32ReinterpretF32,
+        Instr::I64ReinterpretF64 => Instr::I64ReinterpretF64,
+        Instr::F32ReinterpretI32 => Instr::F32ReinterpretI32,
+        Instr::F64ReinterpretI64 => Instr::F64ReinterpretI64,
+        Instr::I32Extend8S => Instr::I32Extend8S,
+        Instr::I32Extend16S => Instr::I32Extend16S,
+        Instr::RefFunc(func) => Instr::RefFunc(*func),
+    };
+    Ok(copy)
+}
+
+impl WasmModule {
+    /// An equal module.
+    pub fn try_clone(&self) -> Result<WasmModule, OutOfMemory>
+        ensures { IfOk result (λ copy. copy ≡ self.now) }
+    {
+        let types = copy_list(&self.types)?;
+        let imports = copy_list(&self.imports)?;
+        let funcs = copy_list(&self.funcs)?;
+        let exports = copy_list(&self.exports)?;
+        Ok(WasmModule {
+            types,
+            imports,
+            funcs,
+            exports,
+        })
+    }
+}
