@@ -3,7 +3,7 @@
 ghost use Rattle.std.specs.Prelude.{◌≡◌, ◌↔◌, ◌<◌, ◌≤◌, ◌++◌, ◌∷◌, [], ℕ, true, length, slice_get, option_copied, option_map, position, IfOk, IfSome, IfNone, OnOk, OnErr, MatchOption, Some, None, Err};
 ghost use Rattle.std.specs.List.{position_or_len, IsDistinct};
 ghost use Rattle.indexmap.specs.IndexSet.{insert_key};
-ghost use Rattle.fact_entity.specs.Places.{IsOnlyPlace};
+ghost use Rattle.fact_entity.specs.Places.{IsInterned};
 
 use crate::error::PushError;
 use crate::key::{EntityRef, key_at};
@@ -64,11 +64,8 @@ impl<K: EntityRef, T: Eq + Hash> Interner<K, T> {
     /// The key of the value that is equal to this one, or `None` where there is none.
     pub fn find(&self, value: &T) -> Option<K>
         ensures key { result ≡ option_map K.key (position (T.eq value.now) self.now) }
-        ensures one_key { IfSome result (λ k. IsOnlyPlace T.eq self.now value.now (K.number k)) }
-        ensures known { IfSome result (λ k. (insert_key T.eq self.now value.now ≡ self.now) × (k ≡ K.key (position_or_len (T.eq value.now) self.now))) }
+        ensures interned { IfSome result (λ k. IsInterned T.eq self.now self.now value.now (K.number k)) }
         ensures absent { IfNone result (position (T.eq value.now) self.now ≡ None) }
-        ensures absent_key { IfNone result (position_or_len (T.eq value.now) self.now ≡ length self.now) }
-        ensures absent_list { IfNone result (insert_key T.eq self.now value.now ≡ self.now ++ value.now ∷ []) }
     {
         match self.values.get_index_of(value) {
             Some(place) => Some(key_at(place)),
@@ -82,11 +79,7 @@ impl<K: EntityRef, T: Eq + Hash + Drop> Interner<K, T> {
     /// answers its key. `TooLarge` comes exactly where the value is new and the table holds 4,294,967,295 values. The
     /// table is unchanged after a refusal.
     pub fn add(&mut self, value: T) -> Result<K, PushError>
-        ensures key { IfOk result (λ k. k ≡ K.key (position_or_len (T.eq value) self.old)) }
-        ensures list { OnOk result (self.new ≡ insert_key T.eq self.old value) }
-        ensures keeps { (i : ℕ) (x : T) → slice_get self.old i ≡ Some x → slice_get self.new i ≡ Some x }
-        ensures one_key { IfOk result (λ k. IsOnlyPlace T.eq self.new value (K.number k)) }
-        ensures again { IfOk result (λ k. (y : T) → T.eq y value ≡ true → position (T.eq y) self.new ≡ Some (K.number k)) }
+        ensures interned { IfOk result (λ k. IsInterned T.eq self.old self.new value (K.number k)) }
         ensures distinct { IsDistinct T.eq self.new }
         ensures refused { OnErr result (self.new ≡ self.old) }
         ensures too_large { result ≡ Err PushError.TooLarge ↔ ((position (T.eq value) self.old ≡ None) × (length self.old ≡ 4294967295)) }
@@ -102,7 +95,8 @@ impl<K: EntityRef, T: Eq + Hash + Drop> Interner<K, T> {
     /// [`Interner::add`].
     pub fn add_new(&mut self, value: T) -> Result<K, PushError>
         requires { position (T.eq value) self.old ≡ None }
-        ensures key { IfOk result (λ k. k ≡ K.key (length self.old)) }
+        ensures interned { IfOk result (λ k. IsInterned T.eq self.old self.new value (K.number k)) }
+        ensures key { IfOk result (λ k. K.number k ≡ length self.old) }
         ensures list { OnOk result (self.new ≡ self.old ++ value ∷ []) }
         ensures refused { OnErr result (self.new ≡ self.old) }
         ensures too_large { result ≡ Err PushError.TooLarge ↔ (length self.old ≡ 4294967295) }

@@ -14,9 +14,10 @@ use Rattle.fact_machine.specs.declared.types.End.{End}
 use Rattle.fact_machine.specs.declared.types.End.TheVariants.{Returned, Trapped, Thrown, Lacks, Going, Stuck}
 use Rattle.fact_machine.specs.declared.types.Outcome.{Outcome}
 use Rattle.fact_machine.specs.World.{World, calls, log_of, asked, answered}
-use Rattle.fact_machine.specs.Machine.{Around, Bottom, Label, Frame, Config, At, Did, Goes, Ends, Next, Begins, Finished, on_res, throw, act, next_of, next, begin, at_rest, after, exec, start, run_of}
+use Rattle.fact_machine.specs.Machine.{Around, Config, At, Did, Goes, Ends, Next, Begins, Finished, Breaks, on_res, throw, act, next, begin, at_rest, after, exec, start, run_of}
 use Rattle.fact_machine.specs.Causes.{answers_of, taken_after, taken_from, taken, steps_of}
 use Rattle.fact_machine.proofs.Traces.{calls-append}
+use Rattle.fact_machine.proofs.Grows.{config_world, next_world, next_keeps}
 use Rattle.fact_machine.proofs.Plans.{IsPlain, Leap, To, Stops, leaps, Plan, Leaps, Sets, Writes, Asks, does, world, Planned, throw_leaping, act_planned, start_planned}
 
 -- ---- the answers in the log and those that are left are always the answers given
@@ -80,19 +81,10 @@ does_kept (Asks f args vs ls code k) w all n h = asked_kept f args w w.answers a
 planned_kept : (w : World) (go : List Answer → List TraceEntry → Did) (all : List Answer) (n : ℕ) → Planned w.state go → Keeps all n w → Kept all n (go w.answers w.trace)
 planned_kept w go all n p h = subst (Kept all n) (sym (p.is w.answers w.trace)) (does_kept p.plan w all n h)
 
-abbrev pub next_world : Next → World
-next_world (Begins w vs ls i rest k) = w
-next_world (Finished w vs) = w
-
-next_keeps : (w : World) (vs : List CoreValue) (ls : List (Option CoreValue)) (code : List Instr) (k : Around) → next_world (next_of w vs ls code k) ≡ w
-next_keeps w vs ls (i ∷ rest) k = refl
-next_keeps w vs ls [] Bottom = refl
-next_keeps w vs ls [] (Label a below to rest cs k) = next_keeps w (vs ++ below) ls rest k
-next_keeps w vs ls [] (Frame f below rest k) = next_keeps w (vs ++ below) f rest k
-
 pub begin_kept : (M : WasmModule) (x : Next) (all : List Answer) (n : ℕ) → Keeps all n (next_world x) → Kept all n (begin M x)
 begin_kept M (Begins w vs ls i rest k) all n h = planned_kept w (λ a t. act M (out-Instr i) (world w.state a t) vs ls rest k) all n (act_planned M (out-Instr i) w.state vs ls rest k) h
 begin_kept M (Finished w vs) all n h = (h, tt)
+begin_kept M (Breaks w) all n h = (h, tt)
 
 -- ---- whole runs
 
@@ -103,12 +95,10 @@ pub record Told (all : List Answer) (n : ℕ) (o : Outcome) : Type 0 where
   pub fewer : length left ≤ n
   pub lacks : o.end ≡ Lacks → left ≡ []
 
-abbrev pub config_world : Config → World
-config_world (At w vs ls code k) = w
-
 rest_told : (x : Next) (all : List Answer) (n : ℕ) → Keeps all n (next_world x) → Told all n (at_rest x)
 rest_told (Begins w vs ls i rest k) all n h = record { left = w.answers; is = h.told; fewer = h.fewer; lacks = λ e. cc }
 rest_told (Finished w vs) all n h = record { left = w.answers; is = h.told; fewer = h.fewer; lacks = λ e. cc }
+rest_told (Breaks w) all n h = record { left = w.answers; is = h.told; fewer = h.fewer; lacks = λ e. cc }
 
 pub after_told : (M : WasmModule) (n : ℕ) (d : Did) (all : List Answer) (m : ℕ) → ((c : Config) → Keeps all m (config_world c) → Told all m (exec M n c)) → Kept all m d → Told all m (after (exec M n) d)
 after_told M n (Goes (At w vs ls code k)) all m ih h = ih (At w vs ls code k) h
@@ -146,6 +136,7 @@ kept_here M x = begin_kept M x _ _ (record { told = refl; fewer = omega arith })
 from_going : (M : WasmModule) (n : ℕ) (x : Next) → ((c : Config) → (exec M n c).end ≡ Going → taken M n c ≡ n) → (after (exec M n) (begin M x)).end ≡ Going → taken_from M (taken M n) x ≡ suc n
 from_going M n (Begins w vs ls i rest k) ih q = ap suc (after_going M n _ (begin M (Begins w vs ls i rest k)) _ (kept_here M (Begins w vs ls i rest k)) ih q)
 from_going M n (Finished w vs) ih q = cc
+from_going M n (Breaks w) ih q = cc
 
 exec_going : (M : WasmModule) (n : ℕ) (c : Config) → (exec M n c).end ≡ Going → taken M n c ≡ n
 exec_going M zero c q = refl

@@ -1,9 +1,10 @@
 -- What stands around the code of a running machine.
-use Rattle.std.proofs.Common.{◌≡◌, List, [], ◌∷◌, ◌++◌, refl, sym, ap, ◌∙◌, Option, Some, None, ℕ, suc, true, length, Bor, arith}
+use Rattle.std.proofs.Common.{◌≡◌, List, [], ◌∷◌, ◌++◌, refl, sym, ap, ◌∙◌, Option, Some, None, ℕ, suc, Bool, true, false, length, reverse, Bor, arith}
 use Rattle.std.proofs.lemmas.Bool.Decides.{nat_tests}
 use Rattle.std.specs.Bool.{◌==◌}
 use Rattle.fact_wasm.specs.declared.instr.Instr.{Instr}
 use Rattle.fact_wasm.specs.declared.instr.BlockType.{BlockType}
+use Rattle.fact_wasm.specs.declared.types.ValType.{ValType}
 use Rattle.fact_wasm.specs.declared.types.FuncType.{FuncType}
 use Rattle.fact_machine.specs.declared.types.CoreValue.{CoreValue}
 use Rattle.fact_machine.specs.declared.types.End.TheVariants.{Stuck}
@@ -11,7 +12,7 @@ use Rattle.fact_machine.specs.declared.running.Entry.{Entry}
 use Rattle.fact_machine.specs.declared.running.Entry.TheVariants as entry
 use Rattle.fact_machine.specs.declared.running.Running.{Running}
 use Rattle.fact_machine.specs.Cut.{IsCut}
-use Rattle.fact_machine.specs.Machine.{Around, Bottom, Label, next_of, next, Goes, Ends, At, branch, grab, or_stuck, block_arity, enter, Did}
+use Rattle.fact_machine.specs.Machine.{Around, Bottom, Label, Breaks, leaving, have_types, next_of, next, Goes, Ends, At, branch, grab, or_stuck, block_arity, enter, Did}
 use Rattle.fact_machine.specs.Running.{put, around_of, world_of, config_of, at, branching}
 use Rattle.fact_machine.proofs.Cuts.{cut_is_none, cut_is_some}
 
@@ -38,20 +39,32 @@ pub left_label : (r : Running) (us below : List CoreValue) (es : List Entry) (e 
 left_label r us below es e a to rest cs hc ha he hu =
     ap (λ v. next_of (world_of r) v r.locals rest.now (around_of es Bottom)) hu ∙ sym (next_around r _ hc (around_pop r es e (entry.Label a below to rest cs) ha he))
 
-pub left_frame : (r : Running) (us below : List CoreValue) (ls : List (Option CoreValue)) (es : List Entry) (e : Entry) (rest : Bor (List Instr))
-    → true ≡ (length r.code.now == 0) → r.around ≡ es ++ e ∷ [] → e ≡ entry.Frame ls below rest → us ≡ r.stack ++ below
+-- the end of a call's body, which ended in these values
+frame_end : (r : Running) (below vs : List CoreValue) (ls : List (Option CoreValue)) (es : List Entry) (e : Entry) (ts : Bor (List ValType)) (rest : Bor (List Instr)) (b : Bool)
+    → true ≡ (length r.code.now == 0) → r.around ≡ es ++ e ∷ [] → e ≡ entry.Frame ts ls below rest → vs ≡ reverse r.stack → b ≡ have_types vs ts.now
+    → next (config_of r) ≡ leaving b (world_of r) (next_of (world_of r) (r.stack ++ below) ls rest.now (around_of es Bottom))
+frame_end r below vs ls es e ts rest b hc ha he hv hb =
+    next_around r _ hc (around_pop r es e (entry.Frame ts ls below rest) ha he)
+    ∙ ap (λ b. leaving b (world_of r) (next_of (world_of r) (r.stack ++ below) ls rest.now (around_of es Bottom))) (sym (hb ∙ ap (λ us. have_types us ts.now) hv))
+
+pub left_frame : (r : Running) (us below vs : List CoreValue) (ls : List (Option CoreValue)) (es : List Entry) (e : Entry) (ts : Bor (List ValType)) (rest : Bor (List Instr))
+    → true ≡ (length r.code.now == 0) → r.around ≡ es ++ e ∷ [] → e ≡ entry.Frame ts ls below rest → vs ≡ reverse r.stack → true ≡ have_types vs ts.now → us ≡ r.stack ++ below
     → next_of (world_of r) us ls rest.now (around_of es Bottom) ≡ next (config_of r)
-left_frame r us below ls es e rest hc ha he hu =
-    ap (λ v. next_of (world_of r) v ls rest.now (around_of es Bottom)) hu ∙ sym (next_around r _ hc (around_pop r es e (entry.Frame ls below rest) ha he))
+left_frame r us below vs ls es e ts rest hc ha he hv hb hu =
+    ap (λ v. next_of (world_of r) v ls rest.now (around_of es Bottom)) hu ∙ sym (frame_end r below vs ls es e ts rest true hc ha he hv hb)
+
+pub broken_frame : (r : Running) (below vs : List CoreValue) (ls : List (Option CoreValue)) (es : List Entry) (e : Entry) (ts : Bor (List ValType)) (rest : Bor (List Instr))
+    → true ≡ (length r.code.now == 0) → r.around ≡ es ++ e ∷ [] → e ≡ entry.Frame ts ls below rest → vs ≡ reverse r.stack → false ≡ have_types vs ts.now → Breaks (world_of r) ≡ next (config_of r)
+broken_frame r below vs ls es e ts rest hc ha he hv hb = sym (frame_end r below vs ls es e ts rest false hc ha he hv hb)
 
 -- ---- branches
 
 branch_around : (r : Running) (k : Around) (l : ℕ) → around_of r.around Bottom ≡ k → at r (branching l) ≡ branch (world_of r) l r.stack r.locals k
 branch_around r k l h = ap (λ x. branch (world_of r) l r.stack r.locals x) h
 
-pub frame_branch : (r : Running) (es : List Entry) (e : Entry) (ls : List (Option CoreValue)) (below : List CoreValue) (rest : Bor (List Instr)) (l : ℕ)
-    → r.around ≡ es ++ e ∷ [] → e ≡ entry.Frame ls below rest → Ends Stuck (world_of r) ≡ at r (branching l)
-frame_branch r es e ls below rest l ha he = sym (branch_around r _ l (around_pop r es e (entry.Frame ls below rest) ha he))
+pub frame_branch : (r : Running) (es : List Entry) (e : Entry) (ts : Bor (List ValType)) (ls : List (Option CoreValue)) (below : List CoreValue) (rest : Bor (List Instr)) (l : ℕ)
+    → r.around ≡ es ++ e ∷ [] → e ≡ entry.Frame ts ls below rest → Ends Stuck (world_of r) ≡ at r (branching l)
+frame_branch r es e ts ls below rest l ha he = sym (branch_around r _ l (around_pop r es e (entry.Frame ts ls below rest) ha he))
 
 pub label_out : (r : Running) (es : List Entry) (e : Entry) (a : ℕ) (below : List CoreValue) (to rest : Bor (List Instr)) (cs : Bor (List ℕ)) (m l : ℕ)
     → r.around ≡ es ++ e ∷ [] → e ≡ entry.Label a below to rest cs → l ≡ suc m → branch (world_of r) m r.stack r.locals (around_of es Bottom) ≡ at r (branching l)

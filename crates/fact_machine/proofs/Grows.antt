@@ -20,7 +20,7 @@ use Rattle.fact_machine.specs.declared.types.TraceEntry.TheVariants as entry
 use Rattle.fact_machine.specs.declared.types.Outcome.{Outcome}
 use Rattle.fact_machine.specs.World.{World, calls, log_of, Res, Done, Halt, Trap, Throw, Lack, asked, outside, read, write, written}
 use Rattle.fact_machine.specs.Operands.{operate}
-use Rattle.fact_machine.specs.Machine.{Around, Bottom, Label, Frame, Config, At, Did, Goes, Ends, Next, Begins, Finished, or_stuck, check, grab, has_type, type_of, have_types, may_follow, block_arity, func_import, branch, throw, on_res, call_inside, call_import, memory_import, enter, with_top, with_i32, with_i64, with_address, when, set_local, block, or_empty, label_at, ref_func, i32_of, i64_of, f32_of, f64_of, load, store, page_bytes, size_value, act, next_of, next, begin, exec, start, run_of}
+use Rattle.fact_machine.specs.Machine.{Around, Bottom, Label, Frame, Config, At, Did, Goes, Ends, Next, Begins, Finished, Breaks, leaving, or_stuck, check, grab, has_type, type_of, have_types, may_follow, block_arity, func_import, branch, throw, on_res, call_inside, call_import, memory_import, enter, with_top, with_i32, with_i64, with_address, when, set_local, block, or_empty, label_at, ref_func, i32_of, i64_of, f32_of, f64_of, load, store, page_bytes, size_value, act, next_of, next, begin, exec, start, run_of}
 use Rattle.fact_machine.specs.Trace.{Reached, reached_at_rest, reached_after, reach, world_at, trace_of, Grows}
 use Rattle.fact_machine.proofs.Laws.{exec_is, run_is, Exit, Leaves, leads}
 use Rattle.fact_machine.proofs.Laws as exit
@@ -75,14 +75,14 @@ cut_world w (Some p) below ls to k = refl
 -- a branch changes nothing of the world
 pub branch_world : (w : World) (l : ℕ) (vs : List CoreValue) (ls : List (Option CoreValue)) (k : Around) → did_world (branch w l vs ls k) ≡ w
 branch_world w l vs ls Bottom = refl
-branch_world w l vs ls (Frame f below rest k) = refl
+branch_world w l vs ls (Frame ts f below rest k) = refl
 branch_world w zero vs ls (Label a below to rest c k) = cut_world w (grab a vs) below ls to k
 branch_world w (suc l) vs ls (Label a below to rest c k) = branch_world w l vs ls k
 
 -- nor does a throw
 pub throw_world : (w : World) (ls : List (Option CoreValue)) (k : Around) → did_world (throw w ls k) ≡ w
 throw_world w ls Bottom = refl
-throw_world w ls (Frame f below rest k) = throw_world w f k
+throw_world w ls (Frame ts f below rest k) = throw_world w f k
 throw_world w ls (Label a below to rest [] k) = throw_world w ls k
 throw_world w ls (Label a below to rest (c ∷ cs) k) = branch_world w c [] ls k
 
@@ -229,23 +229,32 @@ act_later M i w vs ls rest k = or_later w (operate i vs) (λ us. Goes (At w us l
 
 -- ---- any number of steps
 
-abbrev next_world : Next → World
+-- the world as the next instruction is begun, or at the end
+abbrev pub next_world : Next → World
 next_world (Begins w vs ls i rest k) = w
 next_world (Finished w vs) = w
+next_world (Breaks w) = w
 
-next_keeps : (w : World) (vs : List CoreValue) (ls : List (Option CoreValue)) (code : List Instr) (k : Around) → next_world (next_of w vs ls code k) ≡ w
+leaving_keeps : (b : Bool) (w : World) (x : Next) → next_world x ≡ w → next_world (leaving b w x) ≡ w
+leaving_keeps true w x h = h
+leaving_keeps false w x h = refl
+
+-- ends of bodies change nothing of the world
+pub next_keeps : (w : World) (vs : List CoreValue) (ls : List (Option CoreValue)) (code : List Instr) (k : Around) → next_world (next_of w vs ls code k) ≡ w
 next_keeps w vs ls (i ∷ rest) k = refl
 next_keeps w vs ls [] Bottom = refl
 next_keeps w vs ls [] (Label a below to rest c k) = next_keeps w (vs ++ below) ls rest k
-next_keeps w vs ls [] (Frame f below rest k) = next_keeps w (vs ++ below) f rest k
+next_keeps w vs ls [] (Frame ts f below rest k) = leaving_keeps (have_types (reverse vs) ts) w (next_of w (vs ++ below) f rest k) (next_keeps w (vs ++ below) f rest k)
 
 begin_later : (M : WasmModule) (x : Next) → Later (next_world x) (begin M x)
 begin_later M (Begins w vs ls i rest k) = act_later M (out-Instr i) w vs ls rest k
 begin_later M (Finished w vs) = grows_none w.trace
+begin_later M (Breaks w) = grows_none w.trace
 
 rest_world : (x : Next) → (reached_at_rest x).world ≡ next_world x
 rest_world (Begins w vs ls i rest k) = refl
 rest_world (Finished w vs) = refl
+rest_world (Breaks w) = refl
 
 -- no step changes nothing of the world
 pub world_at_zero : (M : WasmModule) (d : Did) → (reached_after (reach M 0) d).world ≡ did_world d

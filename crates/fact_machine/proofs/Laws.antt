@@ -1,5 +1,5 @@
 -- Laws of runs: steps add up, an end stays, and how a stretch of code is left.
-use Rattle.std.proofs.Common.{◌≡◌, ℕ, zero, suc, ◌+◌, ◌-◌, ◌≤◌, ◌<◌, ◌⊎◌, inl, inr, List, [], ◌∷◌, ◌++◌, Option, refl, sym, ap, ◌∙◌, subst, arith, append_assoc, append-nil, reverse}
+use Rattle.std.proofs.Common.{◌≡◌, ◌≢◌, ℕ, zero, suc, ◌+◌, ◌-◌, ◌≤◌, ◌<◌, ◌⊎◌, inl, inr, List, [], ◌∷◌, ◌++◌, Option, refl, sym, ap, ◌∙◌, subst, arith, append_assoc, append-nil, reverse}
 use Rattle.std.proofs.lemmas.Bool.{cases_lt}
 use Rattle.fact_wasm.specs.declared.instr.Instr.{Instr, out-Instr}
 use Rattle.fact_wasm.specs.declared.module.WasmModule.{WasmModule}
@@ -10,14 +10,16 @@ use Rattle.fact_machine.specs.declared.types.End.{End}
 use Rattle.fact_machine.specs.declared.types.End.TheVariants.{Returned, Trapped, Thrown, Lacks, Going, Stuck}
 use Rattle.fact_machine.specs.declared.types.Outcome.{Outcome}
 use Rattle.fact_machine.specs.World.{World}
-use Rattle.fact_machine.specs.Machine.{Around, Config, At, Did, Goes, Ends, Next, Begins, Finished, act, branch, throw, next, begin, at_rest, after, exec, start, run_of}
+use Rattle.fact_machine.specs.Machine.{Around, Config, At, Did, Goes, Ends, Next, Begins, Finished, Breaks, act, branch, throw, next, begin, at_rest, after, exec, start, run_of}
 use Rattle.fact_machine.specs.Trace.{Reached, reached, outcome_of, reached_at_rest, reached_after, reach, run_reach}
+use Rattle.fact_machine.specs.RunLaws.{Comes}
 
 -- ---- an outcome is what is reached, without the trace
 
 rest_is : (x : Next) → at_rest x ≡ outcome_of (reached_at_rest x)
 rest_is (Begins w vs ls i rest k) = refl
 rest_is (Finished w vs) = refl
+rest_is (Breaks w) = refl
 
 after_is : (f : Config → Outcome) (g : Config → Reached) (d : Did) → ((c : Config) → f c ≡ outcome_of (g c)) → after f d ≡ outcome_of (reached_after g d)
 after_is f g (Goes c) h = h c
@@ -52,14 +54,23 @@ over_or_going Thrown = inl tt
 over_or_going Lacks = inl tt
 over_or_going Stuck = inl tt
 
+-- what is not going is over
+pub over_of : (e : End) → e ≢ Going → IsOver e
+over_of e h = elim (over_or_going e) [ inl over ↦ over | inr going ↦ absurd (h going) ]
+
 over_rest : (M : WasmModule) (m : ℕ) (x : Next) (c : Config) → next c ≡ x → IsOver (reached_at_rest x).end → reach M m c ≡ reached_at_rest x
 over_rest M zero x c e h = ap reached_at_rest e
 over_rest M (suc m) (Begins w vs ls i rest k) c e h = absurd h
 over_rest M (suc m) (Finished w vs) c e h = ap (λ y. reached_after (reach M m) (begin M y)) e
+over_rest M (suc m) (Breaks w) c e h = ap (λ y. reached_after (reach M m) (begin M y)) e
 
 -- code with nothing behind it and nothing around it has returned
 pub reach_finished : (M : WasmModule) (j : ℕ) (c : Config) (w : World) (vs : List CoreValue) → next c ≡ Finished w vs → reach M j c ≡ reached (Returned (reverse vs)) w
 reach_finished M j c w vs e = over_rest M j (Finished w vs) c e tt
+
+-- the body of a call that ends in other values than its results is stuck
+pub reach_broken : (M : WasmModule) (j : ℕ) (c : Config) (w : World) → next c ≡ Breaks w → reach M j c ≡ reached Stuck w
+reach_broken M j c w e = over_rest M j (Breaks w) c e tt
 
 stays_did : (M : WasmModule) (n m : ℕ) (d : Did) → ((c : Config) → IsOver (reach M n c).end → reach M (n + m) c ≡ reach M n c)
     → IsOver (reached_after (reach M n) d).end → reached_after (reach M (n + m)) d ≡ reached_after (reach M n) d
@@ -77,6 +88,10 @@ pub stays : (M : WasmModule) (n m : ℕ) (d : Did) → IsOver (reached_after (re
 stays M n m d h le =
     let e : m ≡ n + (m - n) = omega arith in
     ap (λ k. reached_after (reach M k) d) e ∙ stays_did M n (m - n) d (stays_add M n (m - n)) h
+
+-- so from a configuration on
+pub reach_stays : (M : WasmModule) (n m : ℕ) (c : Config) → (reach M n c).end ≢ Going → n ≤ m → reach M m c ≡ reach M n c
+reach_stays M n m c h le = stays M n m (Goes c) (over_of (reach M n c).end h) le
 
 -- two numbers of steps at which a run is over give one end
 pub one_end : (M : WasmModule) (n m : ℕ) (d : Did) → IsOver (reached_after (reach M n) d).end → IsOver (reached_after (reach M m) d).end → reached_after (reach M n) d ≡ reached_after (reach M m) d
@@ -98,10 +113,6 @@ was_going M n m d le h =
     ]
 
 -- ---- steps add up
-
--- exactly m steps lead from one configuration to the other, up to silent ends
-pub record Comes (M : WasmModule) (m : ℕ) (c c' : Config) : Type 0 where
-  pub by : (j : ℕ) → reach M (m + j) c ≡ reach M j c'
 
 -- no step
 pub comes_none : {M : WasmModule} {c : Config} → Comes M 0 c c

@@ -1,5 +1,5 @@
 -- A run that lacks an answer takes one more, where it is given one.
-use Rattle.std.proofs.Common.{◌≡◌, ℕ, zero, suc, List, [], ◌∷◌, ◌++◌, Option, length, reverse, refl, sym, ap, ◌∙◌, subst, arith, append-nil}
+use Rattle.std.proofs.Common.{◌≡◌, ℕ, zero, suc, List, [], ◌∷◌, ◌++◌, Option, Bool, true, false, length, reverse, refl, sym, ap, ◌∙◌, subst, arith, append-nil}
 use Rattle.std.proofs.lemmas.List.{nil_from_length}
 use Rattle.fact_wasm.specs.declared.instr.Instr.{Instr, out-Instr}
 use Rattle.fact_wasm.specs.declared.module.WasmModule.{WasmModule}
@@ -10,10 +10,11 @@ use Rattle.fact_machine.specs.declared.types.Answer.TheVariants.{Returns, Traps,
 use Rattle.fact_machine.specs.declared.types.TraceEntry.{TraceEntry}
 use Rattle.fact_machine.specs.declared.types.End.TheVariants.{Lacks}
 use Rattle.fact_machine.specs.World.{World, log_of, asked}
-use Rattle.fact_machine.specs.Machine.{Around, Bottom, Label, Frame, Config, At, Did, Goes, Ends, Next, Begins, Finished, on_res, throw, next_of, next, begin, at_rest, after, exec, act, start, run_of}
+use Rattle.fact_machine.specs.Machine.{have_types, Around, Bottom, Label, Frame, Config, At, Did, Goes, Ends, Next, Begins, Finished, Breaks, leaving, on_res, throw, next_of, next, begin, at_rest, after, exec, act, start, run_of}
 use Rattle.fact_machine.specs.Causes.{answers_of}
 use Rattle.fact_machine.proofs.Plans.{IsPlain, Leap, To, Stops, leaps, Plan, Leaps, Sets, Writes, Asks, does, world, Planned, throw_leaping, act_planned, start_planned}
-use Rattle.fact_machine.proofs.Causes.{Keeps, Kept, Told, config_world, next_world, answered_kept, begin_kept, step_keeps, after_told, exec_told, start_kept}
+use Rattle.fact_machine.proofs.Grows.{config_world, next_world}
+use Rattle.fact_machine.proofs.Causes.{Keeps, Kept, Told, answered_kept, begin_kept, step_keeps, after_told, exec_told, start_kept}
 
 -- the same world with one answer more
 abbrev given : Answer → World → World
@@ -25,6 +26,7 @@ config_given a (At w vs ls code k) = At (given a w) vs ls code k
 abbrev next_given : Answer → Next → Next
 next_given a (Begins w vs ls i rest k) = Begins (given a w) vs ls i rest k
 next_given a (Finished w vs) = Finished (given a w) vs
+next_given a (Breaks w) = Breaks (given a w)
 
 -- what the same row does with one answer more: the same, or it takes that one
 abbrev Beside : List Answer → Answer → Did → Did → Type 0
@@ -65,12 +67,17 @@ begin_beside : (M : WasmModule) (x : Next) (all : List Answer) (a : Answer) (m :
 begin_beside M (Begins w vs ls i rest k) all a m h =
     planned_beside w (λ b t. act M (out-Instr i) (world w.state b t) vs ls rest k) all a (act_planned M (out-Instr i) w.state vs ls rest k) h.told
 begin_beside M (Finished w vs) all a m h = λ q. cc
+begin_beside M (Breaks w) all a m h = λ q. cc
+
+leaving_beside : (b : Bool) (w : World) (a : Answer) (x y : Next) → x ≡ next_given a y → leaving b (given a w) x ≡ next_given a (leaving b w y)
+leaving_beside true w a x y h = h
+leaving_beside false w a x y h = refl
 
 next_beside : (w : World) (vs : List CoreValue) (ls : List (Option CoreValue)) (code : List Instr) (k : Around) (a : Answer) → next_of (given a w) vs ls code k ≡ next_given a (next_of w vs ls code k)
 next_beside w vs ls (i ∷ rest) k a = refl
 next_beside w vs ls [] Bottom a = refl
 next_beside w vs ls [] (Label n below to rest cs k) a = next_beside w (vs ++ below) ls rest k a
-next_beside w vs ls [] (Frame f below rest k) a = next_beside w (vs ++ below) f rest k a
+next_beside w vs ls [] (Frame ts f below rest k) a = leaving_beside (have_types (reverse vs) ts) w a _ _ (next_beside w (vs ++ below) f rest k a)
 
 config_beside : (c : Config) (a : Answer) → next (config_given a c) ≡ next_given a (next c)
 config_beside (At w vs ls code k) a = next_beside w vs ls code k a
@@ -78,6 +85,7 @@ config_beside (At w vs ls code k) a = next_beside w vs ls code k a
 rest_beside : (x : Next) → (at_rest x).end ≡ Lacks → ⊥
 rest_beside (Begins w vs ls i rest k) q = cc
 rest_beside (Finished w vs) q = cc
+rest_beside (Breaks w) q = cc
 
 after_beside : (M : WasmModule) (n m : ℕ) (all : List Answer) (a : Answer) (d d' : Did)
     → ((c : Config) → Keeps all m (config_world c) → (exec M n c).end ≡ Lacks → Told (all ++ a ∷ []) 0 (exec M n (config_given a c)))

@@ -71,14 +71,14 @@ or_leaping (Some x) go h = h x
 
 pub branch_leaping : (l : ℕ) (vs : List CoreValue) (ls : List (Option CoreValue)) (k : Around) → Leaping (λ w. branch w l vs ls k)
 branch_leaping l vs ls Bottom = ends Stuck tt
-branch_leaping l vs ls (Frame f below rest k) = ends Stuck tt
+branch_leaping l vs ls (Frame ts f below rest k) = ends Stuck tt
 branch_leaping zero vs ls (Label a below to rest cs k) =
     or_leaping (grab a vs) (λ p w. Goes (At w (p.0 ++ below) ls to k)) (λ p. record { leap = To (p.0 ++ below) ls to k; is = λ w. refl })
 branch_leaping (suc l) vs ls (Label a below to rest cs k) = branch_leaping l vs ls k
 
 pub throw_leaping : (ls : List (Option CoreValue)) (k : Around) → Leaping (λ w. throw w ls k)
 throw_leaping ls Bottom = ends Thrown tt
-throw_leaping ls (Frame f below rest k) = throw_leaping f k
+throw_leaping ls (Frame ts f below rest k) = throw_leaping f k
 throw_leaping ls (Label a below to rest [] k) = throw_leaping ls k
 throw_leaping ls (Label a below to rest (c ∷ cs) k) = branch_leaping c [] ls k
 

@@ -15,9 +15,9 @@ use Rattle.fact_machine.specs.declared.types.CoreValue.{CoreValue}
 use Rattle.fact_machine.specs.declared.types.CoreValue.TheVariants.{I32}
 use Rattle.fact_machine.specs.declared.types.End.TheVariants.{Going, Stuck}
 use Rattle.fact_machine.specs.World.{World}
-use Rattle.fact_machine.specs.Machine.{Around, Label, Frame, At, Did, Goes, act, onto, grab, or_stuck, block_arity, have_types, has_type, some_of, locals_of, call_inside, enter, or_empty, throw, next_of}
+use Rattle.fact_machine.specs.Machine.{Around, Label, Frame, At, Did, Goes, act, onto, grab, or_stuck, block_arity, have_types, has_type, some_of, locals_of, call_inside, enter, or_empty, throw, leaving, next_of}
 use Rattle.fact_machine.specs.Trace.{Reached, reach, reached_after}
-use Rattle.fact_machine.proofs.Laws.{Exit, Falls, Branches, Throws, Halts, leads, Leaves, same_next, leaves_whole, leaves_whole_going, leaves_as, leaves_early, leaves_steps}
+use Rattle.fact_machine.proofs.Laws.{Exit, Falls, Branches, Throws, Halts, leads, Leaves, same_next, reach_broken, leaves_whole, leaves_whole_going, leaves_as, leaves_early, leaves_steps}
 
 -- ---- into code that stands in other code
 
@@ -290,42 +290,56 @@ entry_locals func args = map some_of args ++ locals_of func.locals
 -- such a call goes on with the function's body
 pub call_inside_is : (M : WasmModule) (f : ℕ) (w : World) (args vs : List CoreValue) (ls : List (Option CoreValue)) (rest : List Instr) (k : Around) (func : WasmFunc) (ty : FuncType)
     → Calls M f args func ty
-    → call_inside M f w (reverse args ++ vs) ls rest k ≡ Goes (At w [] (entry_locals func args) func.body (Label (length ty.results) [] [] [] [] (Frame ls vs rest k)))
+    → call_inside M f w (reverse args ++ vs) ls rest k ≡ Goes (At w [] (entry_locals func args) func.body (Label (length ty.results) [] [] [] [] (Frame ty.results ls vs rest k)))
 call_inside_is M f w args vs ls rest k func ty h =
     let cut : grab (length ty.params) (reverse args ++ vs) ≡ Some (reverse args, vs) = grab_args args vs ty.params h.typed in
     rw (h.func_is, h.type_is, cut, reverse-reverse args, h.typed) refl
 
+-- how a call is left whose body ends: with results of its types, or stuck
+abbrev pub results_exit : Bool → World → Exit → Exit
+results_exit true w x = x
+results_exit false w x = Halts Stuck w
+
 -- how a call is left, by how the function's body is
-abbrev pub call_exit : ℕ → List CoreValue → List (Option CoreValue) → Exit → Exit
-call_exit n below outer (Falls w vs ls) = Falls w (vs ++ below) outer
-call_exit n below outer (Branches w zero vs ls) = or_halts w (grab n vs) (λ p. Falls w (p.0 ++ below) outer)
-call_exit n below outer (Branches w (suc l) vs ls) = Halts Stuck w
-call_exit n below outer (Throws w ls) = Throws w outer
-call_exit n below outer (Halts e w) = Halts e w
+abbrev pub call_exit : List ValType → List CoreValue → List (Option CoreValue) → Exit → Exit
+call_exit results below outer (Falls w vs ls) = results_exit (have_types (reverse vs) results) w (Falls w (vs ++ below) outer)
+call_exit results below outer (Branches w zero vs ls) = or_halts w (grab (length results) vs) (λ p. results_exit (have_types (reverse p.0) results) w (Falls w (p.0 ++ below) outer))
+call_exit results below outer (Branches w (suc l) vs ls) = Halts Stuck w
+call_exit results below outer (Throws w ls) = Throws w outer
+call_exit results below outer (Halts e w) = Halts e w
 
-call_same : (M : WasmModule) (j : ℕ) (w : World) (o : Option (List CoreValue × List CoreValue)) (below : List CoreValue) (ls outer : List (Option CoreValue)) (rest : List Instr) (k : Around)
-    → reached_after (reach M j) (or_stuck w o (λ p. Goes (At w (p.0 ++ []) ls [] (Frame outer below rest k)))) ≡ reached_after (reach M j) (leads (or_halts w o (λ p. Falls w (p.0 ++ below) outer)) rest k)
-call_same M j w None below ls outer rest k = refl
-call_same M j w (Some p) below ls outer rest k = same_next M j _ _ (ap (λ s. next_of w (s ++ below) outer rest k) (append-nil p.0))
+frame_ends : (M : WasmModule) (j : ℕ) (w : World) (us : List CoreValue) (results : List ValType) (below : List CoreValue) (ls outer : List (Option CoreValue)) (rest : List Instr) (k : Around) (b : Bool)
+    → have_types (reverse us) results ≡ b → reach M j (At w us ls [] (Frame results outer below rest k)) ≡ reached_after (reach M j) (leads (results_exit b w (Falls w (us ++ below) outer)) rest k)
+frame_ends M j w us results below ls outer rest k true h = same_next M j _ _ (ap (λ b. leaving b w (next_of w (us ++ below) outer rest k)) h)
+frame_ends M j w us results below ls outer rest k false h = reach_broken M j _ w (ap (λ b. leaving b w (next_of w (us ++ below) outer rest k)) h)
 
-under_call : (M : WasmModule) (n : ℕ) (below : List CoreValue) (outer : List (Option CoreValue)) (x : Exit) (rest : List Instr) (k : Around) (j : ℕ)
-    → reached_after (reach M j) (leads x [] (Label n [] [] [] [] (Frame outer below rest k))) ≡ reached_after (reach M j) (leads (call_exit n below outer x) rest k)
-under_call M n below outer (Falls w vs ls) rest k j = same_next M j _ _ (ap (λ s. next_of w (s ++ below) outer rest k) (append-nil vs))
-under_call M n below outer (Branches w zero vs ls) rest k j = call_same M j w (grab n vs) below ls outer rest k
-under_call M n below outer (Branches w (suc l) vs ls) rest k j = refl
-under_call M n below outer (Throws w ls) rest k j = refl
-under_call M n below outer (Halts e w) rest k j = refl
+call_same : (M : WasmModule) (j : ℕ) (w : World) (o : Option (List CoreValue × List CoreValue)) (results : List ValType) (below : List CoreValue) (ls outer : List (Option CoreValue)) (rest : List Instr) (k : Around)
+    → reached_after (reach M j) (or_stuck w o (λ p. Goes (At w (p.0 ++ []) ls [] (Frame results outer below rest k))))
+    ≡ reached_after (reach M j) (leads (or_halts w o (λ p. results_exit (have_types (reverse p.0) results) w (Falls w (p.0 ++ below) outer))) rest k)
+call_same M j w None results below ls outer rest k = refl
+call_same M j w (Some p) results below ls outer rest k =
+    ap (λ s. reach M j (At w s ls [] (Frame results outer below rest k))) (append-nil p.0) ∙ frame_ends M j w p.0 results below ls outer rest k _ refl
+
+under_call : (M : WasmModule) (results : List ValType) (below : List CoreValue) (outer : List (Option CoreValue)) (x : Exit) (rest : List Instr) (k : Around) (j : ℕ)
+    → reached_after (reach M j) (leads x [] (Label (length results) [] [] [] [] (Frame results outer below rest k))) ≡ reached_after (reach M j) (leads (call_exit results below outer x) rest k)
+under_call M results below outer (Falls w vs ls) rest k j =
+    same_next M j _ (At w vs ls [] (Frame results outer below rest k)) (ap (λ s. next_of w s ls [] (Frame results outer below rest k)) (append-nil vs))
+    ∙ frame_ends M j w vs results below ls outer rest k _ refl
+under_call M results below outer (Branches w zero vs ls) rest k j = call_same M j w (grab (length results) vs) results below ls outer rest k
+under_call M results below outer (Branches w (suc l) vs ls) rest k j = refl
+under_call M results below outer (Throws w ls) rest k j = refl
+under_call M results below outer (Halts e w) rest k j = refl
 
 module _ {M : WasmModule} {f : ℕ} {args : List CoreValue} {func : WasmFunc} {ty : FuncType} {w : World} {ls : List (Option CoreValue)} (vs : List CoreValue) where
   in_call : Calls M f args func ty → (rest : List Instr) (k : Around)
-      → Within M (I.Call (Defined f)) w (reverse args ++ vs) ls rest k [] (entry_locals func args) func.body (Label (length ty.results) [] [] [] [] (Frame ls vs rest k))
+      → Within M (I.Call (Defined f)) w (reverse args ++ vs) ls rest k [] (entry_locals func args) func.body (Label (length ty.results) [] [] [] [] (Frame ty.results ls vs rest k))
   in_call h rest k = record { enters = ap (λ o. act M o w (reverse args ++ vs) ls rest k) (I.outs-Call (Defined f)) ∙ call_inside_is M f w args vs ls rest k func ty h }
 
   -- a call is left as the function's body is, with the caller's locals and the stack below the arguments
   pub leaves_call : {t : ℕ} {x : Exit} → Calls M f args func ty → Leaves M t func.body w [] (entry_locals func args) x
-      → Leaves M (suc t) (I.Call (Defined f) ∷ []) w (reverse args ++ vs) ls (call_exit (length ty.results) vs ls x)
+      → Leaves M (suc t) (I.Call (Defined f) ∷ []) w (reverse args ++ vs) ls (call_exit ty.results vs ls x)
   leaves_call {x = x} h p =
       record {
-        by = λ rest k j. within (in_call h rest k) p j ∙ under_call M (length ty.results) vs ls x rest k j;
+        by = λ rest k j. within (in_call h rest k) p j ∙ under_call M ty.results vs ls x rest k j;
         going = λ rest k j lt. within_going (in_call h rest k) p j lt;
       }

@@ -5,7 +5,7 @@ use Rattle.fact_machine.specs.declared.types.CoreValue.{CoreValue}
 use Rattle.fact_machine.specs.declared.types.MachineState.{MachineState}
 use Rattle.fact_machine.specs.declared.types.Answer.{Answer}
 use Rattle.fact_machine.specs.declared.types.Event.{Event}
-use Rattle.fact_machine.specs.Machine.{Config, Did, Goes, Ends, Next, Begins, Finished, next, begin, start}
+use Rattle.fact_machine.specs.Machine.{Config, Did, Goes, Ends, Next, Begins, Finished, Breaks, next, begin, start}
 
 abbrev pub taken_after : (Config → ℕ) → Did → ℕ
 taken_after go (Goes c) = go c
@@ -15,6 +15,7 @@ taken_after go (Ends e w) = 0
 abbrev pub taken_from : WasmModule → (Config → ℕ) → Next → ℕ
 taken_from M go (Begins w vs locals i rest k) = suc (taken_after go (begin M (Begins w vs locals i rest k)))
 taken_from M go (Finished w vs) = 0
+taken_from M go (Breaks w) = 0
 
 -- how many steps are taken, of at most n
 abbrev pub taken : WasmModule → ℕ → Config → ℕ

@@ -4,6 +4,7 @@ pub mod Machine
 pub mod MemoryLaws
 pub mod Numerics
 pub mod Operands
+pub mod RunLaws
 pub mod Running
 pub mod Trace
 pub mod World

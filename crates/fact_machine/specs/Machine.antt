@@ -34,8 +34,8 @@ pub data Around : Type 0 where
   -- a label: how many values a branch to it takes, where a branch and where its end goes on, and the labels, counted from
   -- outside it, that its catch_all clauses branch to
   Label : (arity : ℕ) (below : List CoreValue) (to rest : List Instr) (catches : List ℕ) (k : Around) → Around
-  -- a call: the caller's locals, stack and rest
-  Frame : (locals : List (Option CoreValue)) (below : List CoreValue) (rest : List Instr) (k : Around) → Around
+  -- a call: the types of its results, and the caller's locals, stack and rest
+  Frame : (results : List ValType) (locals : List (Option CoreValue)) (below : List CoreValue) (rest : List Instr) (k : Around) → Around
 
 -- The code that runs, in its frame. A local of a reference type has no value until it is set.
 pub data Config : Type 0 where
@@ -143,14 +143,14 @@ memory_import (i ∷ is) n = elim i.ty [ import.Func t ↦ memory_import is n | 
 -- a branch to a label
 abbrev pub branch : World → ℕ → List CoreValue → List (Option CoreValue) → Around → Did
 branch w l vs locals Bottom = Ends Stuck w
-branch w l vs locals (Frame f below rest k) = Ends Stuck w
+branch w l vs locals (Frame ts f below rest k) = Ends Stuck w
 branch w zero vs locals (Label a below to rest catches k) = or_stuck w (grab a vs) (λ p. Goes (At w (p.0 ++ below) locals to k))
 branch w (suc l) vs locals (Label a below to rest catches k) = branch w l vs locals k
 
 -- a throw: it leaves frames and labels up to the first that catches, and goes on as a branch from outside that one
 abbrev pub throw : World → List (Option CoreValue) → Around → Did
 throw w locals Bottom = Ends Thrown w
-throw w locals (Frame f below rest k) = throw w f k
+throw w locals (Frame ts f below rest k) = throw w f k
 throw w locals (Label a below to rest [] k) = throw w locals k
 throw w locals (Label a below to rest (l ∷ ls) k) = branch w l [] locals k
 
@@ -183,7 +183,7 @@ call_inside M n w vs locals rest k =
     or_stuck w (slice_get M.types f.ty) (λ t.
     or_stuck w (grab (length t.params) vs) (λ p.
     check w (have_types (reverse p.0) t.params) (
-    Goes (At w [] (map some_of (reverse p.0) ++ locals_of f.locals) f.body (Label (length t.results) [] [] [] [] (Frame locals p.1 rest k)))))))
+    Goes (At w [] (map some_of (reverse p.0) ++ locals_of f.locals) f.body (Label (length t.results) [] [] [] [] (Frame t.results locals p.1 rest k)))))))
 
 abbrev pub call_import : WasmModule → ℕ → World → List CoreValue → List (Option CoreValue) → List Instr → Around → Did
 call_import M n w vs locals rest k =
@@ -301,7 +301,9 @@ memory_size M n w vs locals rest k =
 
 -- ---- the table of instructions
 
--- The meaning of an instruction, with what comes after it. The rows that are left out change the operand stack alone.
+-- The meaning of an instruction, with what comes after it. The rows that are left out change the operand stack alone. A
+-- global is looked up in the state alone, neither among the module's imports nor for leave to change it: a typed state has
+-- one global for each import of one, and a valid module sets none but those that may change.
 abbrev pub act : WasmModule → Instr-F Instr → World → List CoreValue → List (Option CoreValue) → List Instr → Around → Did
 act M instr.Unreachable w vs locals rest k = Ends Trapped w
 act M (instr.Block bt body) w vs locals rest k = block M bt body w vs locals rest k
@@ -337,16 +339,23 @@ act M (instr.I32Store16 m) w vs locals rest k = store M 2 i32_of m w vs locals r
 act M (instr.MemorySize n) w vs locals rest k = memory_size M n w vs locals rest k
 act M i w vs locals rest k = or_stuck w (operate i vs) (λ us. Goes (At w us locals rest k))
 
--- the instruction that is begun next, or the end: the end of a body is silent
+-- The instruction that is begun next, or the end: the end of a body is silent. The body of a call ends in values of the types
+-- of its results, as many and in their order; at any others the run breaks.
 pub data Next : Type 0 where
   Begins : (w : World) (stack : List CoreValue) (locals : List (Option CoreValue)) (i : Instr) (rest : List Instr) (k : Around) → Next
   Finished : (w : World) (stack : List CoreValue) → Next
+  Breaks : (w : World) → Next
+
+-- what comes next behind a call, where its body ends in its results
+abbrev pub leaving : Bool → World → Next → Next
+leaving true w x = x
+leaving false w x = Breaks w
 
 abbrev pub next_of : World → List CoreValue → List (Option CoreValue) → List Instr → Around → Next
 next_of w vs locals (i ∷ rest) k = Begins w vs locals i rest k
 next_of w vs locals [] Bottom = Finished w vs
 next_of w vs locals [] (Label a below to rest catches k) = next_of w (vs ++ below) locals rest k
-next_of w vs locals [] (Frame f below rest k) = next_of w (vs ++ below) f rest k
+next_of w vs locals [] (Frame ts f below rest k) = leaving (have_types (reverse vs) ts) w (next_of w (vs ++ below) f rest k)
 
 abbrev pub next : Config → Next
 next (At w vs locals code k) = next_of w vs locals code k
@@ -354,11 +363,13 @@ next (At w vs locals code k) = next_of w vs locals code k
 abbrev pub begin : WasmModule → Next → Did
 begin M (Begins w vs locals i rest k) = act M (out-Instr i) w vs locals rest k
 begin M (Finished w vs) = Ends (Returned (reverse vs)) w
+begin M (Breaks w) = Ends Stuck w
 
 -- with no step left
 abbrev pub at_rest : Next → Outcome
 at_rest (Begins w vs locals i rest k) = outcome Going w
 at_rest (Finished w vs) = outcome (Returned (reverse vs)) w
+at_rest (Breaks w) = outcome Stuck w
 
 abbrev pub after : (Config → Outcome) → Did → Outcome
 after go (Goes c) = go c

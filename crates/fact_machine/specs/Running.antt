@@ -1,6 +1,7 @@
 -- The configuration that a running machine stands for, and what its functions do to it. These definitions serve the clauses
 -- of private functions alone: the public ones cite `Machine` and `World`.
-use Rattle.std.specs.Prelude.{◌≡◌, ◌≢◌, ℕ, Bool, true, false, bit_and, bit_or, bit_xor, slice_get, List, [], ◌∷◌, ◌++◌, length, map, reverse, Option, Some, None}
+use Rattle.std.specs.Prelude.{◌≡◌, ◌≢◌, ℕ, Bool, bit_and, bit_or, bit_xor, slice_get, List, [], ◌∷◌, ◌++◌, length, map, reverse, Option, Some, None}
+use Rattle.fact_wasm.specs.declared.types.ValType.{ValType}
 use Rattle.fact_wasm.specs.declared.types.FuncType.{FuncType}
 use Rattle.fact_wasm.specs.declared.instr.BlockType.{BlockType}
 use Rattle.fact_wasm.specs.declared.instr.MemArg.{MemArg}
@@ -17,6 +18,8 @@ use Rattle.fact_machine.specs.declared.types.End.TheVariants.{Trapped}
 use Rattle.fact_machine.specs.declared.running.Entry.{Entry}
 use Rattle.fact_machine.specs.declared.running.Entry.TheVariants as entry
 use Rattle.fact_machine.specs.declared.running.Running.{Running}
+use Rattle.fact_machine.specs.declared.settle.Settled.{Settled}
+use Rattle.fact_machine.specs.declared.settle.Settled.TheVariants as settled
 use Rattle.fact_machine.specs.declared.numeric.Binary.{Binary}
 use Rattle.fact_machine.specs.declared.numeric.Binary.TheVariants as binary
 use Rattle.fact_machine.specs.declared.numeric.UnaryI32.{UnaryI32}
@@ -29,12 +32,12 @@ use Rattle.fact_machine.specs.declared.memory.StoreKind.{StoreKind}
 use Rattle.fact_machine.specs.declared.memory.StoreKind.TheVariants as store_kind
 use Rattle.fact_machine.specs.World.{World, read, write}
 use Rattle.fact_machine.specs.Numerics.{iadd, isub, imul, ishl, ishr_u, ieqz, ieq, ine, ilt_u, igt_u, ige_u, wrap_32, extend_s}
-use Rattle.fact_machine.specs.Machine.{Around, Bottom, Label, Frame, Config, At, Did, Goes, Ends, next, or_stuck, check, grab, have_types, set_local, branch, throw, call_outside, call_inside, call_import, some_of, locals_of, enter, with_address, on_res, load, store, i32_of, i64_of, f32_of, f64_of, act}
+use Rattle.fact_machine.specs.Machine.{Around, Bottom, Label, Frame, Config, At, Did, Goes, Ends, Next, Breaks, next, or_stuck, check, grab, have_types, set_local, branch, throw, call_outside, call_inside, call_import, some_of, locals_of, enter, with_address, on_res, load, store, i32_of, i64_of, f32_of, f64_of, act}
 
 -- an entry on what stands around it
 abbrev pub put : Entry → Around → Around
 put (entry.Label arity below to rest catches) k = Label arity below to.now rest.now catches.now k
-put (entry.Frame locals below rest) k = Frame locals below rest.now k
+put (entry.Frame results locals below rest) k = Frame results.now locals below rest.now k
 
 -- the entries, of which the last is innermost, on what stands around them
 abbrev pub around_of : List Entry → Around → Around
@@ -52,15 +55,22 @@ abbrev pub did_of : Option End → Running → Did
 did_of None r = Goes (config_of r)
 did_of (Some e) r = Ends e (world_of r)
 
--- whether something is left to run
-abbrev pub HasMore : Bool → Running → Type 0
-HasMore true r = r.code.now ≢ []
-HasMore false r = (r.code.now ≡ []) × (r.around ≡ [])
+-- what is left to run
+abbrev pub HasLeft : Settled → Running → Type 0
+HasLeft settled.Begins r = r.code.now ≢ []
+HasLeft settled.Finished r = (r.code.now ≡ []) × (r.around ≡ [])
+HasLeft settled.Breaks r = Unit {0}
+
+-- what comes next for a running machine that is settled so
+abbrev pub next_so : Settled → Running → Next
+next_so settled.Begins r = next (config_of r)
+next_so settled.Finished r = next (config_of r)
+next_so settled.Breaks r = Breaks (world_of r)
 
 -- only ends of bodies lie between the two
-pub record IsSettled (more : Bool) (old new : Running) : Type 0 where
-  pub same : next (config_of new) ≡ next (config_of old)
-  pub has : HasMore more new
+pub record IsSettled (how : Settled) (old new : Running) : Type 0 where
+  pub same : next_so how new ≡ next (config_of old)
+  pub has : HasLeft how new
 
 -- what is done at a world, a stack and locals, with the code and what stands around it
 abbrev pub Row : Type 0
@@ -89,13 +99,14 @@ abbrev pub bodied : List Instr → ℕ → Row
 bodied body n w vs ls rest k = Goes (At w vs ls body (Label n [] [] [] [] k))
 
 -- a function's body, with its operands off the stack
-abbrev pub framed : WasmFunc → List CoreValue → ℕ → Row
-framed f args n w vs ls rest k = Goes (At w [] (map some_of args ++ locals_of f.locals) f.body (Label n [] [] [] [] (Frame ls vs rest k)))
+abbrev pub framed : WasmFunc → List CoreValue → List ValType → Row
+framed f args results w vs ls rest k =
+    Goes (At w [] (map some_of args ++ locals_of f.locals) f.body (Label (length results) [] [] [] [] (Frame results ls vs rest k)))
 
 -- a call of a function of a type
 abbrev pub typed : WasmFunc → FuncType → Row
 typed f t w vs ls rest k =
-    or_stuck w (grab (length t.params) vs) (λ p. check w (have_types (reverse p.0) t.params) (framed f (reverse p.0) (length t.results) w p.1 ls rest k))
+    or_stuck w (grab (length t.params) vs) (λ p. check w (have_types (reverse p.0) t.params) (framed f (reverse p.0) t.results w p.1 ls rest k))
 
 abbrev pub defined : WasmModule → ℕ → Row
 defined M n w vs ls rest k = call_inside M n w vs ls rest k

@@ -6,10 +6,10 @@ use Rattle.fact_machine.specs.declared.types.MachineState.{MachineState}
 use Rattle.fact_machine.specs.declared.types.Answer.{Answer}
 use Rattle.fact_machine.specs.declared.types.TraceEntry.{TraceEntry}
 use Rattle.fact_machine.specs.declared.types.End.{End}
-use Rattle.fact_machine.specs.declared.types.End.TheVariants.{Returned, Going}
+use Rattle.fact_machine.specs.declared.types.End.TheVariants.{Returned, Going, Stuck}
 use Rattle.fact_machine.specs.declared.types.Outcome.{Outcome}
 use Rattle.fact_machine.specs.World.{World}
-use Rattle.fact_machine.specs.Machine.{Config, Did, Goes, Ends, Next, Begins, Finished, next, begin, outcome, start}
+use Rattle.fact_machine.specs.Machine.{Config, Did, Goes, Ends, Next, Begins, Finished, Breaks, next, begin, outcome, start}
 
 -- how a run stands: its end, and the world then with the whole trace
 pub record Reached : Type 0 where
@@ -26,6 +26,7 @@ outcome_of r = outcome r.end r.world
 abbrev pub reached_at_rest : Next → Reached
 reached_at_rest (Begins w vs locals i rest k) = reached Going w
 reached_at_rest (Finished w vs) = reached (Returned (reverse vs)) w
+reached_at_rest (Breaks w) = reached Stuck w
 
 abbrev pub reached_after : (Config → Reached) → Did → Reached
 reached_after go (Goes c) = go c

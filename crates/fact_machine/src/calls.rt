@@ -9,7 +9,7 @@ use crate::running::{Entry, Running, Step};
 use crate::stack::Stack;
 use crate::types::{CoreValue, End};
 use crate::values::have_types;
-use fact_wasm::{FuncType, Instr, WasmFunc, WasmModule};
+use fact_wasm::{FuncType, Instr, ValType, WasmFunc, WasmModule};
 use std::alloc::Global;
 use std::mem;
 
@@ -20,19 +20,20 @@ fn push_frame<'m>(
     alloc: Global,
     func: &'m WasmFunc,
     args: &[CoreValue],
-    results: usize,
+    results: &'m [ValType],
 ) -> Step
-    ensures { IfOk result (λ end. did_of end run.new ≡ at run.old (framed func.now args.now results)) }
+    ensures { IfOk result (λ end. did_of end run.new ≡ at run.old (framed func.now args.now results.now)) }
 {
     let locals = mem::replace(&mut run.locals, first_locals(alloc, func, args)?);
     let below = mem::replace(&mut run.stack, Stack::new(alloc));
     let rest = run.code;
     run.around.push(Entry::Frame {
+        results,
         locals,
         below,
         rest,
     })?;
-    push_body(run, alloc, func.body.as_slice(), results)
+    push_body(run, alloc, func.body.as_slice(), results.len())
 }
 
 /// Begins a body that a branch to its outermost label ends.
@@ -51,7 +52,12 @@ fn push_body<'m>(run: &mut Running<'m>, alloc: Global, body: &'m [Instr], result
     Ok(None)
 }
 
-fn call_typed<'m>(run: &mut Running<'m>, alloc: Global, func: &'m WasmFunc, ty: &FuncType) -> Step
+fn call_typed<'m>(
+    run: &mut Running<'m>,
+    alloc: Global,
+    func: &'m WasmFunc,
+    ty: &'m FuncType,
+) -> Step
     ensures { IfOk result (λ end. did_of end run.new ≡ at run.old (typed func.now ty.now)) }
 {
     let Some(top) = run.stack.grab(ty.params.len())? else {
@@ -59,7 +65,7 @@ fn call_typed<'m>(run: &mut Running<'m>, alloc: Global, func: &'m WasmFunc, ty: 
     };
     let args = top.into_values();
     if have_types(args.as_slice(), ty.params.as_slice()) {
-        push_frame(run, alloc, func, args.as_slice(), ty.results.len())
+        push_frame(run, alloc, func, args.as_slice(), ty.results.as_slice())
     } else {
         Ok(Some(End::Stuck))
     }

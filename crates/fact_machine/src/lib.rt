@@ -13,6 +13,7 @@ mod numeric;
 mod outside;
 mod rows;
 mod run;
+mod run_laws;
 mod running;
 mod settle;
 mod stack;
@@ -21,6 +22,7 @@ mod values;
 
 pub use memory_laws::laws_of_memory;
 pub use run::Machine;
+pub use run_laws::laws_of_runs;
 pub use types::{Answer, CoreValue, End, Event, MachineState, Outcome, TraceEntry};
 
 /// Want of memory, the one free answer of each call that allocates.

@@ -11,7 +11,7 @@ use crate::OutOfMemory;
 use crate::begin::begin;
 use crate::calls::{call_defined, takes};
 use crate::running::{Running, Step};
-use crate::settle::settle;
+use crate::settle::{Settled, settle};
 use crate::stack::Stack;
 use crate::types::{Answer, CoreValue, End, Event, MachineState, Outcome, TraceEntry};
 use fact_wasm::{Seq, WasmModule};
@@ -25,6 +25,10 @@ impl Machine {
     /// Runs the nth function that a module defines, with these arguments, from a state, over the answers of the outside,
     /// for at most so many steps. Beginning an instruction is one step. The answers beyond those that the run asks for
     /// stay unused.
+    ///
+    /// The end is [`End::Stuck`], with the state as it was given and an empty log, where the module defines no such function
+    /// or the arguments are not of its type; later on it is [`End::Stuck`] where no rule applies to what comes next. The one
+    /// error is [`OutOfMemory`].
     pub fn run(
         alloc: Global,
         module: &WasmModule,
@@ -116,20 +120,22 @@ fn go_on<'m>(
 fn advance<'m>(run: &mut Running<'m>, alloc: Global, module: &'m WasmModule) -> Step
     ensures { IfOk result (λ end. did_of end run.new ≡ begin_of «module».now (next (config_of run.old))) }
 {
-    if !settle(run)? {
-        return Ok(Some(End::Returned(results(run, alloc))));
+    let how = settle(run)?;
+    match how {
+        Settled::Begins => begin(run, alloc, module),
+        Settled::Finished => Ok(Some(End::Returned(results(run, alloc)))),
+        Settled::Breaks => Ok(Some(End::Stuck)),
     }
-    begin(run, alloc, module)
 }
 
 /// How the run stands with no step left.
 fn rest(run: &mut Running, alloc: Global) -> Result<End, OutOfMemory>
     ensures { IfOk result (λ end. outcome_at end (world_of run.new) ≡ at_rest (next (config_of run.old))) }
 {
-    if settle(run)? {
-        Ok(End::Going)
-    } else {
-        Ok(End::Returned(results(run, alloc)))
+    match settle(run)? {
+        Settled::Begins => Ok(End::Going),
+        Settled::Finished => Ok(End::Returned(results(run, alloc))),
+        Settled::Breaks => Ok(End::Stuck),
     }
 }
 

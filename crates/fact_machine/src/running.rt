@@ -3,7 +3,7 @@
 use crate::OutOfMemory;
 use crate::stack::Stack;
 use crate::types::{Answer, CoreValue, End, MachineState, TraceEntry};
-use fact_wasm::{Instr, Seq};
+use fact_wasm::{Instr, Seq, ValType};
 
 /// The end that a step leads to, or `None` where the run goes on.
 pub type Step = Result<Option<End>, OutOfMemory>;
@@ -20,8 +20,9 @@ pub enum Entry<'m> {
         rest: &'m [Instr],
         catches: &'m [u32],
     },
-    /// A call, with the locals and the rest of the caller.
+    /// A call: the types of its results, and the locals and the rest of the caller.
     Frame {
+        results: &'m [ValType],
         locals: Seq<Option<CoreValue>>,
         below: Stack,
         rest: &'m [Instr],

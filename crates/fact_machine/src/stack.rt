@@ -78,6 +78,13 @@ impl Stack {
         Seq::from_vec(items)
     }
 
+    /// The values from the bottom up, where they stand.
+    pub fn as_slice(&self) -> &[CoreValue]
+        ensures { result.now ≡ reverse self.now }
+    {
+        self.items.as_slice()
+    }
+
     /// Puts these values on top, the last one topmost.
     pub fn push_all(&mut self, values: &[CoreValue]) -> Result<(), OutOfMemory>
         ensures { OnOk result (self.new ≡ reverse values.now ++ self.old) }

@@ -71,8 +71,8 @@ pub enum End {
     Lacks,
     /// The steps ran out.
     Going,
-    /// No rule applied: an operand, a value or an index was missing or of a wrong type, or a local of a reference type was
-    /// read before it was set.
+    /// No rule applied: an operand, a value or an index was missing or of a wrong type, a local of a reference type was read
+    /// before it was set, or a function's body ended in values that are not results of its type.
     Stuck,
 }
 

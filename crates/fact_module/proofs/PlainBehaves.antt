@@ -26,11 +26,11 @@ use Rattle.fact_machine.specs.declared.types.End.TheVariants.{Returned, Trapped,
 use Rattle.fact_machine.specs.declared.types.Outcome.{Outcome}
 use Rattle.fact_machine.specs.declared.types.TraceEntry.TheVariants as entry
 use Rattle.fact_machine.specs.World.{World, calls}
-use Rattle.fact_machine.specs.Machine.{At, run_of, some_of, locals_of}
+use Rattle.fact_machine.specs.Machine.{At, run_of, some_of, locals_of, have_types}
 use Rattle.fact_machine.specs.Trace.{Reached, Grows, outcome_of, run_reach, reach}
 use Rattle.fact_machine.proofs.Laws.{Exit, Falls, Throws, Halts, IsEarly, Leaves, IsOver as Over, leaves_then, leaves_next, leaves_early, leaves_as, run_is}
 use Rattle.fact_machine.proofs.Structure.{Calls, block_exit, enters_empty, leaves_block}
-use Rattle.fact_machine.proofs.WholeRuns.{first_world, run_exit, outermost, run_begins, run_outcome, run_over}
+use Rattle.fact_machine.proofs.WholeRuns.{first_world, run_exit, run_returns, outermost, run_begins, run_outcome, run_over}
 use Rattle.fact_machine.proofs.RowLaws.{leaves_unreachable}
 use Rattle.fact_machine.proofs.OutsideCalls.{CallsImport, after_answer, leaves_import_lacks, leaves_import_returns, leaves_import_traps, leaves_import_throws}
 use Rattle.fact_machine.proofs.Grows.{exit_world, grows_from, run_log, run_log_more, leaves_world}
@@ -147,11 +147,11 @@ module _ (m : WasmModule) (is : List Import) (name : List ℕ) (i : Id RuntimeIn
       entered t x p = subst (λ ls. Leaves m t (body (length args) (has_result (map core_word results))) (world memories a b answers []) [] ls x) (sym (entry-is args results few)) p
 
       -- once its body is left a run is what that comes to
-      ends-so : (t : ℕ) (x : Exit) → Body t x → (steps : ℕ) → t ≤ steps → run steps ≡ outcome_of (run_exit (length (map core_word results)) x)
+      ends-so : (t : ℕ) (x : Exit) → Body t x → (steps : ℕ) → t ≤ steps → run steps ≡ outcome_of (run_exit (map core_word results) x)
       unfolding run
       ends-so t x p steps le = run_outcome (state memories a b) answers called (entered t x p) steps le
 
-      returned-so : (t : ℕ) (x : Exit) → Body t x → (steps : ℕ) (rs : List CoreValue) → (run steps).end ≡ Returned rs → run steps ≡ outcome_of (run_exit (length (map core_word results)) x)
+      returned-so : (t : ℕ) (x : Exit) → Body t x → (steps : ℕ) (rs : List CoreValue) → (run steps).end ≡ Returned rs → run steps ≡ outcome_of (run_exit (map core_word results) x)
       unfolding run
       returned-so t x p steps rs e = ends-so t x p steps (run_over (state memories a b) answers called (entered t x p) steps (returned-over _ rs e))
 
@@ -179,11 +179,11 @@ module _ (m : WasmModule) (is : List Import) (name : List ℕ) (i : Id RuntimeIn
       cut t x early p = whole t x (leaves_early _ early p)
 
       begun : (t : ℕ) → run_reach m 0 args (state memories a b) answers t
-          ≡ reach m t (At (world memories a b answers []) [] (locals args 0 0 (result_local results)) ((front (length args)) ++ leave (length args) (has_result (map core_word results))) (outermost (length (map core_word results))))
+          ≡ reach m t (At (world memories a b answers []) [] (locals args 0 0 (result_local results)) ((front (length args)) ++ leave (length args) (has_result (map core_word results))) (outermost (map core_word results)))
       begun t =
           run_begins (state memories a b) answers called t
-          ∙ ap (λ ls. reach m t (At (world memories a b answers []) [] ls (body (length args) (has_result (map core_word results))) (outermost (length (map core_word results))))) (entry-is args results few)
-          ∙ ap (λ code. reach m t (At (world memories a b answers []) [] (locals args 0 0 (result_local results)) code (outermost (length (map core_word results))))) (sym (joined (length args) (has_result (map core_word results))))
+          ∙ ap (λ ls. reach m t (At (world memories a b answers []) [] ls (body (length args) (has_result (map core_word results))) (outermost (map core_word results)))) (entry-is args results few)
+          ∙ ap (λ code. reach m t (At (world memories a b answers []) [] (locals args 0 0 (result_local results)) code (outermost (map core_word results)))) (sym (joined (length args) (has_result (map core_word results))))
 
       -- what is logged up to the callee's answer
       front-log : (t : ℕ) (x : Exit) → Front t x → (run t).log ≡ calls (exit_world x).trace
@@ -191,7 +191,7 @@ module _ (m : WasmModule) (is : List Import) (name : List ℕ) (i : Id RuntimeIn
       front-log t x p =
           run_log m 0 args (state memories a b) answers t
           ∙ ap (λ (r : Reached). calls r.world.trace) (begun t)
-          ∙ ap (λ (w : World). calls w.trace) (leaves_world p (leave (length args) (has_result (map core_word results))) (outermost (length (map core_word results))))
+          ∙ ap (λ (w : World). calls w.trace) (leaves_world p (leave (length args) (has_result (map core_word results))) (outermost (map core_word results)))
 
       front-over : (t : ℕ) (x : Exit) → Front t x → (steps : ℕ) → Over (run steps).end → t ≤ steps
       unfolding Front run
@@ -258,6 +258,9 @@ module _ (m : WasmModule) (is : List Import) (name : List ℕ) (i : Id RuntimeIn
         unfolding event
         after-state = typed-state s fair.0.1
 
+        returns-typed : have_types (reverse (reverse qs)) (map core_word results) ≡ true
+        returns-typed = rw (reverse-reverse qs) (are-typed qs _ typed-results)
+
         -- the world at the end
         last : World
         last = world s.memories after-state.0 b more (given_back b (restored a ++ entry.Called (event memories a b (answer.Returns qs s)) ∷ []))
@@ -279,6 +282,7 @@ module _ (m : WasmModule) (is : List Import) (name : List ℕ) (i : Id RuntimeIn
         unfolding run last
         finished steps le =
             ends-so memories a b given all-steps _ done steps le
+            ∙ ap outcome_of (run_returns (map core_word results) last (reverse qs) left.at_end returns-typed)
             ∙ ap (λ rs. record { end = Returned rs; state = state s.memories after-state.0 b; log = event memories a b (answer.Returns qs s) ∷ [] }) (reverse-reverse qs)
 
         over-late : (steps : ℕ) (rs : List CoreValue) → (run_of m 0 args (state memories a b) given steps).end ≡ Returned rs → all-steps ≤ steps

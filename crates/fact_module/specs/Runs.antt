@@ -18,7 +18,7 @@ use Rattle.fact_machine.specs.declared.types.Event.{Event}
 use Rattle.fact_machine.specs.declared.types.Outcome.{Outcome}
 use Rattle.fact_machine.specs.declared.types.End.{End}
 use Rattle.fact_machine.specs.declared.types.End.TheVariants.{Returned, Lacks}
-use Rattle.fact_machine.specs.Machine.{has_type, func_import, run_of}
+use Rattle.fact_machine.specs.Machine.{has_type, func_import, page_bytes, run_of}
 use Rattle.fact_module.specs.declared.plain.Import.{Import}
 use Rattle.fact_module.specs.declared.plain.Import.TheVariants as known
 use Rattle.fact_module.specs.Adapters.{Adapter}
@@ -38,10 +38,6 @@ IsBits (Func f) = Unit {0}
 -- a value of a core type
 abbrev pub IsValue : CoreValue → ValType → Type 0
 IsValue v t = (has_type v t ≡ true) × IsBits v
-
-abbrev pub page_bytes : Option ℕ → ℕ
-page_bytes None = 2 ^ 16
-page_bytes (Some k) = 2 ^ k
 
 -- a memory of 64 bits has fewer than 2 ^ 64 bytes, one of 32 at most 2 ^ 32 bytes and fewer than 2 ^ 32 pages
 abbrev pub FitsWidth : Bool → (bytes pages : ℕ) → Type 0

@@ -4,8 +4,6 @@
 #[cfg(test)]
 mod decoded;
 #[cfg(test)]
-mod lists;
-#[cfg(test)]
 mod machine;
 #[cfg(test)]
 mod plans;

@@ -6,7 +6,6 @@ use Rattle.fact_entity.specs.declared.id.Id.{Id}
 use Rattle.fact_entity.specs.declared.table.TypeFuncs.{TypeFuncs}
 use Rattle.fact_entity.specs.declared.table.TypeTuples.{TypeTuples}
 use Rattle.fact_types.specs.declared.interface.InterfaceType.{InterfaceType}
-use Rattle.fact_types.specs.declared.kinds.TypeFunc.{TypeFunc}
 use Rattle.fact_types.specs.declared.kinds.TypeTuple.{TypeTuple}
 use Rattle.fact_types.specs.Functions.{HaveShapes, HasSignature}
 use Rattle.fact_types.specs.Shapes.{Shape, s_plain, s_node}

@@ -1,5 +1,5 @@
 -- Valid types take bytes, and their layout counts their flat types.
-use Rattle.std.proofs.Common.{◌≡◌, ℕ, zero, suc, ◌≤◌, ◌<◌, List, [], ◌∷◌, length, Option, refl, arith, All}
+use Rattle.std.proofs.Common.{◌≡◌, ℕ, zero, suc, ◌≤◌, List, [], ◌∷◌, length, Option, arith, All}
 use Rattle.std.specs.Prelude.{IfSome}
 use Rattle.fact_types.specs.declared.abi.CanonicalAbiInfo.{CanonicalAbiInfo}
 use Rattle.fact_types.specs.declared.interface.InterfaceType.{InterfaceType}
@@ -8,7 +8,7 @@ use Rattle.fact_types.specs.FlatShapes.{IsCountedBy, IsCounted, AreCounted}
 use Rattle.fact_types.specs.Layout.{payloads, pointer_pair_layout}
 use Rattle.fact_types.specs.Sound.{IsSound, TakesBytes}
 use Rattle.fact_types.specs.Shapes.{Kind, k_record, k_variant, k_list, k_tuple, k_map, k_flags, k_enum, k_option, k_result, k_fixed, k_future, k_stream, Shape, s_plain, s_node, Members, no_members, bare, typed, plain_layout, repeated_layout, layout_by, layout_of, layouts_of}
-use Rattle.fact_types.specs.Valid.{AreEnough, FollowsRules, IsRuled, AreRuled, IsValid}
+use Rattle.fact_types.specs.Valid.{AreEnough, IsRuled, AreRuled, IsValid}
 use Rattle.fact_types.proofs.ShapeSound.{layouts_sound}
 use Rattle.fact_types.proofs.SoundLaws.{payloads_all, record_takes_bytes, variant_takes_bytes, enum_takes_bytes, fixed_list_takes_bytes, flags_take_bytes, scalar_takes_bytes}
 

@@ -1,12 +1,12 @@
 -- Valid types: those that break no rule for the types of a plan, with all types in them. A valid type takes at least one
 -- byte in either memory.
-use Rattle.std.specs.Prelude.{◌≡◌, ℕ, ◌+◌, ◌≤◌, ◌<◌, max, List, [], ◌∷◌, length, Option, Some, slice_get}
+use Rattle.std.specs.Prelude.{◌≡◌, ℕ, ◌+◌, ◌≤◌, ◌<◌, max, List, length, Some, slice_get}
 use Rattle.fact_types.specs.declared.abi.CanonicalAbiInfo.{CanonicalAbiInfo}
 use Rattle.fact_types.specs.declared.interface.InterfaceType.{InterfaceType}
 use Rattle.fact_types.specs.declared.interface.InterfaceType.TheVariants.{Own as t_own, Borrow as t_borrow}
 use Rattle.fact_types.specs.Agrees.{names_of}
 use Rattle.fact_types.specs.Layout.{payloads, record_layout}
-use Rattle.fact_types.specs.Shapes.{Kind, k_record, k_variant, k_list, k_tuple, k_map, k_flags, k_enum, k_option, k_result, k_fixed, k_future, k_stream, Shape, s_plain, s_node, Members, no_members, bare, typed, layout_of, layouts_of, IsWithin}
+use Rattle.fact_types.specs.Shapes.{Kind, k_record, k_variant, k_tuple, k_map, k_flags, k_enum, k_fixed, Shape, s_plain, s_node, Members, no_members, bare, typed, layout_of, layouts_of, IsWithin}
 
 -- So many members, of which so many have a type: records, tuples, variants, flags and enums have some; variants have at
 -- most 4,096 cases, flags at most 32 names; lists of fixed length have elements, of one type.

@@ -1,9 +1,8 @@
 //! The core function types of a component's modules, each once.
 
 ghost use Rattle.std.specs.Prelude.{◌≡◌, ◌↔◌, ◌<◌, ◌≤◌, ℕ, [], length, position, slice_get, option_copied, IfOk, OnOk, OnErr, Some, None, Err};
-ghost use Rattle.std.specs.List.{position_or_len, IsDistinct};
-ghost use Rattle.indexmap.specs.IndexSet.{insert_key};
-ghost use Rattle.fact_entity.specs.Places.{IsOnlyPlace};
+ghost use Rattle.std.specs.List.{IsDistinct};
+ghost use Rattle.fact_entity.specs.Places.{IsInterned};
 ghost use Rattle.fact_wasm.specs.declared.types.FuncType.{FuncType};
 
 use fact_entity::{Interner, ModuleInternedTypeIndex, PushError};
@@ -87,10 +86,7 @@ impl ModuleTypesBuilder {
     /// answers its index. `TooLarge` comes exactly where the type is new and there are 4,294,967,295. The types are
     /// unchanged after a refusal.
     pub fn intern(&mut self, ty: FuncType) -> Result<ModuleInternedTypeIndex, PushError>
-        ensures key { IfOk result (λ k. k.number ≡ position_or_len (⟦<FuncType as PartialEq>⟧.eq ty) self.old) }
-        ensures list { OnOk result (self.new ≡ insert_key ⟦<FuncType as PartialEq>⟧.eq self.old ty) }
-        ensures keeps { (i : ℕ) (x : FuncType) → slice_get self.old i ≡ Some x → slice_get self.new i ≡ Some x }
-        ensures one_key { IfOk result (λ k. IsOnlyPlace ⟦<FuncType as PartialEq>⟧.eq self.new ty k.number) }
+        ensures interned { IfOk result (λ k. IsInterned ⟦<FuncType as PartialEq>⟧.eq self.old self.new ty k.number) }
         ensures distinct { IsDistinct ⟦<FuncType as PartialEq>⟧.eq self.new }
         ensures refused { OnErr result (self.new ≡ self.old) }
         ensures too_large { result ≡ Err PushError.TooLarge ↔ ((position (⟦<FuncType as PartialEq>⟧.eq ty) self.old ≡ None) × (length self.old ≡ 4294967295)) }

@@ -4,7 +4,7 @@ use Rattle.fact_machine.proofs.branches.branch.Goals as goal
 
 pub returns-in-Some-Frame : goal.returns-in-Some-Frame
 returns-in-Some-Frame c =
-    frame_branch c.loop.run c.pop.new.self c.in-Some-Frame.field-0 _ _ _ _ c.in-Some-Frame.ensures c.in-Some-Frame.field-0-is ∙ c.loop.invariant
+    frame_branch c.loop.run c.pop.new.self c.in-Some-Frame.field-0 _ _ _ _ _ c.in-Some-Frame.ensures c.in-Some-Frame.field-0-is ∙ c.loop.invariant
 
 pub loop-preserved : goal.loop-preserved
 loop-preserved c =

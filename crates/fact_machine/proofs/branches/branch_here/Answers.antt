@@ -2,7 +2,7 @@ use Rattle.fact_machine.proofs.Entries.{frame_branch, here_none, here_some}
 use Rattle.fact_machine.proofs.branches.branch_here.Goals as goal
 
 pub returns-in-Some-Frame : goal.returns-in-Some-Frame
-returns-in-Some-Frame c = frame_branch c.args.run.now c.pop.new.self c.in-Some-Frame.field-0 _ _ _ 0 c.in-Some-Frame.ensures c.in-Some-Frame.field-0-is
+returns-in-Some-Frame c = frame_branch c.args.run.now c.pop.new.self c.in-Some-Frame.field-0 _ _ _ _ 0 c.in-Some-Frame.ensures c.in-Some-Frame.field-0-is
 
 pub returns-in_default : goal.returns-in_default
 returns-in_default c =
