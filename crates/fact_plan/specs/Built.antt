@@ -92,6 +92,7 @@ pub record IsPlainAdapter (instances : ℕ) (a : PlanAdapter) : Type 0 where
 pub record AreOff (t : PlanTunables) : Type 0 where
   pub concurrency : t.concurrency ≡ false
   pub exceptions : t.exceptions ≡ false
+  pub debug : t.debug ≡ false
 
 -- A plan with one adapter between two instances, of a function of plain numbers, and nothing else.
 pub record IsBuilt (p : FusePlan) : Type 0 where

@@ -61,6 +61,21 @@ u32_in (string s) = Err (WrongKind [])
 u32_in (array ds) = Err (WrongKind [])
 u32_in (object ms) = Err (WrongKind [])
 
+-- a number below 2^8, given as an unsigned integer
+abbrev pub u8_from : Num → Result ℕ PlanFault
+u8_from (unsigned n) = if nat_lt n (2 ^ 8) then Ok n else Err (OutOfRange [])
+u8_from (negative z) = Err (WrongKind [])
+u8_from (float x) = Err (WrongKind [])
+
+-- a number of 8 bits
+abbrev pub u8_in : Data → Result ℕ PlanFault
+u8_in null = Err (WrongKind [])
+u8_in (boolean b) = Err (WrongKind [])
+u8_in (number n) = u8_from n
+u8_in (string s) = Err (WrongKind [])
+u8_in (array ds) = Err (WrongKind [])
+u8_in (object ms) = Err (WrongKind [])
+
 -- true or false
 abbrev pub bool_in : Data → Result Bool PlanFault
 bool_in null = Err (WrongKind [])

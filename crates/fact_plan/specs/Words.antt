@@ -1,9 +1,11 @@
--- The words of a plan: types, core types and their texts in JSON.
+-- The words of a plan: types, core types and encodings of texts.
 use Rattle.std.specs.Prelude.{ℕ, List, [], Result, Ok, Err, codes, if◌then◌else◌}
 use Rattle.std.specs.Str.{bytes_eq}
 use Rattle.serde_json.specs.Data.{Data, null, boolean, number, string, array, object}
 use Rattle.fact_wasm.specs.declared.types.ValType.{ValType}
 use Rattle.fact_wasm.specs.declared.types.ValType.TheVariants as val
+use Rattle.fact_types.specs.declared.outside.StringEncoding.{StringEncoding}
+use Rattle.fact_types.specs.declared.outside.StringEncoding.TheVariants as encoding
 use Rattle.fact_plan.specs.declared.plain.PrimitiveValType.{PrimitiveValType}
 use Rattle.fact_plan.specs.declared.plain.PrimitiveValType.TheVariants as word
 use Rattle.fact_plan.specs.declared.plan.PlanRef.{PlanRef}
@@ -58,3 +60,14 @@ val_type_of s =
 -- the type of a core parameter or result
 abbrev pub val_type_in : Data → Result ValType PlanFault
 val_type_in d = text_in d >>= val_type_of
+
+-- the encoding that a word names
+abbrev pub encoding_of : List ℕ → Result StringEncoding PlanFault
+encoding_of s =
+    if bytes_eq s (codes "utf8") then Ok encoding.Utf8 else
+    (if bytes_eq s (codes "utf16") then Ok encoding.Utf16 else
+    (if bytes_eq s (codes "compact") then Ok encoding.CompactUtf16 else Err (OutOfRange [])))
+
+-- how the texts of a side are encoded
+abbrev pub encoding_in : Data → Result StringEncoding PlanFault
+encoding_in d = text_in d >>= encoding_of

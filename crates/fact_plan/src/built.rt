@@ -152,7 +152,7 @@ fn is_plain_adapter(instances: u32, adapter: &PlanAdapter) -> bool
 fn are_off(tunables: &PlanTunables) -> bool
     ensures { IsTrue result ↔ AreOff tunables.now }
 {
-    !tunables.concurrency && !tunables.exceptions
+    !tunables.concurrency && !tunables.exceptions && !tunables.debug
 }
 
 impl FusePlan {

@@ -7,7 +7,7 @@ ghost use Rattle.serde_json.specs.Data.{Data};
 ghost use Rattle.serde_json.specs.View.{view};
 ghost use Rattle.fact_plan.specs.declared.fault.PlanFault.{PlanFault};
 ghost use Rattle.fact_plan.specs.Fault.{Gives, at_step, key_step, place_step};
-ghost use Rattle.fact_plan.specs.Read.{bool_in, field, field_or, nullable, pair_in, known_keys, list_in, required_keys, text_in, u32_in};
+ghost use Rattle.fact_plan.specs.Read.{bool_in, field, field_or, nullable, pair_in, known_keys, list_in, required_keys, text_in, u8_in, u32_in};
 
 use crate::fault::{PlanFault, at_key, at_place};
 use fact_wasm::{Seq, Text};
@@ -21,6 +21,17 @@ pub trait FromJson: Sized + Drop {
 
     fn from_json(alloc: Global, value: &Value) -> Result<Self, PlanFault>
         ensures { Gives (reads (view value.now)) result };
+}
+
+impl FromJson for u8 {
+    ghost reads = { u8_in };
+
+    fn from_json(alloc: Global, value: &Value) -> Result<u8, PlanFault> {
+        let Some(number) = value.as_u64() else {
+            return Err(PlanFault::wrong_kind(alloc));
+        };
+        u8::try_from(number).map_err(|_| PlanFault::out_of_range(alloc))
+    }
 }
 
 impl FromJson for u32 {

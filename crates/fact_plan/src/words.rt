@@ -1,11 +1,12 @@
-//! The words of a plan: types and core types.
+//! The words of a plan: types, core types and encodings of texts.
 ghost use Rattle.fact_plan.specs.Fault.{Gives};
-ghost use Rattle.fact_plan.specs.Words.{ref_in, val_type_in, word_of};
+ghost use Rattle.fact_plan.specs.Words.{encoding_in, ref_in, val_type_in, word_of};
 
 use crate::fault::PlanFault;
 use crate::parts::FromJson;
 use crate::plain::PrimitiveValType;
 use crate::plan::PlanRef;
+use fact_types::StringEncoding;
 use fact_wasm::ValType;
 use serde_json::Value;
 use std::alloc::Global;
@@ -52,6 +53,20 @@ impl FromJson for ValType {
             Some("i64") => Ok(ValType::I64),
             Some("f32") => Ok(ValType::F32),
             Some("f64") => Ok(ValType::F64),
+            Some(_) => Err(PlanFault::out_of_range(alloc)),
+            None => Err(PlanFault::wrong_kind(alloc)),
+        }
+    }
+}
+
+impl FromJson for StringEncoding {
+    ghost reads = { encoding_in };
+
+    fn from_json(alloc: Global, value: &Value) -> Result<StringEncoding, PlanFault> {
+        match value.as_str() {
+            Some("utf8") => Ok(StringEncoding::Utf8),
+            Some("utf16") => Ok(StringEncoding::Utf16),
+            Some("compact") => Ok(StringEncoding::CompactUtf16),
             Some(_) => Err(PlanFault::out_of_range(alloc)),
             None => Err(PlanFault::wrong_kind(alloc)),
         }

@@ -1,68 +1,286 @@
 -- How the ends of a run follow from what was read and written.
-use Rattle.std.proofs.Common.{◌≡◌, ℕ, ◌≤◌, List, [], ◌++◌, length, Option, None, Some, Result, Ok, Err, OnOk, OnErr, IfSome, ◌⊎◌, inl, inr, refl, sym, subst, ap, ◌∙◌, arith, append-nil, length-append}
-use Rattle.std.specs.Prelude.{⊤}
-use Rattle.std.specs.Io.KnownBytes.{Appends}
+use Rattle.std.proofs.Common.{◌≡◌, ◌≢◌, ℕ, zero, suc, ◌≤◌, ◌<◌, Bool, true, false, List, [], ◌++◌, length, Option, None, Some, Result, Ok, Err, OnOk, OnErr, IfSome, ◌⊎◌, inl, inr, refl, sym, subst, ap, ◌∙◌, arith, append-nil, length-append, string_bytes}
+use Rattle.std.specs.Prelude.{⊤, nat_lt}
+use Rattle.std.proofs.lemmas.Bool.{lt-ltb, le-ltb}
+use Rattle.std.specs.Io.KnownBytes.{Appends, Keeps}
+use Rattle.serde_json.specs.Data.{Data}
 use Rattle.fact_io.specs.Transfers.{AppendsFront, TakesAll}
 use Rattle.fact_io.specs.Faults.{Rose}
 use Rattle.fact_plan.specs.declared.plan.FusePlan.{FusePlan}
+use Rattle.fact_plan.specs.declared.fault.PlanFault.{PlanFault}
+use Rattle.fact_plan.specs.declared.fault.PlanFault.TheVariants as fault
+use Rattle.fact_plan.specs.Fault.{IsNotMemory, UnlessMemory, fault_line}
+use Rattle.fact_plan.specs.Built.{IsBuilt}
+use Rattle.fact_plan.specs.Plan.{plan_of}
+use Rattle.fact_plan.specs.Reading.{value_in}
 use Rattle.fact_run.specs.declared.status.Status.{Status}
 use Rattle.fact_run.specs.declared.status.Status.TheVariants as status
 use Rattle.fact_run.specs.declared.answer.Reply.{Reply}
 use Rattle.fact_run.specs.declared.answer.Reply.TheVariants as reply
-use Rattle.fact_run.specs.Answer.{IsEnd, IsReply, IsReplyTo}
-use Rattle.fact_run.specs.Run.{BuiltIn, IsRefused, PlanIn, TellsLine, limit}
+use Rattle.fact_run.specs.Answer.{IsEnd, IsEnding, IsReply, IsReplyTo, IsReplyToFault, IsReplyToPlan, TellsFault}
+use Rattle.fact_run.specs.Status.{line_of}
+use Rattle.fact_run.specs.Run.{Answers, HoldsBuilt, HoldsFault, HoldsNoJson, HoldsPlan, HoldsUnbuilt, IsOrMemory, IsTooLong, IsUndisturbed, Read, ReadPast, TellsLine, limit}
 
--- no plan, so none that is built
-pub none-built : (bytes : List ℕ) → ((p : FusePlan) → PlanIn bytes p → ⊥) → BuiltIn bytes → ⊥
-none-built bytes none b = none b.plan b.is_plan
+-- ---- from what was read to a reply
 
--- what all the bytes of a source come to
-pub replied : (left left' : Option (List ℕ)) (read : Type 0) (bytes : List ℕ) (r : Reply) → TakesAll left left' bytes → length bytes ≤ limit → IsReplyTo bytes r → IsReply left left' read r
-replied left left' read bytes (reply.Page text) all within h = record {
-  bytes = bytes;
-  all = all;
-  within = within;
-  plan = h.0;
-  is_plan = h.1;
-  is_built = h.2;
-  text = _;
-  prints = h.3;
+-- said of a fault that is no want of memory
+unless : (f : PlanFault) (P : Type 0) → IsNotMemory f → UnlessMemory f P → P
+unless fault.OutOfMemory P n h = absurd n
+unless (fault.Missing path) P n h = h
+unless (fault.UnknownKey path) P n h = h
+unless (fault.WrongKind path) P n h = h
+unless (fault.OutOfRange path) P n h = h
+
+-- a fault that the bytes hold
+pub replied-fault : (bytes : List ℕ) (v : Data) (f : PlanFault) (r : Reply) → length bytes ≤ limit → value_in bytes ≡ Some v → UnlessMemory f (plan_of v ≡ Err f) → IsReplyToFault f r → IsReplyTo bytes r
+replied-fault bytes v f (reply.BadPlan line) within j h e = record {
+  fault = f;
+  holds = record { within = within; value = v; is_json = j; is_fault = unless f (plan_of v ≡ Err f) e.0 h };
+  is_line = e.1;
+}
+replied-fault bytes v f reply.OutOfMemory within j h e = tt
+replied-fault bytes v f (reply.Page text) within j h e = absurd e
+replied-fault bytes v f reply.ReadFault within j h e = absurd e
+replied-fault bytes v f reply.TooLong within j h e = absurd e
+replied-fault bytes v f reply.NotJson within j h e = absurd e
+replied-fault bytes v f reply.NotBuilt within j h e = absurd e
+
+-- a plan that the bytes hold
+pub replied-plan : (bytes : List ℕ) (p : FusePlan) (r : Reply) → HoldsPlan bytes p → IsReplyToPlan p r → IsReplyTo bytes r
+replied-plan bytes p (reply.Page text) h e = record {
+  holds = record { plan = p; is_plan = h; is_built = e.0 };
+  text = string_bytes text;
+  prints = e.1;
   sent = refl;
 }
-replied left left' read bytes reply.ReadFault all within h = absurd h
-replied left left' read bytes reply.NotBuilt all within h = record { bytes = bytes; taken = all.taken; cause = inr (all, h) }
-replied left left' read bytes reply.OutOfMemory all within h = tt
+replied-plan bytes p reply.NotBuilt h e = record { plan = p; is_plan = h; not_built = e }
+replied-plan bytes p reply.OutOfMemory h e = tt
+replied-plan bytes p (reply.BadPlan line) h e = absurd e
+replied-plan bytes p reply.ReadFault h e = absurd e
+replied-plan bytes p reply.TooLong h e = absurd e
+replied-plan bytes p reply.NotJson h e = absurd e
 
--- a plan that is built, in all the bytes of a source, is not refused
-not-refused : (left left' : Option (List ℕ)) (bytes : List ℕ) → left ≡ Some bytes → length bytes ≤ limit → BuiltIn bytes → IsRefused left left' → ⊥
-not-refused None left' bytes e within b r = cc
-not-refused (Some xs) None bytes e within b r = r.taken
-not-refused (Some xs) (Some ys) bytes e within b r =
-    let same : xs ≡ bytes = cc in
-    elim r.cause [
-      | inl past ↦ omega (arith, ap length r.taken, length-append r.bytes ys, ap length same)
-      | inr rest ↦
-          let all : xs ≡ r.bytes = r.taken ∙ ap (λ (t : List ℕ). r.bytes ++ t) rest.0.ended ∙ append-nil r.bytes in
-          rest.1 (subst BuiltIn (sym same ∙ all) b)
-    ]
+-- all the bytes of a source
+pub replied : (left left' : Option (List ℕ)) (fault : Type 0) (bytes : List ℕ) (r : Reply) → TakesAll left left' bytes → IsReplyTo bytes r → IsReply left left' fault r
+replied left left' fault bytes (reply.Page text) all h = record { bytes = bytes; all = all; is_so = h }
+replied left left' fault bytes reply.ReadFault all h = absurd h
+replied left left' fault bytes reply.TooLong all h = absurd h
+replied left left' fault bytes reply.NotJson all h = record { bytes = bytes; all = all; is_so = h }
+replied left left' fault bytes (reply.BadPlan line) all h = record { bytes = bytes; all = all; is_so = h }
+replied left left' fault bytes reply.NotBuilt all h = record { bytes = bytes; all = all; is_so = h }
+replied left left' fault bytes reply.OutOfMemory all h = tt
 
--- a plan that is built, and no fault
-pub built-done : (left left' : Option (List ℕ)) (read : Type 0) (old new : Option (List ℕ)) (write : Type 0) (s : Status)
-    → IsEnd left left' read old new write s → (read → ⊥) → (write → ⊥)
-    → IfSome left (λ bytes. length bytes ≤ limit → BuiltIn bytes → (s ≡ status.Done) ⊎ (s ≡ status.OutOfMemory))
-built-done None left' read old new write s h no_read no_write = tt
-built-done (Some bytes) left' read old new write status.Done h no_read no_write = λ within b. inl refl
-built-done (Some bytes) left' read old new write status.Usage h no_read no_write = absurd h
-built-done (Some bytes) left' read old new write status.ReadFault h no_read no_write = absurd (no_read h.0)
-built-done (Some bytes) left' read old new write status.WriteFault h no_read no_write = absurd (no_write h.0)
-built-done (Some bytes) left' read old new write status.OutOfMemory h no_read no_write = λ within b. inr refl
-built-done (Some bytes) left' read old new write status.NotBuilt h no_read no_write = λ within b. absurd (not-refused (Some bytes) left' bytes refl within b h.0)
+-- ---- from a reply to an end
+
+-- what was sent of a text
+sent-as : (bytes : List ℕ) (P Q : List ℕ → Type 0) → ((t : List ℕ) → P t → Q t) → Answers bytes P → Answers bytes Q
+sent-as bytes P Q f a = record { holds = a.holds; text = a.text; prints = a.prints; sent = f a.text a.sent }
+
+-- the text that a source comes to was sent
+pub sent-of : (left left' : Option (List ℕ)) (text : List ℕ) (Q : List ℕ → Type 0) → Read left left' (λ bytes. Answers bytes (λ sent. sent ≡ text)) → Q text → Read left left' (λ bytes. Answers bytes Q)
+sent-of left left' text Q r q = record {
+  bytes = r.bytes;
+  all = r.all;
+  is_so = sent-as r.bytes (λ sent. sent ≡ text) Q (λ t e. subst Q (sym e) q) r.is_so;
+}
+
+-- ---- each input comes to one end
+
+-- how far the reading of an input comes: to its length, to JSON, to a plan, or past these
+abbrev pub plan_stage : Result FusePlan PlanFault → ℕ
+plan_stage (Err f) = 2
+plan_stage (Ok p) = 3
+
+abbrev pub value_stage : Option Data → ℕ
+value_stage None = 1
+value_stage (Some v) = plan_stage (plan_of v)
+
+abbrev pub stage : Bool → Option Data → ℕ
+stage true v = 0
+stage false v = value_stage v
+
+abbrev pub stage_of : List ℕ → ℕ
+stage_of bytes = stage (nat_lt limit (length bytes)) (value_in bytes)
+
+-- the end that comes at a stage, where none is past it
+abbrev pub end_at : ℕ → Status
+end_at zero = status.TooLong
+end_at (suc zero) = status.NotJson
+end_at (suc (suc n)) = status.BadPlan
+
+stage-long : (bytes : List ℕ) → IsTooLong bytes → stage_of bytes ≡ 0
+stage-long bytes h = ap (λ b. stage b (value_in bytes)) (lt-ltb limit (length bytes) h)
+
+stage-value : (bytes : List ℕ) (v : Option Data) → length bytes ≤ limit → value_in bytes ≡ v → stage_of bytes ≡ value_stage v
+stage-value bytes v within e = ap (λ b. stage b (value_in bytes)) (le-ltb limit (length bytes) within) ∙ ap value_stage e
+
+stage-json : (bytes : List ℕ) → HoldsNoJson bytes → stage_of bytes ≡ 1
+stage-json bytes h = stage-value bytes None h.within h.no_json
+
+stage-fault : (bytes : List ℕ) (f : PlanFault) → HoldsFault bytes f → stage_of bytes ≡ 2
+stage-fault bytes f h = stage-value bytes (Some h.value) h.within h.is_json ∙ ap plan_stage h.is_fault
+
+stage-plan : (bytes : List ℕ) (p : FusePlan) → HoldsPlan bytes p → stage_of bytes ≡ 3
+stage-plan bytes p h = stage-value bytes (Some h.value) h.within h.is_json ∙ ap plan_stage h.is_plan
+
+-- the bytes hold one plan
+one-plan : (bytes : List ℕ) (p q : FusePlan) → HoldsPlan bytes p → HoldsPlan bytes q → p ≡ q
+one-plan bytes p q h k =
+    let values : h.value ≡ k.value = cc (h.is_json, k.is_json) in
+    cc (h.is_plan, k.is_plan, ap plan_of values)
+
+-- what the bytes of an input hold at an end
+abbrev pub IsOf : Status → List ℕ → Type 0
+IsOf status.TooLong bytes = IsTooLong bytes
+IsOf status.NotJson bytes = HoldsNoJson bytes
+IsOf status.BadPlan bytes = (f : PlanFault) × HoldsFault bytes f
+IsOf status.NotBuilt bytes = HoldsUnbuilt bytes
+IsOf status.Done bytes = HoldsBuilt bytes
+IsOf status.WriteFault bytes = HoldsBuilt bytes
+IsOf _ bytes = ⊥
+
+-- all that a source of these bytes had was taken
+all-taken : (bytes : List ℕ) (left' : Option (List ℕ)) (taken : List ℕ) → TakesAll (Some bytes) left' taken → taken ≡ bytes
+all-taken bytes None taken all = absurd all.taken
+all-taken bytes (Some ys) taken all = sym (all.taken ∙ ap (λ (t : List ℕ). taken ++ t) all.ended ∙ append-nil taken)
+
+-- and it is so of these bytes
+so : (bytes : List ℕ) (left' : Option (List ℕ)) (P : List ℕ → Type 0) → Read (Some bytes) left' P → P bytes
+so bytes left' P r = subst P (all-taken bytes left' r.bytes r.all) r.is_so
+
+past : (bytes : List ℕ) (left' : Option (List ℕ)) → ReadPast (Some bytes) left' → IsTooLong bytes
+past bytes None r = absurd r.taken
+past bytes (Some ys) r = omega (arith, r.past, ap length r.taken, length-append r.bytes ys)
+
+-- an end without a fault tells what the bytes hold
+end-of : (bytes : List ℕ) (left' : Option (List ℕ)) (read : Type 0) (old new : Option (List ℕ)) (write : Type 0) (s : Status) (line : List ℕ)
+    → IsEnd (Some bytes) left' read old new write s line → (read → ⊥) → IsOf s bytes ⊎ (s ≡ status.OutOfMemory)
+end-of bytes left' read old new write status.Done line h none = inl (so bytes left' (λ b. Answers b (λ text. Appends old new text)) h.0).holds
+end-of bytes left' read old new write status.Usage line h none = absurd h
+end-of bytes left' read old new write status.ReadFault line h none = absurd (none h.0)
+end-of bytes left' read old new write status.WriteFault line h none = inl (so bytes left' (λ b. Answers b (λ text. AppendsFront old new text)) h.1).holds
+end-of bytes left' read old new write status.TooLong line h none = inl (past bytes left' h.0)
+end-of bytes left' read old new write status.NotJson line h none = inl (so bytes left' HoldsNoJson h.0)
+end-of bytes left' read old new write status.BadPlan line h none = let t = so bytes left' _ h.0 in inl (t.fault, t.holds)
+end-of bytes left' read old new write status.NotBuilt line h none = inl (so bytes left' HoldsUnbuilt h.0)
+end-of bytes left' read old new write status.OutOfMemory line h none = inr refl
+
+-- a run without words ends so
+without-words : {W : Type 0} (words : List W) (left left' : Option (List ℕ)) (read : Type 0) (old new : Option (List ℕ)) (write : Type 0) (s : Status) (line : List ℕ)
+    → IsEnding words left left' read old new write s line → words ≡ [] → IsEnd left left' read old new write s line
+without-words words left left' read old new write status.Done line h e = h.1
+without-words words left left' read old new write status.Usage line h e = absurd (h.0 e)
+without-words words left left' read old new write status.ReadFault line h e = h.1
+without-words words left left' read old new write status.WriteFault line h e = h.1
+without-words words left left' read old new write status.TooLong line h e = h.1
+without-words words left left' read old new write status.NotJson line h e = h.1
+without-words words left left' read old new write status.BadPlan line h e = h.1
+without-words words left left' read old new write status.OutOfMemory line h e = h.1
+without-words words left left' read old new write status.NotBuilt line h e = h.1
+
+-- before a plan is read, an end is that of its stage
+of-stage : (s : Status) (bytes : List ℕ) → IsOf s bytes → (stage_of bytes ≡ 3) ⊎ (s ≡ end_at (stage_of bytes))
+of-stage status.TooLong bytes h = inr (sym (ap end_at (stage-long bytes h)))
+of-stage status.NotJson bytes h = inr (sym (ap end_at (stage-json bytes h)))
+of-stage status.BadPlan bytes h = inr (sym (ap end_at (stage-fault bytes h.0 h.1)))
+of-stage status.NotBuilt bytes h = inl (stage-plan bytes h.plan h.is_plan)
+of-stage status.Done bytes h = inl (stage-plan bytes h.plan h.is_plan)
+of-stage status.WriteFault bytes h = inl (stage-plan bytes h.plan h.is_plan)
+of-stage status.Usage bytes h = absurd h
+of-stage status.ReadFault bytes h = absurd h
+of-stage status.OutOfMemory bytes h = absurd h
+
+at-stage : (n : ℕ) (s : Status) (bytes : List ℕ) → n < 3 → stage_of bytes ≡ n → IsOf s bytes ⊎ (s ≡ status.OutOfMemory) → IsOrMemory (end_at n) s
+at-stage n s bytes early e (inr memory) = inr memory
+at-stage n s bytes early e (inl h) = elim (of-stage s bytes h) [
+  | inl late ↦ absurd (omega (arith, late, e))
+  | inr same ↦ inl (same ∙ ap end_at e)
+]
+
+pub long-end : (s : Status) (bytes : List ℕ) → IsTooLong bytes → IsOf s bytes ⊎ (s ≡ status.OutOfMemory) → IsOrMemory status.TooLong s
+long-end s bytes h = at-stage 0 s bytes (omega arith) (stage-long bytes h)
+
+pub json-end : (s : Status) (bytes : List ℕ) → HoldsNoJson bytes → IsOf s bytes ⊎ (s ≡ status.OutOfMemory) → IsOrMemory status.NotJson s
+json-end s bytes h = at-stage 1 s bytes (omega arith) (stage-json bytes h)
+
+pub fault-end : (s : Status) (bytes : List ℕ) → ((f : PlanFault) × HoldsFault bytes f) → IsOf s bytes ⊎ (s ≡ status.OutOfMemory) → IsOrMemory status.BadPlan s
+fault-end s bytes h = at-stage 2 s bytes (omega arith) (stage-fault bytes h.0 h.1)
+
+-- the bytes hold no plan that is built and one that is not
+not-both : (bytes : List ℕ) → HoldsUnbuilt bytes → HoldsBuilt bytes → ⊥
+not-both bytes u b = u.not_built (subst IsBuilt (one-plan bytes b.plan u.plan b.is_plan u.is_plan) b.is_built)
+
+pub unbuilt-end : (s : Status) (bytes : List ℕ) → HoldsUnbuilt bytes → IsOf s bytes ⊎ (s ≡ status.OutOfMemory) → IsOrMemory status.NotBuilt s
+unbuilt-end s bytes u (inr memory) = inr memory
+unbuilt-end status.NotBuilt bytes u (inl h) = inl refl
+unbuilt-end status.Done bytes u (inl h) = absurd (not-both bytes u h)
+unbuilt-end status.WriteFault bytes u (inl h) = absurd (not-both bytes u h)
+unbuilt-end status.TooLong bytes u (inl h) = absurd (omega (arith, stage-plan bytes u.plan u.is_plan, stage-long bytes h))
+unbuilt-end status.NotJson bytes u (inl h) = absurd (omega (arith, stage-plan bytes u.plan u.is_plan, stage-json bytes h))
+unbuilt-end status.BadPlan bytes u (inl h) = absurd (omega (arith, stage-plan bytes u.plan u.is_plan, stage-fault bytes h.0 h.1))
+unbuilt-end status.Usage bytes u (inl h) = absurd h
+unbuilt-end status.ReadFault bytes u (inl h) = absurd h
+unbuilt-end status.OutOfMemory bytes u (inl h) = absurd h
+
+pub built-end : (s : Status) (bytes : List ℕ) → (s ≡ status.WriteFault → ⊥) → HoldsBuilt bytes → IsOf s bytes ⊎ (s ≡ status.OutOfMemory) → IsOrMemory status.Done s
+built-end s bytes unfaulted b (inr memory) = inr memory
+built-end status.NotBuilt bytes unfaulted b (inl h) = absurd (not-both bytes h b)
+built-end status.Done bytes unfaulted b (inl h) = inl refl
+built-end status.WriteFault bytes unfaulted b (inl h) = absurd (unfaulted refl)
+built-end status.TooLong bytes unfaulted b (inl h) = absurd (omega (arith, stage-plan bytes b.plan b.is_plan, stage-long bytes h))
+built-end status.NotJson bytes unfaulted b (inl h) = absurd (omega (arith, stage-plan bytes b.plan b.is_plan, stage-json bytes h))
+built-end status.BadPlan bytes unfaulted b (inl h) = absurd (omega (arith, stage-plan bytes b.plan b.is_plan, stage-fault bytes h.0 h.1))
+built-end status.Usage bytes unfaulted b (inl h) = absurd h
+built-end status.ReadFault bytes unfaulted b (inl h) = absurd h
+built-end status.OutOfMemory bytes unfaulted b (inl h) = absurd h
+
+-- Without words, what holds of a source's bytes decides the end.
+pub exactly : {W : Type 0} (words : List W) (left left' : Option (List ℕ)) (before now : ℕ) (old new : Option (List ℕ)) (write : Type 0) (s wanted : Status) (line : List ℕ) (P : List ℕ → Type 0)
+    → ((bytes : List ℕ) → P bytes → IsOf s bytes ⊎ (s ≡ status.OutOfMemory) → IsOrMemory wanted s)
+    → IsEnding words left left' (Rose before now) old new write s line → IsUndisturbed words before now → IfSome left (λ bytes. P bytes → IsOrMemory wanted s)
+exactly words None left' before now old new write s wanted line P decides h calm = tt
+exactly words (Some bytes) left' before now old new write s wanted line P decides h calm =
+    λ p. decides bytes p (end-of bytes left' (Rose before now) old new write s line (without-words words (Some bytes) left' (Rose before now) old new write s line h calm.no_words) calm.no_fault)
+
+-- a write fault has its cause
+pub no-write-fault : {W : Type 0} (words : List W) (left left' : Option (List ℕ)) (read : Type 0) (old new : Option (List ℕ)) (write : Type 0) (s : Status) (line : List ℕ)
+    → IsEnding words left left' read old new write s line → (write → ⊥) → s ≡ status.WriteFault → ⊥
+no-write-fault words left left' read old new write s line h none e =
+    let P : Status → Type 0 = λ t. IsEnding words left left' read old new write t line in none (subst P e h).1.0
+
+-- the line of an end, but for a fault of a plan
+pub plain-line : {W : Type 0} (words : List W) (left left' : Option (List ℕ)) (read : Type 0) (old new : Option (List ℕ)) (write : Type 0) (s : Status) (line : List ℕ)
+    → IsEnding words left left' read old new write s line → s ≢ status.BadPlan → line ≡ line_of s
+plain-line words left left' read old new write status.Done line h other = h.1.1
+plain-line words left left' read old new write status.Usage line h other = h.2
+plain-line words left left' read old new write status.ReadFault line h other = h.1.2
+plain-line words left left' read old new write status.WriteFault line h other = h.1.2
+plain-line words left left' read old new write status.TooLong line h other = h.1.2
+plain-line words left left' read old new write status.NotJson line h other = h.1.2
+plain-line words left left' read old new write status.BadPlan line h other = absurd (other refl)
+plain-line words left left' read old new write status.OutOfMemory line h other = h.1.1
+plain-line words left left' read old new write status.NotBuilt line h other = h.1.2
+
+-- The fault of a plan was told, where its line was.
+pub told-fault : (left left' : Option (List ℕ)) (line : List ℕ) (old new : Option (List ℕ)) (before now : ℕ) → Read left left' (λ bytes. TellsFault bytes line) → TellsLine old new before now line
+    → Read left left' (λ bytes. (f : PlanFault) × HoldsFault bytes f × TellsLine old new before now (fault_line f))
+told-fault left left' line old new before now r h = record {
+  bytes = r.bytes;
+  all = r.all;
+  is_so = (r.is_so.fault, r.is_so.holds, subst (λ (l : List ℕ). TellsLine old new before now l) r.is_so.is_line h);
+}
+
+-- an end that is this one
+pub is-end : {W : Type 0} (words : List W) (left left' : Option (List ℕ)) (read : Type 0) (old new : Option (List ℕ)) (write : Type 0) (s t : Status) (line : List ℕ)
+    → IsEnding words left left' read old new write s line → s ≡ t → IsEnding words left left' read old new write t line
+is-end words left left' read old new write s t line h e =
+    let P : Status → Type 0 = λ u. IsEnding words left left' read old new write u line in subst P e h
 
 -- a line that was written, whole or in part
 pub told : {E : Type 0} (r : Result ⊤ E) (old new : Option (List ℕ)) (before now : ℕ) (line : List ℕ)
     → OnOk r (Appends old new line) → OnErr r (AppendsFront old new line) → OnErr r (Rose before now) → TellsLine old new before now line
 told (Ok x) old new before now line whole part rose = record {
   front = record { front = line; rest = []; split = sym (append-nil line); appended = whole };
-  whole = λ no. whole;
+  whole = λ clean. whole;
 }
-told (Err e) old new before now line whole part rose = record { front = part; whole = λ no. absurd (no rose) }
+told (Err e) old new before now line whole part rose = record { front = part; whole = λ clean. absurd (clean rose) }

@@ -1,42 +1,72 @@
--- What an inner answer and a status say of the source and of the sink.
-use Rattle.std.specs.Prelude.{ℕ, ◌≡◌, List, Option, MatchOption, string_bytes}
+-- What an inner answer and an ending say of the source and of the sink.
+use Rattle.std.specs.Prelude.{ℕ, ◌≡◌, ◌≢◌, List, [], Option, Some, None, string_bytes}
 use Rattle.std.specs.Io.KnownBytes.{Appends, Keeps}
 use Rattle.fact_io.specs.Transfers.{AppendsFront}
+use Rattle.fact_plan.specs.declared.fault.PlanFault.{PlanFault}
 use Rattle.fact_plan.specs.declared.plan.FusePlan.{FusePlan}
 use Rattle.fact_plan.specs.Built.{IsBuilt}
+use Rattle.fact_plan.specs.Fault.{IsNotMemory, fault_line}
 use Rattle.fact_run.specs.declared.status.Status.{Status}
 use Rattle.fact_run.specs.declared.status.Status.TheVariants as status
 use Rattle.fact_run.specs.declared.answer.Reply.{Reply}
 use Rattle.fact_run.specs.declared.answer.Reply.TheVariants as reply
-use Rattle.fact_run.specs.Run.{Answers, BuiltIn, IsRefused, PlanIn, Prints}
+use Rattle.fact_run.specs.Run.{Answers, HoldsFault, HoldsNoJson, HoldsPlan, HoldsUnbuilt, IsTooLong, Prints, Read, ReadPast}
+use Rattle.fact_run.specs.Status.{line_of}
 
--- a plan that was looked for in some bytes
-abbrev pub IsPlanIn : List ℕ → Option FusePlan → Type 0
-IsPlanIn bytes found = MatchOption found ((p : FusePlan) → PlanIn bytes p → ⊥) (λ p. PlanIn bytes p)
+-- the line tells the fault that the bytes hold
+pub record TellsFault (bytes : List ℕ) (line : List ℕ) : Type 0 where
+  pub fault : PlanFault
+  pub holds : HoldsFault bytes fault
+  pub is_line : line ≡ fault_line fault
 
--- a plan that is built was looked for in some bytes
-abbrev pub IsBuiltIn : List ℕ → Option FusePlan → Type 0
-IsBuiltIn bytes found = MatchOption found (BuiltIn bytes → ⊥) (λ p. PlanIn bytes p × IsBuilt p)
+-- what a fault comes to
+abbrev pub IsReplyToFault : PlanFault → Reply → Type 0
+IsReplyToFault f (reply.BadPlan line) = IsNotMemory f × (string_bytes line ≡ fault_line f)
+IsReplyToFault f reply.OutOfMemory = Unit {0}
+IsReplyToFault f _ = ⊥
 
--- what some bytes come to
+-- what a plan comes to
+abbrev pub IsReplyToPlan : FusePlan → Reply → Type 0
+IsReplyToPlan p (reply.Page text) = IsBuilt p × Prints (string_bytes text) p
+IsReplyToPlan p reply.NotBuilt = IsBuilt p → ⊥
+IsReplyToPlan p reply.OutOfMemory = Unit {0}
+IsReplyToPlan p _ = ⊥
+
+-- what some bytes, no more than an input may have, come to
 abbrev pub IsReplyTo : List ℕ → Reply → Type 0
-IsReplyTo bytes (reply.Page text) = (p : FusePlan) × PlanIn bytes p × IsBuilt p × Prints (string_bytes text) p
+IsReplyTo bytes (reply.Page text) = Answers bytes (λ sent. sent ≡ string_bytes text)
 IsReplyTo bytes reply.ReadFault = ⊥
-IsReplyTo bytes reply.NotBuilt = BuiltIn bytes → ⊥
+IsReplyTo bytes reply.TooLong = ⊥
+IsReplyTo bytes reply.NotJson = HoldsNoJson bytes
+IsReplyTo bytes (reply.BadPlan line) = TellsFault bytes (string_bytes line)
+IsReplyTo bytes reply.NotBuilt = HoldsUnbuilt bytes
 IsReplyTo bytes reply.OutOfMemory = Unit {0}
 
--- what there is to tell of a source
+-- what a source comes to
 abbrev pub IsReply : Option (List ℕ) → Option (List ℕ) → Type 0 → Reply → Type 0
-IsReply left left' read (reply.Page text) = Answers left left' (λ sent. sent ≡ string_bytes text)
-IsReply left left' read reply.ReadFault = read
-IsReply left left' read reply.NotBuilt = IsRefused left left'
-IsReply left left' read reply.OutOfMemory = Unit {0}
+IsReply left left' fault reply.ReadFault = fault
+IsReply left left' fault reply.TooLong = ReadPast left left'
+IsReply left left' fault reply.OutOfMemory = Unit {0}
+IsReply left left' fault r = Read left left' (λ bytes. IsReplyTo bytes r)
 
--- how a run without words ends
-abbrev pub IsEnd : Option (List ℕ) → Option (List ℕ) → Type 0 → Option (List ℕ) → Option (List ℕ) → Type 0 → Status → Type 0
-IsEnd left left' read old new write status.Done = Answers left left' (λ text. Appends old new text)
-IsEnd left left' read old new write status.Usage = ⊥
-IsEnd left left' read old new write status.ReadFault = read × Keeps old new
-IsEnd left left' read old new write status.WriteFault = write × Answers left left' (λ text. AppendsFront old new text)
-IsEnd left left' read old new write status.OutOfMemory = Keeps old new
-IsEnd left left' read old new write status.NotBuilt = IsRefused left left' × Keeps old new
+-- the line of an ending
+abbrev pub line_in : Status → Option (List ℕ) → List ℕ
+line_in s None = line_of s
+line_in s (Some line) = line
+
+-- how a run without words ends, with the line that tells it
+abbrev pub IsEnd : Option (List ℕ) → Option (List ℕ) → Type 0 → Option (List ℕ) → Option (List ℕ) → Type 0 → Status → List ℕ → Type 0
+IsEnd left left' read old new write status.Done line = Read left left' (λ bytes. Answers bytes (λ text. Appends old new text)) × (line ≡ line_of status.Done)
+IsEnd left left' read old new write status.Usage line = ⊥
+IsEnd left left' read old new write status.ReadFault line = read × Keeps old new × (line ≡ line_of status.ReadFault)
+IsEnd left left' read old new write status.WriteFault line = write × Read left left' (λ bytes. Answers bytes (λ text. AppendsFront old new text)) × (line ≡ line_of status.WriteFault)
+IsEnd left left' read old new write status.TooLong line = ReadPast left left' × Keeps old new × (line ≡ line_of status.TooLong)
+IsEnd left left' read old new write status.NotJson line = Read left left' HoldsNoJson × Keeps old new × (line ≡ line_of status.NotJson)
+IsEnd left left' read old new write status.BadPlan line = Read left left' (λ bytes. TellsFault bytes line) × Keeps old new
+IsEnd left left' read old new write status.OutOfMemory line = Keeps old new × (line ≡ line_of status.OutOfMemory)
+IsEnd left left' read old new write status.NotBuilt line = Read left left' HoldsUnbuilt × Keeps old new × (line ≡ line_of status.NotBuilt)
+
+-- how a run ends
+abbrev pub IsEnding : {W : Type 0} → List W → Option (List ℕ) → Option (List ℕ) → Type 0 → Option (List ℕ) → Option (List ℕ) → Type 0 → Status → List ℕ → Type 0
+IsEnding words left left' read old new write status.Usage line = (words ≢ []) × Keeps old new × (line ≡ line_of status.Usage)
+IsEnding words left left' read old new write s line = (words ≡ []) × IsEnd left left' read old new write s line

@@ -1,5 +1,5 @@
 -- What a run reads and writes.
-use Rattle.std.specs.Prelude.{ℕ, ◌≡◌, ◌≤◌, ◌<◌, List, [], ◌∷◌, ◌++◌, length, Option, Some, Ok, ◌⊎◌}
+use Rattle.std.specs.Prelude.{ℕ, ◌≡◌, ◌≤◌, ◌<◌, List, [], ◌∷◌, ◌++◌, length, Option, Some, None, Ok, Err, ◌⊎◌}
 use Rattle.std.specs.Io.KnownBytes.{Appends, Consumes}
 use Rattle.hex.specs.Hex.{encode_lower}
 use Rattle.serde_json.specs.Data.{Data}
@@ -9,27 +9,57 @@ use Rattle.fact_wasm.specs.Spelling.{Spells}
 use Rattle.fact_io.specs.Faults.{Rose}
 use Rattle.fact_io.specs.Transfers.{AppendsFront, TakesAll}
 use Rattle.fact_plan.specs.declared.plan.FusePlan.{FusePlan}
+use Rattle.fact_plan.specs.declared.fault.PlanFault.{PlanFault}
 use Rattle.fact_plan.specs.Reading.{value_in}
 use Rattle.fact_plan.specs.Plan.{plan_of}
 use Rattle.fact_plan.specs.Built.{IsBuilt}
 use Rattle.fact_module.specs.declared.fusion.Fused.{Fused}
 use Rattle.fact_module.specs.Faithful.{IsFused}
+use Rattle.fact_run.specs.declared.status.Status.{Status}
+use Rattle.fact_run.specs.declared.status.Status.TheVariants as status
 
 -- the most bytes that an input may have
 abbrev pub limit : ℕ
 limit = 67_108_864
 
--- The bytes are a JSON text, as `serde_json` reads it, whose value is this plan.
-pub record PlanIn (bytes : List ℕ) (p : FusePlan) : Type 0 where
+-- ---- what an input of some bytes comes to: each input comes to one of these
+
+-- The bytes are more than an input may have.
+abbrev pub IsTooLong : List ℕ → Type 0
+IsTooLong bytes = limit < length bytes
+
+-- The bytes are no JSON text, as `serde_json` reads it.
+pub record HoldsNoJson (bytes : List ℕ) : Type 0 where
+  pub within : length bytes ≤ limit
+  pub no_json : value_in bytes ≡ None
+
+-- The bytes are a JSON text whose value has this first fault.
+pub record HoldsFault (bytes : List ℕ) (f : PlanFault) : Type 0 where
+  pub within : length bytes ≤ limit
+  pub value : Data
+  pub is_json : value_in bytes ≡ Some value
+  pub is_fault : plan_of value ≡ Err f
+
+-- The bytes are a JSON text whose value is this plan.
+pub record HoldsPlan (bytes : List ℕ) (p : FusePlan) : Type 0 where
+  pub within : length bytes ≤ limit
   pub value : Data
   pub is_json : value_in bytes ≡ Some value
   pub is_plan : plan_of value ≡ Ok p
 
--- a plan that is built so far
-pub record BuiltIn (bytes : List ℕ) : Type 0 where
+-- a plan that is not built so far
+pub record HoldsUnbuilt (bytes : List ℕ) : Type 0 where
   pub plan : FusePlan
-  pub is_plan : PlanIn bytes plan
+  pub is_plan : HoldsPlan bytes plan
+  pub not_built : IsBuilt plan → ⊥
+
+-- a plan that is built so far
+pub record HoldsBuilt (bytes : List ℕ) : Type 0 where
+  pub plan : FusePlan
+  pub is_plan : HoldsPlan bytes plan
   pub is_built : IsBuilt plan
+
+-- ---- what is written
 
 -- the plan with the tunables of the run
 abbrev pub configured : FusePlan → FusePlan
@@ -46,29 +76,37 @@ pub record Prints (text : List ℕ) (p : FusePlan) : Type 0 where
   pub is_only : (m : WasmModule) → InRange m → Spells fused.bytes m → m ≡ fused.module
   pub is_page : text ≡ page fused.bytes
 
--- A plan that is built was read in all the bytes of the source, and of the text that prints its module this was sent.
-pub record Answers (left left' : Option (List ℕ)) (Sent : List ℕ → Type 0) : Type 0 where
-  pub bytes : List ℕ
-  pub all : TakesAll left left' bytes
-  pub within : length bytes ≤ limit
-  pub plan : FusePlan
-  pub is_plan : PlanIn bytes plan
-  pub is_built : IsBuilt plan
+-- The bytes hold a plan that is built, and of the text that prints its module this was sent.
+pub record Answers (bytes : List ℕ) (Sent : List ℕ → Type 0) : Type 0 where
+  pub holds : HoldsBuilt bytes
   pub text : List ℕ
-  pub prints : Prints text plan
+  pub prints : Prints text holds.plan
   pub sent : Sent text
 
--- the bytes are more than an input may have, or hold no plan that is built so far
-abbrev pub NotBuiltIn : List ℕ → Type 0
-NotBuiltIn bytes = (limit < length bytes) ⊎ (BuiltIn bytes → ⊥)
+-- ---- sources and lines
 
--- what the source had, or its first bytes that are more than an input may have
-pub record IsRefused (left left' : Option (List ℕ)) : Type 0 where
+-- All that the source had was taken, and it is so.
+pub record Read (left left' : Option (List ℕ)) (P : List ℕ → Type 0) : Type 0 where
+  pub bytes : List ℕ
+  pub all : TakesAll left left' bytes
+  pub is_so : P bytes
+
+-- More was taken than an input may have.
+pub record ReadPast (left left' : Option (List ℕ)) : Type 0 where
   pub bytes : List ℕ
   pub taken : Consumes left left' bytes
-  pub cause : (limit < length bytes) ⊎ (TakesAll left left' bytes × (BuiltIn bytes → ⊥))
+  pub past : IsTooLong bytes
 
--- a front of the line was appended, and all of it where no fault rose
+-- A front of the line was appended, and all of it where no fault rose.
 pub record TellsLine (old new : Option (List ℕ)) (before now : ℕ) (line : List ℕ) : Type 0 where
   pub front : AppendsFront old new line
   pub whole : (Rose before now → ⊥) → Appends old new line
+
+-- No words were given and no read failed.
+pub record IsUndisturbed {W : Type 0} (words : List W) (before now : ℕ) : Type 0 where
+  pub no_words : words ≡ []
+  pub no_fault : Rose before now → ⊥
+
+-- The end is this one, or a want of memory.
+abbrev pub IsOrMemory : Status → Status → Type 0
+IsOrMemory wanted s = (s ≡ wanted) ⊎ (s ≡ status.OutOfMemory)

@@ -8,13 +8,20 @@ number_of status.Done = 0
 number_of status.Usage = 2
 number_of status.ReadFault = 3
 number_of status.WriteFault = 4
+number_of status.TooLong = 5
+number_of status.NotJson = 6
+number_of status.BadPlan = 7
 number_of status.OutOfMemory = 9
 number_of status.NotBuilt = 10
 
+-- the line of an end that is told alike for every input; nothing for the others
 abbrev pub line_of : Status → List ℕ
 line_of status.Done = []
 line_of status.Usage = codes "usage: factc\n"
 line_of status.ReadFault = codes "read fault\n"
 line_of status.WriteFault = codes "write fault\n"
+line_of status.TooLong = codes "input too long\n"
+line_of status.NotJson = codes "not json\n"
+line_of status.BadPlan = []
 line_of status.OutOfMemory = codes "out of memory\n"
 line_of status.NotBuilt = codes "not built\n"

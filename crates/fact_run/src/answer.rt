@@ -1,15 +1,16 @@
 //! From the source to what there is to tell.
 
-ghost use Rattle.std.specs.Prelude.{◌≡◌, ◌≤◌, length, string_bytes, IfOk};
+ghost use Rattle.std.specs.Prelude.{◌≡◌, ◌≤◌, length, string_bytes, IfOk, MatchResult};
 ghost use Rattle.fact_io.specs.Faults.{Rose};
 ghost use Rattle.fact_plan.specs.Built.{IsBuilt};
-ghost use Rattle.fact_run.specs.Answer.{IsBuiltIn, IsPlanIn, IsReply, IsReplyTo};
-ghost use Rattle.fact_run.specs.Run.{Prints, configured, limit};
+ghost use Rattle.fact_run.specs.declared.answer.Reply.TheVariants as reply;
+ghost use Rattle.fact_run.specs.Answer.{IsReply, IsReplyTo, IsReplyToFault, IsReplyToPlan};
+ghost use Rattle.fact_run.specs.Run.{HoldsPlan, Prints, configured, limit};
 
 use crate::page::page_text;
 use fact_io::{InputError, Source, read_all};
 use fact_module::{FusePlan, PlanTunables, fuse};
-use fact_plan::{PlanFault, plan_of, read_value};
+use fact_plan::{PlanFault, fault_line, plan_of, read_value};
 use fact_wasm::{OutOfMemory, bytes_spell_one_module};
 use std::alloc::{AllocError, Global};
 
@@ -18,40 +19,49 @@ const FUEL: u32 = 1000;
 /// What a run has to tell.
 #[derive(Drop)]
 pub enum Reply {
+    /// The text that prints the module.
     Page(String),
     ReadFault,
+    TooLong,
+    NotJson,
+    /// The line that tells the fault.
+    BadPlan(String),
     NotBuilt,
     OutOfMemory,
 }
 
-/// The plan in some bytes, or `None` where there is none.
-fn plan_in(alloc: Global, bytes: &[u8]) -> Result<Option<FusePlan>, OutOfMemory>
-    ensures { IfOk result (λ found. IsPlanIn bytes.now found) }
-{
-    let Some(value) = read_value(alloc, bytes)? else {
-        return Ok(None);
-    };
-    match plan_of(alloc, &value) {
-        Ok(plan) => Ok(Some(plan)),
-        Err(PlanFault::OutOfMemory) => Err(AllocError),
-        Err(_) => Ok(None),
+impl From<AllocError> for Reply {
+    ghost from_gives = { λ _ r. r ≡ reply.OutOfMemory };
+
+    fn from(_: AllocError) -> Reply {
+        Reply::OutOfMemory
     }
 }
 
-/// The plan in some bytes, or `None` where there is none that is built.
-fn built_in(alloc: Global, bytes: &[u8]) -> Result<Option<FusePlan>, OutOfMemory>
-    ensures { IfOk result (λ found. IsBuiltIn bytes.now found) }
+/// What a fault of a plan comes to.
+fn reply_to_fault(alloc: Global, fault: &PlanFault) -> Reply
+    ensures { IsReplyToFault fault.now result }
 {
-    match plan_in(alloc, bytes) {
-        Ok(Some(plan)) => {
-            if plan.built() {
-                Ok(Some(plan))
-            } else {
-                Ok(None)
-            }
-        }
-        Ok(None) => Ok(None),
-        Err(_) => Err(AllocError),
+    if matches!(fault, PlanFault::OutOfMemory) {
+        return Reply::OutOfMemory;
+    }
+    match fault_line(alloc, fault) {
+        Ok(line) => Reply::BadPlan(line),
+        Err(_) => Reply::OutOfMemory,
+    }
+}
+
+/// The plan in some bytes, or what they come to without one.
+fn plan_in(alloc: Global, bytes: &[u8]) -> Result<FusePlan, Reply>
+    requires { length bytes.now ≤ limit }
+    ensures { MatchResult result (λ p. HoldsPlan bytes.now p) (λ r. IsReplyTo bytes.now r) }
+{
+    let Some(value) = read_value(alloc, bytes)? else {
+        return Err(Reply::NotJson);
+    };
+    match plan_of(alloc, &value) {
+        Ok(plan) => Ok(plan),
+        Err(fault) => Err(reply_to_fault(alloc, &fault)),
     }
 }
 
@@ -80,17 +90,27 @@ fn print(alloc: Global, plan: FusePlan) -> Result<String, OutOfMemory>
     }
 }
 
+/// What a plan comes to.
+fn reply_to_plan(alloc: Global, plan: FusePlan) -> Reply
+    ensures { IsReplyToPlan plan result }
+{
+    if !plan.built() {
+        return Reply::NotBuilt;
+    }
+    match print(alloc, plan) {
+        Ok(text) => Reply::Page(text),
+        Err(_) => Reply::OutOfMemory,
+    }
+}
+
 /// What some bytes come to.
 fn reply_to(alloc: Global, bytes: &[u8]) -> Reply
+    requires { length bytes.now ≤ limit }
     ensures { IsReplyTo bytes.now result }
 {
-    match built_in(alloc, bytes) {
-        Ok(Some(plan)) => match print(alloc, plan) {
-            Ok(text) => Reply::Page(text),
-            Err(_) => Reply::OutOfMemory,
-        },
-        Ok(None) => Reply::NotBuilt,
-        Err(_) => Reply::OutOfMemory,
+    match plan_in(alloc, bytes) {
+        Ok(plan) => reply_to_plan(alloc, plan),
+        Err(reply) => reply,
     }
 }
 
@@ -101,7 +121,7 @@ pub fn reply_of<S: Source>(alloc: Global, source: &mut S) -> Reply
     match read_all(alloc, source) {
         Ok(bytes) => reply_to(alloc, &bytes),
         Err(InputError::Fault) => Reply::ReadFault,
-        Err(InputError::TooLong) => Reply::NotBuilt,
+        Err(InputError::TooLong) => Reply::TooLong,
         Err(InputError::OutOfMemory) => Reply::OutOfMemory,
     }
 }

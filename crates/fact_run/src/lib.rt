@@ -2,6 +2,7 @@
 #![tactic(auto)]
 
 mod answer;
+mod ending;
 mod page;
 mod status;
 mod top;

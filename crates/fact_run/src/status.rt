@@ -14,9 +14,15 @@ pub enum Status {
     ReadFault,
     /// The sink failed.
     WriteFault,
+    /// The input has more bytes than it may have.
+    TooLong,
+    /// The input is no JSON text.
+    NotJson,
+    /// The input is no plan.
+    BadPlan,
     /// There was no memory.
     OutOfMemory,
-    /// The input is no plan of a form that is built so far.
+    /// The plan has no form that is built so far.
     NotBuilt,
 }
 
@@ -30,20 +36,26 @@ impl Status {
             Status::Usage => 2,
             Status::ReadFault => 3,
             Status::WriteFault => 4,
+            Status::TooLong => 5,
+            Status::NotJson => 6,
+            Status::BadPlan => 7,
             Status::OutOfMemory => 9,
             Status::NotBuilt => 10,
         }
     }
 
-    /// The line that tells it, with its newline; nothing for [`Status::Done`].
+    /// The line that tells it, with its newline, where it is the same for every input; nothing for [`Status::Done`], and
+    /// for [`Status::BadPlan`], whose line names the fault.
     pub fn line(self) -> &'static str
         ensures { result.now ≡ line_of self }
     {
         match self {
-            Status::Done => "",
+            Status::Done | Status::BadPlan => "",
             Status::Usage => "usage: factc\n",
             Status::ReadFault => "read fault\n",
             Status::WriteFault => "write fault\n",
+            Status::TooLong => "input too long\n",
+            Status::NotJson => "not json\n",
             Status::OutOfMemory => "out of memory\n",
             Status::NotBuilt => "not built\n",
         }

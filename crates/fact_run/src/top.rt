@@ -1,31 +1,57 @@
 //! The top call.
 
-ghost use Rattle.std.specs.Prelude.{◌≡◌, ◌≢◌, ◌⊎◌, ◌↔◌, ◌≤◌, [], length, IfSome, List, ℕ};
+ghost use Rattle.std.specs.Prelude.{◌≡◌, ◌≢◌, ◌↔◌, [], length, IfSome, List, ℕ, option_map, string_bytes};
 ghost use Rattle.std.specs.Io.KnownBytes.{Appends, Keeps};
 ghost use Rattle.fact_io.specs.Faults.{Rose};
 ghost use Rattle.fact_io.specs.Transfers.{AppendsFront};
-ghost use Rattle.fact_run.specs.Answer.{IsEnd};
-ghost use Rattle.fact_run.specs.Run.{Answers, BuiltIn, IsRefused, NotBuiltIn, TellsLine, limit};
+ghost use Rattle.fact_plan.specs.Fault.{fault_line};
+ghost use Rattle.fact_plan.specs.declared.fault.PlanFault.{PlanFault};
+ghost use Rattle.fact_run.specs.Answer.{IsEnd, IsEnding, line_in};
+ghost use Rattle.fact_run.specs.Run.{Answers, HoldsBuilt, HoldsFault, HoldsNoJson, HoldsUnbuilt, IsOrMemory, IsTooLong, IsUndisturbed, Read, ReadPast, TellsLine};
 ghost use Rattle.fact_run.specs.Status.{line_of};
 
 use crate::answer::{Reply, reply_of};
+use crate::ending::Ending;
 use crate::status::Status;
 use fact_io::{Sink, Source, write_text};
 use std::alloc::Global;
 
 /// Reads the source and writes the text of its module.
-fn end<S: Source, K: Sink>(alloc: Global, source: &mut S, out: &mut K) -> Status
+fn end<S: Source, K: Sink>(alloc: Global, source: &mut S, out: &mut K) -> Ending
     ensures { IsEnd (S.left source.old) (S.left source.new) (Rose (S.faults source.old) (S.faults source.new))
-        (K.written out.old) (K.written out.new) (Rose (K.faults out.old) (K.faults out.new)) result }
+        (K.written out.old) (K.written out.new) (Rose (K.faults out.old) (K.faults out.new)) result.status (line_in result.status (option_map string_bytes result.told)) }
 {
     match reply_of(alloc, source) {
         Reply::Page(text) => match write_text(out, text.as_bytes()) {
-            Ok(()) => Status::Done,
-            Err(_) => Status::WriteFault,
+            Ok(()) => Ending::of(Status::Done),
+            Err(_) => Ending::of(Status::WriteFault),
         },
-        Reply::ReadFault => Status::ReadFault,
-        Reply::NotBuilt => Status::NotBuilt,
-        Reply::OutOfMemory => Status::OutOfMemory,
+        Reply::ReadFault => Ending::of(Status::ReadFault),
+        Reply::TooLong => Ending::of(Status::TooLong),
+        Reply::NotJson => Ending::of(Status::NotJson),
+        Reply::BadPlan(line) => Ending {
+            status: Status::BadPlan,
+            told: Some(line),
+        },
+        Reply::NotBuilt => Ending::of(Status::NotBuilt),
+        Reply::OutOfMemory => Ending::of(Status::OutOfMemory),
+    }
+}
+
+/// Looks at the words, and without any reads and writes.
+fn ending_of<S: Source, K: Sink>(
+    alloc: Global,
+    words: &[String],
+    source: &mut S,
+    out: &mut K,
+) -> Ending
+    ensures { IsEnding words.now (S.left source.old) (S.left source.new) (Rose (S.faults source.old) (S.faults source.new))
+        (K.written out.old) (K.written out.new) (Rose (K.faults out.old) (K.faults out.new)) result.status (line_in result.status (option_map string_bytes result.told)) }
+{
+    if words.is_empty() {
+        end(alloc, source, out)
+    } else {
+        Ending::of(Status::Usage)
     }
 }
 
@@ -39,31 +65,39 @@ pub fn run<S: Source, K: Sink, E: Sink>(
     out: &mut K,
     err: &mut E,
 ) -> Status
+    // Why each end comes.
     ensures usage { (result ≡ Status.Usage) ↔ (words.now ≢ []) }
     ensures read_fault { result ≡ Status.ReadFault → Rose (S.faults source.old) (S.faults source.new) }
-    ensures not_built { result ≡ Status.NotBuilt → IsRefused (S.left source.old) (S.left source.new) }
+    ensures too_long { result ≡ Status.TooLong → ReadPast (S.left source.old) (S.left source.new) }
+    ensures not_json { result ≡ Status.NotJson → Read (S.left source.old) (S.left source.new) HoldsNoJson }
+    ensures bad_plan { result ≡ Status.BadPlan → Read (S.left source.old) (S.left source.new) (λ bytes. (f : PlanFault)
+        × HoldsFault bytes f × TellsLine (E.written err.old) (E.written err.new) (E.faults err.old) (E.faults err.new) (fault_line f)) }
+    ensures not_built { result ≡ Status.NotBuilt → Read (S.left source.old) (S.left source.new) HoldsUnbuilt }
     ensures write_fault { result ≡ Status.WriteFault → Rose (K.faults out.old) (K.faults out.new) }
-    ensures done { result ≡ Status.Done
-        → Answers (S.left source.old) (S.left source.new) (λ text. Appends (K.written out.old) (K.written out.new) text) }
+    ensures done { result ≡ Status.Done → Read (S.left source.old) (S.left source.new) (λ bytes. Answers bytes (λ text.
+        Appends (K.written out.old) (K.written out.new) text)) }
 
-    // The other way round, where the source tells its bytes and nothing failed.
-    ensures refused { words.now ≡ [] → (Rose (S.faults source.old) (S.faults source.new) → ⊥)
-        → IfSome (S.left source.old) (λ bytes. NotBuiltIn bytes → (result ≡ Status.NotBuilt) ⊎ (result ≡ Status.OutOfMemory)) }
-    ensures complete { words.now ≡ [] → (Rose (S.faults source.old) (S.faults source.new) → ⊥)
+    // The other way round, where the source tells its bytes, no words are given and no read failed.
+    ensures exactly_too_long { IsUndisturbed words.now (S.faults source.old) (S.faults source.new)
+        → IfSome (S.left source.old) (λ bytes. IsTooLong bytes → IsOrMemory Status.TooLong result) }
+    ensures exactly_not_json { IsUndisturbed words.now (S.faults source.old) (S.faults source.new)
+        → IfSome (S.left source.old) (λ bytes. HoldsNoJson bytes → IsOrMemory Status.NotJson result) }
+    ensures exactly_bad_plan { IsUndisturbed words.now (S.faults source.old) (S.faults source.new)
+        → IfSome (S.left source.old) (λ bytes. ((f : PlanFault) × HoldsFault bytes f) → IsOrMemory Status.BadPlan result) }
+    ensures exactly_not_built { IsUndisturbed words.now (S.faults source.old) (S.faults source.new)
+        → IfSome (S.left source.old) (λ bytes. HoldsUnbuilt bytes → IsOrMemory Status.NotBuilt result) }
+    ensures complete { IsUndisturbed words.now (S.faults source.old) (S.faults source.new)
         → (Rose (K.faults out.old) (K.faults out.new) → ⊥)
-        → IfSome (S.left source.old) (λ bytes. length bytes ≤ limit → BuiltIn bytes → (result ≡ Status.Done) ⊎ (result ≡ Status.OutOfMemory)) }
+        → IfSome (S.left source.old) (λ bytes. HoldsBuilt bytes → IsOrMemory Status.Done result) }
 
     // What was written.
-    ensures part { result ≡ Status.WriteFault
-        → Answers (S.left source.old) (S.left source.new) (λ text. AppendsFront (K.written out.old) (K.written out.new) text) }
+    ensures part { result ≡ Status.WriteFault → Read (S.left source.old) (S.left source.new) (λ bytes. Answers bytes (λ text.
+        AppendsFront (K.written out.old) (K.written out.new) text)) }
     ensures kept { result ≢ Status.Done → result ≢ Status.WriteFault → Keeps (K.written out.old) (K.written out.new) }
-    ensures told { TellsLine (E.written err.old) (E.written err.new) (E.faults err.old) (E.faults err.new) (line_of result) }
+    ensures told { result ≢ Status.BadPlan
+        → TellsLine (E.written err.old) (E.written err.new) (E.faults err.old) (E.faults err.new) (line_of result) }
 {
-    let status = if words.is_empty() {
-        end(alloc, source, out)
-    } else {
-        Status::Usage
-    };
-    let _ = write_text(err, status.line().as_bytes());
-    status
+    let ending = ending_of(alloc, words, source, out);
+    let _ = write_text(err, ending.line().as_bytes());
+    ending.status
 }

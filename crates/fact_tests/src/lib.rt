@@ -4,6 +4,10 @@
 #[cfg(test)]
 mod decoded;
 #[cfg(test)]
+mod ends;
+#[cfg(test)]
+mod faults;
+#[cfg(test)]
 mod machine;
 #[cfg(test)]
 mod plans;

@@ -29,14 +29,22 @@ pub const SEVENTEEN: &str =
 pub const SEVENTEEN_CORE: &str =
     "[\"i32\",\"i64\",\"i32\",\"i64\",\"i32\",\"i64\",\"i32\",\"i64\",\"i32\",\"i64\",\"i32\",\"i64\",\"i32\",\"i64\",\"i32\",\"i64\",\"i32\"],\"results\":[]";
 
-/// The text with the first place of each old part replaced by the new one. A part that is not there stays away.
+/// What [`replaced`] gives where the old part is not there.
+pub const NO_PART: &str = "no such part";
+
+/// The text with a new part in the first place of an old one.
+pub fn replaced(alloc: Global, text: &str, old: &str, new: &str) -> Result<String, AllocError> {
+    match text.split_once(old) {
+        Some((before, after)) => format!(in alloc; "{before}{new}{after}"),
+        None => String::from_str(alloc, NO_PART),
+    }
+}
+
+/// The worked plan with a new part in the first place of each old one.
 pub fn edited(alloc: Global, edits: &[(&str, &str)]) -> Result<String, AllocError> {
     let mut text = String::from_str(alloc, PLAN)?;
     for (old, new) in edits {
-        text = match text.as_str().split_once(*old) {
-            Some((before, after)) => format!(in alloc; "{before}{new}{after}")?,
-            None => String::from_str(alloc, "no such part")?,
-        };
+        text = replaced(alloc, text.as_str(), old, new)?;
     }
     Ok(text)
 }

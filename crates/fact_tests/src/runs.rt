@@ -1,79 +1,12 @@
 //! Runs of the top call over memory.
 
+use crate::ends::{Given, end_with, plain, run_on};
 use crate::plans::{
     CORE, PAGE, PARAMS, PLAN, SEVENTEEN, SEVENTEEN_CORE, SIXTEEN, SIXTEEN_CORE, edited,
 };
-use fact_run::{BytesSink, BytesSource, Status, run};
+use fact_run::Status;
 use std::alloc::{AllocError, Global};
-use std::process::Abort;
 use std::test::Fail;
-
-/// The streams of a run: the words, the input, the most bytes that a call takes, and the calls that fail.
-#[derive(Clone, Copy)]
-struct Given<'a> {
-    words: &'a [&'a str],
-    input: &'a str,
-    piece: usize,
-    failing_read: u64,
-    failing_write: u64,
-    failing_tell: u64,
-}
-
-const CLEAN: u64 = 0;
-
-/// How a run ended, and what it left.
-#[derive(Drop)]
-struct Seen {
-    status: Status,
-    out: BytesSink,
-    err: BytesSink,
-}
-
-fn words_of(alloc: Global, words: &[&str]) -> Result<Vec<String>, AllocError> {
-    let mut list = Vec::new(alloc);
-    for word in words {
-        list.push(String::from_str(alloc, word)?)?;
-    }
-    Ok(list)
-}
-
-fn run_on(alloc: Global, given: &Given) -> Result<Seen, AllocError> {
-    let words = words_of(alloc, given.words)?;
-    let input = Vec::from_slice(alloc, given.input.as_bytes())?;
-    let piece = given.piece.max(1);
-    let mut source = BytesSource::new(input, piece, vec![in alloc; given.failing_read]?);
-    let mut out = BytesSink::new(alloc, 2000, piece, vec![in alloc; given.failing_write]?)?;
-    let mut err = BytesSink::new(alloc, 2000, piece, vec![in alloc; given.failing_tell]?)?;
-    let status = run(alloc, words.as_slice(), &mut source, &mut out, &mut err);
-    Ok(Seen { status, out, err })
-}
-
-/// A run without words over an input that is read and written without a fault.
-fn plain(input: &str) -> Given<'_> {
-    Given {
-        words: &[],
-        input,
-        piece: 4096,
-        failing_read: CLEAN,
-        failing_write: CLEAN,
-        failing_tell: CLEAN,
-    }
-}
-
-fn end_with(
-    rt: &impl Abort,
-    alloc: Global,
-    given: &Given,
-    status: Status,
-    out: &str,
-    err: &str,
-) -> Result<(), Fail> {
-    let seen = run_on(alloc, given)?;
-    assert_eq!(rt; seen.status, status);
-    assert_eq!(rt; seen.out.written(), out.as_bytes());
-    assert_eq!(rt; seen.err.written(), err.as_bytes());
-    Ok(())
-}
 
 #[test]
 fn runs_end_as_they_should(rt: HostRuntime) -> Result<(), Fail> {
@@ -160,14 +93,82 @@ fn runs_end_as_they_should(rt: HostRuntime) -> Result<(), Fail> {
         &rt,
         rt.alloc(),
         &plain(""),
-        Status::NotBuilt,
+        Status::NotJson,
         "",
-        "not built\n",
+        "not json\n",
     )
 }
 
-/// Texts that are all but plain numbers.
-const NEAR_MISSES: [&[(&str, &str)]; 31] = [
+/// Inputs that are no JSON text.
+const NO_JSON: &[&[u8]] = &[
+    b"{\"instances\":2",
+    b"1e400",
+    b"\xef\xbb\xbf[]",
+    b"\"\\ud800\"",
+    b"\"\xff\"",
+    b"[[[[[[[[[[[[[[[[[[[[[[[[[[[[[[[[[[[[[[[[[[[[[[[[[[[[[[[[[[[[[[[[[[[[[[[[[[[[[[[[[[[[[[[[[[[[[[[[[[[[[[[[[[[[[[[[[[[[[[[[[[[[[[[[]]]]]]]]]]]]]]]]]]]]]]]]]]]]]]]]]]]]]]]]]]]]]]]]]]]]]]]]]]]]]]]]]]]]]]]]]]]]]]]]]]]]]]]]]]]]]]]]]]]]]]]]]]]]]]]]]]]]]]]]]]]]]]]]",
+    b"[] []",
+];
+
+/// JSON texts that are no object.
+const NO_OBJECT: &[&[u8]] = &[
+    b"[]",
+    b"null",
+    b"3",
+    b"\"plan\"",
+    b"[[[[[[[[[[[[[[[[[[[[[[[[[[[[[[[[[[[[[[[[[[[[[[[[[[[[[[[[[[[[[[[[[[[[[[[[[[[[[[[[[[[[[[[[[[[[[[[[[[[[[[[[[[[[[[[[[[[[[[[[[[[[[[[]]]]]]]]]]]]]]]]]]]]]]]]]]]]]]]]]]]]]]]]]]]]]]]]]]]]]]]]]]]]]]]]]]]]]]]]]]]]]]]]]]]]]]]]]]]]]]]]]]]]]]]]]]]]]]]]]]]]]]]]]]]]]]]",
+];
+
+#[test]
+fn inputs_without_a_plan_are_told_apart(rt: HostRuntime) -> Result<(), Fail> {
+    let clean = plain("");
+    for input in NO_JSON {
+        let given = Given { input, ..clean };
+        end_with(&rt, rt.alloc(), &given, Status::NotJson, "", "not json\n")?;
+    }
+    for input in NO_OBJECT {
+        let given = Given { input, ..clean };
+        end_with(
+            &rt,
+            rt.alloc(),
+            &given,
+            Status::BadPlan,
+            "",
+            "bad plan: WrongKind at plan\n",
+        )?;
+    }
+    Ok(())
+}
+
+/// So many spaces.
+fn spaces(alloc: Global, count: u32) -> Result<Vec<u8>, AllocError> {
+    let mut text = Vec::new(alloc);
+    for _ in 0..count {
+        text.push(b' ')?;
+    }
+    Ok(text)
+}
+
+#[test]
+fn inputs_end_at_a_limit(rt: HostRuntime) -> Result<(), Fail> {
+    let ends = [
+        (67_108_864, Status::NotJson, "not json\n"),
+        (67_108_865, Status::TooLong, "input too long\n"),
+    ];
+    for (count, status, line) in ends {
+        let text = spaces(rt.alloc(), count)?;
+        let given = Given {
+            input: text.as_slice(),
+            piece: 1 << 20,
+            ..plain("")
+        };
+        end_with(&rt, rt.alloc(), &given, status, "", line)?;
+    }
+    Ok(())
+}
+
+/// Plans that are all but plain numbers.
+const NEAR_MISSES: [&[(&str, &str)]; 29] = [
     &[(PARAMS, SEVENTEEN), (CORE, SEVENTEEN_CORE)],
     &[
         (PARAMS, "[[\"x\",\"u32\"],[\"x\",\"u32\"]],\"results\":[]"),
@@ -192,39 +193,34 @@ const NEAR_MISSES: [&[(&str, &str)]; 31] = [
         ("\"instances\":2", "\"instances\":4294967295"),
         ("\"instance\":1", "\"instance\":2147483648"),
     ],
-    &[("\"instances\":2", "\"instances\":-1")],
-    &[("\"instances\":2", "\"instances\":1.0")],
-    &[("\"instances\":2", "\"instances\":4294967296")],
     &[("\"types\":[]", "\"types\":[{\"own\":0}]")],
     &[("\"tables\":[]", "\"tables\":[[0,0]]")],
-    &[("\"tables\":[],", "")],
-    &[("\"tables\":[]", "\"tables\":[],\"tunables\":{}")],
-    &[(
-        "\"results\":[]}],\"core_types\"",
-        "\"results\":[],\"async\":false}],\"core_types\"",
-    )],
-    &[(
-        "\"results\":[]}],\"core_defs\"",
-        "\"results\":[],\"x\":0}],\"core_defs\"",
-    )],
-    &[(
-        "{\"export\":[0,\"run\"]}",
-        "{\"export\":[0,\"run\"],\"x\":0}",
-    )],
     &[("{\"export\":[0,\"run\"]}", "{\"trampoline\":0}")],
     &[(
         "{\"export\":[0,\"run\"]}",
         "{\"export\":[0,\"run\"]},{\"export\":[0,\"walk\"]}",
     )],
-    &[("\"func\":0", "\"func\":0,\"transparent\":false")],
     &[("\"func\":0", "\"func\":1")],
-    &[("\"core_type\":0}", "\"core_type\":0,\"encoding\":\"utf8\"}")],
+    &[("}}]}", "}}],\"tunables\":{\"debug\":true}}")],
+    &[("}}]}", "}}],\"tunables\":{\"concurrency\":true}}")],
+    &[("}}]}", "}}],\"tunables\":{\"exceptions\":true}}")],
+    &[(
+        "\"core_type\":0}",
+        "\"core_type\":0,\"encoding\":\"utf16\"}",
+    )],
+    &[("\"core_type\":0}", "\"core_type\":0,\"async\":true}")],
+    &[("\"core_type\":0}", "\"core_type\":0,\"realloc\":0}")],
+    &[("\"core_type\":0}", "\"core_type\":0,\"callback\":0}")],
+    &[("\"core_type\":0}", "\"core_type\":0,\"post_return\":0}")],
+    &[(
+        "\"core_type\":0}",
+        "\"core_type\":0,\"memory\":{\"def\":0}}",
+    )],
+    &[("\"func\":0", "\"func\":0,\"transparent\":true")],
     &[(
         "\"adapters\":[{",
         "\"adapters\":[{\"name\":\"g\",\"func\":0,\"lift\":{\"ty\":0,\"instance\":1,\"core_type\":0},\"lower\":{\"ty\":0,\"instance\":0,\"core_type\":0}},{",
     )],
-    &[("}}]}", "}}]")],
-    &[("{\"instances\"", "[{\"instances\""), ("}}]}", "}}]}]")],
     &[(
         "\"adapters\":[{\"name\":\"f0\",\"func\":0,\"lift\":{\"ty\":0,\"instance\":1,\"core_type\":0},\"lower\":{\"ty\":0,\"instance\":0,\"core_type\":0}}]",
         "\"adapters\":[]",
@@ -248,8 +244,8 @@ fn near_misses_are_not_built(rt: HostRuntime) -> Result<(), Fail> {
     Ok(())
 }
 
-/// Texts of plain numbers.
-const PLAIN_NUMBERS: [&[(&str, &str)]; 8] = [
+/// Texts of plain numbers, some of which name defaults.
+const PLAIN_NUMBERS: [&[(&str, &str)]; 12] = [
     &[(PARAMS, "[],\"results\":[]"), (CORE, "[],\"results\":[]")],
     &[(PARAMS, SIXTEEN), (CORE, SIXTEEN_CORE)],
     &[
@@ -265,6 +261,16 @@ const PLAIN_NUMBERS: [&[(&str, &str)]; 8] = [
     &[("\"f0\"", "\"\""), ("\"x\"", "\"\"")],
     &[("\"f0\"", "\"a\\u0000b\""), ("\"run\"", "\"\\u0000\"")],
     &[("\"instances\":2", " \"instances\" : 2 ")],
+    &[("}}]}", "}}],\"tunables\":{\"debug\":false}}")],
+    &[(
+        "\"results\":[]}],\"core_types\"",
+        "\"results\":[],\"async\":false}],\"core_types\"",
+    )],
+    &[("\"func\":0", "\"func\":0,\"transparent\":false")],
+    &[(
+        "\"core_type\":0}",
+        "\"core_type\":0,\"encoding\":\"utf8\",\"async\":false,\"memory\":null,\"realloc\":null,\"callback\":null,\"post_return\":null}",
+    )],
 ];
 
 #[test]

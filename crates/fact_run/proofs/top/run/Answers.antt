@@ -1,16 +1,27 @@
-use Rattle.std.proofs.lemmas.Bool.{false≢true}
-use Rattle.fact_run.proofs.Ends.{built-done, told}
+use Rattle.fact_run.specs.declared.status.Status.TheVariants as status
+use Rattle.fact_run.proofs.Ends.{exactly, fault-end, json-end, long-end, unbuilt-end, plain-line, told, told-fault, is-end}
 use Rattle.fact_run.proofs.top.run.Goals as goal
-use Rattle.fact_run.proofs.top.run.Goals.{then-is_empty, else-is_empty}
 
-pub returns-clause-complete : goal.returns-clause-complete
-returns-clause-complete g c =
-    elim c.if-is_empty.branch [
-      | then-is_empty w ↦ λ none no_read no_write. built-done _ _ _ _ _ _ _ (rw (← w.source-is, ← w.out-is, ← w.status-is) at w.end-status.ensures) no_read no_write
-      | else-is_empty w ↦ λ none no_read no_write. absurd (false≢true (rw none at w.if-is_empty.ensures))
-    ]
+pub returns-clause-exactly_too_long : goal.returns-clause-exactly_too_long
+returns-clause-exactly_too_long g c = exactly _ _ _ _ _ _ _ _ _ _ _ _ (long-end _) c.ending_of-ending.ensures
+
+pub returns-clause-exactly_not_json : goal.returns-clause-exactly_not_json
+returns-clause-exactly_not_json g c = exactly _ _ _ _ _ _ _ _ _ _ _ _ (json-end _) c.ending_of-ending.ensures
+
+pub returns-clause-exactly_bad_plan : goal.returns-clause-exactly_bad_plan
+returns-clause-exactly_bad_plan g c = exactly _ _ _ _ _ _ _ _ _ _ _ _ (fault-end _) c.ending_of-ending.ensures
+
+pub returns-clause-exactly_not_built : goal.returns-clause-exactly_not_built
+returns-clause-exactly_not_built g c = exactly _ _ _ _ _ _ _ _ _ _ _ _ (unbuilt-end _) c.ending_of-ending.ensures
+
+pub returns-clause-bad_plan : goal.returns-clause-bad_plan
+returns-clause-bad_plan g c =
+    λ e. let line = told c.write_text.result _ _ _ _ _ (rw (c.as_bytes.ensures.value, c.line.ensures) at c.write_text.ensures.whole)
+    (rw (c.as_bytes.ensures.value, c.line.ensures) at c.write_text.ensures.part) c.write_text.ensures.rose in
+    told-fault _ _ _ _ _ _ _ (is-end _ _ _ _ _ _ _ _ status.BadPlan _ c.ending_of-ending.ensures e).1.0 line
 
 pub returns-clause-told : goal.returns-clause-told
 returns-clause-told g c =
-    told c.write_text.result _ _ _ _ _ (rw (c.as_bytes.ensures.value, c.line.ensures) at c.write_text.ensures.whole)
-    (rw (c.as_bytes.ensures.value, c.line.ensures) at c.write_text.ensures.part) c.write_text.ensures.rose
+    λ other. rw (← plain-line _ _ _ _ _ _ _ _ _ c.ending_of-ending.ensures other)
+    (told c.write_text.result _ _ _ _ _ (rw (c.as_bytes.ensures.value, c.line.ensures) at c.write_text.ensures.whole)
+    (rw (c.as_bytes.ensures.value, c.line.ensures) at c.write_text.ensures.part) c.write_text.ensures.rose)
