@@ -1,0 +1,13 @@
+pub mod BalanceLaws
+pub mod EntryLaws
+pub mod FlatLaws
+pub mod FlattenLaws
+pub mod HandleLaws
+pub mod IndexLaws
+pub mod InformationLaws
+pub mod KeptLaws
+pub mod MemberLaws
+pub mod PlainLaws
+pub mod PointerLaws
+pub mod PopLaws
+pub mod SplitLaws

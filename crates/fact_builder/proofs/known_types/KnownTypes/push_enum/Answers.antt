@@ -1,0 +1,18 @@
+use Rattle.std.proofs.Common.{◌∙◌}
+use Rattle.indexmap.specs.IndexMap.{get}
+use Rattle.fact_types.specs.contracts.interface.InterfaceTypePartialEq.TheImpl as type_eq
+use Rattle.fact_builder.specs.Information.{with_flat, words}
+use Rattle.fact_builder.proofs.KeptLaws.{same_map}
+use Rattle.fact_builder.proofs.MemberLaws.{enum_told}
+use Rattle.fact_builder.proofs.SplitLaws.{pushed_enum}
+use Rattle.fact_builder.proofs.known_types.KnownTypes.push_enum.Goals as goal
+
+pub invariant_of-self : goal.invariant_of-self
+invariant_of-self c = same_map _ _ _ c.self.invariant c.in_err-keep.ensures.refused
+
+pub invariant_of-self-2 : goal.invariant_of-self-2
+invariant_of-self-2 c =
+    let kept = get type_eq.ghosts.eq c.self.inside.kept in
+    pushed_enum _ _ _ _ c.args.ty c.args.key c.with_words-information.result c.push_enum.result _ c.self.invariant c.reveal.ensures.sound c.self.view_is c.requires.stands c.requires.key c.in_ok-keep.ensures.kept
+    (c.with_words-information.ensures ∙ (λ i. with_flat (words 1) (c.new.ensures i)) ∙ enum_told kept c.args.ty)
+    c.push_enum.ensures.table c.push_enum.ensures.refused

@@ -1,0 +1,5 @@
+use Rattle.fact_builder.proofs.PlainLaws.{pushed_func}
+use Rattle.fact_builder.proofs.known_types.KnownTypes.push_func.Goals as goal
+
+pub invariant_of-self : goal.invariant_of-self
+invariant_of-self c = pushed_func _ _ _ c.args.ty c.push_func.result c.self.invariant c.push_func.ensures.table c.push_func.ensures.refused

@@ -1,0 +1,89 @@
+//! The tables of types, with what is known of the types in them.
+
+ghost use Rattle.std.specs.Prelude.{◌≡◌, option_map};
+ghost use Rattle.fact_types.specs.declared.widths.MemoryWidth.TheVariants.{Memory32, Memory64};
+ghost use Rattle.fact_types.specs.FlatShapes.{flat_types as flat_types_of};
+ghost use Rattle.fact_types.specs.Shapes.{Shape};
+ghost use Rattle.fact_types.specs.Tables.{no_tables, IsLive, HasShape};
+ghost use Rattle.fact_builder.specs.Handles.{has_handle, has_borrow};
+
+use crate::information::{TypeInformation, plain_flat_types};
+use crate::known::known;
+use fact_types::{ComponentTypes, FlatTypes, InterfaceType};
+use indexmap::IndexMap;
+use std::alloc::Global;
+use std::marker::Model;
+
+/// Tables of types, and the flat types and handles of each. Contracts see it as the tables.
+#[derive(Drop)]
+pub(crate) struct KnownTypes {
+    pub(crate) types: ComponentTypes,
+    // What is known of the types with members. What is kept of an index that is not live is of no account.
+    pub(crate) kept: IndexMap<InterfaceType, TypeInformation>,
+}
+
+impl Model for KnownTypes {
+    ghost use Rattle.indexmap.specs.IndexMap.{get};
+    ghost use Rattle.fact_types.specs.Tables.{Tables};
+    ghost use Rattle.fact_builder.specs.Information.{AllKept};
+
+    ghost Value = { Tables };
+
+    ghost view = { λ k. k.types };
+
+    ghost invariant = { λ k. AllKept k.types (get ⟦<InterfaceType as PartialEq>⟧.eq k.kept) };
+}
+
+impl KnownTypes {
+    /// No types. It takes no memory.
+    #[tactic(auto, using(crate::proofs::InformationLaws::none_kept))]
+    pub(crate) fn new(alloc: Global) -> KnownTypes
+        ensures { result ≡ no_tables }
+    {
+        KnownTypes {
+            types: ComponentTypes::new(alloc),
+            kept: IndexMap::new(alloc),
+        }
+    }
+
+    /// The allocator.
+    pub(crate) fn allocator(&self) -> Global {
+        *self.kept.allocator()
+    }
+
+    /// The tables.
+    pub(crate) fn tables(&self) -> &ComponentTypes
+        ensures { result.now ≡ self.now }
+    {
+        &self.types
+    }
+
+    /// The flat types of a live type, or `None` where there are more than 16.
+    pub(crate) fn flat_types(&self, ty: &InterfaceType) -> Option<FlatTypes<'_>>
+        requires { IsLive self.now ty.now }
+        ensures memory32 { (s : Shape) → HasShape self.now ty.now s → option_map (λ f. f.memory32.now) result ≡ flat_types_of Memory32 s }
+        ensures memory64 { (s : Shape) → HasShape self.now ty.now s → option_map (λ f. f.memory64.now) result ≡ flat_types_of Memory64 s }
+    {
+        self.types.reveal();
+        match self.kept.get(ty) {
+            Some(kept) => kept.flat_types(),
+            None => Some(plain_flat_types(ty)),
+        }
+    }
+
+    /// Whether a live type holds a borrow.
+    pub(crate) fn has_borrow(&self, ty: &InterfaceType) -> bool
+        requires { IsLive self.now ty.now }
+        ensures { (s : Shape) → HasShape self.now ty.now s → result ≡ has_borrow s }
+    {
+        known(&self.kept, ty).has_borrow
+    }
+
+    /// Whether a live type holds a handle.
+    pub(crate) fn has_handle(&self, ty: &InterfaceType) -> bool
+        requires { IsLive self.now ty.now }
+        ensures { (s : Shape) → HasShape self.now ty.now s → result ≡ has_handle s }
+    {
+        known(&self.kept, ty).has_handle
+    }
+}

@@ -1,0 +1,17 @@
+//! The builder of component types: it keeps one entry of each type, and tells of each type its flat types, whether it
+//! holds handles, and the core signatures of functions.
+#![tactic(auto)]
+
+mod adds;
+mod builder;
+mod facts;
+mod flat_list;
+mod index;
+mod information;
+mod known;
+mod known_types;
+mod pushes;
+mod signatures;
+
+pub use builder::ComponentTypesBuilder;
+pub use fact_types::{SideSig, Signature};

@@ -1,0 +1,188 @@
+//! Core signatures of the sides of an adapter (canonical ABI, `flatten_functype`).
+
+ghost use Rattle.std.specs.Prelude.{◌≡◌, ◌<◌, List, [], ◌∷◌, ◌++◌, length, map, option_map, slice_get, Some, All, IfOk, OnOk};
+ghost use Rattle.fact_types.specs.Flat.{val_type};
+ghost use Rattle.fact_types.specs.Functions.{HaveShapes, HasSignature};
+ghost use Rattle.fact_types.specs.Shapes.{Shape};
+ghost use Rattle.fact_types.specs.Signatures.{width, address as address_of, flat_values, flat_params as flat_params_of, lower_signature as lower_signature_of, lift_signature as lift_signature_of, async_lower};
+ghost use Rattle.fact_types.specs.FlatShapes.{flat_types as flat_types_of};
+ghost use Rattle.fact_types.specs.Tables.{IsLive, HasShape};
+ghost use Rattle.fact_builder.specs.Pointers.{pointer_where_any};
+
+use crate::builder::ComponentTypesBuilder;
+use fact_types::{
+    FlatType, InterfaceType, MAX_FLAT_ASYNC_PARAMS, MAX_FLAT_PARAMS, MAX_FLAT_RESULTS, OutOfMemory,
+    SideSig, Signature, TypeFuncIndex,
+};
+use fact_wasm::{Seq, ValType};
+
+/// The type of an address of a memory.
+fn address(memory64: bool) -> ValType
+    ensures { result ≡ address_of memory64 }
+{
+    if memory64 { ValType::I64 } else { ValType::I32 }
+}
+
+/// Appends the value types of flat types.
+fn push_flat(values: &mut Seq<ValType>, types: &[FlatType]) -> Result<(), OutOfMemory>
+    ensures { OnOk result (values.new ≡ values.old ++ map val_type types.now) }
+{
+    for ty in types {
+        values.push(ValType::from(*ty))?;
+    }
+    Ok(())
+}
+
+/// Parameters, and one more for a pointer where there are results.
+fn with_pointer(
+    params: Seq<ValType>,
+    memory64: bool,
+    given: &[InterfaceType],
+) -> Result<Seq<ValType>, OutOfMemory>
+    ensures { IfOk result (λ values. values ≡ params ++ pointer_where_any memory64 given.now) }
+{
+    let mut params = params;
+    if given.is_empty() {
+        return Ok(params);
+    }
+    params.push(address(memory64))?;
+    Ok(params)
+}
+
+impl ComponentTypesBuilder {
+    /// The core types that stand for values of live types one after another, or `None` where there are more than `max`
+    /// or one type has more than 16.
+    pub fn flatten_types(
+        &self,
+        memory64: bool,
+        max: usize,
+        tys: &[InterfaceType],
+    ) -> Result<Option<Seq<ValType>>, OutOfMemory>
+        requires { All (IsLive self.now.tables) tys.now }
+        ensures { (ss : List Shape) → HaveShapes self.now.tables tys.now ss → IfOk result (λ flat. flat ≡ flat_values memory64 max ss) }
+    {
+        let mut values = Seq::new(self.types.allocator());
+        for ty in tys {
+            let Some(types) = self.flat_types_in(memory64, ty) else {
+                return Ok(None);
+            };
+            push_flat(&mut values, types)?;
+            if values.len() > max {
+                return Ok(None);
+            }
+        }
+        Ok(Some(values))
+    }
+
+    /// The flat types of a live type in one width of memory.
+    fn flat_types_in(&self, memory64: bool, ty: &InterfaceType) -> Option<&[FlatType]>
+        requires { IsLive self.now.tables ty.now }
+        ensures { (s : Shape) → HasShape self.now.tables ty.now s → option_map (λ f. f.now) result ≡ flat_types_of (width memory64) s }
+    {
+        match self.flat_types(ty) {
+            Some(flat) if memory64 => Some(flat.memory64),
+            Some(flat) => Some(flat.memory32),
+            None => None,
+        }
+    }
+
+    /// The core signature of a side that lowers a live function.
+    pub fn lower_signature(&self, side: &SideSig) -> Result<Signature, OutOfMemory>
+        requires { side.now.ty.number < length self.now.tables.functions }
+        ensures { (params results : List Shape) → HasSignature self.now.tables side.now.ty params results → IfOk result (λ s. s ≡ lower_signature_of side.now params results) }
+    {
+        let (taken, given) = self.types_of(side.ty);
+        if side.async_ {
+            return self.async_lower_signature(side.memory64, taken, given);
+        }
+        let mut params = self.flat_params(side.memory64, MAX_FLAT_PARAMS, taken)?;
+        match self.flatten_types(side.memory64, MAX_FLAT_RESULTS, given)? {
+            Some(results) => Ok(Signature { params, results }),
+            None => {
+                params.push(address(side.memory64))?;
+                let results = Seq::new(self.types.allocator());
+                Ok(Signature { params, results })
+            }
+        }
+    }
+
+    /// The core signature of an async side that lowers a function of these live types.
+    fn async_lower_signature(
+        &self,
+        memory64: bool,
+        taken: &[InterfaceType],
+        given: &[InterfaceType],
+    ) -> Result<Signature, OutOfMemory>
+        requires { All (IsLive self.now.tables) taken.now }
+        ensures { (params results : List Shape) → HaveShapes self.now.tables taken.now params → HaveShapes self.now.tables given.now results → IfOk result (λ s. s ≡ async_lower memory64 params results) }
+    {
+        let params = self.flat_params(memory64, MAX_FLAT_ASYNC_PARAMS, taken)?;
+        let params = with_pointer(params, memory64, given)?;
+        let results = self.one_value(ValType::I32)?;
+        Ok(Signature { params, results })
+    }
+
+    /// The core signature of a side that lifts a live function.
+    pub fn lift_signature(&self, side: &SideSig) -> Result<Signature, OutOfMemory>
+        requires { side.now.ty.number < length self.now.tables.functions }
+        ensures { (params results : List Shape) → HasSignature self.now.tables side.now.ty params results → IfOk result (λ s. s ≡ lift_signature_of side.now params results) }
+    {
+        let (taken, given) = self.types_of(side.ty);
+        let params = self.flat_params(side.memory64, MAX_FLAT_PARAMS, taken)?;
+        if !side.async_ {
+            let results = self.flat_params(side.memory64, MAX_FLAT_RESULTS, given)?;
+            return Ok(Signature { params, results });
+        }
+        if side.callback {
+            let results = self.one_value(ValType::I32)?;
+            return Ok(Signature { params, results });
+        }
+        let results = Seq::new(self.types.allocator());
+        Ok(Signature { params, results })
+    }
+
+    /// The types of the parameters and of the results of a live function.
+    fn types_of(&self, ty: TypeFuncIndex) -> (&[InterfaceType], &[InterfaceType])
+        requires { ty.number < length self.now.tables.functions }
+        ensures taken_live { All (IsLive self.now.tables) result.0.now }
+        ensures given_live { All (IsLive self.now.tables) result.1.now }
+        ensures taken { (params results : List Shape) → HasSignature self.now.tables ty params results → HaveShapes self.now.tables result.0.now params }
+        ensures given { (params results : List Shape) → HasSignature self.now.tables ty params results → HaveShapes self.now.tables result.1.now results }
+    {
+        let types = self.types.tables();
+        types.reveal();
+        let func = &types[ty];
+        (
+            types[func.params].types.as_slice(),
+            types[func.results].types.as_slice(),
+        )
+    }
+
+    /// The core types of values of live types, or of a pointer to them where there are more than `max`.
+    fn flat_params(
+        &self,
+        memory64: bool,
+        max: usize,
+        tys: &[InterfaceType],
+    ) -> Result<Seq<ValType>, OutOfMemory>
+        requires { All (IsLive self.now.tables) tys.now }
+        ensures { (ss : List Shape) → HaveShapes self.now.tables tys.now ss → IfOk result (λ values. values ≡ flat_params_of memory64 max ss) }
+    {
+        match self.flatten_types(memory64, max, tys)? {
+            Some(values) => Ok(values),
+            None => {
+                let values = self.one_value(address(memory64))?;
+                Ok(values)
+            }
+        }
+    }
+
+    /// A list of one type.
+    fn one_value(&self, ty: ValType) -> Result<Seq<ValType>, OutOfMemory>
+        ensures { IfOk result (λ values. values ≡ ty ∷ []) }
+    {
+        let mut values = Seq::new(self.types.allocator());
+        values.push(ty)?;
+        Ok(values)
+    }
+}
