@@ -1,28 +1,42 @@
 -- What is known of a type is what its shape says, where what is known of each entry is made of what is known of its members.
-use Rattle.std.proofs.Common.{◌≡◌, ℕ, suc, List, [], ◌∷◌, ◌++◌, length, map, Option, Some, None, Bool, true, false, refl, sym, ◌∙◌, ap, subst, true≢false}
-use Rattle.std.specs.Prelude.{◌||◌, option_map, slice_get, unwrap_or}
+use Rattle.std.proofs.Common.{◌≡◌, ℕ, suc, List, [], ◌∷◌, ◌++◌, length, map, max, Option, Some, None, Bool, true, false, refl, sym, ◌∙◌, ap, subst, arith}
+use Rattle.std.specs.Prelude.{◌+◌, ◌||◌, min, option_map, unwrap_or}
 use Rattle.fact_types.specs.declared.flats.FlatType.{FlatType}
 use Rattle.fact_types.specs.declared.flats.FlatType.TheVariants.{I32}
 use Rattle.fact_types.specs.declared.interface.InterfaceType.{InterfaceType}
-use Rattle.fact_types.specs.declared.interface.InterfaceType.TheVariants.{Record as t_record, Variant as t_variant, List as t_list, Tuple as t_tuple, Map as t_map, Flags as t_flags, Enum as t_enum, Option as t_option, Result as t_result, Future as t_future, Stream as t_stream, FixedLengthList as t_fixed_length_list}
+use Rattle.fact_types.specs.declared.interface.InterfaceType.TheVariants.{Record as t_record}
 use Rattle.fact_types.specs.declared.widths.MemoryWidth.{MemoryWidth}
 use Rattle.fact_types.specs.declared.widths.MemoryWidth.TheVariants.{Memory32, Memory64}
 use Rattle.fact_types.specs.FlatShapes.{joined, times, flat, flat_members, flat_any, upto}
 use Rattle.fact_types.specs.Layout.{payloads, flags_size, flags_flat}
 use Rattle.fact_types.specs.Shapes.{Kind, k_record, k_variant, k_list, k_tuple, k_map, k_flags, k_enum, k_option, k_result, k_fixed, k_future, k_stream, Shape, s_plain, s_node, Members, no_members, bare, typed, layouts_of}
-use Rattle.fact_types.specs.Tables.{Tables, Node, node_of, future_node, stream_node, is_plain, no_tables, HasShape, HasMembers}
+use Rattle.fact_types.specs.Tables.{Tables, Node, node_of, no_tables, HasShape, HasMembers}
+use Rattle.fact_types.specs.Valid.{nesting, deepest_nesting}
 use Rattle.fact_types.proofs.JoinLaws.{joined_joins}
 use Rattle.fact_builder.specs.declared.information.TypeInformation.{TypeInformation}
 use Rattle.fact_builder.specs.Handles.{has_handle, have_handle, has_borrow, have_borrow}
-use Rattle.fact_builder.specs.Information.{information_of, plain_information, nothing, followed, product_from, joined_information, sum_from, with_flat, pointer_pair, words, tagged, repeated, information_by, is_kept, known, known_members, AllKept}
+use Rattle.fact_builder.specs.PointerPairs.{has_pointer_pair, have_pointer_pair}
+use Rattle.fact_builder.specs.Information.{information_of, plain_information, nothing, followed, product_from, joined_information, sum_from, with_flat, as_pointer_pair, words, tagged, repeated, as_handle, made_of, deeper, information_by, known, known_members, AllKept}
 use Rattle.fact_builder.proofs.FlatLaws.{after_is, joined_is, joined_nil, tagged_is, repeated_is, append_nil, append_joins}
 
--- what is known of a type with these flat types, of which more than 16 are none
-abbrev told : (MemoryWidth → List FlatType) → Bool → Bool → TypeInformation
-told f h b = record { flat32 = upto 16 (f Memory32); flat64 = upto 16 (f Memory64); has_handle = h; has_borrow = b }
+-- what a type holds, and how deep it nests
+record Holdings : Type 0 where
+  handle : Bool
+  borrow : Bool
+  pointer_pair : Bool
+  nesting : ℕ
 
-told_same : (f g : MemoryWidth → List FlatType) (h i b c : Bool) → ((w : MemoryWidth) → f w ≡ g w) → h ≡ i → b ≡ c → told f h b ≡ told g i c
-told_same f g h i b c e p q = λ j. told (λ w. e w j) (p j) (q j)
+abbrev holds_nothing : Holdings
+holds_nothing = record { handle = false; borrow = false; pointer_pair = false; nesting = 0 }
+
+abbrev held_by : Shape → Holdings
+held_by s = record { handle = has_handle s; borrow = has_borrow s; pointer_pair = has_pointer_pair s; nesting = min (nesting s) 101 }
+
+abbrev held_in : Members → Holdings
+held_in ms = record { handle = have_handle ms; borrow = have_borrow ms; pointer_pair = have_pointer_pair ms; nesting = min (deepest_nesting ms) 101 }
+
+abbrev both : Holdings → Holdings → Holdings
+both a b = record { handle = a.handle || b.handle; borrow = a.borrow || b.borrow; pointer_pair = a.pointer_pair || b.pointer_pair; nesting = max a.nesting b.nesting }
 
 or_false : (b : Bool) → (b || false) ≡ b
 or_false true = refl
@@ -32,21 +46,54 @@ or_joins : (a b c : Bool) → ((a || b) || c) ≡ (a || (b || c))
 or_joins true b c = refl
 or_joins false b c = refl
 
-followed_told : (f g : MemoryWidth → List FlatType) (h i b c : Bool) → followed (told f h b) (told g i c) ≡ told (λ w. f w ++ g w) (h || i) (b || c)
-followed_told f g h i b c = λ j. record {
-  flat32 = after_is (f Memory32) (g Memory32) j;
-  flat64 = after_is (f Memory64) (g Memory64) j;
-  has_handle = h || i;
-  has_borrow = b || c;
+max_zero : (n : ℕ) → max n 0 ≡ n
+max_zero n = omega arith
+
+zero_max : (n : ℕ) → max 0 n ≡ n
+zero_max n = omega arith
+
+max_joins : (m n k : ℕ) → max (max m n) k ≡ max m (max n k)
+max_joins m n k = omega arith
+
+max_min : (m n k : ℕ) → max (min m k) (min n k) ≡ min (max m n) k
+max_min m n k = omega arith
+
+both_nothing : (a : Holdings) → both a holds_nothing ≡ a
+both_nothing a = λ i. record { handle = or_false a.handle i; borrow = or_false a.borrow i; pointer_pair = or_false a.pointer_pair i; nesting = max_zero a.nesting i }
+
+both_joins : (a b c : Holdings) → both (both a b) c ≡ both a (both b c)
+both_joins a b c = λ i. record {
+  handle = or_joins a.handle b.handle c.handle i;
+  borrow = or_joins a.borrow b.borrow c.borrow i;
+  pointer_pair = or_joins a.pointer_pair b.pointer_pair c.pointer_pair i;
+  nesting = max_joins a.nesting b.nesting c.nesting i;
 }
 
-joined_told : (f g : MemoryWidth → List FlatType) (h i b c : Bool) → joined_information (told f h b) (told g i c) ≡ told (λ w. joined (f w) (g w)) (h || i) (b || c)
-joined_told f g h i b c = λ j. record {
-  flat32 = joined_is (f Memory32) (g Memory32) j;
-  flat64 = joined_is (f Memory64) (g Memory64) j;
-  has_handle = h || i;
-  has_borrow = b || c;
+nothing_both : (a : Holdings) → both holds_nothing a ≡ a
+nothing_both a = λ i. record a { nesting = zero_max a.nesting i }
+
+one_more_member : (n : List ℕ) (s : Shape) (ms : Members) → both (held_by s) (held_in ms) ≡ held_in (typed n s ms)
+one_more_member n s ms = λ i. record (both (held_by s) (held_in ms)) { nesting = max_min (nesting s) (deepest_nesting ms) 101 i }
+
+-- what is known of a type with these flat types, of which more than 16 are none
+abbrev told : (MemoryWidth → List FlatType) → Holdings → TypeInformation
+told f h = record {
+  flat32 = upto 16 (f Memory32);
+  flat64 = upto 16 (f Memory64);
+  has_handle = h.handle;
+  has_borrow = h.borrow;
+  has_pointer_pair = h.pointer_pair;
+  nesting = h.nesting;
 }
+
+told_same : (f g : MemoryWidth → List FlatType) (h k : Holdings) → ((w : MemoryWidth) → f w ≡ g w) → h ≡ k → told f h ≡ told g k
+told_same f g h k e p = λ j. told (λ w. e w j) (p j)
+
+followed_told : (f g : MemoryWidth → List FlatType) (h k : Holdings) → followed (told f h) (told g k) ≡ told (λ w. f w ++ g w) (both h k)
+followed_told f g h k = λ j. record (told (λ w. f w ++ g w) (both h k)) { flat32 = after_is (f Memory32) (g Memory32) j; flat64 = after_is (f Memory64) (g Memory64) j }
+
+joined_told : (f g : MemoryWidth → List FlatType) (h k : Holdings) → joined_information (told f h) (told g k) ≡ told (λ w. joined (f w) (g w)) (both h k)
+joined_told f g h k = λ j. record (told (λ w. joined (f w) (g w)) (both h k)) { flat32 = joined_is (f Memory32) (g Memory32) j; flat64 = joined_is (f Memory64) (g Memory64) j }
 
 -- what is known of members
 abbrev pub informations_of : Members → List (Option TypeInformation)
@@ -59,105 +106,72 @@ as_many no_members = refl
 as_many (bare n ms) = ap suc (as_many ms)
 as_many (typed n s ms) = ap suc (as_many ms)
 
-product_is : (ms : Members) (f : MemoryWidth → List FlatType) (h b : Bool) → product_from (told f h b) (payloads (informations_of ms)) ≡ told (λ w. f w ++ flat_members w ms) (h || have_handle ms) (b || have_borrow ms)
-product_is no_members f h b = told_same _ _ _ _ _ _ (λ w. sym (append_nil (f w))) (sym (or_false h)) (sym (or_false b))
-product_is (bare n ms) f h b = product_is ms f h b
-product_is (typed n s ms) f h b =
-    (λ i. product_from (followed_told f (λ w. flat w s) h (has_handle s) b (has_borrow s) i) (payloads (informations_of ms)))
-    ∙ product_is ms (λ w. f w ++ flat w s) (h || has_handle s) (b || has_borrow s)
-    ∙ told_same _ _ _ _ _ _ (λ w. append_joins (f w) (flat w s) (flat_members w ms)) (or_joins h (has_handle s) (have_handle ms)) (or_joins b (has_borrow s) (have_borrow ms))
+product_is : (ms : Members) (f : MemoryWidth → List FlatType) (h : Holdings) → product_from (told f h) (payloads (informations_of ms)) ≡ told (λ w. f w ++ flat_members w ms) (both h (held_in ms))
+product_is no_members f h = told_same _ _ _ _ (λ w. sym (append_nil (f w))) (sym (both_nothing h))
+product_is (bare n ms) f h = product_is ms f h
+product_is (typed n s ms) f h =
+    (λ i. product_from (followed_told f (λ w. flat w s) h (held_by s) i) (payloads (informations_of ms)))
+    ∙ product_is ms (λ w. f w ++ flat w s) (both h (held_by s))
+    ∙ told_same _ _ _ _ (λ w. append_joins (f w) (flat w s) (flat_members w ms)) (both_joins h (held_by s) (held_in ms) ∙ ap (both h) (one_more_member n s ms))
 
-sum_is : (ms : Members) (f : MemoryWidth → List FlatType) (h b : Bool) → sum_from (told f h b) (informations_of ms) ≡ told (λ w. joined (f w) (flat_any w ms)) (h || have_handle ms) (b || have_borrow ms)
-sum_is no_members f h b = told_same _ _ _ _ _ _ (λ w. sym (joined_nil (f w))) (sym (or_false h)) (sym (or_false b))
-sum_is (bare n ms) f h b = sum_is ms f h b
-sum_is (typed n s ms) f h b =
-    (λ i. sum_from (joined_told f (λ w. flat w s) h (has_handle s) b (has_borrow s) i) (informations_of ms))
-    ∙ sum_is ms (λ w. joined (f w) (flat w s)) (h || has_handle s) (b || has_borrow s)
-    ∙ told_same _ _ _ _ _ _ (λ w. joined_joins (f w) (flat w s) (flat_any w ms)) (or_joins h (has_handle s) (have_handle ms)) (or_joins b (has_borrow s) (have_borrow ms))
+sum_is : (ms : Members) (f : MemoryWidth → List FlatType) (h : Holdings) → sum_from (told f h) (informations_of ms) ≡ told (λ w. joined (f w) (flat_any w ms)) (both h (held_in ms))
+sum_is no_members f h = told_same _ _ _ _ (λ w. sym (joined_nil (f w))) (sym (both_nothing h))
+sum_is (bare n ms) f h = sum_is ms f h
+sum_is (typed n s ms) f h =
+    (λ i. sum_from (joined_told f (λ w. flat w s) h (held_by s) i) (informations_of ms))
+    ∙ sum_is ms (λ w. joined (f w) (flat w s)) (both h (held_by s))
+    ∙ told_same _ _ _ _ (λ w. joined_joins (f w) (flat w s) (flat_any w ms)) (both_joins h (held_by s) (held_in ms) ∙ ap (both h) (one_more_member n s ms))
 
-all_members : (ms : Members) → product_from nothing (payloads (informations_of ms)) ≡ told (λ w. flat_members w ms) (have_handle ms) (have_borrow ms)
-all_members ms = product_is ms (λ w. []) false false
+all_members : (ms : Members) → product_from nothing (payloads (informations_of ms)) ≡ told (λ w. flat_members w ms) (held_in ms)
+all_members ms = product_is ms (λ w. []) holds_nothing ∙ ap (told (λ w. flat_members w ms)) (nothing_both (held_in ms))
 
-any_member : (ms : Members) → sum_from nothing (informations_of ms) ≡ told (λ w. flat_any w ms) (have_handle ms) (have_borrow ms)
-any_member ms = sum_is ms (λ w. []) false false
+any_member : (ms : Members) → sum_from nothing (informations_of ms) ≡ told (λ w. flat_any w ms) (held_in ms)
+any_member ms = sum_is ms (λ w. []) holds_nothing ∙ ap (told (λ w. flat_any w ms)) (nothing_both (held_in ms))
 
-tagged_told : (f : MemoryWidth → List FlatType) (h b : Bool) → tagged (told f h b) ≡ told (λ w. I32 ∷ f w) h b
-tagged_told f h b = λ j. record { flat32 = tagged_is (f Memory32) j; flat64 = tagged_is (f Memory64) j; has_handle = h; has_borrow = b }
+tagged_told : (f : MemoryWidth → List FlatType) (h : Holdings) → tagged (told f h) ≡ told (λ w. I32 ∷ f w) h
+tagged_told f h = λ j. record (told (λ w. I32 ∷ f w) h) { flat32 = tagged_is (f Memory32) j; flat64 = tagged_is (f Memory64) j }
 
-repeated_told : (n : ℕ) (f : MemoryWidth → List FlatType) (h b : Bool) → repeated n (told f h b) ≡ told (λ w. times n (f w)) h b
-repeated_told n f h b = λ j. record { flat32 = repeated_is n (f Memory32) j; flat64 = repeated_is n (f Memory64) j; has_handle = h; has_borrow = b }
+repeated_told : (n : ℕ) (f : MemoryWidth → List FlatType) (h : Holdings) → repeated n (told f h) ≡ told (λ w. times n (f w)) h
+repeated_told n f h = λ j. record (told (λ w. times n (f w)) h) { flat32 = repeated_is n (f Memory32) j; flat64 = repeated_is n (f Memory64) j }
 
-cases_are : (ms : Members) → tagged (sum_from nothing (informations_of ms)) ≡ told (λ w. I32 ∷ flat_any w ms) (have_handle ms) (have_borrow ms)
-cases_are ms = ap tagged (any_member ms) ∙ tagged_told (λ w. flat_any w ms) (have_handle ms) (have_borrow ms)
+cases_are : (ms : Members) → tagged (sum_from nothing (informations_of ms)) ≡ told (λ w. I32 ∷ flat_any w ms) (held_in ms)
+cases_are ms = ap tagged (any_member ms) ∙ tagged_told (λ w. flat_any w ms) (held_in ms)
+
+-- what a type is, beside that it nests deeper than its members
+abbrev shallow : Kind → Members → TypeInformation
+shallow k ms = record (information_of (s_node k ms)) { nesting = min (deepest_nesting ms) 101 }
 
 -- a kind of type over its members
+made_is : (k : Kind) (ms : Members) → made_of k (informations_of ms) ≡ shallow k ms
+made_is k_record ms = all_members ms
+made_is k_tuple ms = all_members ms
+made_is k_variant ms = cases_are ms
+made_is k_option ms = cases_are ms
+made_is k_result ms = cases_are ms
+made_is k_list ms = ap as_pointer_pair (any_member ms)
+made_is k_map ms = ap as_pointer_pair (any_member ms)
+made_is k_flags ms = λ i. with_flat (words (flags_flat (flags_size (as_many ms i)))) (any_member ms i)
+made_is k_enum ms = ap (with_flat (words 1)) (any_member ms)
+made_is (k_fixed n) ms = ap (repeated n) (all_members ms) ∙ repeated_told n (λ w. flat_members w ms) (held_in ms)
+made_is (k_future table instance) ms = ap as_handle (any_member ms)
+made_is (k_stream table instance) ms = ap as_handle (any_member ms)
+
+one_deeper : (n : ℕ) → min (1 + min n 101) 101 ≡ min (1 + n) 101
+one_deeper n = omega arith
+
 pub node_is : (k : Kind) (ms : Members) → information_by k (informations_of ms) ≡ information_of (s_node k ms)
-node_is k_record ms = all_members ms
-node_is k_tuple ms = all_members ms
-node_is k_variant ms = cases_are ms
-node_is k_option ms = cases_are ms
-node_is k_result ms = cases_are ms
-node_is k_list ms = ap (with_flat pointer_pair) (any_member ms)
-node_is k_map ms = ap (with_flat pointer_pair) (any_member ms)
-node_is k_flags ms = λ i. with_flat (words (flags_flat (flags_size (as_many ms i)))) (any_member ms i)
-node_is k_enum ms = ap (with_flat (words 1)) (any_member ms)
-node_is (k_fixed n) ms = ap (repeated n) (all_members ms) ∙ repeated_told n (λ w. flat_members w ms) (have_handle ms) (have_borrow ms)
-node_is (k_future table instance) ms = refl
-node_is (k_stream table instance) ms = refl
+node_is k ms = ap deeper (made_is k ms) ∙ (λ i. record (information_of (s_node k ms)) { nesting = one_deeper (deepest_nesting ms) i })
 
 -- ---- what is kept
-plain_not_kept : (p : InterfaceType) → is_plain p ≡ true → is_kept p ≡ false
-plain_not_kept (t_record i) h = absurd (true≢false (sym h))
-plain_not_kept (t_variant i) h = absurd (true≢false (sym h))
-plain_not_kept (t_list i) h = absurd (true≢false (sym h))
-plain_not_kept (t_tuple i) h = absurd (true≢false (sym h))
-plain_not_kept (t_map i) h = absurd (true≢false (sym h))
-plain_not_kept (t_flags i) h = absurd (true≢false (sym h))
-plain_not_kept (t_enum i) h = absurd (true≢false (sym h))
-plain_not_kept (t_option i) h = absurd (true≢false (sym h))
-plain_not_kept (t_result i) h = absurd (true≢false (sym h))
-plain_not_kept (t_fixed_length_list i) h = absurd (true≢false (sym h))
-plain_not_kept p h = refl
-
--- a type that is not kept and has an entry is a table of futures or of streams
-handle_node : {E : Type 0} (f : E → Node) (o : Option E) (n : Node) (ms : List (Option TypeInformation)) → ((e : E) → information_by (f e).kind ms ≡ plain_information (t_future (record { number = 0; table = _ }))) → option_map f o ≡ Some n → plain_information (t_future (record { number = 0; table = _ })) ≡ information_by n.kind ms
-handle_node f None n ms g h = cc
-handle_node f (Some e) n ms g h = sym (g e) ∙ (λ i. information_by (inside (f e) n h i).kind ms)
-  where
-    inside : (a b : Node) → Some a ≡ Some b → a ≡ b
-    inside a b e = cc
-
-not_kept_node : (t : Tables) (ty : InterfaceType) (n : Node) (ms : List (Option TypeInformation)) → is_kept ty ≡ false → node_of t ty ≡ Some n → plain_information ty ≡ information_by n.kind ms
-not_kept_node t (t_record i) n ms k h = absurd (true≢false k)
-not_kept_node t (t_variant i) n ms k h = absurd (true≢false k)
-not_kept_node t (t_list i) n ms k h = absurd (true≢false k)
-not_kept_node t (t_tuple i) n ms k h = absurd (true≢false k)
-not_kept_node t (t_map i) n ms k h = absurd (true≢false k)
-not_kept_node t (t_flags i) n ms k h = absurd (true≢false k)
-not_kept_node t (t_enum i) n ms k h = absurd (true≢false k)
-not_kept_node t (t_option i) n ms k h = absurd (true≢false k)
-not_kept_node t (t_result i) n ms k h = absurd (true≢false k)
-not_kept_node t (t_fixed_length_list i) n ms k h = absurd (true≢false k)
-not_kept_node t (t_future i) n ms k h = handle_node (future_node t.futures i.number) (slice_get t.future_tables i.number) n ms (λ e. refl) h
-not_kept_node t (t_stream i) n ms k h = handle_node (stream_node t.streams i.number) (slice_get t.stream_tables i.number) n ms (λ e. refl) h
-not_kept_node t ty n ms k h = absurd (nothing_there n h)
-  where
-    nothing_there : (n : Node) → None ≡ Some n → ⊥
-    nothing_there n h = cc
-
 module _ (t : Tables) (kept : InterfaceType → Option TypeInformation) (a : AllKept t kept) where
-  unkept : (ty : InterfaceType) → is_kept ty ≡ false → known kept ty ≡ plain_information ty
-  unkept ty h = ap (λ o. unwrap_or o (plain_information ty)) (a.others ty h)
-
-  node_known : (ty : InterfaceType) (n : Node) (b : Bool) → is_kept ty ≡ b → node_of t ty ≡ Some n → known kept ty ≡ information_by n.kind (known_members kept n)
-  node_known ty n true k h = ap (λ o. unwrap_or o (plain_information ty)) (a.entries ty n k h)
-  node_known ty n false k h = unkept ty k ∙ not_kept_node t ty n (known_members kept n) k h
+  node_known : (ty : InterfaceType) (n : Node) → node_of t ty ≡ Some n → known kept ty ≡ information_by n.kind (known_members kept n)
+  node_known ty n h = ap (λ o. unwrap_or o (plain_information ty)) (a.entries ty n h)
 
   mutual
     pub known_is : (s : Shape) (ty : InterfaceType) → HasShape t ty s → known kept ty ≡ information_of s
-    known_is (s_plain p) ty (e, h) = ap (known kept) e ∙ unkept p (plain_not_kept p h)
+    known_is (s_plain p) ty (e, h) = ap (known kept) e ∙ ap (λ o. unwrap_or o (plain_information p)) (a.others p h)
     known_is (s_node k ms) ty (n, h, e, hm) =
-        node_known ty n (is_kept ty) refl h
+        node_known ty n h
         ∙ (λ i. information_by (e i) (members_known ms n.members hm i))
         ∙ node_is k ms
 
@@ -177,7 +191,7 @@ nothing_at (t_record i) = refl
 nothing_at ty = refl
 
 pub none_kept : AllKept no_tables (λ ty. None)
-none_kept = record { entries = λ ty n k h. absurd (none_some n (sym (nothing_at ty) ∙ h)); others = λ ty h. refl }
+none_kept = record { entries = λ ty n h. absurd (none_some n (sym (nothing_at ty) ∙ h)); others = λ ty h. refl }
   where
     none_some : (n : Node) → None ≡ Some n → ⊥
     none_some n h = cc

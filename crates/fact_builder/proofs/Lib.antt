@@ -2,6 +2,7 @@ pub mod BalanceLaws
 pub mod EntryLaws
 pub mod FlatLaws
 pub mod FlattenLaws
+pub mod GrowthLaws
 pub mod HandleLaws
 pub mod IndexLaws
 pub mod InformationLaws

@@ -7,6 +7,7 @@
 ghost use Rattle.std.specs.Prelude.{◌≡◌, ◌↔◌, ◌<◌, length, position, slice_get, IsSome, IsOk, IfOk, OnOk, OnErr, Err, Some, None};
 ghost use Rattle.fact_entity.specs.Places.{IsInterned};
 ghost use Rattle.fact_types.specs.Tables.{Stands, record_node, flags_node, tuple_node, fixed_length_list_node, variant_node, enum_node, option_node, result_node, list_node, map_node, IsLiveMember, IsLiveFunc};
+ghost use Rattle.fact_builder.specs.Keeps.{Keeps};
 
 use crate::builder::ComponentTypesBuilder;
 use fact_entity::PushError;
@@ -31,6 +32,7 @@ impl ComponentTypesBuilder {
         ensures entry { IfOk result (λ k. slice_get self.new.tables.functions k.number ≡ Some ty) }
         ensures rest { OnOk result (self.new ≡ record self.old { tables = record self.old.tables { functions = self.new.tables.functions } }) }
         ensures refused { OnErr result (self.new ≡ self.old) }
+        ensures keeps { Keeps self.old.tables self.new.tables }
         ensures found { IsSome (position (⟦<TypeFunc as PartialEq>⟧.eq ty) self.old.tables.functions) → IsOk result }
         ensures too_large { result ≡ Err PushError.TooLarge ↔ ((position (⟦<TypeFunc as PartialEq>⟧.eq ty) self.old.tables.functions ≡ None) × (length self.old.tables.functions ≡ 4294967295)) }
     {
@@ -56,6 +58,7 @@ impl ComponentTypesBuilder {
         ensures entry { IfOk result (λ k. slice_get self.new.tables.records k.number ≡ Some ty) }
         ensures rest { OnOk result (self.new ≡ record self.old { tables = record self.old.tables { records = self.new.tables.records } }) }
         ensures refused { OnErr result (self.new ≡ self.old) }
+        ensures keeps { Keeps self.old.tables self.new.tables }
         ensures found { IsSome (position (⟦<TypeRecord as PartialEq>⟧.eq ty) self.old.tables.records) → IsOk result }
         ensures too_large { result ≡ Err PushError.TooLarge ↔ ((position (⟦<TypeRecord as PartialEq>⟧.eq ty) self.old.tables.records ≡ None) × (length self.old.tables.records ≡ 4294967295)) }
     {
@@ -81,6 +84,7 @@ impl ComponentTypesBuilder {
         ensures entry { IfOk result (λ k. slice_get self.new.tables.flags k.number ≡ Some ty) }
         ensures rest { OnOk result (self.new ≡ record self.old { tables = record self.old.tables { flags = self.new.tables.flags } }) }
         ensures refused { OnErr result (self.new ≡ self.old) }
+        ensures keeps { Keeps self.old.tables self.new.tables }
         ensures found { IsSome (position (⟦<TypeFlags as PartialEq>⟧.eq ty) self.old.tables.flags) → IsOk result }
         ensures too_large { result ≡ Err PushError.TooLarge ↔ ((position (⟦<TypeFlags as PartialEq>⟧.eq ty) self.old.tables.flags ≡ None) × (length self.old.tables.flags ≡ 4294967295)) }
     {
@@ -106,6 +110,7 @@ impl ComponentTypesBuilder {
         ensures entry { IfOk result (λ k. slice_get self.new.tables.tuples k.number ≡ Some ty) }
         ensures rest { OnOk result (self.new ≡ record self.old { tables = record self.old.tables { tuples = self.new.tables.tuples } }) }
         ensures refused { OnErr result (self.new ≡ self.old) }
+        ensures keeps { Keeps self.old.tables self.new.tables }
         ensures found { IsSome (position (⟦<TypeTuple as PartialEq>⟧.eq ty) self.old.tables.tuples) → IsOk result }
         ensures too_large { result ≡ Err PushError.TooLarge ↔ ((position (⟦<TypeTuple as PartialEq>⟧.eq ty) self.old.tables.tuples ≡ None) × (length self.old.tables.tuples ≡ 4294967295)) }
     {
@@ -134,6 +139,7 @@ impl ComponentTypesBuilder {
         ensures entry { IfOk result (λ k. slice_get self.new.tables.fixed_length_lists k.number ≡ Some ty) }
         ensures rest { OnOk result (self.new ≡ record self.old { tables = record self.old.tables { fixed_length_lists = self.new.tables.fixed_length_lists } }) }
         ensures refused { OnErr result (self.new ≡ self.old) }
+        ensures keeps { Keeps self.old.tables self.new.tables }
         ensures found { IsSome (position (⟦<TypeFixedLengthList as PartialEq>⟧.eq ty) self.old.tables.fixed_length_lists) → IsOk result }
         ensures too_large { result ≡ Err PushError.TooLarge ↔ ((position (⟦<TypeFixedLengthList as PartialEq>⟧.eq ty) self.old.tables.fixed_length_lists ≡ None) × (length self.old.tables.fixed_length_lists ≡ 4294967295)) }
     {
@@ -159,6 +165,7 @@ impl ComponentTypesBuilder {
         ensures entry { IfOk result (λ k. slice_get self.new.tables.variants k.number ≡ Some ty) }
         ensures rest { OnOk result (self.new ≡ record self.old { tables = record self.old.tables { variants = self.new.tables.variants } }) }
         ensures refused { OnErr result (self.new ≡ self.old) }
+        ensures keeps { Keeps self.old.tables self.new.tables }
         ensures found { IsSome (position (⟦<TypeVariant as PartialEq>⟧.eq ty) self.old.tables.variants) → IsOk result }
         ensures too_large { result ≡ Err PushError.TooLarge ↔ ((position (⟦<TypeVariant as PartialEq>⟧.eq ty) self.old.tables.variants ≡ None) × (length self.old.tables.variants ≡ 4294967295)) }
     {
@@ -184,6 +191,7 @@ impl ComponentTypesBuilder {
         ensures entry { IfOk result (λ k. slice_get self.new.tables.enums k.number ≡ Some ty) }
         ensures rest { OnOk result (self.new ≡ record self.old { tables = record self.old.tables { enums = self.new.tables.enums } }) }
         ensures refused { OnErr result (self.new ≡ self.old) }
+        ensures keeps { Keeps self.old.tables self.new.tables }
         ensures found { IsSome (position (⟦<TypeEnum as PartialEq>⟧.eq ty) self.old.tables.enums) → IsOk result }
         ensures too_large { result ≡ Err PushError.TooLarge ↔ ((position (⟦<TypeEnum as PartialEq>⟧.eq ty) self.old.tables.enums ≡ None) × (length self.old.tables.enums ≡ 4294967295)) }
     {
@@ -209,6 +217,7 @@ impl ComponentTypesBuilder {
         ensures entry { IfOk result (λ k. slice_get self.new.tables.options k.number ≡ Some ty) }
         ensures rest { OnOk result (self.new ≡ record self.old { tables = record self.old.tables { options = self.new.tables.options } }) }
         ensures refused { OnErr result (self.new ≡ self.old) }
+        ensures keeps { Keeps self.old.tables self.new.tables }
         ensures found { IsSome (position (⟦<TypeOption as PartialEq>⟧.eq ty) self.old.tables.options) → IsOk result }
         ensures too_large { result ≡ Err PushError.TooLarge ↔ ((position (⟦<TypeOption as PartialEq>⟧.eq ty) self.old.tables.options ≡ None) × (length self.old.tables.options ≡ 4294967295)) }
     {
@@ -234,6 +243,7 @@ impl ComponentTypesBuilder {
         ensures entry { IfOk result (λ k. slice_get self.new.tables.results k.number ≡ Some ty) }
         ensures rest { OnOk result (self.new ≡ record self.old { tables = record self.old.tables { results = self.new.tables.results } }) }
         ensures refused { OnErr result (self.new ≡ self.old) }
+        ensures keeps { Keeps self.old.tables self.new.tables }
         ensures found { IsSome (position (⟦<TypeResult as PartialEq>⟧.eq ty) self.old.tables.results) → IsOk result }
         ensures too_large { result ≡ Err PushError.TooLarge ↔ ((position (⟦<TypeResult as PartialEq>⟧.eq ty) self.old.tables.results ≡ None) × (length self.old.tables.results ≡ 4294967295)) }
     {
@@ -259,6 +269,7 @@ impl ComponentTypesBuilder {
         ensures entry { IfOk result (λ k. slice_get self.new.tables.lists k.number ≡ Some ty) }
         ensures rest { OnOk result (self.new ≡ record self.old { tables = record self.old.tables { lists = self.new.tables.lists } }) }
         ensures refused { OnErr result (self.new ≡ self.old) }
+        ensures keeps { Keeps self.old.tables self.new.tables }
         ensures found { IsSome (position (⟦<TypeList as PartialEq>⟧.eq ty) self.old.tables.lists) → IsOk result }
         ensures too_large { result ≡ Err PushError.TooLarge ↔ ((position (⟦<TypeList as PartialEq>⟧.eq ty) self.old.tables.lists ≡ None) × (length self.old.tables.lists ≡ 4294967295)) }
     {
@@ -284,6 +295,7 @@ impl ComponentTypesBuilder {
         ensures entry { IfOk result (λ k. slice_get self.new.tables.maps k.number ≡ Some ty) }
         ensures rest { OnOk result (self.new ≡ record self.old { tables = record self.old.tables { maps = self.new.tables.maps } }) }
         ensures refused { OnErr result (self.new ≡ self.old) }
+        ensures keeps { Keeps self.old.tables self.new.tables }
         ensures found { IsSome (position (⟦<TypeMap as PartialEq>⟧.eq ty) self.old.tables.maps) → IsOk result }
         ensures too_large { result ≡ Err PushError.TooLarge ↔ ((position (⟦<TypeMap as PartialEq>⟧.eq ty) self.old.tables.maps ≡ None) × (length self.old.tables.maps ≡ 4294967295)) }
     {
@@ -308,6 +320,7 @@ impl ComponentTypesBuilder {
         ensures entry { IfOk result (λ k. slice_get self.new.tables.futures k.number ≡ Some ty) }
         ensures rest { OnOk result (self.new ≡ record self.old { tables = record self.old.tables { futures = self.new.tables.futures } }) }
         ensures refused { OnErr result (self.new ≡ self.old) }
+        ensures keeps { Keeps self.old.tables self.new.tables }
         ensures found { IsSome (position (⟦<TypeFuture as PartialEq>⟧.eq ty) self.old.tables.futures) → IsOk result }
         ensures too_large { result ≡ Err PushError.TooLarge ↔ ((position (⟦<TypeFuture as PartialEq>⟧.eq ty) self.old.tables.futures ≡ None) × (length self.old.tables.futures ≡ 4294967295)) }
     {
@@ -336,6 +349,7 @@ impl ComponentTypesBuilder {
         ensures entry { IfOk result (λ k. slice_get self.new.tables.future_tables k.number ≡ Some ty) }
         ensures rest { OnOk result (self.new ≡ record self.old { tables = record self.old.tables { future_tables = self.new.tables.future_tables } }) }
         ensures refused { OnErr result (self.new ≡ self.old) }
+        ensures keeps { Keeps self.old.tables self.new.tables }
         ensures found { IsSome (position (⟦<TypeFutureTable as PartialEq>⟧.eq ty) self.old.tables.future_tables) → IsOk result }
         ensures too_large { result ≡ Err PushError.TooLarge ↔ ((position (⟦<TypeFutureTable as PartialEq>⟧.eq ty) self.old.tables.future_tables ≡ None) × (length self.old.tables.future_tables ≡ 4294967295)) }
     {
@@ -346,7 +360,7 @@ impl ComponentTypesBuilder {
             return Err(PushError::TooLarge);
         }
         let k = self.future_tables.add_new(ty)?;
-        if let Err(e) = self.types.push_future_table(ty) {
+        if let Err(e) = self.types.push_future_table(k, ty) {
             self.future_tables.pop();
             return Err(e);
         }
@@ -360,6 +374,7 @@ impl ComponentTypesBuilder {
         ensures entry { IfOk result (λ k. slice_get self.new.tables.streams k.number ≡ Some ty) }
         ensures rest { OnOk result (self.new ≡ record self.old { tables = record self.old.tables { streams = self.new.tables.streams } }) }
         ensures refused { OnErr result (self.new ≡ self.old) }
+        ensures keeps { Keeps self.old.tables self.new.tables }
         ensures found { IsSome (position (⟦<TypeStream as PartialEq>⟧.eq ty) self.old.tables.streams) → IsOk result }
         ensures too_large { result ≡ Err PushError.TooLarge ↔ ((position (⟦<TypeStream as PartialEq>⟧.eq ty) self.old.tables.streams ≡ None) × (length self.old.tables.streams ≡ 4294967295)) }
     {
@@ -388,6 +403,7 @@ impl ComponentTypesBuilder {
         ensures entry { IfOk result (λ k. slice_get self.new.tables.stream_tables k.number ≡ Some ty) }
         ensures rest { OnOk result (self.new ≡ record self.old { tables = record self.old.tables { stream_tables = self.new.tables.stream_tables } }) }
         ensures refused { OnErr result (self.new ≡ self.old) }
+        ensures keeps { Keeps self.old.tables self.new.tables }
         ensures found { IsSome (position (⟦<TypeStreamTable as PartialEq>⟧.eq ty) self.old.tables.stream_tables) → IsOk result }
         ensures too_large { result ≡ Err PushError.TooLarge ↔ ((position (⟦<TypeStreamTable as PartialEq>⟧.eq ty) self.old.tables.stream_tables ≡ None) × (length self.old.tables.stream_tables ≡ 4294967295)) }
     {
@@ -398,7 +414,7 @@ impl ComponentTypesBuilder {
             return Err(PushError::TooLarge);
         }
         let k = self.stream_tables.add_new(ty)?;
-        if let Err(e) = self.types.push_stream_table(ty) {
+        if let Err(e) = self.types.push_stream_table(k, ty) {
             self.stream_tables.pop();
             return Err(e);
         }
@@ -415,6 +431,7 @@ impl ComponentTypesBuilder {
         ensures entry { IfOk result (λ k. slice_get self.new.tables.error_context_tables k.number ≡ Some ty) }
         ensures rest { OnOk result (self.new ≡ record self.old { tables = record self.old.tables { error_context_tables = self.new.tables.error_context_tables } }) }
         ensures refused { OnErr result (self.new ≡ self.old) }
+        ensures keeps { Keeps self.old.tables self.new.tables }
         ensures found { IsSome (position (⟦<TypeErrorContextTable as PartialEq>⟧.eq ty) self.old.tables.error_context_tables) → IsOk result }
         ensures too_large { result ≡ Err PushError.TooLarge ↔ ((position (⟦<TypeErrorContextTable as PartialEq>⟧.eq ty) self.old.tables.error_context_tables ≡ None) × (length self.old.tables.error_context_tables ≡ 4294967295)) }
     {

@@ -3,6 +3,7 @@
 ghost use Rattle.std.specs.Prelude.{◌≡◌, ◌↔◌, ◌++◌, ◌∷◌, [], length, IfOk, OnOk, OnErr, Err};
 ghost use Rattle.std.specs.Borrow.{sem};
 ghost use Rattle.fact_builder.specs.Builder.{no_types};
+ghost use Rattle.fact_builder.specs.Keeps.{Keeps};
 ghost use Rattle.fact_builder.specs.Lending.{LendsModuleTypes};
 
 use crate::known_types::KnownTypes;
@@ -119,6 +120,7 @@ impl ComponentTypesBuilder {
         ensures key { IfOk result (λ k. k.number ≡ length self.old.tables.resource_tables) }
         ensures table { OnOk result (self.new ≡ record self.old { tables = record self.old.tables { resource_tables = self.old.tables.resource_tables ++ table ∷ [] } }) }
         ensures refused { OnErr result (self.new ≡ self.old) }
+        ensures keeps { Keeps self.old.tables self.new.tables }
         ensures too_large { result ≡ Err PushError.TooLarge ↔ (length self.old.tables.resource_tables ≡ 4294967295) }
     {
         let k = self.types.push_resource_table(table)?;

@@ -1,6 +1,6 @@
 //! What the builder tells of types.
 
-ghost use Rattle.std.specs.Prelude.{◌≡◌, ◌<◌, ◌||◌, List, length, option_map};
+ghost use Rattle.std.specs.Prelude.{◌≡◌, ◌<◌, ◌||◌, List, length, min, option_map};
 ghost use Rattle.std.specs.List.{IsDistinct};
 ghost use Rattle.fact_types.specs.declared.widths.MemoryWidth.{MemoryWidth};
 ghost use Rattle.fact_types.specs.declared.widths.MemoryWidth.TheVariants.{Memory32, Memory64};
@@ -10,8 +10,9 @@ ghost use Rattle.fact_types.specs.Functions.{HasSignature};
 ghost use Rattle.fact_types.specs.Shapes.{Shape, layout_of, IsWithin};
 ghost use Rattle.fact_types.specs.Sound as abi_laws;
 ghost use Rattle.fact_types.specs.Tables.{abi_at, IsLive, HasShape, IsSound};
-ghost use Rattle.fact_types.specs.Valid.{IsValid};
+ghost use Rattle.fact_types.specs.Valid.{IsValid, nesting};
 ghost use Rattle.fact_builder.specs.Handles.{has_borrow, any_handle};
+ghost use Rattle.fact_builder.specs.PointerPairs.{has_pointer_pair};
 
 use crate::builder::ComponentTypesBuilder;
 use fact_types::{
@@ -83,6 +84,24 @@ impl ComponentTypesBuilder {
         ensures { (s : Shape) → HasShape self.now.tables ty.now s → result ≡ has_borrow s }
     {
         self.types.has_borrow(ty)
+    }
+
+    /// Whether a live type is a string, a list or a map, or holds one. The payloads of futures and streams are not looked
+    /// into.
+    pub fn ty_contains_pointer_pair(&self, ty: &InterfaceType) -> bool
+        requires { IsLive self.now.tables ty.now }
+        ensures { (s : Shape) → HasShape self.now.tables ty.now s → result ≡ has_pointer_pair s }
+    {
+        self.types.has_pointer_pair(ty)
+    }
+
+    /// How deep a live type nests: a type without members 1, another one 1 more than its deepest member. The payloads of
+    /// futures and streams count. Where it is more than 101 it is told as 101.
+    pub fn nesting(&self, ty: &InterfaceType) -> u32
+        requires { IsLive self.now.tables ty.now }
+        ensures { (s : Shape) → HasShape self.now.tables ty.now s → result ≡ min (nesting s) 101 }
+    {
+        self.types.nesting(ty)
     }
 
     /// Whether a parameter or result of a live function type holds a handle: an own, a borrow, a future, a stream or an

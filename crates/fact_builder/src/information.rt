@@ -3,18 +3,24 @@
 ghost use Rattle.std.specs.Prelude.{◌≡◌, length, option_map};
 ghost use Rattle.fact_types.specs.declared.widths.MemoryWidth.TheVariants.{Memory32, Memory64};
 ghost use Rattle.fact_types.specs.FlatShapes.{flat_plain, when_upto, after_flat};
-ghost use Rattle.fact_builder.specs.Information.{plain_information, nothing, followed, joined_flat, joined_information, tagged_flat, tagged as tagged_information, repeated_flat, repeated as repeated_information, with_flat, pointer_pair, words};
+ghost use Rattle.fact_builder.specs.Information.{plain_information, nothing, followed, deeper as one_deeper, joined_flat, joined_information, tagged_flat, tagged as tagged_information, repeated_flat, repeated as repeated_information, with_flat, as_pointer_pair, as_handle, words};
 
 use crate::flat_list::FlatList;
 use fact_types::{FlatType, FlatTypes, InterfaceType};
 
-/// The flat types of a type in both widths of memory, none above 16, and whether it holds a handle or a borrow.
+/// How deep types are told to nest at most: above the 100 of valid types.
+const MAX_NESTING: u32 = 101;
+
+/// The flat types of a type in both widths of memory, none above 16, whether it holds a handle, a borrow, or a string, a list
+/// or a map, and how deep it nests, up to 101.
 #[derive(Drop)]
 pub(crate) struct TypeInformation {
     pub(crate) flat32: Option<FlatList>,
     pub(crate) flat64: Option<FlatList>,
     pub(crate) has_handle: bool,
     pub(crate) has_borrow: bool,
+    pub(crate) has_pointer_pair: bool,
+    pub(crate) nesting: u32,
 }
 
 impl TypeInformation {
@@ -27,6 +33,8 @@ impl TypeInformation {
             flat64: Some(FlatList::new()),
             has_handle: false,
             has_borrow: false,
+            has_pointer_pair: false,
+            nesting: 0,
         }
     }
 
@@ -47,6 +55,8 @@ impl TypeInformation {
                     | InterfaceType::ErrorContext(_)
             ),
             has_borrow: matches!(*ty, InterfaceType::Borrow(_)),
+            has_pointer_pair: matches!(*ty, InterfaceType::String),
+            nesting: 1,
         }
     }
 
@@ -59,6 +69,8 @@ impl TypeInformation {
             flat64: copied(&self.flat64),
             has_handle: self.has_handle,
             has_borrow: self.has_borrow,
+            has_pointer_pair: self.has_pointer_pair,
+            nesting: self.nesting,
         }
     }
 
@@ -86,6 +98,8 @@ impl TypeInformation {
             flat64: flat_after(&self.flat64, &next.flat64),
             has_handle: self.has_handle || next.has_handle,
             has_borrow: self.has_borrow || next.has_borrow,
+            has_pointer_pair: self.has_pointer_pair || next.has_pointer_pair,
+            nesting: self.nesting.max(next.nesting),
         }
     }
 
@@ -98,6 +112,8 @@ impl TypeInformation {
             flat64: flat_joined(&self.flat64, &other.flat64),
             has_handle: self.has_handle || other.has_handle,
             has_borrow: self.has_borrow || other.has_borrow,
+            has_pointer_pair: self.has_pointer_pair || other.has_pointer_pair,
+            nesting: self.nesting.max(other.nesting),
         }
     }
 
@@ -110,6 +126,8 @@ impl TypeInformation {
             flat64: flat_tagged(&self.flat64),
             has_handle: self.has_handle,
             has_borrow: self.has_borrow,
+            has_pointer_pair: self.has_pointer_pair,
+            nesting: self.nesting,
         }
     }
 
@@ -122,6 +140,8 @@ impl TypeInformation {
             flat64: flat_repeated(&self.flat64, count),
             has_handle: self.has_handle,
             has_borrow: self.has_borrow,
+            has_pointer_pair: self.has_pointer_pair,
+            nesting: self.nesting,
         }
     }
 
@@ -134,12 +154,14 @@ impl TypeInformation {
             flat64: FlatList::words(count),
             has_handle: self.has_handle,
             has_borrow: self.has_borrow,
+            has_pointer_pair: self.has_pointer_pair,
+            nesting: self.nesting,
         }
     }
 
     /// A pointer and a length in the place of the members.
     pub(crate) fn with_pointer_pair(&self) -> TypeInformation
-        ensures { result ≡ with_flat pointer_pair self.now }
+        ensures { result ≡ as_pointer_pair self.now }
     {
         let flat = plain_flat_types(&InterfaceType::String);
         TypeInformation {
@@ -147,7 +169,31 @@ impl TypeInformation {
             flat64: FlatList::new().followed_by(flat.memory64),
             has_handle: self.has_handle,
             has_borrow: self.has_borrow,
+            has_pointer_pair: true,
+            nesting: self.nesting,
         }
+    }
+
+    /// A handle that is no borrow in the place of the members.
+    pub(crate) fn as_handle(&self) -> TypeInformation
+        ensures { result ≡ as_handle self.now }
+    {
+        TypeInformation {
+            flat32: FlatList::words(1),
+            flat64: FlatList::words(1),
+            has_handle: true,
+            has_borrow: false,
+            has_pointer_pair: false,
+            nesting: self.nesting,
+        }
+    }
+
+    /// The same, nesting one deeper.
+    pub(crate) fn deeper(mut self) -> TypeInformation
+        ensures { result ≡ one_deeper self }
+    {
+        self.nesting = self.nesting.saturating_add(1).min(MAX_NESTING);
+        self
     }
 }
 

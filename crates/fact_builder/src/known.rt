@@ -3,7 +3,7 @@
 ghost use Rattle.std.specs.Prelude.{◌≡◌, map, cond, Some, OnOk, OnErr, IfErr};
 ghost use Rattle.fact_types.specs.declared.interface.InterfaceType.{InterfaceType};
 ghost use Rattle.indexmap.specs.IndexMap.{get, values};
-ghost use Rattle.fact_builder.specs.Information.{known as known_by, nothing, known_field, known_payload, product_from, joined_member, sum_from};
+ghost use Rattle.fact_builder.specs.Information.{known as known_by, nothing, deeper, known_field, known_payload, product_from, joined_member, sum_from};
 
 use crate::information::TypeInformation;
 use fact_entity::PushError;
@@ -80,16 +80,16 @@ pub(crate) fn sum_of_cases(
     all
 }
 
-/// Keeps what is known of a type.
+/// Keeps what is known of a type over its members, which nest one less deep.
 pub(crate) fn keep(
     kept: &mut IndexMap<InterfaceType, TypeInformation>,
     ty: InterfaceType,
     information: TypeInformation,
 ) -> Result<(), PushError>
-    ensures kept { OnOk result ((q : InterfaceType) → get ⟦<InterfaceType as PartialEq>⟧.eq kept.new q ≡ cond (⟦<InterfaceType as PartialEq>⟧.eq ty q) (Some information) (get ⟦<InterfaceType as PartialEq>⟧.eq kept.old q)) }
+    ensures kept { OnOk result ((q : InterfaceType) → get ⟦<InterfaceType as PartialEq>⟧.eq kept.new q ≡ cond (⟦<InterfaceType as PartialEq>⟧.eq ty q) (Some (deeper information)) (get ⟦<InterfaceType as PartialEq>⟧.eq kept.old q)) }
     ensures refused { OnErr result ((q : InterfaceType) → get ⟦<InterfaceType as PartialEq>⟧.eq kept.new q ≡ get ⟦<InterfaceType as PartialEq>⟧.eq kept.old q) }
     ensures cause { IfErr result (λ e. e ≡ PushError.OutOfMemory) }
 {
-    kept.insert(ty, information)?;
+    kept.insert(ty, information.deeper())?;
     Ok(())
 }

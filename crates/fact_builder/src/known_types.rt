@@ -1,11 +1,13 @@
 //! The tables of types, with what is known of the types in them.
 
-ghost use Rattle.std.specs.Prelude.{◌≡◌, option_map};
+ghost use Rattle.std.specs.Prelude.{◌≡◌, min, option_map};
 ghost use Rattle.fact_types.specs.declared.widths.MemoryWidth.TheVariants.{Memory32, Memory64};
 ghost use Rattle.fact_types.specs.FlatShapes.{flat_types as flat_types_of};
 ghost use Rattle.fact_types.specs.Shapes.{Shape};
 ghost use Rattle.fact_types.specs.Tables.{no_tables, IsLive, HasShape};
+ghost use Rattle.fact_types.specs.Valid.{nesting};
 ghost use Rattle.fact_builder.specs.Handles.{has_handle, has_borrow};
+ghost use Rattle.fact_builder.specs.PointerPairs.{has_pointer_pair};
 
 use crate::information::{TypeInformation, plain_flat_types};
 use crate::known::known;
@@ -14,7 +16,7 @@ use indexmap::IndexMap;
 use std::alloc::Global;
 use std::marker::Model;
 
-/// Tables of types, and the flat types and handles of each. Contracts see it as the tables.
+/// Tables of types, and what is known of each. Contracts see it as the tables.
 #[derive(Drop)]
 pub(crate) struct KnownTypes {
     pub(crate) types: ComponentTypes,
@@ -85,5 +87,21 @@ impl KnownTypes {
         ensures { (s : Shape) → HasShape self.now ty.now s → result ≡ has_handle s }
     {
         known(&self.kept, ty).has_handle
+    }
+
+    /// Whether a live type is a string, a list or a map, or holds one.
+    pub(crate) fn has_pointer_pair(&self, ty: &InterfaceType) -> bool
+        requires { IsLive self.now ty.now }
+        ensures { (s : Shape) → HasShape self.now ty.now s → result ≡ has_pointer_pair s }
+    {
+        known(&self.kept, ty).has_pointer_pair
+    }
+
+    /// How deep a live type nests, up to 101.
+    pub(crate) fn nesting(&self, ty: &InterfaceType) -> u32
+        requires { IsLive self.now ty.now }
+        ensures { (s : Shape) → HasShape self.now ty.now s → result ≡ min (nesting s) 101 }
+    {
+        known(&self.kept, ty).nesting
     }
 }

@@ -1,5 +1,5 @@
 //! The builder of component types: it keeps one entry of each type, and tells of each type its flat types, whether it
-//! holds handles, and the core signatures of functions.
+//! holds handles or what stands in memory behind a pointer, and how deep it nests; and of functions their core signatures.
 #![tactic(auto)]
 
 mod adds;

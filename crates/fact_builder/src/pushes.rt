@@ -1,9 +1,10 @@
-//! New entries of tables of which it is known what flat types and handles their types have.
+//! New entries of tables of which it is known what flat types their types have and what these hold.
 //!
 //! Each call puts an entry behind the last one of its table, where there is room. The tables are unchanged after a refusal.
 
 ghost use Rattle.std.specs.Prelude.{◌≡◌, ◌↔◌, ◌<◌, ◌++◌, ◌∷◌, [], length, IfOk, IfErr, OnOk, OnErr, Err};
 ghost use Rattle.fact_types.specs.Tables.{Stands, record_node, flags_node, tuple_node, fixed_length_list_node, variant_node, enum_node, option_node, result_node, list_node, map_node, IsLiveMember, IsLiveFunc};
+ghost use Rattle.fact_builder.specs.Keeps.{Keeps};
 
 use crate::information::TypeInformation;
 use crate::known::{keep, known, product_of_fields, product_of_types, sum_of_cases, with_payload};
@@ -26,6 +27,7 @@ impl KnownTypes {
         requires room { length self.old.functions < 4294967295 }
         ensures table { OnOk result (self.new ≡ record self.old { functions = self.old.functions ++ ty ∷ [] }) }
         ensures refused { OnErr result (self.new ≡ self.old) }
+        ensures keeps { Keeps self.old self.new }
         ensures cause { IfErr result (λ e. e ≡ PushError.OutOfMemory) }
     {
         self.types.push_func(ty)
@@ -42,6 +44,7 @@ impl KnownTypes {
         requires room { length self.old.records < 4294967295 }
         ensures table { OnOk result (self.new ≡ record self.old { records = self.old.records ++ ty ∷ [] }) }
         ensures refused { OnErr result (self.new ≡ self.old) }
+        ensures keeps { Keeps self.old self.new }
         ensures cause { IfErr result (λ e. e ≡ PushError.OutOfMemory) }
     {
         self.types.reveal();
@@ -61,6 +64,7 @@ impl KnownTypes {
         requires room { length self.old.flags < 4294967295 }
         ensures table { OnOk result (self.new ≡ record self.old { flags = self.old.flags ++ ty ∷ [] }) }
         ensures refused { OnErr result (self.new ≡ self.old) }
+        ensures keeps { Keeps self.old self.new }
         ensures cause { IfErr result (λ e. e ≡ PushError.OutOfMemory) }
     {
         self.types.reveal();
@@ -82,6 +86,7 @@ impl KnownTypes {
         requires room { length self.old.tuples < 4294967295 }
         ensures table { OnOk result (self.new ≡ record self.old { tuples = self.old.tuples ++ ty ∷ [] }) }
         ensures refused { OnErr result (self.new ≡ self.old) }
+        ensures keeps { Keeps self.old self.new }
         ensures cause { IfErr result (λ e. e ≡ PushError.OutOfMemory) }
     {
         self.types.reveal();
@@ -101,6 +106,7 @@ impl KnownTypes {
         requires room { length self.old.fixed_length_lists < 4294967295 }
         ensures table { OnOk result (self.new ≡ record self.old { fixed_length_lists = self.old.fixed_length_lists ++ ty ∷ [] }) }
         ensures refused { OnErr result (self.new ≡ self.old) }
+        ensures keeps { Keeps self.old self.new }
         ensures cause { IfErr result (λ e. e ≡ PushError.OutOfMemory) }
     {
         self.types.reveal();
@@ -126,6 +132,7 @@ impl KnownTypes {
         requires room { length self.old.variants < 4294967295 }
         ensures table { OnOk result (self.new ≡ record self.old { variants = self.old.variants ++ ty ∷ [] }) }
         ensures refused { OnErr result (self.new ≡ self.old) }
+        ensures keeps { Keeps self.old self.new }
         ensures cause { IfErr result (λ e. e ≡ PushError.OutOfMemory) }
     {
         self.types.reveal();
@@ -145,6 +152,7 @@ impl KnownTypes {
         requires room { length self.old.enums < 4294967295 }
         ensures table { OnOk result (self.new ≡ record self.old { enums = self.old.enums ++ ty ∷ [] }) }
         ensures refused { OnErr result (self.new ≡ self.old) }
+        ensures keeps { Keeps self.old self.new }
         ensures cause { IfErr result (λ e. e ≡ PushError.OutOfMemory) }
     {
         self.types.reveal();
@@ -164,6 +172,7 @@ impl KnownTypes {
         requires room { length self.old.options < 4294967295 }
         ensures table { OnOk result (self.new ≡ record self.old { options = self.old.options ++ ty ∷ [] }) }
         ensures refused { OnErr result (self.new ≡ self.old) }
+        ensures keeps { Keeps self.old self.new }
         ensures cause { IfErr result (λ e. e ≡ PushError.OutOfMemory) }
     {
         self.types.reveal();
@@ -183,6 +192,7 @@ impl KnownTypes {
         requires room { length self.old.results < 4294967295 }
         ensures table { OnOk result (self.new ≡ record self.old { results = self.old.results ++ ty ∷ [] }) }
         ensures refused { OnErr result (self.new ≡ self.old) }
+        ensures keeps { Keeps self.old self.new }
         ensures cause { IfErr result (λ e. e ≡ PushError.OutOfMemory) }
     {
         self.types.reveal();
@@ -207,6 +217,7 @@ impl KnownTypes {
         requires room { length self.old.lists < 4294967295 }
         ensures table { OnOk result (self.new ≡ record self.old { lists = self.old.lists ++ ty ∷ [] }) }
         ensures refused { OnErr result (self.new ≡ self.old) }
+        ensures keeps { Keeps self.old self.new }
         ensures cause { IfErr result (λ e. e ≡ PushError.OutOfMemory) }
     {
         self.types.reveal();
@@ -230,6 +241,7 @@ impl KnownTypes {
         requires room { length self.old.maps < 4294967295 }
         ensures table { OnOk result (self.new ≡ record self.old { maps = self.old.maps ++ ty ∷ [] }) }
         ensures refused { OnErr result (self.new ≡ self.old) }
+        ensures keeps { Keeps self.old self.new }
         ensures cause { IfErr result (λ e. e ≡ PushError.OutOfMemory) }
     {
         self.types.reveal();
@@ -249,22 +261,31 @@ impl KnownTypes {
         requires room { length self.old.futures < 4294967295 }
         ensures table { OnOk result (self.new ≡ record self.old { futures = self.old.futures ++ ty ∷ [] }) }
         ensures refused { OnErr result (self.new ≡ self.old) }
+        ensures keeps { Keeps self.old self.new }
         ensures cause { IfErr result (λ e. e ≡ PushError.OutOfMemory) }
     {
+        self.types.reveal();
         self.types.push_future(ty)
     }
 
     /// Appends a table of futures. Its future type is live.
     pub(crate) fn push_future_table(
         &mut self,
+        key: TypeFutureTableIndex,
         ty: TypeFutureTable,
     ) -> Result<TypeFutureTableIndex, PushError>
         requires stands { ty.ty.number < length self.old.futures }
+        requires key { key.number ≡ length self.old.future_tables }
         requires room { length self.old.future_tables < 4294967295 }
         ensures table { OnOk result (self.new ≡ record self.old { future_tables = self.old.future_tables ++ ty ∷ [] }) }
         ensures refused { OnErr result (self.new ≡ self.old) }
+        ensures keeps { Keeps self.old self.new }
         ensures cause { IfErr result (λ e. e ≡ PushError.OutOfMemory) }
     {
+        self.types.reveal();
+        let payload = self.types[ty.ty].payload;
+        let information = with_payload(&self.kept, TypeInformation::new(), payload).as_handle();
+        keep(&mut self.kept, InterfaceType::Future(key), information)?;
         self.types.push_future_table(ty)
     }
 
@@ -274,22 +295,31 @@ impl KnownTypes {
         requires room { length self.old.streams < 4294967295 }
         ensures table { OnOk result (self.new ≡ record self.old { streams = self.old.streams ++ ty ∷ [] }) }
         ensures refused { OnErr result (self.new ≡ self.old) }
+        ensures keeps { Keeps self.old self.new }
         ensures cause { IfErr result (λ e. e ≡ PushError.OutOfMemory) }
     {
+        self.types.reveal();
         self.types.push_stream(ty)
     }
 
     /// Appends a table of streams. Its stream type is live.
     pub(crate) fn push_stream_table(
         &mut self,
+        key: TypeStreamTableIndex,
         ty: TypeStreamTable,
     ) -> Result<TypeStreamTableIndex, PushError>
         requires stands { ty.ty.number < length self.old.streams }
+        requires key { key.number ≡ length self.old.stream_tables }
         requires room { length self.old.stream_tables < 4294967295 }
         ensures table { OnOk result (self.new ≡ record self.old { stream_tables = self.old.stream_tables ++ ty ∷ [] }) }
         ensures refused { OnErr result (self.new ≡ self.old) }
+        ensures keeps { Keeps self.old self.new }
         ensures cause { IfErr result (λ e. e ≡ PushError.OutOfMemory) }
     {
+        self.types.reveal();
+        let payload = self.types[ty.ty].payload;
+        let information = with_payload(&self.kept, TypeInformation::new(), payload).as_handle();
+        keep(&mut self.kept, InterfaceType::Stream(key), information)?;
         self.types.push_stream_table(ty)
     }
 
@@ -301,6 +331,7 @@ impl KnownTypes {
         requires room { length self.old.error_context_tables < 4294967295 }
         ensures table { OnOk result (self.new ≡ record self.old { error_context_tables = self.old.error_context_tables ++ ty ∷ [] }) }
         ensures refused { OnErr result (self.new ≡ self.old) }
+        ensures keeps { Keeps self.old self.new }
         ensures cause { IfErr result (λ e. e ≡ PushError.OutOfMemory) }
     {
         self.types.push_error_context_table(ty)
@@ -314,6 +345,7 @@ impl KnownTypes {
         ensures key { IfOk result (λ k. k.number ≡ length self.old.resource_tables) }
         ensures table { OnOk result (self.new ≡ record self.old { resource_tables = self.old.resource_tables ++ ty ∷ [] }) }
         ensures refused { OnErr result (self.new ≡ self.old) }
+        ensures keeps { Keeps self.old self.new }
         ensures too_large { result ≡ Err PushError.TooLarge ↔ (length self.old.resource_tables ≡ 4294967295) }
     {
         self.types.push_resource_table(ty)

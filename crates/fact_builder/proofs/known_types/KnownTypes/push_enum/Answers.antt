@@ -2,6 +2,7 @@ use Rattle.std.proofs.Common.{◌∙◌}
 use Rattle.indexmap.specs.IndexMap.{get}
 use Rattle.fact_types.specs.contracts.interface.InterfaceTypePartialEq.TheImpl as type_eq
 use Rattle.fact_builder.specs.Information.{with_flat, words}
+use Rattle.fact_builder.proofs.GrowthLaws.{enum_keeps}
 use Rattle.fact_builder.proofs.KeptLaws.{same_map}
 use Rattle.fact_builder.proofs.MemberLaws.{enum_told}
 use Rattle.fact_builder.proofs.SplitLaws.{pushed_enum}
@@ -16,3 +17,6 @@ invariant_of-self-2 c =
     pushed_enum _ _ _ _ c.args.ty c.args.key c.with_words-information.result c.push_enum.result _ c.self.invariant c.reveal.ensures.sound c.self.view_is c.requires.stands c.requires.key c.in_ok-keep.ensures.kept
     (c.with_words-information.ensures ∙ (λ i. with_flat (words 1) (c.new.ensures i)) ∙ enum_told kept c.args.ty)
     c.push_enum.ensures.table c.push_enum.ensures.refused
+
+pub returns-clause-keeps : goal.returns-clause-keeps
+returns-clause-keeps c = enum_keeps _ _ _ c.self.view_is c.args.ty c.push_enum.result c.push_enum.ensures.table c.push_enum.ensures.refused

@@ -3,6 +3,7 @@ use Rattle.std.specs.Prelude.{unwrap_or}
 use Rattle.indexmap.specs.IndexMap.{get}
 use Rattle.fact_types.specs.contracts.interface.InterfaceTypePartialEq.TheImpl as type_eq
 use Rattle.fact_builder.specs.Information.{with_flat, words}
+use Rattle.fact_builder.proofs.GrowthLaws.{flags_keeps}
 use Rattle.fact_builder.proofs.KeptLaws.{same_map}
 use Rattle.fact_builder.proofs.MemberLaws.{flags_told}
 use Rattle.fact_builder.proofs.SplitLaws.{pushed_flags}
@@ -17,3 +18,6 @@ invariant_of-self-2 c =
     pushed_flags _ _ _ _ c.args.ty c.args.key c.with_words-information.result c.push_flags.result _ c.self.invariant c.reveal.ensures.sound c.self.view_is c.requires.stands c.requires.key c.in_ok-keep.ensures.kept
     (c.with_words-information.ensures ∙ (λ i. with_flat (words ((c.from.ensures ∙ c.unwrap_or.ensures ∙ ap (λ e. unwrap_or e.abi.flat_count 0) c.ty.view_is) i)) (c.new.ensures i)) ∙ flags_told _ kept c.args.ty c.requires.stands)
     c.push_flags.ensures.table c.push_flags.ensures.refused
+
+pub returns-clause-keeps : goal.returns-clause-keeps
+returns-clause-keeps c = flags_keeps _ _ _ c.self.view_is c.args.ty c.push_flags.result c.push_flags.ensures.table c.push_flags.ensures.refused

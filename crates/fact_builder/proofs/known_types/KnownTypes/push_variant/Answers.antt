@@ -2,6 +2,7 @@ use Rattle.std.proofs.Common.{◌∙◌, map, ap}
 use Rattle.indexmap.specs.IndexMap.{get}
 use Rattle.fact_types.specs.contracts.interface.InterfaceTypePartialEq.TheImpl as type_eq
 use Rattle.fact_builder.specs.Information.{nothing, sum_from, tagged, known_payload}
+use Rattle.fact_builder.proofs.GrowthLaws.{variant_keeps}
 use Rattle.fact_builder.proofs.KeptLaws.{same_map}
 use Rattle.fact_builder.proofs.MemberLaws.{variant_told}
 use Rattle.fact_builder.proofs.SplitLaws.{pushed_variant}
@@ -16,3 +17,6 @@ invariant_of-self-2 c =
     pushed_variant _ _ _ _ c.args.ty c.args.key c.tagged-information.result c.push_variant.result _ c.self.invariant c.reveal.ensures.sound c.self.view_is c.requires.stands c.requires.key c.in_ok-keep.ensures.kept
     (c.tagged-information.ensures ∙ ap tagged (c.sum_of_cases.ensures ∙ (λ i. sum_from nothing (map (known_payload kept) (map (λ e. e.1) (c.ty.view_is i).cases)))) ∙ variant_told kept c.args.ty)
     c.push_variant.ensures.table c.push_variant.ensures.refused
+
+pub returns-clause-keeps : goal.returns-clause-keeps
+returns-clause-keeps c = variant_keeps _ _ _ c.self.view_is c.args.ty c.push_variant.result c.push_variant.ensures.table c.push_variant.ensures.refused

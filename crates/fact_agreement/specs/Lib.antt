@@ -1,0 +1,4 @@
+pub mod Left
+pub mod Lists
+pub mod Named
+pub mod Told

@@ -1,0 +1,7 @@
+use Rattle.std.proofs.Common.{◌∙◌, ap}
+use Rattle.fact_builder.proofs.InformationLaws.{known_at}
+use Rattle.fact_builder.proofs.known_types.KnownTypes.nesting.Goals as goal
+
+pub returns : goal.returns
+returns c = λ s h.
+    ap (λ x. x.nesting) (c.known.ensures ∙ known_at _ _ c.self.view_is _ c.self.invariant s c.args.ty.now h)
