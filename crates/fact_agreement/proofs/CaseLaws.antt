@@ -78,9 +78,6 @@ pub record LeftCases (t : Tables) (xs : List (List ℕ × Option InterfaceType))
   pub has : HasMembers t xs rest
   pub same : EachOf ns ms ↔ EachOf ns rest
 
-pub all_cases : (t : Tables) (xs : List (List ℕ × Option InterfaceType)) (ms ns : Members) → HasMembers t xs ms → LeftCases t xs ms ns
-all_cases t xs ms ns h = record { rest = ms; has = h; same = (λ a. a, λ a. a) }
-
 module _ (t : Tables) (ys : List (List ℕ × Option InterfaceType)) (x : List ℕ) (p : Option InterfaceType) (xs : List (List ℕ × Option InterfaceType)) (ms ns : Members)
     (l : LeftCases t ((x, p) ∷ xs) ms ns) (h : HasMembers t ys ns) where
   -- the case at hand, and the others

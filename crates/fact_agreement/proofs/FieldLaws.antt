@@ -73,9 +73,6 @@ pub record LeftFields (t : Tables) (gs : List RecordField) (ms ns : Members) : T
   pub has : HasMembers t (of_fields gs) rest
   pub same : AgreesFields ms ns ↔ AgreesFields ms rest
 
-pub all_fields : (t : Tables) (gs : List RecordField) (ms ns : Members) → HasMembers t (of_fields gs) ns → LeftFields t gs ms ns
-all_fields t gs ms ns h = record { rest = ns; has = h; same = (λ a. a, λ a. a) }
-
 -- the field at hand, and the others
 record FieldAtHand (t : Tables) (g : RecordField) (gs : List RecordField) (ms ns : Members) : Type 0 where
   shape : Shape
@@ -125,9 +122,6 @@ pub record LeftAll (t : Tables) (xs ys : List InterfaceType) (ss ds : List Shape
   pub from_shapes : HaveShapes t xs sources
   pub to_shapes : HaveShapes t ys destinations
   pub same : AgreeAll ss ds ↔ AgreeAll sources destinations
-
-pub all_types : (t : Tables) (xs ys : List InterfaceType) (ss ds : List Shape) → HaveShapes t xs ss → HaveShapes t ys ds → LeftAll t xs ys ss ds
-all_types t xs ys ss ds h k = record { sources = ss; destinations = ds; from_shapes = h; to_shapes = k; same = (λ a. a, λ a. a) }
 
 -- the types at hand, and the others
 record TypesAtHand (t : Tables) (x y : InterfaceType) (xs ys : List InterfaceType) (ss ds : List Shape) : Type 0 where

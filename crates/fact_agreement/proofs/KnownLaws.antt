@@ -1,5 +1,5 @@
 -- What is known of pairs of types, when one more is put in.
-use Rattle.std.proofs.Common.{◌≡◌, Option, Some, None, Bool, true, false, ◌&&◌, cond, refl, sym, ◌∙◌, subst}
+use Rattle.std.proofs.Common.{◌≡◌, Option, Some, Bool, true, false, ◌&&◌, cond, refl, sym, ◌∙◌, subst}
 use Rattle.std.proofs.lemmas.Bool.{and_parts}
 use Rattle.fact_types.specs.declared.interface.InterfaceType.{InterfaceType}
 use Rattle.fact_types.specs.contracts.interface.InterfaceTypePartialEq.TheImpl as type_eq
@@ -13,12 +13,6 @@ Pair = InterfaceType × InterfaceType
 
 abbrev pub pair_eq : Pair → Pair → Bool
 pair_eq x y = type_eq.ghosts.eq x.0 y.0 && type_eq.ghosts.eq x.1 y.1
-
-pub none_told : (t : Tables) (known : Pair → Option Bool) → ((q : Pair) → known q ≡ None) → AllTold t known
-none_told t known h from to b e = absurd (none_some (known (from, to)) b (h (from, to)) e)
-  where
-    none_some : {X : Type 0} (a : Option X) (x : X) → a ≡ None → a ≡ Some x → ⊥
-    none_some a x p q = cc
 
 -- the pair that was put in, or another one
 by_test : (t : Tables) (old : Pair → Option Bool) (p : Pair) (b : Bool) (f g : InterfaceType) (c : Bool) (test : Bool) → pair_eq p (f, g) ≡ test → AllTold t old → Tells t p.0 p.1 b → cond test (Some b) (old (f, g)) ≡ Some c → Tells t f g c

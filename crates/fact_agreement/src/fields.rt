@@ -31,8 +31,6 @@ impl<'a> Model for NamedFields<'a> {
 }
 
 impl<'a> NamedFields<'a> {
-    ghost use Rattle.fact_types.specs.declared.kinds.RecordField.{RecordField};
-
     /// Fields of which several may have one name.
     pub(crate) fn new(
         alloc: Global,
@@ -66,7 +64,7 @@ fn types_by_name(
 ) -> Result<IndexMap<&str, InterfaceType>, OutOfMemory>
     ensures { IfOk result (λ m. (x : List ℕ) → at_name m x ≡ type_named x fields.now) }
 {
-    let mut types = IndexMap::new(alloc);
+    let mut types = IndexMap::with_capacity(alloc, fields.len())?;
     for field in fields {
         let name = field.name.as_str();
         if !types.contains_key(name) {

@@ -1,8 +1,9 @@
-use Rattle.std.proofs.Common.{◌≡◌, Some, cond, sym, ap, ◌∙◌}
+use Rattle.std.proofs.Common.{arith, ◌≡◌, Some, cond, sym, ap, ◌∙◌}
 use Rattle.std.specs.Prelude.{is_some}
 use Rattle.std.specs.Str.{bytes_eq}
 use Rattle.std.proofs.lemmas.Map.Text.{hash_map_updates_str}
-use Rattle.fact_agreement.specs.Named.{at_name}
+use Rattle.std.proofs.lemmas.List.{take_all}
+use Rattle.fact_agreement.specs.Named.{type_named, at_name}
 use Rattle.fact_agreement.proofs.FieldNames.{known_name, new_name, next_field}
 use Rattle.fact_agreement.proofs.fields.types_by_name.Goals as goal
 use Rattle.fact_agreement.proofs.fields.types_by_name.Goals.{then-not-contains_key+in_ok-insert, else-not-contains_key}
@@ -19,3 +20,6 @@ loop-field-preserved c =
       | else-not-contains_key w ↦ known_name (at_name c.if-not-contains_key.types) _ f (λ x. ap (λ m. at_name m x) w.types-is ∙ c.loop-field.invariant x)
           (ap (λ m. is_some (at_name m f.name)) w.types-is ∙ sym found ∙ w.if-not-contains_key.false)
     ])
+
+pub returns : goal.returns
+returns c = λ x. c.loop-field.invariant x ∙ ap (type_named x) (take_all c.loop-field.field-index c.args.fields.now (omega (arith, c.loop-field-test.false)))
