@@ -51,7 +51,7 @@ use Rattle.fact_types.proofs.ShapeSound.{layouts_sound}
 use Rattle.fact_types.proofs.SoundLaws.{payloads_all}
 use Rattle.fact_builder.specs.Builder.{Builder}
 use Rattle.fact_builder.specs.Keeps.{Keeps}
-use Rattle.fact_making.specs.Makes.{FitsBytes, Makes}
+use Rattle.fact_making.specs.Makes.{FitsBytes, with_members_of, Makes}
 
 -- ---- the tests of layouts
 
@@ -249,8 +249,8 @@ nothing_lost t = record { live = λ ty l. l; shapes = λ ty s h. h; signatures =
 
 -- ---- what a call does
 made : (old new : Builder) (ty : InterfaceType) (n : Node) → IsSound old.tables → Keeps old.tables new.tables → IsLive new.tables ty → node_of new.tables ty ≡ Some n → PassesTest n.kind (laid old.tables n.members)
-    → entries new.tables ≤ entries old.tables + 1 → Makes old new n.kind n.members (Ok ty)
-made old new ty n s k l e p g = record {
+    → entries new.tables ≤ entries old.tables + 1 → new ≡ with_members_of old new → Makes old new n.kind n.members (Ok ty)
+made old new ty n s k l e p g r = record {
   live = l;
   shaped = λ ms h. (n, e, refl, members_keep old.tables new.tables k ms n.members h);
   fits = λ ms h. fits_where old.tables n.kind n.members s p ms h;
@@ -258,6 +258,7 @@ made old new ty n s k l e p g = record {
   refused = tt;
   keeps = k;
   grows = g;
+  rest = r;
 }
 
 pub does_not_fit : (old : Builder) (k : Kind) (xs : List (List ℕ × Option InterfaceType)) → IsSound old.tables → (PassesTest k (laid old.tables xs) → ⊥) → Makes old old k xs (Err TooLarge)
@@ -269,6 +270,7 @@ does_not_fit old k xs s n = record {
   refused = refl;
   keeps = nothing_lost old.tables;
   grows = omega arith;
+  rest = refl;
 }
 
 -- ---- how a table grows
@@ -282,6 +284,10 @@ interned_grow eq old new v i h = subst (λ (xs : List _). length xs ≤ length o
 grown : (old new between : ℕ) → new ≡ between → between ≤ old + 1 → new ≤ old + 1
 grown old new between e h = omega (arith, e, h)
 
+-- where one table changed, the others are as before
+one_table : (old new between : Builder) → new ≡ between → between ≡ with_members_of old between → new ≡ with_members_of old new
+one_table old new between e r = subst (λ (b : Builder). b ≡ with_members_of old b) (sym e) r
+
 -- ---- an entry that the builder added or found
 
 pub record_made : (old new : Builder) (eq : TypeRecord → TypeRecord → Bool) (i : Id TypeRecords) (v : TypeRecord) → IsSound old.tables → Keeps old.tables new.tables → IsInterned eq old.tables.records new.tables.records v i.number → slice_get new.tables.records i.number ≡ Some v
@@ -290,7 +296,7 @@ record_made old new eq i v s k d e r p =
     let n : option_map record_node (slice_get new.tables.records i.number) ≡ Some (record_node v) = ap (option_map record_node) e in
     let g = interned_grow eq old.tables.records new.tables.records v i.number d in
     let h : entries (record old.tables { records = new.tables.records }) ≤ entries old.tables + 1 = omega (arith, g) in
-    made old new (t_record i) (record_node v) s k (slice_live new.tables.records i.number record_node (record_node v) n) n p (grown _ _ _ (ap (λ (b : Builder). entries b.tables) r) h)
+    made old new (t_record i) (record_node v) s k (slice_live new.tables.records i.number record_node (record_node v) n) n p (grown _ _ _ (ap (λ (b : Builder). entries b.tables) r) h) (one_table old new _ r refl)
 
 pub variant_made : (old new : Builder) (eq : VariantType → VariantType → Bool) (i : Id TypeVariants) (v : VariantType) → IsSound old.tables → Keeps old.tables new.tables → IsInterned eq old.tables.variants new.tables.variants v i.number → slice_get new.tables.variants i.number ≡ Some v
     → new ≡ record old { tables = record old.tables { variants = new.tables.variants } } → PassesTest (k_variant) (laid old.tables (variant_node v).members) → Makes old new (k_variant) (variant_node v).members (Ok (t_variant i))
@@ -298,7 +304,7 @@ variant_made old new eq i v s k d e r p =
     let n : option_map variant_node (slice_get new.tables.variants i.number) ≡ Some (variant_node v) = ap (option_map variant_node) e in
     let g = interned_grow eq old.tables.variants new.tables.variants v i.number d in
     let h : entries (record old.tables { variants = new.tables.variants }) ≤ entries old.tables + 1 = omega (arith, g) in
-    made old new (t_variant i) (variant_node v) s k (slice_live new.tables.variants i.number variant_node (variant_node v) n) n p (grown _ _ _ (ap (λ (b : Builder). entries b.tables) r) h)
+    made old new (t_variant i) (variant_node v) s k (slice_live new.tables.variants i.number variant_node (variant_node v) n) n p (grown _ _ _ (ap (λ (b : Builder). entries b.tables) r) h) (one_table old new _ r refl)
 
 pub tuple_made : (old new : Builder) (eq : TypeTuple → TypeTuple → Bool) (i : Id TypeTuples) (v : TypeTuple) → IsSound old.tables → Keeps old.tables new.tables → IsInterned eq old.tables.tuples new.tables.tuples v i.number → slice_get new.tables.tuples i.number ≡ Some v
     → new ≡ record old { tables = record old.tables { tuples = new.tables.tuples } } → PassesTest (k_tuple) (laid old.tables (tuple_node v).members) → Makes old new (k_tuple) (tuple_node v).members (Ok (t_tuple i))
@@ -306,7 +312,7 @@ tuple_made old new eq i v s k d e r p =
     let n : option_map tuple_node (slice_get new.tables.tuples i.number) ≡ Some (tuple_node v) = ap (option_map tuple_node) e in
     let g = interned_grow eq old.tables.tuples new.tables.tuples v i.number d in
     let h : entries (record old.tables { tuples = new.tables.tuples }) ≤ entries old.tables + 1 = omega (arith, g) in
-    made old new (t_tuple i) (tuple_node v) s k (slice_live new.tables.tuples i.number tuple_node (tuple_node v) n) n p (grown _ _ _ (ap (λ (b : Builder). entries b.tables) r) h)
+    made old new (t_tuple i) (tuple_node v) s k (slice_live new.tables.tuples i.number tuple_node (tuple_node v) n) n p (grown _ _ _ (ap (λ (b : Builder). entries b.tables) r) h) (one_table old new _ r refl)
 
 pub flags_made : (old new : Builder) (eq : FlagsType → FlagsType → Bool) (i : Id TypeFlags) (v : FlagsType) → IsSound old.tables → Keeps old.tables new.tables → IsInterned eq old.tables.flags new.tables.flags v i.number → slice_get new.tables.flags i.number ≡ Some v
     → new ≡ record old { tables = record old.tables { flags = new.tables.flags } } → PassesTest (k_flags) (laid old.tables (flags_node v).members) → Makes old new (k_flags) (flags_node v).members (Ok (t_flags i))
@@ -314,7 +320,7 @@ flags_made old new eq i v s k d e r p =
     let n : option_map flags_node (slice_get new.tables.flags i.number) ≡ Some (flags_node v) = ap (option_map flags_node) e in
     let g = interned_grow eq old.tables.flags new.tables.flags v i.number d in
     let h : entries (record old.tables { flags = new.tables.flags }) ≤ entries old.tables + 1 = omega (arith, g) in
-    made old new (t_flags i) (flags_node v) s k (slice_live new.tables.flags i.number flags_node (flags_node v) n) n p (grown _ _ _ (ap (λ (b : Builder). entries b.tables) r) h)
+    made old new (t_flags i) (flags_node v) s k (slice_live new.tables.flags i.number flags_node (flags_node v) n) n p (grown _ _ _ (ap (λ (b : Builder). entries b.tables) r) h) (one_table old new _ r refl)
 
 pub enum_made : (old new : Builder) (eq : EnumType → EnumType → Bool) (i : Id TypeEnums) (v : EnumType) → IsSound old.tables → Keeps old.tables new.tables → IsInterned eq old.tables.enums new.tables.enums v i.number → slice_get new.tables.enums i.number ≡ Some v
     → new ≡ record old { tables = record old.tables { enums = new.tables.enums } } → PassesTest (k_enum) (laid old.tables (enum_node v).members) → Makes old new (k_enum) (enum_node v).members (Ok (t_enum i))
@@ -322,7 +328,7 @@ enum_made old new eq i v s k d e r p =
     let n : option_map enum_node (slice_get new.tables.enums i.number) ≡ Some (enum_node v) = ap (option_map enum_node) e in
     let g = interned_grow eq old.tables.enums new.tables.enums v i.number d in
     let h : entries (record old.tables { enums = new.tables.enums }) ≤ entries old.tables + 1 = omega (arith, g) in
-    made old new (t_enum i) (enum_node v) s k (slice_live new.tables.enums i.number enum_node (enum_node v) n) n p (grown _ _ _ (ap (λ (b : Builder). entries b.tables) r) h)
+    made old new (t_enum i) (enum_node v) s k (slice_live new.tables.enums i.number enum_node (enum_node v) n) n p (grown _ _ _ (ap (λ (b : Builder). entries b.tables) r) h) (one_table old new _ r refl)
 
 pub option_made : (old new : Builder) (eq : TypeOption → TypeOption → Bool) (i : Id TypeOptions) (v : TypeOption) → IsSound old.tables → Keeps old.tables new.tables → IsInterned eq old.tables.options new.tables.options v i.number → slice_get new.tables.options i.number ≡ Some v
     → new ≡ record old { tables = record old.tables { options = new.tables.options } } → PassesTest (k_option) (laid old.tables (option_node v).members) → Makes old new (k_option) (option_node v).members (Ok (t_option i))
@@ -330,7 +336,7 @@ option_made old new eq i v s k d e r p =
     let n : option_map option_node (slice_get new.tables.options i.number) ≡ Some (option_node v) = ap (option_map option_node) e in
     let g = interned_grow eq old.tables.options new.tables.options v i.number d in
     let h : entries (record old.tables { options = new.tables.options }) ≤ entries old.tables + 1 = omega (arith, g) in
-    made old new (t_option i) (option_node v) s k (slice_live new.tables.options i.number option_node (option_node v) n) n p (grown _ _ _ (ap (λ (b : Builder). entries b.tables) r) h)
+    made old new (t_option i) (option_node v) s k (slice_live new.tables.options i.number option_node (option_node v) n) n p (grown _ _ _ (ap (λ (b : Builder). entries b.tables) r) h) (one_table old new _ r refl)
 
 pub result_made : (old new : Builder) (eq : TypeResult → TypeResult → Bool) (i : Id TypeResults) (v : TypeResult) → IsSound old.tables → Keeps old.tables new.tables → IsInterned eq old.tables.results new.tables.results v i.number → slice_get new.tables.results i.number ≡ Some v
     → new ≡ record old { tables = record old.tables { results = new.tables.results } } → PassesTest (k_result) (laid old.tables (result_node v).members) → Makes old new (k_result) (result_node v).members (Ok (t_result i))
@@ -338,7 +344,7 @@ result_made old new eq i v s k d e r p =
     let n : option_map result_node (slice_get new.tables.results i.number) ≡ Some (result_node v) = ap (option_map result_node) e in
     let g = interned_grow eq old.tables.results new.tables.results v i.number d in
     let h : entries (record old.tables { results = new.tables.results }) ≤ entries old.tables + 1 = omega (arith, g) in
-    made old new (t_result i) (result_node v) s k (slice_live new.tables.results i.number result_node (result_node v) n) n p (grown _ _ _ (ap (λ (b : Builder). entries b.tables) r) h)
+    made old new (t_result i) (result_node v) s k (slice_live new.tables.results i.number result_node (result_node v) n) n p (grown _ _ _ (ap (λ (b : Builder). entries b.tables) r) h) (one_table old new _ r refl)
 
 pub list_made : (old new : Builder) (eq : TypeList → TypeList → Bool) (i : Id TypeLists) (v : TypeList) → IsSound old.tables → Keeps old.tables new.tables → IsInterned eq old.tables.lists new.tables.lists v i.number → slice_get new.tables.lists i.number ≡ Some v
     → new ≡ record old { tables = record old.tables { lists = new.tables.lists } } → PassesTest (k_list) (laid old.tables (list_node v).members) → Makes old new (k_list) (list_node v).members (Ok (t_list i))
@@ -346,7 +352,7 @@ list_made old new eq i v s k d e r p =
     let n : option_map list_node (slice_get new.tables.lists i.number) ≡ Some (list_node v) = ap (option_map list_node) e in
     let g = interned_grow eq old.tables.lists new.tables.lists v i.number d in
     let h : entries (record old.tables { lists = new.tables.lists }) ≤ entries old.tables + 1 = omega (arith, g) in
-    made old new (t_list i) (list_node v) s k (slice_live new.tables.lists i.number list_node (list_node v) n) n p (grown _ _ _ (ap (λ (b : Builder). entries b.tables) r) h)
+    made old new (t_list i) (list_node v) s k (slice_live new.tables.lists i.number list_node (list_node v) n) n p (grown _ _ _ (ap (λ (b : Builder). entries b.tables) r) h) (one_table old new _ r refl)
 
 pub map_made : (old new : Builder) (eq : TypeMap → TypeMap → Bool) (i : Id TypeMaps) (v : TypeMap) → IsSound old.tables → Keeps old.tables new.tables → IsInterned eq old.tables.maps new.tables.maps v i.number → slice_get new.tables.maps i.number ≡ Some v
     → new ≡ record old { tables = record old.tables { maps = new.tables.maps } } → PassesTest (k_map) (laid old.tables (map_node v).members) → Makes old new (k_map) (map_node v).members (Ok (t_map i))
@@ -354,7 +360,7 @@ map_made old new eq i v s k d e r p =
     let n : option_map map_node (slice_get new.tables.maps i.number) ≡ Some (map_node v) = ap (option_map map_node) e in
     let g = interned_grow eq old.tables.maps new.tables.maps v i.number d in
     let h : entries (record old.tables { maps = new.tables.maps }) ≤ entries old.tables + 1 = omega (arith, g) in
-    made old new (t_map i) (map_node v) s k (slice_live new.tables.maps i.number map_node (map_node v) n) n p (grown _ _ _ (ap (λ (b : Builder). entries b.tables) r) h)
+    made old new (t_map i) (map_node v) s k (slice_live new.tables.maps i.number map_node (map_node v) n) n p (grown _ _ _ (ap (λ (b : Builder). entries b.tables) r) h) (one_table old new _ r refl)
 
 pub fixed_length_list_made : (old new : Builder) (eq : TypeFixedLengthList → TypeFixedLengthList → Bool) (i : Id TypeFixedLengthLists) (v : TypeFixedLengthList) → IsSound old.tables → Keeps old.tables new.tables → IsInterned eq old.tables.fixed_length_lists new.tables.fixed_length_lists v i.number → slice_get new.tables.fixed_length_lists i.number ≡ Some v
     → new ≡ record old { tables = record old.tables { fixed_length_lists = new.tables.fixed_length_lists } } → PassesTest (k_fixed v.size) (laid old.tables (fixed_length_list_node v).members) → Makes old new (k_fixed v.size) (fixed_length_list_node v).members (Ok (t_fixed_length_list i))
@@ -362,7 +368,7 @@ fixed_length_list_made old new eq i v s k d e r p =
     let n : option_map fixed_length_list_node (slice_get new.tables.fixed_length_lists i.number) ≡ Some (fixed_length_list_node v) = ap (option_map fixed_length_list_node) e in
     let g = interned_grow eq old.tables.fixed_length_lists new.tables.fixed_length_lists v i.number d in
     let h : entries (record old.tables { fixed_length_lists = new.tables.fixed_length_lists }) ≤ entries old.tables + 1 = omega (arith, g) in
-    made old new (t_fixed_length_list i) (fixed_length_list_node v) s k (slice_live new.tables.fixed_length_lists i.number fixed_length_list_node (fixed_length_list_node v) n) n p (grown _ _ _ (ap (λ (b : Builder). entries b.tables) r) h)
+    made old new (t_fixed_length_list i) (fixed_length_list_node v) s k (slice_live new.tables.fixed_length_lists i.number fixed_length_list_node (fixed_length_list_node v) n) n p (grown _ _ _ (ap (λ (b : Builder). entries b.tables) r) h) (one_table old new _ r refl)
 
 -- ---- lists of members
 pub names_count : (t : Tables) (ns : List (List ℕ)) → length (laid t (map (λ n. (n, None)) ns)) ≡ length ns

@@ -24,6 +24,23 @@ pub record FitsBytes (k : Kind) (ms : Members) : Type 0 where
   pub entry_within : IsEntryWithin k (payloads (layouts_of ms))
   pub few : AreFew k (length (layouts_of ms))
 
+-- A builder with the tables of types with members of another: those of handles, functions and core types are its own.
+abbrev pub with_members_of : Builder → Builder → Builder
+with_members_of old new = record old {
+  tables = record old.tables {
+    records = new.tables.records;
+    variants = new.tables.variants;
+    tuples = new.tables.tuples;
+    flags = new.tables.flags;
+    enums = new.tables.enums;
+    options = new.tables.options;
+    results = new.tables.results;
+    lists = new.tables.lists;
+    maps = new.tables.maps;
+    fixed_length_lists = new.tables.fixed_length_lists;
+  };
+}
+
 -- A type of kind k with members xs was looked for in the builder, and added where it was not there.
 pub record Makes (old new : Builder) (k : Kind) (xs : List (List ℕ × Option InterfaceType)) (result : Result InterfaceType PushError) : Type 0 where
   pub live : IfOk result (IsLive new.tables)
@@ -33,3 +50,4 @@ pub record Makes (old new : Builder) (k : Kind) (xs : List (List ℕ × Option I
   pub refused : OnErr result (new ≡ old)
   pub keeps : Keeps old.tables new.tables
   pub grows : entries new.tables ≤ entries old.tables + 1
+  pub rest : new ≡ with_members_of old new
