@@ -7,8 +7,8 @@ ghost use Rattle.fact_module.specs.Faithful.{IsFused};
 ghost use Rattle.fact_module.specs.PlainModule.{IsPlainModule, flags_import, function_import, has_result, plain_imports, saved};
 
 use crate::emit::{emit_body, import_flags, import_function};
-use crate::error::FuseError;
 use crate::plain::Import;
+use fact_checks::FuseError;
 use fact_entity::EntityRef;
 use fact_plan::{FusePlan, PlanAdapter};
 use fact_types::{CoreDef, RuntimeComponentInstanceIndex, Trap};

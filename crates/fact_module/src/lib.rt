@@ -3,11 +3,10 @@
 #![tactic(auto)]
 
 mod emit;
-mod error;
 mod fusion;
 mod plain;
 
-pub use error::{FuseError, Place};
+pub use fact_checks::{Adapter, AdapterOptionsDfg, FuseError, MemoryOption, Place, check_plan};
 pub use fact_plan::{
     FusePlan, PlanAdapter, PlanFunc, PlanMemory, PlanRef, PlanSide, PlanTunables, PlanType,
     PrimitiveValType,

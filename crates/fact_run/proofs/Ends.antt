@@ -13,13 +13,18 @@ use Rattle.fact_plan.specs.Fault.{IsNotMemory, UnlessMemory, fault_line}
 use Rattle.fact_plan.specs.Built.{IsBuilt}
 use Rattle.fact_plan.specs.Plan.{plan_of}
 use Rattle.fact_plan.specs.Reading.{value_in}
+use Rattle.fact_plan_types.specs.declared.error.Place.{Place}
+use Rattle.fact_plan_types.specs.Faults.{Fault}
+use Rattle.fact_checks.specs.FirstFault.{IsFaultless, IsFirstAt}
+use Rattle.fact_checks.proofs.FaultLaws.{faultless-first}
 use Rattle.fact_run.specs.declared.status.Status.{Status}
 use Rattle.fact_run.specs.declared.status.Status.TheVariants as status
 use Rattle.fact_run.specs.declared.answer.Reply.{Reply}
 use Rattle.fact_run.specs.declared.answer.Reply.TheVariants as reply
-use Rattle.fact_run.specs.Answer.{IsEnd, IsEnding, IsReply, IsReplyTo, IsReplyToFault, IsReplyToPlan, TellsFault}
+use Rattle.fact_run.specs.Answer.{IsEnd, IsEnding, IsReply, IsReplyTo, IsReplyToFault, IsReplyToPlan, TellsFault, TellsRefusalIn}
+use Rattle.fact_run.specs.Refusal.{refusal_line}
 use Rattle.fact_run.specs.Status.{line_of}
-use Rattle.fact_run.specs.Run.{Answers, HoldsBuilt, HoldsFault, HoldsNoJson, HoldsPlan, HoldsUnbuilt, IsOrMemory, IsTooLong, IsUndisturbed, Read, ReadPast, TellsLine, limit}
+use Rattle.fact_run.specs.Run.{Answers, HoldsBuilt, HoldsFault, HoldsNoJson, HoldsPlan, HoldsRefusal, HoldsUnbuilt, IsOrMemory, IsTooLong, IsUndisturbed, Read, ReadPast, TellsLine, limit}
 
 -- ---- from what was read to a reply
 
@@ -43,17 +48,24 @@ replied-fault bytes v f (reply.Page text) within j h e = absurd e
 replied-fault bytes v f reply.ReadFault within j h e = absurd e
 replied-fault bytes v f reply.TooLong within j h e = absurd e
 replied-fault bytes v f reply.NotJson within j h e = absurd e
+replied-fault bytes v f (reply.Refused line) within j h e = absurd e
 replied-fault bytes v f reply.NotBuilt within j h e = absurd e
 
 -- a plan that the bytes hold
 pub replied-plan : (bytes : List ℕ) (p : FusePlan) (r : Reply) → HoldsPlan bytes p → IsReplyToPlan p r → IsReplyTo bytes r
 replied-plan bytes p (reply.Page text) h e = record {
-  holds = record { plan = p; is_plan = h; is_built = e.0 };
+  holds = record { plan = p; is_plan = h; faultless = e.0; is_built = e.1 };
   text = string_bytes text;
-  prints = e.1;
+  prints = e.2;
   sent = refl;
 }
-replied-plan bytes p reply.NotBuilt h e = record { plan = p; is_plan = h; not_built = e }
+replied-plan bytes p reply.NotBuilt h e = record { plan = p; is_plan = h; faultless = e.0; not_built = e.1 }
+replied-plan bytes p (reply.Refused line) h e = record {
+  fault = e.fault;
+  place = e.place;
+  holds = record { plan = p; is_plan = h; is_first = e.is_first };
+  is_line = e.is_line;
+}
 replied-plan bytes p reply.OutOfMemory h e = tt
 replied-plan bytes p (reply.BadPlan line) h e = absurd e
 replied-plan bytes p reply.ReadFault h e = absurd e
@@ -67,6 +79,7 @@ replied left left' fault bytes reply.ReadFault all h = absurd h
 replied left left' fault bytes reply.TooLong all h = absurd h
 replied left left' fault bytes reply.NotJson all h = record { bytes = bytes; all = all; is_so = h }
 replied left left' fault bytes (reply.BadPlan line) all h = record { bytes = bytes; all = all; is_so = h }
+replied left left' fault bytes (reply.Refused line) all h = record { bytes = bytes; all = all; is_so = h }
 replied left left' fault bytes reply.NotBuilt all h = record { bytes = bytes; all = all; is_so = h }
 replied left left' fault bytes reply.OutOfMemory all h = tt
 
@@ -134,6 +147,7 @@ abbrev pub IsOf : Status → List ℕ → Type 0
 IsOf status.TooLong bytes = IsTooLong bytes
 IsOf status.NotJson bytes = HoldsNoJson bytes
 IsOf status.BadPlan bytes = (f : PlanFault) × HoldsFault bytes f
+IsOf status.Refused bytes = (f : Fault) × (place : Place) × HoldsRefusal bytes f place
 IsOf status.NotBuilt bytes = HoldsUnbuilt bytes
 IsOf status.Done bytes = HoldsBuilt bytes
 IsOf status.WriteFault bytes = HoldsBuilt bytes
@@ -162,6 +176,7 @@ end-of bytes left' read old new write status.WriteFault line h none = inl (so by
 end-of bytes left' read old new write status.TooLong line h none = inl (past bytes left' h.0)
 end-of bytes left' read old new write status.NotJson line h none = inl (so bytes left' HoldsNoJson h.0)
 end-of bytes left' read old new write status.BadPlan line h none = let t = so bytes left' _ h.0 in inl (t.fault, t.holds)
+end-of bytes left' read old new write status.Refused line h none = let t = so bytes left' _ h.0 in inl (t.fault, t.place, t.holds)
 end-of bytes left' read old new write status.NotBuilt line h none = inl (so bytes left' HoldsUnbuilt h.0)
 end-of bytes left' read old new write status.OutOfMemory line h none = inr refl
 
@@ -176,6 +191,7 @@ without-words words left left' read old new write status.TooLong line h e = h.1
 without-words words left left' read old new write status.NotJson line h e = h.1
 without-words words left left' read old new write status.BadPlan line h e = h.1
 without-words words left left' read old new write status.OutOfMemory line h e = h.1
+without-words words left left' read old new write status.Refused line h e = h.1
 without-words words left left' read old new write status.NotBuilt line h e = h.1
 
 -- before a plan is read, an end is that of its stage
@@ -183,6 +199,7 @@ of-stage : (s : Status) (bytes : List ℕ) → IsOf s bytes → (stage_of bytes 
 of-stage status.TooLong bytes h = inr (sym (ap end_at (stage-long bytes h)))
 of-stage status.NotJson bytes h = inr (sym (ap end_at (stage-json bytes h)))
 of-stage status.BadPlan bytes h = inr (sym (ap end_at (stage-fault bytes h.0 h.1)))
+of-stage status.Refused bytes h = inl (stage-plan bytes h.2.plan h.2.is_plan)
 of-stage status.NotBuilt bytes h = inl (stage-plan bytes h.plan h.is_plan)
 of-stage status.Done bytes h = inl (stage-plan bytes h.plan h.is_plan)
 of-stage status.WriteFault bytes h = inl (stage-plan bytes h.plan h.is_plan)
@@ -210,14 +227,38 @@ fault-end s bytes h = at-stage 2 s bytes (omega arith) (stage-fault bytes h.0 h.
 not-both : (bytes : List ℕ) → HoldsUnbuilt bytes → HoldsBuilt bytes → ⊥
 not-both bytes u b = u.not_built (subst IsBuilt (one-plan bytes b.plan u.plan b.is_plan u.is_plan) b.is_built)
 
+-- nor one that has a fault and one that has none
+not-sound : (bytes : List ℕ) (p : FusePlan) → HoldsPlan bytes p → IsFaultless p → ((f : Fault) × (place : Place) × HoldsRefusal bytes f place) → ⊥
+not-sound bytes p h sound r =
+    let q = r.2 in
+    faultless-first p r.0 r.1 sound (subst (λ x. IsFirstAt x r.0 r.1) (one-plan bytes q.plan p q.is_plan h) q.is_first)
+
+-- an end before a plan is read is none of a plan
+not-early : (n : ℕ) (bytes : List ℕ) (p : FusePlan) → HoldsPlan bytes p → n < 3 → stage_of bytes ≡ n → ⊥
+not-early n bytes p h early e = omega (arith, stage-plan bytes p h, e)
+
+pub refused-end : (s : Status) (bytes : List ℕ) → ((f : Fault) × (place : Place) × HoldsRefusal bytes f place) → IsOf s bytes ⊎ (s ≡ status.OutOfMemory) → IsOrMemory status.Refused s
+refused-end s bytes r (inr memory) = inr memory
+refused-end status.Refused bytes r (inl h) = inl refl
+refused-end status.NotBuilt bytes r (inl h) = absurd (not-sound bytes h.plan h.is_plan h.faultless r)
+refused-end status.Done bytes r (inl h) = absurd (not-sound bytes h.plan h.is_plan h.faultless r)
+refused-end status.WriteFault bytes r (inl h) = absurd (not-sound bytes h.plan h.is_plan h.faultless r)
+refused-end status.TooLong bytes r (inl h) = absurd (not-early 0 bytes r.2.plan r.2.is_plan (omega arith) (stage-long bytes h))
+refused-end status.NotJson bytes r (inl h) = absurd (not-early 1 bytes r.2.plan r.2.is_plan (omega arith) (stage-json bytes h))
+refused-end status.BadPlan bytes r (inl h) = absurd (not-early 2 bytes r.2.plan r.2.is_plan (omega arith) (stage-fault bytes h.0 h.1))
+refused-end status.Usage bytes r (inl h) = absurd h
+refused-end status.ReadFault bytes r (inl h) = absurd h
+refused-end status.OutOfMemory bytes r (inl h) = absurd h
+
 pub unbuilt-end : (s : Status) (bytes : List ℕ) → HoldsUnbuilt bytes → IsOf s bytes ⊎ (s ≡ status.OutOfMemory) → IsOrMemory status.NotBuilt s
 unbuilt-end s bytes u (inr memory) = inr memory
 unbuilt-end status.NotBuilt bytes u (inl h) = inl refl
+unbuilt-end status.Refused bytes u (inl h) = absurd (not-sound bytes u.plan u.is_plan u.faultless h)
 unbuilt-end status.Done bytes u (inl h) = absurd (not-both bytes u h)
 unbuilt-end status.WriteFault bytes u (inl h) = absurd (not-both bytes u h)
-unbuilt-end status.TooLong bytes u (inl h) = absurd (omega (arith, stage-plan bytes u.plan u.is_plan, stage-long bytes h))
-unbuilt-end status.NotJson bytes u (inl h) = absurd (omega (arith, stage-plan bytes u.plan u.is_plan, stage-json bytes h))
-unbuilt-end status.BadPlan bytes u (inl h) = absurd (omega (arith, stage-plan bytes u.plan u.is_plan, stage-fault bytes h.0 h.1))
+unbuilt-end status.TooLong bytes u (inl h) = absurd (not-early 0 bytes u.plan u.is_plan (omega arith) (stage-long bytes h))
+unbuilt-end status.NotJson bytes u (inl h) = absurd (not-early 1 bytes u.plan u.is_plan (omega arith) (stage-json bytes h))
+unbuilt-end status.BadPlan bytes u (inl h) = absurd (not-early 2 bytes u.plan u.is_plan (omega arith) (stage-fault bytes h.0 h.1))
 unbuilt-end status.Usage bytes u (inl h) = absurd h
 unbuilt-end status.ReadFault bytes u (inl h) = absurd h
 unbuilt-end status.OutOfMemory bytes u (inl h) = absurd h
@@ -225,11 +266,12 @@ unbuilt-end status.OutOfMemory bytes u (inl h) = absurd h
 pub built-end : (s : Status) (bytes : List ℕ) → (s ≡ status.WriteFault → ⊥) → HoldsBuilt bytes → IsOf s bytes ⊎ (s ≡ status.OutOfMemory) → IsOrMemory status.Done s
 built-end s bytes unfaulted b (inr memory) = inr memory
 built-end status.NotBuilt bytes unfaulted b (inl h) = absurd (not-both bytes h b)
+built-end status.Refused bytes unfaulted b (inl h) = absurd (not-sound bytes b.plan b.is_plan b.faultless h)
 built-end status.Done bytes unfaulted b (inl h) = inl refl
 built-end status.WriteFault bytes unfaulted b (inl h) = absurd (unfaulted refl)
-built-end status.TooLong bytes unfaulted b (inl h) = absurd (omega (arith, stage-plan bytes b.plan b.is_plan, stage-long bytes h))
-built-end status.NotJson bytes unfaulted b (inl h) = absurd (omega (arith, stage-plan bytes b.plan b.is_plan, stage-json bytes h))
-built-end status.BadPlan bytes unfaulted b (inl h) = absurd (omega (arith, stage-plan bytes b.plan b.is_plan, stage-fault bytes h.0 h.1))
+built-end status.TooLong bytes unfaulted b (inl h) = absurd (not-early 0 bytes b.plan b.is_plan (omega arith) (stage-long bytes h))
+built-end status.NotJson bytes unfaulted b (inl h) = absurd (not-early 1 bytes b.plan b.is_plan (omega arith) (stage-json bytes h))
+built-end status.BadPlan bytes unfaulted b (inl h) = absurd (not-early 2 bytes b.plan b.is_plan (omega arith) (stage-fault bytes h.0 h.1))
 built-end status.Usage bytes unfaulted b (inl h) = absurd h
 built-end status.ReadFault bytes unfaulted b (inl h) = absurd h
 built-end status.OutOfMemory bytes unfaulted b (inl h) = absurd h
@@ -248,18 +290,19 @@ pub no-write-fault : {W : Type 0} (words : List W) (left left' : Option (List �
 no-write-fault words left left' read old new write s line h none e =
     let P : Status → Type 0 = λ t. IsEnding words left left' read old new write t line in none (subst P e h).1.0
 
--- the line of an end, but for a fault of a plan
+-- the line of an end, but for one that names a fault
 pub plain-line : {W : Type 0} (words : List W) (left left' : Option (List ℕ)) (read : Type 0) (old new : Option (List ℕ)) (write : Type 0) (s : Status) (line : List ℕ)
-    → IsEnding words left left' read old new write s line → s ≢ status.BadPlan → line ≡ line_of s
-plain-line words left left' read old new write status.Done line h other = h.1.1
-plain-line words left left' read old new write status.Usage line h other = h.2
-plain-line words left left' read old new write status.ReadFault line h other = h.1.2
-plain-line words left left' read old new write status.WriteFault line h other = h.1.2
-plain-line words left left' read old new write status.TooLong line h other = h.1.2
-plain-line words left left' read old new write status.NotJson line h other = h.1.2
-plain-line words left left' read old new write status.BadPlan line h other = absurd (other refl)
-plain-line words left left' read old new write status.OutOfMemory line h other = h.1.1
-plain-line words left left' read old new write status.NotBuilt line h other = h.1.2
+    → IsEnding words left left' read old new write s line → s ≢ status.BadPlan → s ≢ status.Refused → line ≡ line_of s
+plain-line words left left' read old new write status.Done line h other told = h.1.1
+plain-line words left left' read old new write status.Usage line h other told = h.2
+plain-line words left left' read old new write status.ReadFault line h other told = h.1.2
+plain-line words left left' read old new write status.WriteFault line h other told = h.1.2
+plain-line words left left' read old new write status.TooLong line h other told = h.1.2
+plain-line words left left' read old new write status.NotJson line h other told = h.1.2
+plain-line words left left' read old new write status.BadPlan line h other told = absurd (other refl)
+plain-line words left left' read old new write status.Refused line h other told = absurd (told refl)
+plain-line words left left' read old new write status.OutOfMemory line h other told = h.1.1
+plain-line words left left' read old new write status.NotBuilt line h other told = h.1.2
 
 -- The fault of a plan was told, where its line was.
 pub told-fault : (left left' : Option (List ℕ)) (line : List ℕ) (old new : Option (List ℕ)) (before now : ℕ) → Read left left' (λ bytes. TellsFault bytes line) → TellsLine old new before now line
@@ -268,6 +311,15 @@ told-fault left left' line old new before now r h = record {
   bytes = r.bytes;
   all = r.all;
   is_so = (r.is_so.fault, r.is_so.holds, subst (λ (l : List ℕ). TellsLine old new before now l) r.is_so.is_line h);
+}
+
+-- The refusal of a plan was told, where its line was.
+pub told-refusal : (left left' : Option (List ℕ)) (line : List ℕ) (old new : Option (List ℕ)) (before now : ℕ) → Read left left' (λ bytes. TellsRefusalIn bytes line) → TellsLine old new before now line
+    → Read left left' (λ bytes. (f : Fault) × (place : Place) × HoldsRefusal bytes f place × TellsLine old new before now (refusal_line f place))
+told-refusal left left' line old new before now r h = record {
+  bytes = r.bytes;
+  all = r.all;
+  is_so = (r.is_so.fault, r.is_so.place, r.is_so.holds, subst (λ (l : List ℕ). TellsLine old new before now l) r.is_so.is_line h);
 }
 
 -- an end that is this one

@@ -10,7 +10,11 @@ use Rattle.fact_run.specs.declared.status.Status.{Status}
 use Rattle.fact_run.specs.declared.status.Status.TheVariants as status
 use Rattle.fact_run.specs.declared.answer.Reply.{Reply}
 use Rattle.fact_run.specs.declared.answer.Reply.TheVariants as reply
-use Rattle.fact_run.specs.Run.{Answers, HoldsFault, HoldsNoJson, HoldsPlan, HoldsUnbuilt, IsTooLong, Prints, Read, ReadPast}
+use Rattle.fact_plan_types.specs.declared.error.Place.{Place}
+use Rattle.fact_plan_types.specs.Faults.{Fault}
+use Rattle.fact_checks.specs.FirstFault.{IsFaultless, IsFirstAt}
+use Rattle.fact_run.specs.Refusal.{refusal_line}
+use Rattle.fact_run.specs.Run.{Answers, HoldsFault, HoldsNoJson, HoldsPlan, HoldsRefusal, HoldsUnbuilt, IsTooLong, Prints, Read, ReadPast}
 use Rattle.fact_run.specs.Status.{line_of}
 
 -- the line tells the fault that the bytes hold
@@ -19,16 +23,37 @@ pub record TellsFault (bytes : List ℕ) (line : List ℕ) : Type 0 where
   pub holds : HoldsFault bytes fault
   pub is_line : line ≡ fault_line fault
 
+-- the line tells the first fault of the plan that the bytes hold
+pub record TellsRefusalIn (bytes : List ℕ) (line : List ℕ) : Type 0 where
+  pub fault : Fault
+  pub place : Place
+  pub holds : HoldsRefusal bytes fault place
+  pub is_line : line ≡ refusal_line fault place
+
 -- what a fault comes to
 abbrev pub IsReplyToFault : PlanFault → Reply → Type 0
 IsReplyToFault f (reply.BadPlan line) = IsNotMemory f × (string_bytes line ≡ fault_line f)
 IsReplyToFault f reply.OutOfMemory = Unit {0}
 IsReplyToFault f _ = ⊥
 
+-- what a refusal comes to, where it tells a fault
+abbrev pub IsReplyToRefusal : Option (Fault × Place) → Reply → Type 0
+IsReplyToRefusal (Some x) (reply.Refused line) = string_bytes line ≡ refusal_line x.0 x.1
+IsReplyToRefusal _ reply.OutOfMemory = Unit {0}
+IsReplyToRefusal _ _ = ⊥
+
+-- the line tells the first fault of the plan
+pub record TellsRefusal (p : FusePlan) (line : List ℕ) : Type 0 where
+  pub fault : Fault
+  pub place : Place
+  pub is_first : IsFirstAt p fault place
+  pub is_line : line ≡ refusal_line fault place
+
 -- what a plan comes to
 abbrev pub IsReplyToPlan : FusePlan → Reply → Type 0
-IsReplyToPlan p (reply.Page text) = IsBuilt p × Prints (string_bytes text) p
-IsReplyToPlan p reply.NotBuilt = IsBuilt p → ⊥
+IsReplyToPlan p (reply.Page text) = IsFaultless p × IsBuilt p × Prints (string_bytes text) p
+IsReplyToPlan p (reply.Refused line) = TellsRefusal p (string_bytes line)
+IsReplyToPlan p reply.NotBuilt = IsFaultless p × (IsBuilt p → ⊥)
 IsReplyToPlan p reply.OutOfMemory = Unit {0}
 IsReplyToPlan p _ = ⊥
 
@@ -39,6 +64,7 @@ IsReplyTo bytes reply.ReadFault = ⊥
 IsReplyTo bytes reply.TooLong = ⊥
 IsReplyTo bytes reply.NotJson = HoldsNoJson bytes
 IsReplyTo bytes (reply.BadPlan line) = TellsFault bytes (string_bytes line)
+IsReplyTo bytes (reply.Refused line) = TellsRefusalIn bytes (string_bytes line)
 IsReplyTo bytes reply.NotBuilt = HoldsUnbuilt bytes
 IsReplyTo bytes reply.OutOfMemory = Unit {0}
 
@@ -63,6 +89,7 @@ IsEnd left left' read old new write status.WriteFault line = write × Read left 
 IsEnd left left' read old new write status.TooLong line = ReadPast left left' × Keeps old new × (line ≡ line_of status.TooLong)
 IsEnd left left' read old new write status.NotJson line = Read left left' HoldsNoJson × Keeps old new × (line ≡ line_of status.NotJson)
 IsEnd left left' read old new write status.BadPlan line = Read left left' (λ bytes. TellsFault bytes line) × Keeps old new
+IsEnd left left' read old new write status.Refused line = Read left left' (λ bytes. TellsRefusalIn bytes line) × Keeps old new
 IsEnd left left' read old new write status.OutOfMemory line = Keeps old new × (line ≡ line_of status.OutOfMemory)
 IsEnd left left' read old new write status.NotBuilt line = Read left left' HoldsUnbuilt × Keeps old new × (line ≡ line_of status.NotBuilt)
 

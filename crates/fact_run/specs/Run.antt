@@ -13,6 +13,9 @@ use Rattle.fact_plan.specs.declared.fault.PlanFault.{PlanFault}
 use Rattle.fact_plan.specs.Reading.{value_in}
 use Rattle.fact_plan.specs.Plan.{plan_of}
 use Rattle.fact_plan.specs.Built.{IsBuilt}
+use Rattle.fact_plan_types.specs.declared.error.Place.{Place}
+use Rattle.fact_plan_types.specs.Faults.{Fault}
+use Rattle.fact_checks.specs.FirstFault.{IsFaultless, IsFirstAt}
 use Rattle.fact_module.specs.declared.fusion.Fused.{Fused}
 use Rattle.fact_module.specs.Faithful.{IsFused}
 use Rattle.fact_run.specs.declared.status.Status.{Status}
@@ -47,16 +50,24 @@ pub record HoldsPlan (bytes : List ℕ) (p : FusePlan) : Type 0 where
   pub is_json : value_in bytes ≡ Some value
   pub is_plan : plan_of value ≡ Ok p
 
--- a plan that is not built so far
+-- a plan whose first fault is this one, at this place
+pub record HoldsRefusal (bytes : List ℕ) (f : Fault) (place : Place) : Type 0 where
+  pub plan : FusePlan
+  pub is_plan : HoldsPlan bytes plan
+  pub is_first : IsFirstAt plan f place
+
+-- a plan that has no fault and is not built so far
 pub record HoldsUnbuilt (bytes : List ℕ) : Type 0 where
   pub plan : FusePlan
   pub is_plan : HoldsPlan bytes plan
+  pub faultless : IsFaultless plan
   pub not_built : IsBuilt plan → ⊥
 
--- a plan that is built so far
+-- a plan that has no fault and is built so far
 pub record HoldsBuilt (bytes : List ℕ) : Type 0 where
   pub plan : FusePlan
   pub is_plan : HoldsPlan bytes plan
+  pub faultless : IsFaultless plan
   pub is_built : IsBuilt plan
 
 -- ---- what is written

@@ -11,6 +11,7 @@ number_of status.WriteFault = 4
 number_of status.TooLong = 5
 number_of status.NotJson = 6
 number_of status.BadPlan = 7
+number_of status.Refused = 8
 number_of status.OutOfMemory = 9
 number_of status.NotBuilt = 10
 
@@ -23,5 +24,6 @@ line_of status.WriteFault = codes "write fault\n"
 line_of status.TooLong = codes "input too long\n"
 line_of status.NotJson = codes "not json\n"
 line_of status.BadPlan = []
+line_of status.Refused = []
 line_of status.OutOfMemory = codes "out of memory\n"
 line_of status.NotBuilt = codes "not built\n"

@@ -3,13 +3,15 @@
 ghost use Rattle.std.specs.Prelude.{◌≡◌, ◌≤◌, length, string_bytes, IfOk, MatchResult};
 ghost use Rattle.fact_io.specs.Faults.{Rose};
 ghost use Rattle.fact_plan.specs.Built.{IsBuilt};
+ghost use Rattle.fact_plan_types.specs.PlanTypes.{told};
 ghost use Rattle.fact_run.specs.declared.answer.Reply.TheVariants as reply;
-ghost use Rattle.fact_run.specs.Answer.{IsReply, IsReplyTo, IsReplyToFault, IsReplyToPlan};
+ghost use Rattle.fact_run.specs.Answer.{IsReply, IsReplyTo, IsReplyToFault, IsReplyToPlan, IsReplyToRefusal};
 ghost use Rattle.fact_run.specs.Run.{HoldsPlan, Prints, configured, limit};
 
 use crate::page::page_text;
+use crate::refusal::refusal_line;
 use fact_io::{InputError, Source, read_all};
-use fact_module::{FusePlan, PlanTunables, fuse};
+use fact_module::{FuseError, FusePlan, PlanTunables, check_plan, fuse};
 use fact_plan::{PlanFault, fault_line, plan_of, read_value};
 use fact_wasm::{OutOfMemory, bytes_spell_one_module};
 use std::alloc::{AllocError, Global};
@@ -24,8 +26,10 @@ pub enum Reply {
     ReadFault,
     TooLong,
     NotJson,
-    /// The line that tells the fault.
+    /// The line that tells what is no part of a plan.
     BadPlan(String),
+    /// The line that tells the fault of a plan.
+    Refused(String),
     NotBuilt,
     OutOfMemory,
 }
@@ -90,10 +94,26 @@ fn print(alloc: Global, plan: FusePlan) -> Result<String, OutOfMemory>
     }
 }
 
+/// What a refusal of a plan comes to.
+fn reply_to_refusal(alloc: Global, error: &FuseError) -> Reply
+    ensures { IsReplyToRefusal (told error.now) result }
+{
+    if matches!(error, FuseError::OutOfMemory) {
+        return Reply::OutOfMemory;
+    }
+    match refusal_line(alloc, error) {
+        Ok(line) => Reply::Refused(line),
+        Err(_) => Reply::OutOfMemory,
+    }
+}
+
 /// What a plan comes to.
 fn reply_to_plan(alloc: Global, plan: FusePlan) -> Reply
     ensures { IsReplyToPlan plan result }
 {
+    if let Err(error) = check_plan(alloc, &plan) {
+        return reply_to_refusal(alloc, &error);
+    }
     if !plan.built() {
         return Reply::NotBuilt;
     }

@@ -1,6 +1,6 @@
 //! An end of a run with its line.
 
-ghost use Rattle.std.specs.Prelude.{◌≡◌, option_map, string_bytes};
+ghost use Rattle.std.specs.Prelude.{◌≡◌, Some, option_map, string_bytes};
 ghost use Rattle.fact_run.specs.Answer.{line_in};
 
 use crate::status::Status;
@@ -18,6 +18,16 @@ impl Ending {
         ensures { result ≡ record { status = status; told = None } }
     {
         Ending { status, told: None }
+    }
+
+    /// An end that is told by a line of its own.
+    pub fn telling(status: Status, line: String) -> Ending
+        ensures { result ≡ record { status = status; told = Some line } }
+    {
+        Ending {
+            status,
+            told: Some(line),
+        }
     }
 
     /// The line, with its newline.

@@ -4,6 +4,7 @@
 mod answer;
 mod ending;
 mod page;
+mod refusal;
 mod status;
 mod top;
 

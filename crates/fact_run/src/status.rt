@@ -20,6 +20,8 @@ pub enum Status {
     NotJson,
     /// The input is no plan.
     BadPlan,
+    /// The plan has a fault.
+    Refused,
     /// There was no memory.
     OutOfMemory,
     /// The plan has no form that is built so far.
@@ -39,18 +41,19 @@ impl Status {
             Status::TooLong => 5,
             Status::NotJson => 6,
             Status::BadPlan => 7,
+            Status::Refused => 8,
             Status::OutOfMemory => 9,
             Status::NotBuilt => 10,
         }
     }
 
     /// The line that tells it, with its newline, where it is the same for every input; nothing for [`Status::Done`], and
-    /// for [`Status::BadPlan`], whose line names the fault.
+    /// for [`Status::BadPlan`] and [`Status::Refused`], whose lines name the fault.
     pub fn line(self) -> &'static str
         ensures { result.now ≡ line_of self }
     {
         match self {
-            Status::Done | Status::BadPlan => "",
+            Status::Done | Status::BadPlan | Status::Refused => "",
             Status::Usage => "usage: factc\n",
             Status::ReadFault => "read fault\n",
             Status::WriteFault => "write fault\n",

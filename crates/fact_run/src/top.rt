@@ -6,8 +6,11 @@ ghost use Rattle.fact_io.specs.Faults.{Rose};
 ghost use Rattle.fact_io.specs.Transfers.{AppendsFront};
 ghost use Rattle.fact_plan.specs.Fault.{fault_line};
 ghost use Rattle.fact_plan.specs.declared.fault.PlanFault.{PlanFault};
+ghost use Rattle.fact_plan_types.specs.declared.error.Place.{Place};
+ghost use Rattle.fact_plan_types.specs.Faults.{Fault};
+ghost use Rattle.fact_run.specs.Refusal.{refusal_line};
 ghost use Rattle.fact_run.specs.Answer.{IsEnd, IsEnding, line_in};
-ghost use Rattle.fact_run.specs.Run.{Answers, HoldsBuilt, HoldsFault, HoldsNoJson, HoldsUnbuilt, IsOrMemory, IsTooLong, IsUndisturbed, Read, ReadPast, TellsLine};
+ghost use Rattle.fact_run.specs.Run.{Answers, HoldsBuilt, HoldsFault, HoldsNoJson, HoldsRefusal, HoldsUnbuilt, IsOrMemory, IsTooLong, IsUndisturbed, Read, ReadPast, TellsLine};
 ghost use Rattle.fact_run.specs.Status.{line_of};
 
 use crate::answer::{Reply, reply_of};
@@ -29,10 +32,8 @@ fn end<S: Source, K: Sink>(alloc: Global, source: &mut S, out: &mut K) -> Ending
         Reply::ReadFault => Ending::of(Status::ReadFault),
         Reply::TooLong => Ending::of(Status::TooLong),
         Reply::NotJson => Ending::of(Status::NotJson),
-        Reply::BadPlan(line) => Ending {
-            status: Status::BadPlan,
-            told: Some(line),
-        },
+        Reply::BadPlan(line) => Ending::telling(Status::BadPlan, line),
+        Reply::Refused(line) => Ending::telling(Status::Refused, line),
         Reply::NotBuilt => Ending::of(Status::NotBuilt),
         Reply::OutOfMemory => Ending::of(Status::OutOfMemory),
     }
@@ -72,6 +73,8 @@ pub fn run<S: Source, K: Sink, E: Sink>(
     ensures not_json { result ≡ Status.NotJson → Read (S.left source.old) (S.left source.new) HoldsNoJson }
     ensures bad_plan { result ≡ Status.BadPlan → Read (S.left source.old) (S.left source.new) (λ bytes. (f : PlanFault)
         × HoldsFault bytes f × TellsLine (E.written err.old) (E.written err.new) (E.faults err.old) (E.faults err.new) (fault_line f)) }
+    ensures refused { result ≡ Status.Refused → Read (S.left source.old) (S.left source.new) (λ bytes. (f : Fault) × (place : Place)
+        × HoldsRefusal bytes f place × TellsLine (E.written err.old) (E.written err.new) (E.faults err.old) (E.faults err.new) (refusal_line f place)) }
     ensures not_built { result ≡ Status.NotBuilt → Read (S.left source.old) (S.left source.new) HoldsUnbuilt }
     ensures write_fault { result ≡ Status.WriteFault → Rose (K.faults out.old) (K.faults out.new) }
     ensures done { result ≡ Status.Done → Read (S.left source.old) (S.left source.new) (λ bytes. Answers bytes (λ text.
@@ -84,6 +87,8 @@ pub fn run<S: Source, K: Sink, E: Sink>(
         → IfSome (S.left source.old) (λ bytes. HoldsNoJson bytes → IsOrMemory Status.NotJson result) }
     ensures exactly_bad_plan { IsUndisturbed words.now (S.faults source.old) (S.faults source.new)
         → IfSome (S.left source.old) (λ bytes. ((f : PlanFault) × HoldsFault bytes f) → IsOrMemory Status.BadPlan result) }
+    ensures exactly_refused { IsUndisturbed words.now (S.faults source.old) (S.faults source.new)
+        → IfSome (S.left source.old) (λ bytes. ((f : Fault) × (place : Place) × HoldsRefusal bytes f place) → IsOrMemory Status.Refused result) }
     ensures exactly_not_built { IsUndisturbed words.now (S.faults source.old) (S.faults source.new)
         → IfSome (S.left source.old) (λ bytes. HoldsUnbuilt bytes → IsOrMemory Status.NotBuilt result) }
     ensures complete { IsUndisturbed words.now (S.faults source.old) (S.faults source.new)
@@ -94,7 +99,7 @@ pub fn run<S: Source, K: Sink, E: Sink>(
     ensures part { result ≡ Status.WriteFault → Read (S.left source.old) (S.left source.new) (λ bytes. Answers bytes (λ text.
         AppendsFront (K.written out.old) (K.written out.new) text)) }
     ensures kept { result ≢ Status.Done → result ≢ Status.WriteFault → Keeps (K.written out.old) (K.written out.new) }
-    ensures told { result ≢ Status.BadPlan
+    ensures told { result ≢ Status.BadPlan → result ≢ Status.Refused
         → TellsLine (E.written err.old) (E.written err.new) (E.faults err.old) (E.faults err.new) (line_of result) }
 {
     let ending = ending_of(alloc, words, source, out);

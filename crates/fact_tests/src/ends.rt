@@ -72,3 +72,12 @@ pub fn end_with(
     assert_eq!(rt; seen.err.written(), err.as_bytes());
     Ok(())
 }
+
+/// The end of a run over a plan of which this is told.
+pub fn status_of_plan(line: &str) -> Status {
+    if line == "not built" {
+        Status::NotBuilt
+    } else {
+        Status::Refused
+    }
+}

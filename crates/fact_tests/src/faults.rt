@@ -1,6 +1,6 @@
 //! Plans with one fault, or with two of which one comes first, and the lines that tell them.
 
-use crate::ends::{end_with, plain};
+use crate::ends::{end_with, plain, status_of_plan};
 use crate::plans::{NO_PART, replaced};
 use fact_run::Status;
 use std::alloc::Global;
@@ -15,7 +15,8 @@ const EMPTY: &str =
 const RICH: &str =
     "{\"instances\":3,\"types\":[{\"record\":[[\"a\",\"u8\"]]},{\"variant\":[[\"p\",\"f32\"],[\"q\",null]]},{\"tuple\":[\"s8\",0]},{\"list\":\"u16\"},{\"option\":\"s16\"},{\"map\":[\"string\",3]},{\"result\":[\"char\",null]},{\"flags\":[\"r\",\"s\"]},{\"enum\":[\"m\",\"n\"]},{\"fixed-list\":[\"f64\",4]},{\"own\":0},{\"borrow\":1},{\"future\":[null,2]},{\"stream\":[\"bool\",2]},{\"error-context\":2}],\"tables\":[[7,0],[8,1]],\"funcs\":[{\"params\":[[\"x\",2]],\"results\":[\"u64\"],\"async\":false}],\"core_types\":[{\"params\":[\"i32\"],\"results\":[\"i64\"]}],\"core_defs\":[{\"export\":[0,\"run\"]},{\"trampoline\":9}],\"adapters\":[{\"name\":\"f\",\"func\":0,\"lift\":{\"ty\":0,\"instance\":1,\"core_type\":0,\"encoding\":\"utf16\",\"async\":true,\"memory\":{\"def\":0,\"memory64\":true,\"shared\":false,\"page_size_log2\":16},\"realloc\":1,\"callback\":null,\"post_return\":1},\"lower\":{\"ty\":0,\"instance\":0,\"core_type\":0},\"transparent\":true}],\"tunables\":{\"concurrency\":true,\"exceptions\":false,\"debug\":false}}";
 
-/// A part of a plan, what stands in its place, and the kind and the path of the fault that there is then.
+/// A part of a plan, what stands in its place, and what is told then: the kind and the path of the fault, or, of a plan, the
+/// line.
 type Row = (&'static str, &'static str, &'static str);
 
 /// Faults of the plan without entries.
@@ -813,37 +814,95 @@ const OF_OTHERS: &[Row] = &[
 ];
 
 /// Parts of the plan without entries, and what may stand in their place.
-const SOUND_EMPTY: &[(&str, &str)] = &[
-    ("\"instances\":0", "\"instances\":-1,\"instances\":0"),
-    ("s\":0", "s\":4294967295"),
-    ("[]}", "[],\"tunables\":{}}"),
+const SOUND_EMPTY: &[Row] = &[
+    (
+        "\"instances\":0",
+        "\"instances\":-1,\"instances\":0",
+        "not built",
+    ),
+    ("s\":0", "s\":4294967295", "not built"),
+    ("[]}", "[],\"tunables\":{}}", "not built"),
     (
         "\"instances\":0,\"types\":[]",
         "\"types\":[],\"instances\":0",
+        "not built",
     ),
 ];
 
 /// Parts of the plan with all entries, and what may stand in their place.
-const SOUND_RICH: &[(&str, &str)] = &[
-    ("_log2\":16", "_log2\":255"),
-    ("_log2\":16", "_log2\":0"),
-    (",\"page_size_log2\":16", ""),
-    ("\"memory64\":true,\"shared\":false,", ""),
-    ("\"realloc\":1", "\"realloc\":null"),
-    (",\"post_return\":1", ""),
+const SOUND_RICH: &[Row] = &[
+    (
+        "_log2\":16",
+        "_log2\":255",
+        "refused: BadMemory at adapter 0",
+    ),
+    (
+        "_log2\":16",
+        "_log2\":0",
+        "refused: BadSignature at adapter 0",
+    ),
+    (
+        ",\"page_size_log2\":16",
+        "",
+        "refused: BadSignature at adapter 0",
+    ),
+    (
+        "\"memory64\":true,\"shared\":false,",
+        "",
+        "refused: BadSignature at adapter 0",
+    ),
+    (
+        "\"realloc\":1",
+        "\"realloc\":null",
+        "refused: BadSignature at adapter 0",
+    ),
+    (
+        ",\"post_return\":1",
+        "",
+        "refused: BadSignature at adapter 0",
+    ),
     (
         "{\"def\":0,\"memory64\":true,\"shared\":false,\"page_size_log2\":16}",
         "null",
+        "refused: BadMemory at adapter 0",
     ),
-    ("\"utf16\"", "\"compact\""),
-    ("\"utf16\"", "\"utf8\""),
-    (",\"transparent\":true", ""),
-    (",\"async\":false", ""),
-    ("\"debug\":false", "\"debug\":true"),
-    ("[\"char\",null]", "[null,null]"),
-    ("[\"r\",\"s\"]", "[]"),
-    ("[\"u64\"]", "[\"u64\",\"s64\"]"),
-    ("\"own\":0", "\"own\":4294967295"),
+    (
+        "\"utf16\"",
+        "\"compact\"",
+        "refused: BadSignature at adapter 0",
+    ),
+    (
+        "\"utf16\"",
+        "\"utf8\"",
+        "refused: BadSignature at adapter 0",
+    ),
+    (
+        ",\"transparent\":true",
+        "",
+        "refused: BadSignature at adapter 0",
+    ),
+    (",\"async\":false", "", "refused: BadSignature at adapter 0"),
+    (
+        "\"debug\":false",
+        "\"debug\":true",
+        "refused: BadSignature at adapter 0",
+    ),
+    (
+        "[\"char\",null]",
+        "[null,null]",
+        "refused: BadSignature at adapter 0",
+    ),
+    ("[\"r\",\"s\"]", "[]", "refused: BadType at type 7"),
+    (
+        "[\"u64\"]",
+        "[\"u64\",\"s64\"]",
+        "refused: BadMemory at adapter 0",
+    ),
+    (
+        "\"own\":0",
+        "\"own\":4294967295",
+        "refused: UnknownIndex at type 10",
+    ),
 ];
 
 /// Each plan of a table has its fault.
@@ -871,18 +930,19 @@ fn faults_are_told(rt: HostRuntime) -> Result<(), Fail> {
     are_told(&rt, rt.alloc(), RICH, OF_OTHERS)
 }
 
-/// Each plan of a table has no fault.
-fn are_read(rt: &impl Abort, alloc: Global, plan: &str, rows: &[(&str, &str)]) -> Result<(), Fail> {
-    for (old, new) in rows {
+/// Each text of a table is read as a plan, of which the line of its row is told.
+fn are_read(rt: &impl Abort, alloc: Global, plan: &str, rows: &[Row]) -> Result<(), Fail> {
+    for (old, new, told) in rows {
         let text = replaced(alloc, plan, old, new)?;
         assert!(rt; text.as_str() != NO_PART);
+        let line = format!(in alloc; "{told}\n")?;
         end_with(
             rt,
             alloc,
             &plain(text.as_str()),
-            Status::NotBuilt,
+            status_of_plan(told),
             "",
-            "not built\n",
+            line.as_str(),
         )?;
     }
     Ok(())

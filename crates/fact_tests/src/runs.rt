@@ -1,6 +1,6 @@
 //! Runs of the top call over memory.
 
-use crate::ends::{Given, end_with, plain, run_on};
+use crate::ends::{Given, end_with, plain, run_on, status_of_plan};
 use crate::plans::{
     CORE, PAGE, PARAMS, PLAN, SEVENTEEN, SEVENTEEN_CORE, SIXTEEN, SIXTEEN_CORE, edited,
 };
@@ -167,78 +167,154 @@ fn inputs_end_at_a_limit(rt: HostRuntime) -> Result<(), Fail> {
     Ok(())
 }
 
-/// Plans that are all but plain numbers.
-const NEAR_MISSES: [&[(&str, &str)]; 29] = [
-    &[(PARAMS, SEVENTEEN), (CORE, SEVENTEEN_CORE)],
-    &[
-        (PARAMS, "[[\"x\",\"u32\"],[\"x\",\"u32\"]],\"results\":[]"),
-        (CORE, "[\"i32\",\"i32\"],\"results\":[]"),
-    ],
-    &[
-        (PARAMS, "[[\"x\",\"u32\"],[\"y\",\"u64\"]],\"results\":[]"),
-        (CORE, "[\"i64\",\"i32\"],\"results\":[]"),
-    ],
-    &[
-        (PARAMS, "[],\"results\":[\"u32\",\"u32\"]"),
-        (CORE, "[],\"results\":[\"i32\",\"i32\"]"),
-    ],
-    &[("\"u32\"", "\"u64\"")],
-    &[("\"u32\"", "\"s32\"")],
-    &[("\"u32\"", "\"string\"")],
-    &[("\"u32\"", "0")],
-    &[("\"i32\"", "\"f32\"")],
-    &[("\"instance\":1", "\"instance\":0")],
-    &[("\"instance\":1", "\"instance\":2")],
-    &[
-        ("\"instances\":2", "\"instances\":4294967295"),
-        ("\"instance\":1", "\"instance\":2147483648"),
-    ],
-    &[("\"types\":[]", "\"types\":[{\"own\":0}]")],
-    &[("\"tables\":[]", "\"tables\":[[0,0]]")],
-    &[("{\"export\":[0,\"run\"]}", "{\"trampoline\":0}")],
-    &[(
-        "{\"export\":[0,\"run\"]}",
-        "{\"export\":[0,\"run\"]},{\"export\":[0,\"walk\"]}",
-    )],
-    &[("\"func\":0", "\"func\":1")],
-    &[("}}]}", "}}],\"tunables\":{\"debug\":true}}")],
-    &[("}}]}", "}}],\"tunables\":{\"concurrency\":true}}")],
-    &[("}}]}", "}}],\"tunables\":{\"exceptions\":true}}")],
-    &[(
-        "\"core_type\":0}",
-        "\"core_type\":0,\"encoding\":\"utf16\"}",
-    )],
-    &[("\"core_type\":0}", "\"core_type\":0,\"async\":true}")],
-    &[("\"core_type\":0}", "\"core_type\":0,\"realloc\":0}")],
-    &[("\"core_type\":0}", "\"core_type\":0,\"callback\":0}")],
-    &[("\"core_type\":0}", "\"core_type\":0,\"post_return\":0}")],
-    &[(
-        "\"core_type\":0}",
-        "\"core_type\":0,\"memory\":{\"def\":0}}",
-    )],
-    &[("\"func\":0", "\"func\":0,\"transparent\":true")],
-    &[(
-        "\"adapters\":[{",
-        "\"adapters\":[{\"name\":\"g\",\"func\":0,\"lift\":{\"ty\":0,\"instance\":1,\"core_type\":0},\"lower\":{\"ty\":0,\"instance\":0,\"core_type\":0}},{",
-    )],
-    &[(
-        "\"adapters\":[{\"name\":\"f0\",\"func\":0,\"lift\":{\"ty\":0,\"instance\":1,\"core_type\":0},\"lower\":{\"ty\":0,\"instance\":0,\"core_type\":0}}]",
-        "\"adapters\":[]",
-    )],
+/// Plans that are all but plain numbers, each with what is told of it.
+const NEAR_MISSES: [(&str, &[(&str, &str)]); 29] = [
+    (
+        "refused: BadMemory at adapter 0",
+        &[(PARAMS, SEVENTEEN), (CORE, SEVENTEEN_CORE)],
+    ),
+    (
+        "refused: BadType at function 0",
+        &[
+            (PARAMS, "[[\"x\",\"u32\"],[\"x\",\"u32\"]],\"results\":[]"),
+            (CORE, "[\"i32\",\"i32\"],\"results\":[]"),
+        ],
+    ),
+    (
+        "refused: BadSignature at adapter 0",
+        &[
+            (PARAMS, "[[\"x\",\"u32\"],[\"y\",\"u64\"]],\"results\":[]"),
+            (CORE, "[\"i64\",\"i32\"],\"results\":[]"),
+        ],
+    ),
+    (
+        "refused: BadMemory at adapter 0",
+        &[
+            (PARAMS, "[],\"results\":[\"u32\",\"u32\"]"),
+            (CORE, "[],\"results\":[\"i32\",\"i32\"]"),
+        ],
+    ),
+    (
+        "refused: BadSignature at adapter 0",
+        &[("\"u32\"", "\"u64\"")],
+    ),
+    ("not built", &[("\"u32\"", "\"s32\"")]),
+    (
+        "refused: BadMemory at adapter 0",
+        &[("\"u32\"", "\"string\"")],
+    ),
+    ("refused: UnknownIndex at function 0", &[("\"u32\"", "0")]),
+    (
+        "refused: BadSignature at adapter 0",
+        &[("\"i32\"", "\"f32\"")],
+    ),
+    ("not built", &[("\"instance\":1", "\"instance\":0")]),
+    (
+        "refused: UnknownIndex at adapter 0",
+        &[("\"instance\":1", "\"instance\":2")],
+    ),
+    (
+        "refused: TooLarge at adapter 0",
+        &[
+            ("\"instances\":2", "\"instances\":4294967295"),
+            ("\"instance\":1", "\"instance\":2147483648"),
+        ],
+    ),
+    (
+        "refused: UnknownIndex at type 0",
+        &[("\"types\":[]", "\"types\":[{\"own\":0}]")],
+    ),
+    ("not built", &[("\"tables\":[]", "\"tables\":[[0,0]]")]),
+    (
+        "not built",
+        &[("{\"export\":[0,\"run\"]}", "{\"trampoline\":0}")],
+    ),
+    (
+        "not built",
+        &[(
+            "{\"export\":[0,\"run\"]}",
+            "{\"export\":[0,\"run\"]},{\"export\":[0,\"walk\"]}",
+        )],
+    ),
+    (
+        "refused: UnknownIndex at adapter 0",
+        &[("\"func\":0", "\"func\":1")],
+    ),
+    (
+        "not built",
+        &[("}}]}", "}}],\"tunables\":{\"debug\":true}}")],
+    ),
+    (
+        "not built",
+        &[("}}]}", "}}],\"tunables\":{\"concurrency\":true}}")],
+    ),
+    (
+        "not built",
+        &[("}}]}", "}}],\"tunables\":{\"exceptions\":true}}")],
+    ),
+    (
+        "not built",
+        &[(
+            "\"core_type\":0}",
+            "\"core_type\":0,\"encoding\":\"utf16\"}",
+        )],
+    ),
+    (
+        "refused: BadOptions at adapter 0",
+        &[("\"core_type\":0}", "\"core_type\":0,\"async\":true}")],
+    ),
+    (
+        "refused: BadMemory at adapter 0",
+        &[("\"core_type\":0}", "\"core_type\":0,\"realloc\":0}")],
+    ),
+    (
+        "refused: ImportConflict at adapter 0",
+        &[("\"core_type\":0}", "\"core_type\":0,\"callback\":0}")],
+    ),
+    (
+        "refused: ImportConflict at adapter 0",
+        &[("\"core_type\":0}", "\"core_type\":0,\"post_return\":0}")],
+    ),
+    (
+        "refused: ImportConflict at adapter 0",
+        &[(
+            "\"core_type\":0}",
+            "\"core_type\":0,\"memory\":{\"def\":0}}",
+        )],
+    ),
+    (
+        "not built",
+        &[("\"func\":0", "\"func\":0,\"transparent\":true")],
+    ),
+    (
+        "not built",
+        &[(
+            "\"adapters\":[{",
+            "\"adapters\":[{\"name\":\"g\",\"func\":0,\"lift\":{\"ty\":0,\"instance\":1,\"core_type\":0},\"lower\":{\"ty\":0,\"instance\":0,\"core_type\":0}},{",
+        )],
+    ),
+    (
+        "not built",
+        &[(
+            "\"adapters\":[{\"name\":\"f0\",\"func\":0,\"lift\":{\"ty\":0,\"instance\":1,\"core_type\":0},\"lower\":{\"ty\":0,\"instance\":0,\"core_type\":0}}]",
+            "\"adapters\":[]",
+        )],
+    ),
 ];
 
 #[test]
 fn near_misses_are_not_built(rt: HostRuntime) -> Result<(), Fail> {
-    for edits in NEAR_MISSES {
+    for (told, edits) in NEAR_MISSES {
         let text = edited(rt.alloc(), edits)?;
         assert!(rt; text.as_str() != "no such part");
+        let line = format!(in rt.alloc(); "{told}\n")?;
         end_with(
             &rt,
             rt.alloc(),
             &plain(text.as_str()),
-            Status::NotBuilt,
+            status_of_plan(told),
             "",
-            "not built\n",
+            line.as_str(),
         )?;
     }
     Ok(())

@@ -1,5 +1,5 @@
 use Rattle.fact_run.specs.declared.status.Status.TheVariants as status
-use Rattle.fact_run.proofs.Ends.{exactly, fault-end, json-end, long-end, unbuilt-end, plain-line, told, told-fault, is-end}
+use Rattle.fact_run.proofs.Ends.{exactly, fault-end, json-end, long-end, refused-end, unbuilt-end, plain-line, told, told-fault, told-refusal, is-end}
 use Rattle.fact_run.proofs.top.run.Goals as goal
 
 pub returns-clause-exactly_too_long : goal.returns-clause-exactly_too_long
@@ -11,6 +11,9 @@ returns-clause-exactly_not_json g c = exactly _ _ _ _ _ _ _ _ _ _ _ _ (json-end 
 pub returns-clause-exactly_bad_plan : goal.returns-clause-exactly_bad_plan
 returns-clause-exactly_bad_plan g c = exactly _ _ _ _ _ _ _ _ _ _ _ _ (fault-end _) c.ending_of-ending.ensures
 
+pub returns-clause-exactly_refused : goal.returns-clause-exactly_refused
+returns-clause-exactly_refused g c = exactly _ _ _ _ _ _ _ _ _ _ _ _ (refused-end _) c.ending_of-ending.ensures
+
 pub returns-clause-exactly_not_built : goal.returns-clause-exactly_not_built
 returns-clause-exactly_not_built g c = exactly _ _ _ _ _ _ _ _ _ _ _ _ (unbuilt-end _) c.ending_of-ending.ensures
 
@@ -20,8 +23,14 @@ returns-clause-bad_plan g c =
     (rw (c.as_bytes.ensures.value, c.line.ensures) at c.write_text.ensures.part) c.write_text.ensures.rose in
     told-fault _ _ _ _ _ _ _ (is-end _ _ _ _ _ _ _ _ status.BadPlan _ c.ending_of-ending.ensures e).1.0 line
 
+pub returns-clause-refused : goal.returns-clause-refused
+returns-clause-refused g c =
+    λ e. let line = told c.write_text.result _ _ _ _ _ (rw (c.as_bytes.ensures.value, c.line.ensures) at c.write_text.ensures.whole)
+    (rw (c.as_bytes.ensures.value, c.line.ensures) at c.write_text.ensures.part) c.write_text.ensures.rose in
+    told-refusal _ _ _ _ _ _ _ (is-end _ _ _ _ _ _ _ _ status.Refused _ c.ending_of-ending.ensures e).1.0 line
+
 pub returns-clause-told : goal.returns-clause-told
 returns-clause-told g c =
-    λ other. rw (← plain-line _ _ _ _ _ _ _ _ _ c.ending_of-ending.ensures other)
+    λ other told_otherwise. rw (← plain-line _ _ _ _ _ _ _ _ _ c.ending_of-ending.ensures other told_otherwise)
     (told c.write_text.result _ _ _ _ _ (rw (c.as_bytes.ensures.value, c.line.ensures) at c.write_text.ensures.whole)
     (rw (c.as_bytes.ensures.value, c.line.ensures) at c.write_text.ensures.part) c.write_text.ensures.rose)

@@ -1,7 +1,7 @@
 //! Why a plan is refused.
 
 ghost use Rattle.std.specs.Prelude.{◌≡◌};
-ghost use Rattle.fact_module.specs.declared.error.FuseError.TheVariants.{OutOfMemory};
+ghost use Rattle.fact_plan_types.specs.declared.error.FuseError.TheVariants.{OutOfMemory};
 
 use std::alloc::{AllocError, AllocFailed};
 use thiserror::Error;

@@ -1,0 +1,249 @@
+//! Which types agree, by the rules of a source type and a destination type.
+
+use crate::live::{are_live, is_live};
+use crate::words::{repeated, type_of};
+use fact_agreement::Agreement;
+use fact_builder::ComponentTypesBuilder;
+use fact_entity::PushError;
+use fact_types::InterfaceType;
+use std::alloc::Global;
+use std::process::Abort;
+use std::test::Fail;
+
+/// A source type, a destination type, and whether they agree.
+const ROWS: &str = "
+bool / bool = yes
+bool / u8 = no
+s8 / s8 = yes
+u8 / s8 = no
+u8 / u16 = no
+s16 / s16 = yes
+u16 / u16 = yes
+s32 / u32 = no
+u32 / f32 = no
+u32 / char = no
+s64 / s64 = yes
+u64 / f64 = no
+f32 / f32 = yes
+f64 / f32 = no
+char / char = yes
+string / string = yes
+string / char = no
+string / u8 list = no
+u8 list / string = no
+u8 list / u8 list = yes
+u8 list / s8 list = no
+u8 list list / u8 list list = yes
+u8 list list / u16 list list = no
+u8 list / u8 fixed:3 = no
+u8 fixed:3 / u8 list = no
+u8 list / u8 option = no
+string u32 map / string u32 map = yes
+string u32 map / char u32 map = no
+string u32 map / string u64 map = no
+u32 string map / string u32 map = no
+u8 u16 map / u8 u16 tuple:2 list = no
+u8 option / u8 option = yes
+u8 option / s8 option = no
+u8 option / u8 = no
+- u8 variant:none,some / u8 option = no
+u8 u16 tuple:2 / u8 u16 tuple:2 = yes
+u8 u16 tuple:2 / u16 u8 tuple:2 = no
+u8 u16 tuple:2 / u8 u16 u8 tuple:3 = no
+u8 u16 u8 tuple:3 / u8 u16 tuple:2 = no
+u8 u16 tuple:2 / u8 s16 tuple:2 = no
+u8 tuple:1 / u8 = no
+u8 u8 tuple:2 / u8 u8 record:0,1 = no
+u8 u16 record:a,b / u8 u16 record:a,b = yes
+u8 u16 record:a,b / u16 u8 record:b,a = yes
+u8 u16 record:a,b / u8 u16 record:b,a = no
+u8 u16 record:a,b / u8 u16 record:a,c = no
+u8 record:a / u8 u16 record:a,b = no
+u8 u16 record:a,b / u8 record:a = no
+u8 record:a / u8 record:A = no
+u8 record:a / s8 record:a = no
+u8 list u16 record:a,b / u16 u8 list record:b,a = yes
+u8 list u16 record:a,b / u16 s8 list record:b,a = no
+u8 - variant:a,b / u8 - variant:a,b = yes
+u8 - variant:a,b / - u8 - variant:c,a,b = yes
+u8 - variant:a,b / - u8 variant:b,a = yes
+- u8 - variant:c,a,b / u8 - variant:a,b = no
+u8 - variant:a,b / u8 - variant:a,c = no
+u8 - variant:a,b / s8 - variant:a,b = no
+u8 - variant:a,b / - - variant:a,b = no
+u8 - variant:a,b / u8 u8 variant:a,b = no
+- - variant:a,b / enum:a,b = no
+enum:a,b / - - variant:a,b = no
+u8 - result / u8 - result = yes
+- - result / - - result = yes
+u8 string result / u8 string result = yes
+u8 - result / - - result = no
+- - result / u8 - result = no
+u8 - result / - u8 result = no
+u8 string result / string u8 result = no
+u8 string result / u8 char result = no
+- u8 result / - s8 result = no
+u8 - variant:ok,error / u8 - result = no
+u16 fixed:3 / u16 fixed:3 = yes
+u16 fixed:3 / u16 fixed:4 = no
+u16 fixed:3 / s16 fixed:3 = no
+u16 fixed:2 / u16 u16 tuple:2 = no
+flags:a,b,c / flags:a,b,c = yes
+flags:a,b,c / flags:c,b,a = no
+flags:a,b / flags:a,b,c = no
+flags:a,b,c / flags:a,b = no
+flags:a,b / bool bool record:a,b = no
+enum:m,n / enum:m,n = yes
+enum:m,n / enum:n,m = no
+enum:m / enum:m,n = no
+enum:m,n / enum:m = no
+enum:a,b / flags:a,b = no
+own / own = yes
+own / borrow = no
+borrow / borrow = yes
+borrow / own = no
+own / u32 = no
+u32 / own = no
+u8 future / u8 future = yes
+u8 future / string future = yes
+- future / u8 future = yes
+u8 future / u8 stream = no
+string stream / - stream = yes
+- stream / - future = no
+error-context / error-context = yes
+error-context / own = no
+own u8 record:h,n / u8 own record:n,h = yes
+own list / borrow list = no
+- own variant:a,b / - borrow variant:a,b = no
+u8 future list option / s8 future list option = yes
+u8 record:a tuple:1 / u8 record:b tuple:1 = no
+- variant:a list / - - variant:a,b list = yes
+- - variant:a,b list / - variant:a list = no
+";
+
+/// Whether a type agrees with another, asked twice, and in lists.
+fn agreed(
+    rt: &impl Abort,
+    alloc: Global,
+    builder: &ComponentTypesBuilder,
+    from: InterfaceType,
+    to: InterfaceType,
+) -> Result<bool, PushError> {
+    assert!(rt; is_live(builder, &from) && is_live(builder, &to));
+    let mut agreement = Agreement::new(alloc, builder.component_types());
+    let answer = agreement.agrees(&from, &to)?;
+    assert_eq!(rt; agreement.agrees(&from, &to)?, answer);
+    assert_eq!(rt; agreement.agree_all(&[from], &[to])?, answer);
+    assert!(rt; !agreement.agree_all(&[from], &[])?);
+    Ok(answer)
+}
+
+/// Whether a type in words agrees with another.
+fn agree(
+    rt: &impl Abort,
+    alloc: Global,
+    builder: &mut ComponentTypesBuilder,
+    from: &str,
+    to: &str,
+) -> Result<bool, PushError> {
+    let source = type_of(rt, alloc, builder, from)?;
+    let destination = type_of(rt, alloc, builder, to)?;
+    agreed(rt, alloc, builder, source, destination)
+}
+
+/// Each row tells whether its types agree.
+fn say_rows(
+    rt: &impl Abort,
+    alloc: Global,
+    builder: &mut ComponentTypesBuilder,
+) -> Result<(), Fail> {
+    for row in ROWS.trim().lines() {
+        let (types, answer) = row.split_once(" = ").ok_or("no answer")?;
+        let (from, to) = types.split_once(" / ").ok_or("no destination")?;
+        let agrees = agree(rt, alloc, builder, from, to)?;
+        assert_eq!(rt; if agrees { "yes" } else { "no" }, answer, "{row}");
+    }
+    Ok(())
+}
+
+/// Lists of types, and whether they agree.
+const LISTS: &[(&[InterfaceType], &[InterfaceType], bool)] = &[
+    (&[], &[], true),
+    (&[], &[InterfaceType::U8], false),
+    (
+        &[InterfaceType::U8, InterfaceType::S8],
+        &[InterfaceType::U8, InterfaceType::S8],
+        true,
+    ),
+    (
+        &[InterfaceType::U8, InterfaceType::S8],
+        &[InterfaceType::S8, InterfaceType::U8],
+        false,
+    ),
+    (
+        &[InterfaceType::U8, InterfaceType::S8],
+        &[InterfaceType::U8, InterfaceType::U8],
+        false,
+    ),
+    (
+        &[InterfaceType::U8, InterfaceType::S8],
+        &[InterfaceType::U8],
+        false,
+    ),
+    (
+        &[InterfaceType::U8],
+        &[InterfaceType::U8, InterfaceType::S8],
+        false,
+    ),
+];
+
+/// Lists agree by place.
+fn say_lists(
+    rt: &impl Abort,
+    alloc: Global,
+    builder: &ComponentTypesBuilder,
+) -> Result<(), PushError> {
+    for (row, (from, to, agree)) in LISTS.iter().enumerate() {
+        assert!(rt; are_live(builder, from) && are_live(builder, to));
+        let mut agreement = Agreement::new(alloc, builder.component_types());
+        assert_eq!(rt; agreement.agree_all(from, to)?, *agree, "row {row}");
+    }
+    Ok(())
+}
+
+/// Each level holds the one below twice.
+const LEVEL: &str = "same tuple:2 list";
+
+/// Types that many others share are compared once: here there are 2 to the power of 60 pairs.
+fn say_shared(
+    rt: &impl Abort,
+    alloc: Global,
+    builder: &mut ComponentTypesBuilder,
+) -> Result<(), PushError> {
+    let fewer = repeated(alloc, "- variant:a", LEVEL, 60)?;
+    let more = repeated(alloc, "- - variant:b,a", LEVEL, 60)?;
+    assert!(rt; agree(rt, alloc, builder, fewer.as_str(), more.as_str())?);
+    assert!(rt; !agree(rt, alloc, builder, more.as_str(), fewer.as_str())?);
+    Ok(())
+}
+
+/// All of these.
+fn say_who_agrees(
+    rt: &impl Abort,
+    alloc: Global,
+    builder: &mut ComponentTypesBuilder,
+) -> Result<(), Fail> {
+    say_rows(rt, alloc, builder)?;
+    say_lists(rt, alloc, builder)?;
+    say_shared(rt, alloc, builder)?;
+    Ok(())
+}
+
+#[test]
+fn types_agree(rt: HostRuntime) -> Result<(), Fail> {
+    let mut builder = ComponentTypesBuilder::new(rt.alloc(), 7);
+    let said = say_who_agrees(&rt, rt.alloc(), &mut builder);
+    // A builder that is dropped by a call has one short proof, where the end of its scope has a long one.
+    drop(builder);
+    said
+}

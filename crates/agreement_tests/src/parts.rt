@@ -1,0 +1,124 @@
+//! What types have beside their members: names, and tables of handles.
+
+ghost use Rattle.std.specs.Prelude.{IsTrue, All};
+ghost use Rattle.fact_types.specs.Tables.{IsLiveMember};
+
+use crate::live::{is_live, is_live_payload};
+use fact_builder::ComponentTypesBuilder;
+use fact_entity::{AbstractResourceIndex, EntityRef, PushError, RuntimeComponentInstanceIndex};
+use fact_types::{
+    InterfaceType, Lookup, RecordField, TypeErrorContextTable, TypeFuture, TypeFutureTable,
+    TypeResourceTable, TypeStream, TypeStreamTable,
+};
+use fact_wasm::{Seq, Text};
+use indexmap::{IndexMap, IndexSet};
+use std::alloc::Global;
+use std::process::Abort;
+
+/// The names in a list of names.
+pub fn names_of(alloc: Global, list: &str) -> Result<IndexSet<Text>, PushError> {
+    let mut names = IndexSet::new(alloc);
+    for name in list.split(',') {
+        names.insert(Text::from_str(alloc, name)?)?;
+    }
+    Ok(names)
+}
+
+/// Fields of these names and types.
+pub fn fields_of(
+    alloc: Global,
+    list: &str,
+    types: &[InterfaceType],
+) -> Result<Seq<RecordField>, PushError> {
+    let mut fields = Seq::new(alloc);
+    for (name, ty) in list.split(',').zip(types) {
+        let name = Text::from_str(alloc, name)?;
+        fields.push(RecordField { name, ty: *ty })?;
+    }
+    Ok(fields)
+}
+
+/// Cases of these names and payloads.
+pub fn cases_of(
+    alloc: Global,
+    list: &str,
+    payloads: &[Option<InterfaceType>],
+) -> Result<IndexMap<Text, Option<InterfaceType>>, PushError> {
+    let mut cases = IndexMap::new(alloc);
+    for (name, payload) in list.split(',').zip(payloads) {
+        cases.insert(Text::from_str(alloc, name)?, *payload)?;
+    }
+    Ok(cases)
+}
+
+/// Whether the payload of each case, if any, is live.
+pub fn are_live_cases(
+    builder: &ComponentTypesBuilder,
+    cases: &IndexMap<Text, Option<InterfaceType>>,
+) -> bool
+    ensures { IsTrue result → All (λ c. IsLiveMember builder.now.tables c.1) cases.now.entries }
+{
+    cases
+        .iter()
+        .all(|(_, payload)| is_live_payload(builder, payload))
+}
+
+/// The instance of each table.
+fn instance() -> RuntimeComponentInstanceIndex {
+    RuntimeComponentInstanceIndex::from_u32(0)
+}
+
+/// A table of a resource.
+fn resource() -> TypeResourceTable {
+    TypeResourceTable::Abstract(AbstractResourceIndex::from_u32(0))
+}
+
+/// An own of a resource, of a table of its own.
+pub fn make_own(builder: &mut ComponentTypesBuilder) -> Result<InterfaceType, PushError> {
+    Ok(InterfaceType::Own(builder.push_resource_table(resource())?))
+}
+
+/// A borrow of a resource, of a table of its own.
+pub fn make_borrow(builder: &mut ComponentTypesBuilder) -> Result<InterfaceType, PushError> {
+    Ok(InterfaceType::Borrow(builder.push_resource_table(resource())?))
+}
+
+/// An error context.
+pub fn make_error_context(builder: &mut ComponentTypesBuilder) -> Result<InterfaceType, PushError> {
+    let table = TypeErrorContextTable {
+        instance: instance(),
+    };
+    Ok(InterfaceType::ErrorContext(builder.add_error_context_table_type(table)?))
+}
+
+/// A future, of a payload or of none.
+pub fn make_future(
+    rt: &impl Abort,
+    builder: &mut ComponentTypesBuilder,
+    payload: Option<InterfaceType>,
+) -> Result<InterfaceType, PushError> {
+    assert!(rt; is_live_payload(builder, &payload));
+    let ty = builder.add_future_type(TypeFuture { payload })?;
+    assert!(rt; builder.component_types().get(ty).is_some());
+    let table = TypeFutureTable {
+        ty,
+        instance: instance(),
+    };
+    Ok(InterfaceType::Future(builder.add_future_table_type(table)?))
+}
+
+/// A stream, of a payload or of none.
+pub fn make_stream(
+    rt: &impl Abort,
+    builder: &mut ComponentTypesBuilder,
+    payload: Option<InterfaceType>,
+) -> Result<InterfaceType, PushError> {
+    assert!(rt; is_live_payload(builder, &payload));
+    let ty = builder.add_stream_type(TypeStream { payload })?;
+    assert!(rt; builder.component_types().get(ty).is_some());
+    let table = TypeStreamTable {
+        ty,
+        instance: instance(),
+    };
+    Ok(InterfaceType::Stream(builder.add_stream_table_type(table)?))
+}

@@ -1,0 +1,232 @@
+//! Types in words: each word is a type, and stands behind the words of its members. `-` stands for a payload that is not
+//! there, `same` for the type before it once more; behind `:` stand names, or a number of members or of elements.
+
+use crate::live::{are_live, are_live_fields, is_live, is_live_payload};
+use crate::parts::{
+    are_live_cases, cases_of, fields_of, make_borrow, make_error_context, make_future, make_own,
+    make_stream, names_of,
+};
+use fact_builder::ComponentTypesBuilder;
+use fact_entity::PushError;
+use fact_making::{
+    make_enum, make_fixed_length_list, make_flags, make_list, make_map, make_option, make_record,
+    make_result, make_tuple, make_variant,
+};
+use fact_types::InterfaceType;
+use fact_wasm::Seq;
+use std::alloc::Global;
+use std::process::Abort;
+
+/// The type of a word that needs no table.
+fn scalar_of(word: &str) -> Option<InterfaceType> {
+    match word {
+        "bool" => Some(InterfaceType::Bool),
+        "s8" => Some(InterfaceType::S8),
+        "u8" => Some(InterfaceType::U8),
+        "s16" => Some(InterfaceType::S16),
+        "u16" => Some(InterfaceType::U16),
+        "s32" => Some(InterfaceType::S32),
+        "u32" => Some(InterfaceType::U32),
+        "s64" => Some(InterfaceType::S64),
+        "u64" => Some(InterfaceType::U64),
+        "f32" => Some(InterfaceType::Float32),
+        "f64" => Some(InterfaceType::Float64),
+        "char" => Some(InterfaceType::Char),
+        "string" => Some(InterfaceType::String),
+        _ => None,
+    }
+}
+
+/// The number behind a word.
+fn number_of(rt: &impl Abort, text: &str) -> u32 {
+    text.parse::<u32>().ok().expect(rt, "a number")
+}
+
+/// How many members a type has.
+fn count_of(rt: &impl Abort, kind: &str, behind: &str) -> usize {
+    match kind {
+        "list" | "option" | "fixed" | "future" | "stream" => 1,
+        "map" | "result" => 2,
+        "tuple" => number_of(rt, behind) as usize,
+        "record" | "variant" => behind.split(',').count(),
+        _ => 0,
+    }
+}
+
+/// A type with one member.
+fn make_of_one(
+    rt: &impl Abort,
+    builder: &mut ComponentTypesBuilder,
+    kind: &str,
+    behind: &str,
+    member: InterfaceType,
+) -> Result<InterfaceType, PushError> {
+    assert!(rt; is_live(builder, &member));
+    match kind {
+        "list" => make_list(builder, member),
+        "option" => make_option(builder, member),
+        _ => make_fixed_length_list(builder, member, number_of(rt, behind)),
+    }
+}
+
+/// A map of keys and values.
+fn make_of_two(
+    rt: &impl Abort,
+    builder: &mut ComponentTypesBuilder,
+    key: InterfaceType,
+    value: InterfaceType,
+) -> Result<InterfaceType, PushError> {
+    assert!(rt; is_live(builder, &key) && is_live(builder, &value));
+    make_map(builder, key, value)
+}
+
+/// A type with any number of members, none of them absent.
+fn make_of_many(
+    rt: &impl Abort,
+    alloc: Global,
+    builder: &mut ComponentTypesBuilder,
+    kind: &str,
+    behind: &str,
+    members: &[InterfaceType],
+) -> Result<InterfaceType, PushError> {
+    match (kind, members) {
+        ("tuple", _) => {
+            let types = Seq::from_vec(members.to_vec(alloc)?);
+            assert!(rt; are_live(builder, types.as_slice()));
+            make_tuple(alloc, builder, types)
+        }
+        ("record", _) => {
+            let fields = fields_of(alloc, behind, members)?;
+            assert!(rt; are_live_fields(builder, fields.as_slice()));
+            make_record(alloc, builder, fields)
+        }
+        (_, [key, value]) => make_of_two(rt, builder, *key, *value),
+        (_, [member]) => make_of_one(rt, builder, kind, behind, *member),
+        _ => Err(PushError::TooLarge),
+    }
+}
+
+/// The members, of which none is absent.
+fn present(
+    rt: &impl Abort,
+    alloc: Global,
+    members: &[Option<InterfaceType>],
+) -> Result<Vec<InterfaceType>, PushError> {
+    let mut types = Vec::new(alloc);
+    for member in members {
+        types.push(member.expect(rt, "a member"))?;
+    }
+    Ok(types)
+}
+
+/// A type whose members may be absent.
+fn make_of_payloads(
+    rt: &impl Abort,
+    alloc: Global,
+    builder: &mut ComponentTypesBuilder,
+    kind: &str,
+    behind: &str,
+    members: &[Option<InterfaceType>],
+) -> Result<InterfaceType, PushError> {
+    match (kind, members) {
+        ("variant", _) => {
+            let cases = cases_of(alloc, behind, members)?;
+            assert!(rt; are_live_cases(builder, &cases));
+            make_variant(alloc, builder, cases)
+        }
+        ("result", [ok, err]) => {
+            assert!(rt; is_live_payload(builder, ok) && is_live_payload(builder, err));
+            make_result(builder, *ok, *err)
+        }
+        ("future", [payload]) => make_future(rt, builder, *payload),
+        ("stream", [payload]) => make_stream(rt, builder, *payload),
+        _ => {
+            let types = present(rt, alloc, members)?;
+            make_of_many(rt, alloc, builder, kind, behind, types.as_slice())
+        }
+    }
+}
+
+/// The type of a word with its members.
+fn make(
+    rt: &impl Abort,
+    alloc: Global,
+    builder: &mut ComponentTypesBuilder,
+    word: &str,
+    members: &[Option<InterfaceType>],
+) -> Result<InterfaceType, PushError> {
+    let (kind, behind) = word.split_once(":").unwrap_or((word, ""));
+    match kind {
+        "own" => make_own(builder),
+        "borrow" => make_borrow(builder),
+        "error-context" => make_error_context(builder),
+        "flags" => make_flags(builder, names_of(alloc, behind)?),
+        "enum" => make_enum(builder, names_of(alloc, behind)?),
+        _ => make_of_payloads(rt, alloc, builder, kind, behind, members),
+    }
+}
+
+/// Takes the members of a word off those that were made.
+fn members_of(
+    rt: &impl Abort,
+    made: &mut Vec<Option<InterfaceType>>,
+    word: &str,
+) -> Result<Vec<Option<InterfaceType>>, PushError> {
+    let (kind, behind) = word.split_once(":").unwrap_or((word, ""));
+    let count = count_of(rt, kind, behind);
+    assert!(rt; count <= made.len());
+    Ok(made.split_off(made.len() - count)?)
+}
+
+/// The type of a word, behind those that were made.
+fn next_of(
+    rt: &impl Abort,
+    alloc: Global,
+    builder: &mut ComponentTypesBuilder,
+    made: &mut Vec<Option<InterfaceType>>,
+    word: &str,
+) -> Result<Option<InterfaceType>, PushError> {
+    if word == "-" {
+        return Ok(None);
+    }
+    if word == "same" {
+        return Ok(made.last().copied().flatten());
+    }
+    if let Some(ty) = scalar_of(word) {
+        return Ok(Some(ty));
+    }
+    let members = members_of(rt, made, word)?;
+    let ty = make(rt, alloc, builder, word, members.as_slice())?;
+    Ok(Some(ty))
+}
+
+/// The type of several words.
+pub fn type_of(
+    rt: &impl Abort,
+    alloc: Global,
+    builder: &mut ComponentTypesBuilder,
+    words: &str,
+) -> Result<InterfaceType, PushError> {
+    let mut made = Vec::new(alloc);
+    for word in words.split_whitespace() {
+        let next = next_of(rt, alloc, builder, &mut made, word)?;
+        made.push(next)?;
+    }
+    assert_eq!(rt; made.len(), 1);
+    Ok(made.pop().flatten().expect(rt, "one type"))
+}
+
+/// Words, and behind them others so many times.
+pub fn repeated(
+    alloc: Global,
+    words: &str,
+    others: &str,
+    times: usize,
+) -> Result<String, PushError> {
+    let mut text = String::from_str(alloc, words)?;
+    for _ in 0..times {
+        text.push_str(" ")?;
+        text.push_str(others)?;
+    }
+    Ok(text)
+}

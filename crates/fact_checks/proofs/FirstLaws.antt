@@ -1,0 +1,43 @@
+-- Faults that none is looked for before.
+use Rattle.std.proofs.Common.{◌≡◌, ℕ, zero, suc, ◌<◌, ◌+◌, refl, sym, ap, subst, ◌∙◌, inl, inr, arith}
+use Rattle.std.proofs.lemmas.Bool.{cases_lt}
+use Rattle.fact_plan_types.specs.Faults.{Fault, unknown_index, bad_type, too_large, bad_options, type_mismatch, bad_memory, bad_signature, import_conflict, duplicate_name, rank}
+
+-- the fault of a rank
+abbrev fault_at : ℕ → Fault
+fault_at zero = unknown_index
+fault_at (suc zero) = bad_type
+fault_at (suc (suc zero)) = too_large
+fault_at (suc (suc (suc zero))) = bad_options
+fault_at (suc (suc (suc (suc zero)))) = type_mismatch
+fault_at (suc (suc (suc (suc (suc zero))))) = bad_memory
+fault_at (suc (suc (suc (suc (suc (suc zero)))))) = bad_signature
+fault_at (suc (suc (suc (suc (suc (suc (suc zero))))))) = import_conflict
+fault_at (suc (suc (suc (suc (suc (suc (suc (suc n)))))))) = duplicate_name
+
+fault_at-rank : (f : Fault) → fault_at (rank f) ≡ f
+fault_at-rank unknown_index = refl
+fault_at-rank bad_type = refl
+fault_at-rank too_large = refl
+fault_at-rank bad_options = refl
+fault_at-rank type_mismatch = refl
+fault_at-rank bad_memory = refl
+fault_at-rank bad_signature = refl
+fault_at-rank import_conflict = refl
+fault_at-rank duplicate_name = refl
+
+-- faults of one rank are one
+pub same-rank : (f g : Fault) → rank f ≡ rank g → f ≡ g
+same-rank f g e = sym (fault_at-rank f) ∙ ap fault_at e ∙ fault_at-rank g
+
+-- There is no fault up to a rank.
+abbrev pub HasNoneBelow : (Fault → Type 0) → ℕ → Type 0
+HasNoneBelow Has n = (g : Fault) → rank g < n → Has g → ⊥
+
+-- nor up to the next one
+pub none-next : (Has : Fault → Type 0) (f : Fault) → HasNoneBelow Has (rank f) → (Has f → ⊥) → HasNoneBelow Has (rank f + 1)
+none-next Has f none absent g below h =
+    elim (cases_lt (rank g) (rank f)) [
+      | inl less ↦ none g less h
+      | inr more ↦ absent (subst Has (same-rank g f (omega (arith, below, more))) h)
+    ]

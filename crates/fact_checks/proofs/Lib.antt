@@ -1,0 +1,10 @@
+pub mod BindingLaws
+pub mod Decisions
+pub mod FaultLaws
+pub mod FirstLaws
+pub mod LinkLaws
+pub mod MismatchLaws
+pub mod PlanLaws
+pub mod StageLaws
+pub mod TupleLaws
+pub mod UseLaws

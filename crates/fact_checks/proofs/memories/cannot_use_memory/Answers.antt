@@ -1,0 +1,9 @@
+use Rattle.std.proofs.Common.{sym, subst, ◌∙◌}
+use Rattle.std.specs.Prelude.{◌↔◌, IsTrue}
+use Rattle.fact_checks.specs.AdapterRules.{IsByPointer}
+use Rattle.fact_checks.proofs.Decisions.{here, there, granted, denied, mapped}
+use Rattle.fact_checks.proofs.memories.cannot_use_memory.Goals as goal
+
+pub returns : goal.returns
+returns c = λ linked h.
+    there _ _ _ (denied _ _ (c.in_ok-lacks_needed_memory.ensures linked h) c.if-branch.false) (c.has_any_odd_memory.ensures _ linked h)

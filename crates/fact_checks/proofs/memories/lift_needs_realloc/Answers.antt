@@ -1,0 +1,10 @@
+use Rattle.std.proofs.Common.{sym, subst, ◌∙◌}
+use Rattle.std.specs.Prelude.{◌↔◌, IsTrue}
+use Rattle.fact_checks.specs.AdapterRules.{IsByPointer}
+use Rattle.fact_checks.proofs.Decisions.{here, there, granted, denied, mapped}
+use Rattle.fact_checks.proofs.memories.lift_needs_realloc.Goals as goal
+
+pub returns : goal.returns
+returns c = λ s h.
+    let t = c.takes_pointer.ensures _ _ h.signature in
+    there _ _ _ (denied _ _ (c.in_ok-lift_params_by_pointer.ensures s h) c.if-branch.false) (λ e. sym t ∙ e, λ e. t ∙ e)

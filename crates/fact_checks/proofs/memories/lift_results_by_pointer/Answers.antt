@@ -1,0 +1,11 @@
+use Rattle.std.proofs.Common.{sym, subst, ◌∙◌}
+use Rattle.std.specs.Prelude.{◌↔◌, IsTrue}
+use Rattle.fact_checks.specs.AdapterRules.{IsByPointer}
+use Rattle.fact_checks.proofs.Decisions.{here, there, granted, denied, mapped}
+use Rattle.fact_types.specs.Signatures.{lift_results_limit}
+use Rattle.fact_checks.proofs.memories.lift_results_by_pointer.Goals as goal
+
+pub returns : goal.returns
+returns c =
+    mapped c.is_by_pointer.result _ _ (λ found h s side.
+    rw (side.memory, side.async_side, ← c.lift_results_limit.ensures) (h s.results (c.results_of.ensures.shaped _ _ side.signature))) c.is_by_pointer.ensures

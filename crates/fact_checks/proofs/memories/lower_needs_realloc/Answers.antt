@@ -1,0 +1,8 @@
+use Rattle.std.proofs.Common.{sym, subst, ◌∙◌}
+use Rattle.std.specs.Prelude.{◌↔◌, IsTrue}
+use Rattle.fact_checks.specs.AdapterRules.{IsByPointer}
+use Rattle.fact_checks.proofs.Decisions.{here, there, granted, denied, mapped}
+use Rattle.fact_checks.proofs.memories.lower_needs_realloc.Goals as goal
+
+pub returns : goal.returns
+returns c = λ o s h. let g = c.gives_pointer.ensures _ _ h.signature in (λ e. sym g ∙ e, λ e. g ∙ e)

@@ -1,0 +1,87 @@
+-- The adapters of a plan, with all that they name looked up.
+use Rattle.std.specs.Prelude.{ℕ, Bool, List, Option, Some, None, slice_get, take}
+use Rattle.std.specs.List.{filter_map}
+use Rattle.fact_wasm.specs.declared.types.FuncType.{FuncType}
+use Rattle.fact_types.specs.declared.outside.CoreDef.{CoreDef}
+use Rattle.fact_types.specs.declared.outside.StringEncoding.{StringEncoding}
+use Rattle.fact_types.specs.Shapes.{Shape}
+use Rattle.fact_plan.specs.declared.plan.PlanMemory.{PlanMemory}
+use Rattle.fact_plan.specs.declared.plan.PlanSide.{PlanSide}
+use Rattle.fact_plan.specs.declared.plan.PlanAdapter.{PlanAdapter}
+use Rattle.fact_plan.specs.declared.plan.FusePlan.{FusePlan}
+use Rattle.fact_plan_types.specs.TypeRules.{param_shapes, result_shapes}
+use Rattle.fact_checks.specs.declared.adapter.MemoryOption.{MemoryOption}
+
+-- one side of an adapter: its instance, the shapes of the parameters and results of its function type, its core type, its
+-- options
+pub record Side : Type 0 where
+  pub instance : ℕ
+  pub params : List Shape
+  pub results : List Shape
+  pub async_type : Bool
+  pub core_type : FuncType
+  pub encoding : StringEncoding
+  pub async_side : Bool
+  pub memory : Option MemoryOption
+  pub realloc : Option CoreDef
+  pub callback : Option CoreDef
+  pub post_return : Option CoreDef
+
+-- the lift side gives the function that the lower side calls
+pub record LinkedAdapter : Type 0 where
+  pub name : List ℕ
+  pub callee : CoreDef
+  pub transparent : Bool
+  pub lift : Side
+  pub lower : Side
+
+infixl 10 ◌>>=◌
+abbrev ◌>>=◌ : {A B : Type 0} → Option A → (A → Option B) → Option B
+None >>= f = None
+Some x >>= f = f x
+
+-- the definition that an option names, where it names one: none where the plan lacks it
+abbrev pub def_of : FusePlan → Option ℕ → Option (Option CoreDef)
+def_of p None = Some None
+def_of p (Some k) = slice_get p.core_defs k >>= (λ d. Some (Some d))
+
+abbrev pub memory_of : FusePlan → Option PlanMemory → Option (Option MemoryOption)
+memory_of p None = Some None
+memory_of p (Some m) = slice_get p.core_defs m.def >>= (λ d. Some (Some (record { def = d; memory64 = m.memory64; shared = m.shared; page_size_log2 = m.page_size_log2 })))
+
+abbrev pub side_of : FusePlan → PlanSide → Option Side
+side_of p s = do
+  func ← slice_get p.funcs s.ty
+  core_type ← slice_get p.core_types s.core_type
+  memory ← memory_of p s.memory
+  realloc ← def_of p s.realloc
+  callback ← def_of p s.callback
+  post_return ← def_of p s.post_return
+  Some (record {
+    instance = s.instance;
+    params = param_shapes p func;
+    results = result_shapes p func;
+    async_type = func.async_;
+    core_type = core_type;
+    encoding = s.encoding;
+    async_side = s.async_;
+    memory = memory;
+    realloc = realloc;
+    callback = callback;
+    post_return = post_return;
+  })
+
+abbrev pub adapter_of : FusePlan → PlanAdapter → Option LinkedAdapter
+adapter_of p a = do
+  callee ← slice_get p.core_defs a.func
+  lift ← side_of p a.lift
+  lower ← side_of p a.lower
+  Some (record { name = a.name; callee = callee; transparent = a.transparent; lift = lift; lower = lower })
+
+-- The adapters of a plan, in order. A plan in which one of them names what is not there is refused, and has no module.
+abbrev pub adapters_of : FusePlan → List LinkedAdapter
+adapters_of p = filter_map (adapter_of p) p.adapters
+
+-- The adapters before a place.
+abbrev pub adapters_before : FusePlan → ℕ → List LinkedAdapter
+adapters_before p k = filter_map (adapter_of p) (take k p.adapters)

@@ -1,0 +1,96 @@
+//! What adapters have bound and exported.
+
+ghost use Rattle.std.specs.Prelude.{◌≡◌, ◌↔◌, List, [], IfOk, IsFalse, IsTrue};
+ghost use Rattle.std.specs.List.{flat_map};
+ghost use Rattle.fact_uses.specs.Bindings.{Covers};
+ghost use Rattle.fact_checks.specs.Adapters.{LinkedAdapter};
+ghost use Rattle.fact_checks.specs.AdapterRules.{HasBadMemory, HasDuplicateName, HasImportConflict, export_names, memories_of, reallocs_of, uses_of, with};
+ghost use Rattle.fact_checks.specs.Binding.{AreDistinct};
+ghost use Rattle.fact_checks.specs.Linked.{HasSides, IsLinked, IsTyped};
+
+use crate::adapter::Adapter;
+use crate::memories::cannot_use_memory;
+use crate::names::{add_all, names};
+use crate::sides::Candidate;
+use crate::uses::{Use, bind_all, is_callee_twice, memories, reallocs, uses};
+use fact_builder::ComponentTypesBuilder;
+use fact_uses::{Bindings, ExportNames};
+use fact_wasm::OutOfMemory;
+use std::alloc::Global;
+
+/// What the adapters so far have bound and exported.
+#[derive(Drop)]
+pub struct Bound {
+    // The memories and the reallocs, each with the instance of the side that names it.
+    pub(crate) memories: Bindings<u32>,
+    pub(crate) reallocs: Bindings<u32>,
+    pub(crate) uses: Bindings<Use>,
+    pub(crate) names: ExportNames,
+}
+
+/// Whether a memory or a realloc of an adapter is missing, cannot be used, or is named under another instance too. Where
+/// not, they are bound.
+pub(crate) fn has_bad_memory(
+    alloc: Global,
+    builder: &ComponentTypesBuilder,
+    bound_memories: &mut Bindings<u32>,
+    bound_reallocs: &mut Bindings<u32>,
+    adapter: &Adapter,
+) -> Result<bool, OutOfMemory>
+    requires { IsTyped builder.now adapter.now }
+    ensures exact { IfOk result (λ found. (before : List LinkedAdapter) (a : LinkedAdapter) → HasSides builder.now adapter.now a
+        → Covers bound_memories.old (flat_map memories_of before) → Covers bound_reallocs.old (flat_map reallocs_of before) → (IsTrue found ↔ HasBadMemory before a)) }
+    ensures memories { IfOk result (λ found. IsFalse found → (before : List LinkedAdapter) (a : LinkedAdapter) → HasSides builder.now adapter.now a
+        → Covers bound_memories.old (flat_map memories_of before) → Covers bound_memories.new (flat_map memories_of (with before a))) }
+    ensures reallocs { IfOk result (λ found. IsFalse found → (before : List LinkedAdapter) (a : LinkedAdapter) → HasSides builder.now adapter.now a
+        → Covers bound_reallocs.old (flat_map reallocs_of before) → Covers bound_reallocs.new (flat_map reallocs_of (with before a))) }
+{
+    if cannot_use_memory(builder, adapter)? {
+        return Ok(true);
+    }
+    if !bind_all(bound_memories, memories(alloc, adapter)?)? {
+        return Ok(true);
+    }
+    let fits = bind_all(bound_reallocs, reallocs(alloc, adapter)?)?;
+    Ok(!fits)
+}
+
+/// Whether an adapter uses a definition as two things, or as another one than those before. Where not, they are bound.
+pub(crate) fn has_import_conflict(
+    alloc: Global,
+    builder: &ComponentTypesBuilder,
+    bound: &mut Bindings<Use>,
+    adapter: &Adapter,
+) -> Result<bool, OutOfMemory>
+    requires { IsTyped builder.now adapter.now }
+    ensures exact { IfOk result (λ found. (before : List LinkedAdapter) (a : LinkedAdapter) → HasSides builder.now adapter.now a
+        → Covers bound.old (flat_map uses_of before) → (IsTrue found ↔ HasImportConflict before a)) }
+    ensures bound { IfOk result (λ found. IsFalse found → (before : List LinkedAdapter) (a : LinkedAdapter) → HasSides builder.now adapter.now a
+        → Covers bound.old (flat_map uses_of before) → Covers bound.new (flat_map uses_of (with before a))) }
+{
+    if is_callee_twice(adapter) {
+        return Ok(true);
+    }
+    let pairs = uses(alloc, builder, adapter)?;
+    let fits = bind_all(bound, pairs)?;
+    Ok(!fits)
+}
+
+/// Whether an adapter exports a name that is exported already, or twice. Where not, its names are exported.
+pub(crate) fn has_duplicate_name(
+    alloc: Global,
+    builder: &ComponentTypesBuilder,
+    exported: &mut ExportNames,
+    candidate: &Candidate<'_>,
+) -> Result<bool, OutOfMemory>
+    requires { IsTyped builder.now candidate.now.adapter.now }
+    ensures exact { IfOk result (λ found. (before : List LinkedAdapter) (a : LinkedAdapter) → IsLinked builder.now candidate.now a
+        → exported.old ≡ flat_map export_names before → AreDistinct exported.old → (IsTrue found ↔ HasDuplicateName before a)) }
+    ensures names { IfOk result (λ found. IsFalse found → (before : List LinkedAdapter) (a : LinkedAdapter) → IsLinked builder.now candidate.now a
+        → exported.old ≡ flat_map export_names before → exported.new ≡ flat_map export_names (with before a)) }
+    ensures distinct { IfOk result (λ found. IsFalse found → AreDistinct exported.old → AreDistinct exported.new) }
+{
+    let names = names(alloc, builder, candidate)?;
+    let fits = add_all(exported, names)?;
+    Ok(!fits)
+}

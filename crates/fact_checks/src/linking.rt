@@ -1,0 +1,145 @@
+//! Adapters of a plan, with what they name looked up.
+
+ghost use Rattle.std.specs.Prelude.{◌≡◌, ◌↔◌, ◌≤◌, ◌<◌, IfOk, IsTrue, Some, length, slice_get};
+ghost use Rattle.fact_entity.specs.declared.id.Id.{Id};
+ghost use Rattle.fact_entity.specs.declared.table.TypeFuncs.{TypeFuncs};
+ghost use Rattle.fact_plan_types.specs.PlanTypes.{AreTypesOf};
+ghost use Rattle.fact_checks.specs.Adapters.{def_of as def_named, memory_of as memory_named};
+ghost use Rattle.fact_checks.specs.AdapterRules.{AdapterLacks, IsPast, SideLacks, memory_def as memory_number};
+ghost use Rattle.fact_checks.specs.Links.{LinksAdapter, LinksSide};
+
+use crate::adapter::{Adapter, AdapterOptionsDfg, MemoryOption};
+use fact_entity::{EntityRef, RuntimeComponentInstanceIndex};
+use fact_plan::{FusePlan, PlanAdapter, PlanMemory, PlanSide};
+use fact_plan_types::PlanTypes;
+use fact_types::CoreDef;
+use fact_wasm::OutOfMemory;
+
+/// Whether a plan lacks the core definition of a number.
+fn lacks_def(plan: &FusePlan, def: u32) -> bool
+    ensures { IsTrue result ↔ (length plan.now.core_defs ≤ def) }
+{
+    plan.core_defs.len() <= def as usize
+}
+
+/// Whether a plan lacks the core definition that an option names.
+fn lacks_any(plan: &FusePlan, def: Option<u32>) -> bool
+    ensures { IsTrue result ↔ IsPast (length plan.now.core_defs) def }
+{
+    match def {
+        Some(def) => lacks_def(plan, def),
+        None => false,
+    }
+}
+
+/// Whether a plan lacks a function, a core type, an instance or a core definition that a side names.
+fn side_lacks(plan: &FusePlan, side: &PlanSide) -> bool
+    ensures { IsTrue result ↔ SideLacks plan.now side.now }
+{
+    plan.funcs.len() <= side.ty as usize
+        || plan.core_types.len() <= side.core_type as usize
+        || plan.instances <= side.instance
+        || lacks_any(plan, memory_def(side.memory))
+        || lacks_any(plan, side.realloc)
+        || lacks_any(plan, side.callback)
+        || lacks_any(plan, side.post_return)
+}
+
+/// The number of the core definition of a memory.
+fn memory_def(memory: Option<PlanMemory>) -> Option<u32>
+    ensures { result ≡ memory_number memory }
+{
+    match memory {
+        Some(memory) => Some(memory.def),
+        None => None,
+    }
+}
+
+/// Whether a plan lacks what an adapter names.
+pub(crate) fn adapter_lacks(plan: &FusePlan, adapter: &PlanAdapter) -> bool
+    ensures { IsTrue result ↔ AdapterLacks plan.now adapter.now }
+{
+    lacks_def(plan, adapter.func)
+        || side_lacks(plan, &adapter.lift)
+        || side_lacks(plan, &adapter.lower)
+}
+
+/// The core definition that an option names.
+fn def_of(plan: &FusePlan, def: Option<u32>) -> Result<Option<CoreDef>, OutOfMemory>
+    requires { IsPast (length plan.now.core_defs) def → ⊥ }
+    ensures { IfOk result (λ found. def_named plan.now def ≡ Some found) }
+{
+    match def {
+        Some(def) => {
+            let copy = plan.core_defs.as_slice()[def as usize].try_clone()?;
+            Ok(Some(copy))
+        }
+        None => Ok(None),
+    }
+}
+
+/// The memory that an option names.
+fn memory_of(
+    plan: &FusePlan,
+    memory: Option<PlanMemory>,
+) -> Result<Option<MemoryOption>, OutOfMemory>
+    requires { IsPast (length plan.now.core_defs) (memory_number memory) → ⊥ }
+    ensures { IfOk result (λ found. memory_named plan.now memory ≡ Some found) }
+{
+    match memory {
+        Some(memory) => {
+            let def = plan.core_defs.as_slice()[memory.def as usize].try_clone()?;
+            Ok(Some(MemoryOption {
+                def,
+                memory64: memory.memory64,
+                shared: memory.shared,
+                page_size_log2: memory.page_size_log2,
+            }))
+        }
+        None => Ok(None),
+    }
+}
+
+/// The options of a side.
+fn options_of(
+    plan: &FusePlan,
+    types: &PlanTypes,
+    side: &PlanSide,
+) -> Result<AdapterOptionsDfg, OutOfMemory>
+    requires types { AreTypesOf plan.now types.now }
+    requires there { SideLacks plan.now side.now → ⊥ }
+    ensures { IfOk result (λ o. (ty : Id TypeFuncs) → slice_get types.now.funcs side.now.ty ≡ Some ty → LinksSide plan.now types.now.builder side.now ty o) }
+{
+    Ok(AdapterOptionsDfg {
+        instance: RuntimeComponentInstanceIndex::from_u32(side.instance),
+        string_encoding: side.encoding,
+        memory: memory_of(plan, side.memory)?,
+        realloc: def_of(plan, side.realloc)?,
+        callback: def_of(plan, side.callback)?,
+        post_return: def_of(plan, side.post_return)?,
+        async_: side.async_,
+        core_type: types.core_types.as_slice()[side.core_type as usize],
+    })
+}
+
+/// An adapter that names nothing that a plan lacks, over the types of the plan.
+pub(crate) fn adapter_of(
+    plan: &FusePlan,
+    types: &PlanTypes,
+    adapter: &PlanAdapter,
+) -> Result<Adapter, OutOfMemory>
+    requires types { AreTypesOf plan.now types.now }
+    requires there { AdapterLacks plan.now adapter.now → ⊥ }
+    ensures { IfOk result (LinksAdapter plan.now types.now.builder adapter.now) }
+{
+    let func = plan.core_defs.as_slice()[adapter.func as usize].try_clone()?;
+    let lift_options = options_of(plan, types, &adapter.lift)?;
+    let lower_options = options_of(plan, types, &adapter.lower)?;
+    Ok(Adapter {
+        lift_ty: types.funcs.as_slice()[adapter.lift.ty as usize],
+        lift_options,
+        lower_ty: types.funcs.as_slice()[adapter.lower.ty as usize],
+        lower_options,
+        func,
+    })
+}

@@ -1,0 +1,13 @@
+pub mod AddLaws
+pub mod CoreLaws
+pub mod FaultLaws
+pub mod FuncLaws
+pub mod HandleLaws
+pub mod ListedLaws
+pub mod MemberLaws
+pub mod NameLaws
+pub mod PushLaws
+pub mod ReadyLaws
+pub mod ShapeLists
+pub mod StepLaws
+pub mod TableLaws

@@ -1,0 +1,29 @@
+use Rattle.std.proofs.Common.{Err, refl, ap, ◌∙◌, sym, subst, List, All}
+use Rattle.std.proofs.lemmas.Result.{err_from_is_err_and}
+use Rattle.fact_types.specs.declared.interface.InterfaceType.{InterfaceType}
+use Rattle.fact_types.specs.Shapes.{k_tuple}
+use Rattle.fact_types.specs.Tables.{placed, HasMembers, IsLive}
+use Rattle.fact_plan.specs.declared.plan.PlanType.TheVariants as entry
+use Rattle.fact_plan_types.specs.PlanShapes.{places_of}
+use Rattle.fact_plan_types.proofs.AddLaws.{makes_adds}
+use Rattle.fact_plan_types.proofs.MemberLaws.{placed_members}
+use Rattle.fact_plan_types.proofs.ReadyLaws.{no_memory_adds, none_of}
+use Rattle.fact_plan_types.proofs.entries.add_tuple.Goals as goal
+
+pub types_of-requires : goal.types_of-requires
+types_of-requires c = none_of _ c.args.members.now c.requires.known
+
+pub make_tuple-requires : goal.make_tuple-requires
+make_tuple-requires c = subst (All (IsLive c.args.builder.now.tables)) (sym c.from_vec.ensures) (c.in_ok-members.ensures.live c.args.builder.now.tables c.requires.live)
+
+pub returns-in_err-members : goal.returns-in_err-members
+returns-in_err-members c =
+    let p = err_from_is_err_and c.from_residual.result c.from_residual.ensures.1 in
+    no_memory_adds _ _ _ _ _ (p.1 ∙ ap Err p.2)
+
+pub returns : goal.returns
+returns c =
+    let t = c.args.builder.now.tables in
+    makes_adds _ _ c.args.types.now (entry.Tuple c.args.members.now) k_tuple _ (λ ss. places_of ss 0 c.args.members.now) _ c.make_tuple.ensures
+    (λ ss h. subst (λ (xs : List InterfaceType). HasMembers t (placed 0 xs) (places_of ss 0 c.args.members.now)) (sym c.from_vec.ensures) (placed_members t ss 0 _ c.args.members.now (c.in_ok-members.ensures.shaped t ss h)))
+    (λ ss h. refl) (λ ss h. refl) (λ ss. tt)

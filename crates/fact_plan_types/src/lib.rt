@@ -1,0 +1,16 @@
+//! The types and the functions of a plan: the rules that they have to keep, and their place in a builder.
+#![tactic(auto)]
+
+mod core_types;
+mod entries;
+mod error;
+mod funcs;
+mod handles;
+mod members;
+mod names;
+mod plan_types;
+mod rules;
+mod types;
+
+pub use error::{FuseError, Place};
+pub use plan_types::PlanTypes;

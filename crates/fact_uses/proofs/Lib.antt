@@ -1,0 +1,5 @@
+pub mod BindingLaws
+pub mod FrontLaws
+mod ItemLaws
+pub mod NameLaws
+mod PairLaws

@@ -1,0 +1,15 @@
+-- Items that are bound to values, as pairs.
+use Rattle.std.specs.Prelude.{◌≡◌, ◌≢◌, ◌↔◌, List, Contains, Any, AllPairs}
+
+-- No item is bound to two values.
+abbrev pub AreConsistent : {D V : Type 0} → List (D × V) → Type 0
+AreConsistent xs = AllPairs (λ a b. a.0 ≡ b.0 → a.1 ≡ b.1) xs
+
+-- The pairs of m are those of xs, and m has one pair an item.
+pub record Covers {D V : Type 0} (m xs : List (D × V)) : Type 0 where
+  pub same : (p : D × V) → Contains m p ↔ Contains xs p
+  pub once : AllPairs (λ a b. a.0 ≢ b.0) m
+
+-- An item is bound to another value than this one.
+abbrev pub IsBoundToAnother : {D V : Type 0} → List (D × V) → D → V → Type 0
+IsBoundToAnother xs d v = Any (λ p. (p.0 ≡ d) × (p.1 ≢ v)) xs
