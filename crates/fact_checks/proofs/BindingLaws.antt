@@ -1,5 +1,5 @@
 -- Bindings and names, one call behind the other.
-use Rattle.std.proofs.Common.{◌≡◌, ◌≢◌, ℕ, Bool, true, false, List, [], ◌∷◌, ◌++◌, length, AllPairs, arith, refl, sym, ap, subst, ◌∙◌}
+use Rattle.std.proofs.Common.{◌≡◌, ℕ, Bool, true, false, List, [], ◌∷◌, ◌++◌, length, arith, refl, sym, ap, subst, ◌∙◌}
 use Rattle.std.specs.Prelude.{IsTrue, IsFalse, Contains}
 use Rattle.std.specs.List.{flat_map}
 use Rattle.std.proofs.lemmas.Grind.{flat_map-append}
@@ -8,7 +8,6 @@ use Rattle.fact_types.specs.declared.outside.CoreDef.{CoreDef}
 use Rattle.fact_uses.specs.Bindings.{AreConsistent, Covers, IsBoundToAnother}
 use Rattle.fact_uses.proofs.BindingLaws.{not_consistent}
 use Rattle.fact_uses.proofs.NameLaws.{not_distinct}
-use Rattle.fact_plan_types.specs.TypeRules.{IsRepeated}
 use Rattle.fact_checks.specs.Binding.{AddsNames, AreDistinct, Binds}
 
 -- what a list of lists gives, with one more

@@ -1,7 +1,7 @@
 -- Faults that none is looked for before.
 use Rattle.std.proofs.Common.{◌≡◌, ℕ, zero, suc, ◌<◌, ◌+◌, refl, sym, ap, subst, ◌∙◌, inl, inr, arith}
 use Rattle.std.proofs.lemmas.Bool.{cases_lt}
-use Rattle.fact_plan_types.specs.Faults.{Fault, unknown_index, bad_type, too_large, bad_options, type_mismatch, bad_memory, bad_signature, import_conflict, duplicate_name, rank}
+use Rattle.fact_plan_types.specs.Faults.{Fault, IsFirstFault, unknown_index, bad_type, too_large, bad_options, type_mismatch, bad_memory, bad_signature, import_conflict, duplicate_name, rank}
 
 -- the fault of a rank
 abbrev fault_at : ℕ → Fault
@@ -41,3 +41,15 @@ none-next Has f none absent g below h =
       | inl less ↦ none g less h
       | inr more ↦ absent (subst Has (same-rank g f (omega (arith, below, more))) h)
     ]
+
+-- numbers neither of which is less
+neither-less : (m n : ℕ) → (m < n → ⊥) → (n < m → ⊥) → m ≡ n
+neither-less m n less more = omega (arith, less, more)
+
+-- The first fault of a list of entries is one, and stands at one place.
+pub one-entry : (Has : ℕ → Fault → Type 0) (j k : ℕ) (f g : Fault) → IsFirstFault Has j f → IsFirstFault Has k g → (f ≡ g) × (j ≡ k)
+one-entry Has j k f g a b =
+    let same_place = neither-less j k (λ less. b.no_entry_before j f less a.has) (λ less. a.no_entry_before k g less b.has) in
+    let a_there : Has k f = subst (λ i. Has i f) same_place a.has in
+    let b_there : Has j g = subst (λ i. Has i g) (sym same_place) b.has in
+    (same-rank f g (neither-less (rank f) (rank g) (λ less. b.no_rule_before f less a_there) (λ less. a.no_rule_before g less b_there)), same_place)

@@ -69,7 +69,7 @@ module _ (p : FusePlan) (k : ℕ) (x : PlanAdapter) (there : slice_get p.adapter
     }
 
     -- it is the last of those before the next place
-    before-next : adapters_before p (k + 1) ≡ adapters_before p k ++ linked ∷ []
+    pub before-next : adapters_before p (k + 1) ≡ adapters_before p k ++ linked ∷ []
     before-next =
         ap (filter_map (adapter_of p)) (take_more p.adapters k x (slice_get_within _ _ _ there)) ∙ filter_map-append (adapter_of p) (take k p.adapters) _
         ∙ (rw (get_or_from_slice_get _ _ _ x there, is) refl)

@@ -22,7 +22,7 @@ exact_bool true true h = refl
 exact_bool false false h = refl
 exact_bool a b h = absurd (true≢false (sym h))
 
-exact_value : (a b : ValType) → val_eq.ghosts.eq a b ≡ true → a ≡ b
+pub exact_value : (a b : ValType) → val_eq.ghosts.eq a b ≡ true → a ≡ b
 exact_value I32 I32 h = refl
 exact_value I64 I64 h = refl
 exact_value F32 F32 h = refl
@@ -30,7 +30,7 @@ exact_value F64 F64 h = refl
 exact_value FuncRef FuncRef h = refl
 exact_value a b h = absurd (true≢false (sym h))
 
-exact_func : (a b : FuncType) → func_eq.ghosts.eq a b ≡ true → a ≡ b
+pub exact_func : (a b : FuncType) → func_eq.ghosts.eq a b ≡ true → a ≡ b
 exact_func a b h =
     let e1 = exact_list val_eq.ghosts.eq exact_value a.params b.params (first_so _ _ h) in
     let e2 = exact_list val_eq.ghosts.eq exact_value a.results b.results (second_so _ _ h) in

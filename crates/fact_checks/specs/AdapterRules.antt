@@ -1,5 +1,5 @@
 -- The rules for the adapters of a plan, each looked at behind those before it.
-use Rattle.std.specs.Prelude.{◌≡◌, ◌≢◌, ℕ, ◌<◌, ◌≤◌, ◌⊎◌, Bool, true, false, ◌&&◌, ◌||◌, not, nat_eq, List, [], ◌∷◌, ◌++◌, length, Option, Some, None, slice_get, IsSome, IsNone, IsSomeAnd, is_some, IsTrue, MatchBool, codes, if◌then◌else◌}
+use Rattle.std.specs.Prelude.{◌≡◌, ◌≢◌, ℕ, ◌<◌, ◌≤◌, ◌⊎◌, Bool, false, ◌&&◌, ◌||◌, not, nat_eq, List, [], ◌∷◌, ◌++◌, length, Option, Some, None, slice_get, IsSome, IsNone, IsSomeAnd, is_some, IsTrue, MatchBool, codes, if◌then◌else◌}
 use Rattle.std.specs.List.{list_any, flat_map}
 use Rattle.fact_wasm.specs.declared.types.ValType.TheVariants as val
 use Rattle.fact_wasm.specs.declared.types.FuncType.{FuncType}
@@ -16,7 +16,7 @@ use Rattle.fact_plan.specs.declared.plan.PlanMemory.{PlanMemory}
 use Rattle.fact_plan.specs.declared.plan.PlanSide.{PlanSide}
 use Rattle.fact_plan.specs.declared.plan.PlanAdapter.{PlanAdapter}
 use Rattle.fact_plan.specs.declared.plan.FusePlan.{FusePlan}
-use Rattle.fact_plan_types.specs.Faults.{Fault, unknown_index, bad_type, too_large, bad_options, type_mismatch, bad_memory, bad_signature, import_conflict, duplicate_name}
+use Rattle.fact_plan_types.specs.Faults.{Fault, unknown_index, too_large, bad_options, type_mismatch, bad_memory, bad_signature, import_conflict, duplicate_name}
 use Rattle.fact_plan_types.specs.TypeRules.{IsRepeated, most_entries}
 use Rattle.fact_checks.specs.declared.adapter.MemoryOption.{MemoryOption}
 use Rattle.fact_checks.specs.declared.uses.Use.{Use}

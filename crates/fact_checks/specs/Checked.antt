@@ -46,3 +46,8 @@ IsSound old new candidate = IsSoundOver old.builder old.concurrency old.bound ne
 
 abbrev pub IsFirstOf : Checks → Candidate → Fault → Type 0
 IsFirstOf c candidate f = IsFirstOver c.builder c.concurrency c.bound candidate f
+
+-- Behind the adapters that were checked it has no fault.
+abbrev pub IsFaultlessBehind : Checks → Candidate → Type 0
+IsFaultlessBehind c candidate =
+    (before : List LinkedAdapter) (a : LinkedAdapter) → AreChecked c before → IsLinked c.builder candidate a → (f : Fault) → LinkedHas c.concurrency before a f → ⊥

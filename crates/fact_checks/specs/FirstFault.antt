@@ -1,6 +1,5 @@
 -- The first fault of a plan: types before functions before adapters, each list from its front, and at an entry the kinds of
 -- faults in their order.
-use Rattle.std.specs.Prelude.{ℕ}
 use Rattle.fact_plan.specs.declared.plan.FusePlan.{FusePlan}
 use Rattle.fact_plan_types.specs.declared.error.Place.{Place}
 use Rattle.fact_plan_types.specs.declared.error.Place.TheVariants.{TypeEntry, Func, Adapter}

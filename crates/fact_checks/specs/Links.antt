@@ -1,5 +1,5 @@
 -- An adapter of a plan that was made over the types of the plan, and what the checks know when they come to a place.
-use Rattle.std.specs.Prelude.{◌≡◌, ℕ, ◌<◌, ◌≤◌, List, Some, slice_get}
+use Rattle.std.specs.Prelude.{◌≡◌, ℕ, ◌<◌, ◌≤◌, Some}
 use Rattle.fact_entity.specs.declared.id.Id.{Id}
 use Rattle.fact_entity.specs.declared.table.TypeFuncs.{TypeFuncs}
 use Rattle.fact_builder.specs.Builder.{Builder}

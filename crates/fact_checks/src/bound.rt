@@ -1,8 +1,9 @@
 //! What adapters have bound and exported.
 
-ghost use Rattle.std.specs.Prelude.{◌≡◌, ◌↔◌, List, [], IfOk, IsFalse, IsTrue};
+ghost use Rattle.std.specs.Prelude.{◌≡◌, ◌↔◌, List, [], IfOk, IsFalse, IsTrue, length, take};
 ghost use Rattle.std.specs.List.{flat_map};
 ghost use Rattle.fact_uses.specs.Bindings.{Covers};
+ghost use Rattle.fact_uses.specs.Fronts.{IsFront};
 ghost use Rattle.fact_checks.specs.Adapters.{LinkedAdapter};
 ghost use Rattle.fact_checks.specs.AdapterRules.{HasBadMemory, HasDuplicateName, HasImportConflict, export_names, memories_of, reallocs_of, uses_of, with};
 ghost use Rattle.fact_checks.specs.Binding.{AreDistinct};
@@ -28,6 +29,44 @@ pub struct Bound {
     pub(crate) names: ExportNames,
 }
 
+/// How much was bound and exported at some time.
+#[derive(Clone, Copy)]
+pub(crate) struct Lengths {
+    pub(crate) memories: usize,
+    pub(crate) reallocs: usize,
+    pub(crate) uses: usize,
+    pub(crate) names: usize,
+}
+
+impl Bound {
+    /// How much is bound and exported now.
+    pub(crate) fn lengths(&self) -> Lengths
+        ensures { result ≡ record { memories = length self.now.memories; reallocs = length self.now.reallocs; uses = length self.now.uses; names = length self.now.names } }
+    {
+        Lengths {
+            memories: self.memories.len(),
+            reallocs: self.reallocs.len(),
+            uses: self.uses.len(),
+            names: self.names.len(),
+        }
+    }
+
+    /// Forgets all that was bound and exported behind these lengths.
+    pub(crate) fn truncate(&mut self, lengths: Lengths)
+        ensures { self.new ≡ record {
+          memories = take lengths.memories self.old.memories;
+          reallocs = take lengths.reallocs self.old.reallocs;
+          uses = take lengths.uses self.old.uses;
+          names = take lengths.names self.old.names;
+        } }
+    {
+        self.memories.truncate(lengths.memories);
+        self.reallocs.truncate(lengths.reallocs);
+        self.uses.truncate(lengths.uses);
+        self.names.truncate(lengths.names);
+    }
+}
+
 /// Whether a memory or a realloc of an adapter is missing, cannot be used, or is named under another instance too. Where
 /// not, they are bound.
 pub(crate) fn has_bad_memory(
@@ -44,6 +83,8 @@ pub(crate) fn has_bad_memory(
         → Covers bound_memories.old (flat_map memories_of before) → Covers bound_memories.new (flat_map memories_of (with before a))) }
     ensures reallocs { IfOk result (λ found. IsFalse found → (before : List LinkedAdapter) (a : LinkedAdapter) → HasSides builder.now adapter.now a
         → Covers bound_reallocs.old (flat_map reallocs_of before) → Covers bound_reallocs.new (flat_map reallocs_of (with before a))) }
+    ensures memories_front { IsFront bound_memories.old bound_memories.new }
+    ensures reallocs_front { IsFront bound_reallocs.old bound_reallocs.new }
 {
     if cannot_use_memory(builder, adapter)? {
         return Ok(true);
@@ -67,6 +108,7 @@ pub(crate) fn has_import_conflict(
         → Covers bound.old (flat_map uses_of before) → (IsTrue found ↔ HasImportConflict before a)) }
     ensures bound { IfOk result (λ found. IsFalse found → (before : List LinkedAdapter) (a : LinkedAdapter) → HasSides builder.now adapter.now a
         → Covers bound.old (flat_map uses_of before) → Covers bound.new (flat_map uses_of (with before a))) }
+    ensures front { IsFront bound.old bound.new }
 {
     if is_callee_twice(adapter) {
         return Ok(true);
@@ -89,6 +131,7 @@ pub(crate) fn has_duplicate_name(
     ensures names { IfOk result (λ found. IsFalse found → (before : List LinkedAdapter) (a : LinkedAdapter) → IsLinked builder.now candidate.now a
         → exported.old ≡ flat_map export_names before → exported.new ≡ flat_map export_names (with before a)) }
     ensures distinct { IfOk result (λ found. IsFalse found → AreDistinct exported.old → AreDistinct exported.new) }
+    ensures front { IsFront exported.old exported.new }
 {
     let names = names(alloc, builder, candidate)?;
     let fits = add_all(exported, names)?;

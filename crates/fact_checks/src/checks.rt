@@ -1,9 +1,10 @@
 //! The checks of adapters, one behind the other.
 
-ghost use Rattle.std.specs.Prelude.{◌≡◌, [], IfErr, IfSome, OnOk};
+ghost use Rattle.std.specs.Prelude.{◌≡◌, [], IfErr, IfSome, OnErr, OnOk};
 ghost use Rattle.fact_plan_types.specs.PlanTypes.{told};
 ghost use Rattle.fact_plan_types.specs.declared.error.Place.TheVariants as place_at;
-ghost use Rattle.fact_checks.specs.Checked.{IsFirstOf, IsFirstOver, IsSound, IsSoundOver};
+ghost use Rattle.fact_uses.specs.Fronts.{IsFront};
+ghost use Rattle.fact_checks.specs.Checked.{IsFaultlessBehind, IsFirstOf, IsFirstOver, IsSound, IsSoundOver};
 ghost use Rattle.fact_checks.specs.Linked.{IsTyped};
 
 use crate::bound::{Bound, has_bad_memory, has_duplicate_name, has_import_conflict};
@@ -18,7 +19,8 @@ use fact_uses::{Bindings, ExportNames};
 use std::alloc::Global;
 use std::marker::Model;
 
-/// Checks an adapter behind those that are bound, and binds it where it has no fault.
+/// Checks an adapter behind those that are bound, and binds it where it has no fault. Where it has one, parts of it may be
+/// bound behind what was.
 fn check_behind(
     alloc: Global,
     builder: &ComponentTypesBuilder,
@@ -33,6 +35,10 @@ fn check_behind(
     ensures same { agreement.new ≡ agreement.old }
     ensures sound { OnOk result (IsSoundOver builder.now concurrency bound.old bound.new candidate.now) }
     ensures refused { IfErr result (λ e. IfSome (told e) (λ x. IsFirstOver builder.now concurrency bound.old candidate.now x.0 × (x.1 ≡ place))) }
+    ensures memories { IsFront bound.old.memories bound.new.memories }
+    ensures reallocs { IsFront bound.old.reallocs bound.new.reallocs }
+    ensures uses { IsFront bound.old.uses bound.new.uses }
+    ensures names { IsFront bound.old.names bound.new.names }
 {
     let adapter = candidate.adapter;
     if has_bad_options(builder, concurrency, candidate) {
@@ -108,15 +114,17 @@ impl<'a> AdapterChecks<'a> {
     }
 
     /// Checks an adapter behind those that were found sound, and tells its first fault, with its number as place. Where it
-    /// has none, it is one of those that the next one is checked behind.
+    /// has none, it is one of those that the next one is checked behind; after an error nothing of it is kept.
     pub fn check(&mut self, number: u32, candidate: &Candidate<'_>) -> Result<(), FuseError>
         requires { IsTyped self.old.builder candidate.now.adapter.now }
         ensures builder { self.new.builder ≡ self.old.builder }
         ensures concurrency { self.new.concurrency ≡ self.old.concurrency }
         ensures sound { OnOk result (IsSound self.old self.new candidate.now) }
         ensures refused { IfErr result (λ e. IfSome (told e) (λ x. IsFirstOf self.old candidate.now x.0 × (x.1 ≡ place_at.Adapter number))) }
+        ensures unchanged { OnErr result (self.new ≡ self.old) }
     {
-        check_behind(
+        let lengths = self.bound.lengths();
+        let checked = check_behind(
             self.alloc,
             self.builder,
             self.concurrency,
@@ -124,6 +132,32 @@ impl<'a> AdapterChecks<'a> {
             &mut self.bound,
             Place::Adapter(number),
             candidate,
-        )
+        );
+        if checked.is_err() {
+            self.bound.truncate(lengths);
+        }
+        checked
+    }
+
+    /// Tells the first fault of an adapter behind those that were found sound, as [`AdapterChecks::check`] does, and keeps
+    /// nothing of it.
+    pub fn judge(&mut self, number: u32, candidate: &Candidate<'_>) -> Result<(), FuseError>
+        requires { IsTyped self.old.builder candidate.now.adapter.now }
+        ensures unchanged { self.new ≡ self.old }
+        ensures faultless { OnOk result (IsFaultlessBehind self.old candidate.now) }
+        ensures refused { IfErr result (λ e. IfSome (told e) (λ x. IsFirstOf self.old candidate.now x.0 × (x.1 ≡ place_at.Adapter number))) }
+    {
+        let lengths = self.bound.lengths();
+        let judged = check_behind(
+            self.alloc,
+            self.builder,
+            self.concurrency,
+            &mut self.agreement,
+            &mut self.bound,
+            Place::Adapter(number),
+            candidate,
+        );
+        self.bound.truncate(lengths);
+        judged
     }
 }

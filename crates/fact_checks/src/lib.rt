@@ -20,5 +20,5 @@ mod uses;
 pub use adapter::{Adapter, AdapterOptionsDfg, MemoryOption};
 pub use checks::AdapterChecks;
 pub use fact_plan_types::{FuseError, Place};
-pub use plan::check_plan;
-pub use sides::Candidate;
+pub use plan::{check_plan, linked_adapter, one_first_fault};
+pub use sides::{Candidate, params_of, results_of};

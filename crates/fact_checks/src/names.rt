@@ -1,6 +1,7 @@
 //! The names that adapters export.
 
 ghost use Rattle.std.specs.Prelude.{◌≡◌, ◌++◌, IfOk, OnOk};
+ghost use Rattle.fact_uses.specs.Fronts.{IsFront};
 ghost use Rattle.fact_checks.specs.AdapterRules.{export_names, part_names};
 ghost use Rattle.fact_checks.specs.Adapters.{LinkedAdapter};
 ghost use Rattle.fact_checks.specs.Binding.{AddsNames};
@@ -12,9 +13,10 @@ use fact_uses::ExportNames;
 use fact_wasm::{OutOfMemory, Text};
 use std::alloc::Global;
 
-/// Adds names, in order. Answers false where one is there already.
+/// Adds names, in order. Answers false where one is there already. The names before stay in front.
 pub(crate) fn add_all(exported: &mut ExportNames, names: Vec<Text>) -> Result<bool, OutOfMemory>
-    ensures { IfOk result (λ fits. AddsNames exported.old exported.new names.items fits) }
+    ensures adds { IfOk result (λ fits. AddsNames exported.old exported.new names.items fits) }
+    ensures front { IsFront exported.old exported.new }
 {
     for name in names {
         if !exported.add(name)? {

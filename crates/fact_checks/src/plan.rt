@@ -1,12 +1,17 @@
 //! The checks of a plan.
 
-ghost use Rattle.std.specs.Prelude.{◌≡◌, ◌↔◌, ◌⊎◌, ◌<◌, ◌≤◌, ◌+◌, IfErr, IfSome, IsTrue, OnOk, Some, slice_get};
+ghost use Rattle.std.specs.Prelude.{◌≡◌, ◌↔◌, ◌⊎◌, ◌<◌, ◌≤◌, ◌+◌, IfErr, IfOk, IfSome, IsTrue, OnOk, Some, slice_get};
+ghost use Rattle.fact_plan.specs.declared.plan.FusePlan.{FusePlan};
+ghost use Rattle.fact_plan_types.specs.Faults.{Fault};
+ghost use Rattle.fact_plan_types.specs.declared.error.Place.{Place};
 ghost use Rattle.fact_plan_types.specs.PlanTypes.{AreFaultless, AreTypesOf, told};
 ghost use Rattle.fact_plan_types.specs.TypeRules.{most_entries};
-ghost use Rattle.fact_checks.specs.AdapterRules.{most_instance};
-ghost use Rattle.fact_checks.specs.Links.{IsAt, IsFirstHere};
+ghost use Rattle.fact_plan_types.specs.Faults.{too_large};
+ghost use Rattle.fact_checks.specs.AdapterRules.{AdapterHas, AdapterLacks, most_instance};
+ghost use Rattle.fact_checks.specs.Links.{IsAt, IsFirstHere, LinksAdapter};
 ghost use Rattle.fact_checks.specs.FirstFault.{IsFaultless, IsFirstAt};
 
+use crate::adapter::Adapter;
 use crate::checks::AdapterChecks;
 use crate::linking::{adapter_lacks, adapter_of};
 use crate::sides::Candidate;
@@ -29,6 +34,32 @@ fn is_large(k: usize, adapter: &PlanAdapter) -> bool
         || adapter.lower.instance > MOST_INSTANCE
 }
 
+/// The adapter at a place of a plan, over the types of the plan. It is refused where it names what the plan lacks, and where
+/// its place or the number of one of its instances is too large.
+pub fn linked_adapter(
+    plan: &FusePlan,
+    types: &PlanTypes,
+    k: usize,
+    adapter: &PlanAdapter,
+) -> Result<Adapter, FuseError>
+    requires types { AreTypesOf plan.now types.now }
+    requires there { slice_get plan.now.adapters k ≡ Some adapter.now }
+    requires few { k ≤ most_entries }
+    ensures links { IfOk result (LinksAdapter plan.now types.now.builder adapter.now) }
+    ensures known { OnOk result (AdapterLacks plan.now adapter.now → ⊥) }
+    ensures small { OnOk result (AdapterHas plan.now k adapter.now too_large → ⊥) }
+    ensures refused { IfErr result (λ e. IfSome (told e) (λ x. IsFirstHere plan.now k x.0 x.1)) }
+{
+    let number = k as u32;
+    if adapter_lacks(plan, adapter) {
+        return Err(FuseError::UnknownIndex(Place::Adapter(number)));
+    }
+    if is_large(k, adapter) {
+        return Err(FuseError::TooLarge(Place::Adapter(number)));
+    }
+    Ok(adapter_of(plan, types, adapter)?)
+}
+
 /// Checks the adapter at a place, behind those before it.
 fn check_adapter(
     checks: &mut AdapterChecks<'_>,
@@ -43,20 +74,13 @@ fn check_adapter(
     ensures sound { OnOk result (IsAt plan.now types.now.builder checks.new (k + 1)) }
     ensures refused { IfErr result (λ e. IfSome (told e) (λ x. IsFirstHere plan.now k x.0 x.1)) }
 {
-    let number = k as u32;
-    if adapter_lacks(plan, adapter) {
-        return Err(FuseError::UnknownIndex(Place::Adapter(number)));
-    }
-    if is_large(k, adapter) {
-        return Err(FuseError::TooLarge(Place::Adapter(number)));
-    }
-    let linked = adapter_of(plan, types, adapter)?;
+    let linked = linked_adapter(plan, types, k, adapter)?;
     let candidate = Candidate {
         name: adapter.name.as_str(),
         transparent: adapter.transparent,
         adapter: &linked,
     };
-    checks.check(number, &candidate)
+    checks.check(k as u32, &candidate)
 }
 
 /// Checks the adapters of a plan over its types.
@@ -84,3 +108,9 @@ pub fn check_plan(alloc: Global, plan: &FusePlan) -> Result<(), FuseError>
     drop(types);
     checked
 }
+
+/// A plan has at most one first fault, and one without faults has none. This function carries the law and does nothing.
+pub fn one_first_fault()
+    ensures one { (plan : FusePlan) (f g : Fault) (x y : Place) → IsFirstAt plan f x → IsFirstAt plan g y → (f ≡ g) × (x ≡ y) }
+    ensures none { (plan : FusePlan) (f : Fault) (x : Place) → IsFaultless plan → IsFirstAt plan f x → ⊥ }
+{}

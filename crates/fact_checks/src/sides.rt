@@ -22,7 +22,7 @@ pub struct Candidate<'a> {
 }
 
 /// The types of the parameters of a live function.
-pub(crate) fn params_of(builder: &ComponentTypesBuilder, ty: TypeFuncIndex) -> &[InterfaceType]
+pub fn params_of(builder: &ComponentTypesBuilder, ty: TypeFuncIndex) -> &[InterfaceType]
     requires { ty.number < length builder.now.tables.functions }
     ensures live { All (IsLive builder.now.tables) result.now }
     ensures shaped { (params results : List Shape) → HasSignature builder.now.tables ty params results → HaveShapes builder.now.tables result.now params }
@@ -34,7 +34,7 @@ pub(crate) fn params_of(builder: &ComponentTypesBuilder, ty: TypeFuncIndex) -> &
 }
 
 /// The types of the results of a live function.
-pub(crate) fn results_of(builder: &ComponentTypesBuilder, ty: TypeFuncIndex) -> &[InterfaceType]
+pub fn results_of(builder: &ComponentTypesBuilder, ty: TypeFuncIndex) -> &[InterfaceType]
     requires { ty.number < length builder.now.tables.functions }
     ensures live { All (IsLive builder.now.tables) result.now }
     ensures shaped { (params results : List Shape) → HasSignature builder.now.tables ty params results → HaveShapes builder.now.tables result.now results }

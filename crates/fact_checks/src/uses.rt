@@ -4,6 +4,7 @@ ghost use Rattle.std.specs.Prelude.{◌≡◌, ◌↔◌, ◌++◌, [], true, If
 ghost use Rattle.fact_entity.specs.declared.id.Id.{Id};
 ghost use Rattle.fact_entity.specs.declared.table.TypeFuncs.{TypeFuncs};
 ghost use Rattle.fact_builder.specs.Builder.{Builder};
+ghost use Rattle.fact_uses.specs.Fronts.{IsFront};
 ghost use Rattle.fact_checks.specs.AdapterRules.{IsCalleeTwice, IsSameAs, bound, callee_uses, callback_type as callback_type_of, def_in, memories_of, memory_use as memory_use_of, realloc_type as realloc_type_of, reallocs_of, side_uses, uses_of};
 ghost use Rattle.fact_checks.specs.Adapters.{LinkedAdapter, Side};
 ghost use Rattle.fact_checks.specs.Binding.{Binds};
@@ -29,13 +30,15 @@ pub enum Use {
     Function(FuncType),
 }
 
-/// Binds definitions to values, in order. Answers false where one is bound to another value.
+/// Binds definitions to values, in order. Answers false where one is bound to another value. What was bound before stays
+/// in front of what is bound now.
 pub(crate) fn bind_all<V: Eq + Drop>(
     bindings: &mut Bindings<V>,
     pairs: Vec<(CoreDef, V)>,
 ) -> Result<bool, OutOfMemory>
     requires exact { (a b : V) → V.eq a b ≡ true → a ≡ b }
-    ensures { IfOk result (λ fits. Binds bindings.old bindings.new pairs.items fits) }
+    ensures binds { IfOk result (λ fits. Binds bindings.old bindings.new pairs.items fits) }
+    ensures front { IsFront bindings.old bindings.new }
 {
     for (def, value) in pairs {
         if !bindings.bind(def, value)? {

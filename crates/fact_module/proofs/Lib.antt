@@ -1,7 +1,21 @@
+mod Exact
+pub mod Adding
+pub mod Growth
+pub mod Mentioned
+pub mod Named
 pub mod PlainBehaves
-pub mod PlainForm
-pub mod PlainFused
 pub mod PlainRange
 pub mod PlainRuns
 pub mod PlainValues
 pub mod Pushed
+pub mod Sections
+pub mod Settled
+pub mod StateLaws
+pub mod Uses
+pub mod Whole
+pub mod BuiltLaws
+pub mod TakeLaws
+pub mod FuseLaws
+pub mod TypedLaws
+pub mod SideLaws
+pub mod JudgeLaws

@@ -1,49 +1,45 @@
--- The module of an adapter of plain numbers is in range.
-use Rattle.std.proofs.Common.{ℕ, zero, suc, Bool, true, false, List, ◌++◌, arith}
+-- The code of an adapter of plain numbers names functions that are there, and what is in range stays so with more functions.
+use Rattle.std.proofs.Common.{ℕ, zero, suc, ◌<◌, Bool, true, false, List, ◌++◌, length}
 use Rattle.std.specs.List.{AllByRecursion}
 use Rattle.fact_wasm.specs.declared.types.FuncType.{FuncType}
 use Rattle.fact_wasm.specs.declared.instr.BlockType.TheVariants as block
 use Rattle.fact_wasm.specs.declared.instr.Instr.{Instr, the_lemmas}
-use Rattle.fact_wasm.specs.declared.module.WasmModule.{WasmModule}
-use Rattle.fact_wasm.specs.Ranges.{InRange, points, AreRanged, IsPoint}
+use Rattle.fact_wasm.specs.Ranges.{points, IsPoint, AreRanged}
 use Rattle.fact_wasm.proofs.Ranged.{points-block, together, all-append}
-use Rattle.fact_module.specs.Body.{guard, gets, enter, call, leave, body}
-use Rattle.fact_module.specs.PlainModule.{IsPlainModule, has_result}
+use Rattle.fact_module.specs.declared.emit.Places.{Places}
+use Rattle.fact_module.specs.Body.{guard, gets, enter, call, leave, body, function_of, has_result}
 
--- code of which each part names the two imported functions alone
-abbrev Named : List Instr → Type 0
-Named = AreRanged 2 1
+-- ---- the code of an adapter
 
-named-append : (a b : List Instr) → Named a → Named b → Named (a ++ b)
-named-append = all-append (λ i. AllByRecursion (IsPoint 2 1) (points i))
+module _ (at : Places) (imports funcs : ℕ) (callee : at.callee < imports) (trap : at.trap < imports) where
+  abbrev Ranged : List Instr → Type 0
+  Ranged = AreRanged imports funcs
 
-guard-named : (n : ℕ) → Named (guard n)
-guard-named n = (simp the_lemmas tt, (simp the_lemmas tt, (simp the_lemmas tt, (simp the_lemmas (omega arith, tt), (simp the_lemmas tt, tt)))))
+  appended : (a b : List Instr) → Ranged a → Ranged b → Ranged (a ++ b)
+  appended = all-append (λ i. AllByRecursion (IsPoint imports funcs) (points i))
 
-enter-named : (n : ℕ) → Named (enter n)
-enter-named n = (
-  rw (points-block block.Empty (guard n)) (together (IsPoint 2 1) (guard n) (guard-named n)),
-  (simp the_lemmas tt, (simp the_lemmas tt, (simp the_lemmas tt, (simp the_lemmas tt, tt)))),
-)
+  guard-ranged : (n : ℕ) → Ranged (guard at n)
+  guard-ranged n = (simp the_lemmas tt, (simp the_lemmas tt, (simp the_lemmas tt, (simp the_lemmas (trap, tt), (simp the_lemmas tt, tt)))))
 
-gets-named : (from count : ℕ) → Named (gets from count)
-gets-named from zero = tt
-gets-named from (suc count) = (simp the_lemmas tt, gets-named (suc from) count)
+  enter-ranged : (n : ℕ) → Ranged (enter at n)
+  enter-ranged n = (
+    rw (points-block block.Empty (guard at n)) (together (IsPoint imports funcs) (guard at n) (guard-ranged n)),
+    (simp the_lemmas tt, (simp the_lemmas tt, (simp the_lemmas tt, (simp the_lemmas tt, tt)))),
+  )
 
-call-named : (n : ℕ) → Named (call n)
-call-named n = (simp the_lemmas tt, (simp the_lemmas tt, (simp the_lemmas (omega arith, tt), tt)))
+  gets-ranged : (from count : ℕ) → Ranged (gets from count)
+  gets-ranged from zero = tt
+  gets-ranged from (suc count) = (simp the_lemmas tt, gets-ranged (suc from) count)
 
-leave-named : (n : ℕ) (result : Bool) → Named (leave n result)
-leave-named n true = (simp the_lemmas tt, (simp the_lemmas tt, (simp the_lemmas tt, (simp the_lemmas tt, (simp the_lemmas tt, (simp the_lemmas tt, tt))))))
-leave-named n false = (simp the_lemmas tt, (simp the_lemmas tt, (simp the_lemmas tt, (simp the_lemmas tt, tt))))
+  call-ranged : (n : ℕ) → Ranged (call at n)
+  call-ranged n = (simp the_lemmas tt, (simp the_lemmas tt, (simp the_lemmas (callee, tt), tt)))
 
-body-named : (n : ℕ) (result : Bool) → Named (body n result)
-body-named n result =
-    named-append (enter n) _ (enter-named n) (named-append (gets 0 n) _ (gets-named 0 n) (named-append (call n) _ (call-named n) (leave-named n result)))
+  leave-ranged : (n : ℕ) (result : Bool) → Ranged (leave at n result)
+  leave-ranged n true = (simp the_lemmas tt, (simp the_lemmas tt, (simp the_lemmas tt, (simp the_lemmas tt, (simp the_lemmas tt, (simp the_lemmas tt, tt))))))
+  leave-ranged n false = (simp the_lemmas tt, (simp the_lemmas tt, (simp the_lemmas tt, (simp the_lemmas tt, tt))))
 
-pub plain-range : (m : WasmModule) (name : List ℕ) (lift lower : ℕ) (ty : FuncType) → IsPlainModule m name lift lower ty → InRange m
-plain-range m name lift lower ty h = record {
-  count = rw (h.imports, h.funcs) (omega arith);
-  bodies = rw (h.imports, h.funcs) (body-named _ (has_result ty.results), tt);
-  exports = rw (h.imports, h.funcs, h.exports) (omega arith, tt);
-}
+  body-ranged : (n : ℕ) (result : Bool) → Ranged (body at n result)
+  body-ranged n result = appended (enter at n) _ (enter-ranged n) (appended (gets 0 n) _ (gets-ranged 0 n) (appended (call at n) _ (call-ranged n) (leave-ranged n result)))
+
+pub function-ranged : (at : Places) (ty : ℕ) (core : FuncType) (imports funcs : ℕ) → at.callee < imports → at.trap < imports → AreRanged imports funcs (function_of at ty core).body
+function-ranged at ty core imports funcs callee trap = body-ranged at imports funcs callee trap (length core.params) (has_result core.results)

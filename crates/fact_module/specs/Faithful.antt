@@ -1,5 +1,5 @@
 -- What a fused module promises.
-use Rattle.std.specs.Prelude.{◌≡◌, ℕ, Bool, ◌||◌, ◌&&◌, not, nat_eq, List, [], ◌∷◌, ◌++◌, Option, Some, None, slice_get, codes, if◌then◌else◌, All, IsTrue}
+use Rattle.std.specs.Prelude.{◌≡◌, ℕ, Bool, ◌&&◌, not, List, [], ◌∷◌, ◌++◌, Option, Some, None, slice_get, codes, if◌then◌else◌, All, IsTrue}
 use Rattle.std.specs.Str.{bytes_eq}
 use Rattle.std.specs.List.{flat_map, AllZip}
 use Rattle.fact_wasm.specs.declared.types.FuncType.{FuncType}
@@ -8,25 +8,15 @@ use Rattle.fact_wasm.specs.declared.instr.FuncName.TheVariants as func
 use Rattle.fact_wasm.specs.declared.module.WasmFunc.{WasmFunc}
 use Rattle.fact_wasm.specs.declared.module.WasmExport.{WasmExport}
 use Rattle.fact_wasm.specs.declared.module.WasmModule.{WasmModule}
-use Rattle.fact_wasm.specs.Ranges.{InRange}
-use Rattle.fact_wasm.specs.Spelling.{Spells}
 use Rattle.fact_types.specs.declared.outside.CoreDef.{CoreDef}
-use Rattle.fact_plan.specs.declared.plan.FusePlan.{FusePlan}
 use Rattle.fact_module.specs.declared.plain.Import.{Import}
 use Rattle.fact_module.specs.declared.plain.Import.TheVariants as known
-use Rattle.fact_module.specs.declared.fusion.Fused.{Fused}
-use Rattle.fact_module.specs.Adapters.{Adapter, adapters_of}
+use Rattle.fact_checks.specs.Adapters.{LinkedAdapter}
+use Rattle.fact_checks.specs.AdapterRules.{is_async, is_crossing}
 use Rattle.fact_module.specs.Imports.{NamesImports, imported_function}
 use Rattle.fact_module.specs.Runs.{Behaves}
 
 -- ---- exports
-
--- an adapter is async where a side is or either function type is marked so, and crossing where its instances differ
-abbrev pub is_async : Adapter → Bool
-is_async a = a.lift.async_side || a.lower.async_side || a.lift.async_type || a.lower.async_type
-
-abbrev pub is_crossing : Adapter → Bool
-is_crossing a = not (nat_eq a.lift.instance a.lower.instance)
 
 -- what an export is: an adapter's function of this type, a part of an async adapter, or the callee of one
 pub data Exported : Type 0 where
@@ -35,16 +25,16 @@ pub data Exported : Type 0 where
   Callee : (name : List ℕ) → (def : CoreDef) → Exported
 
 -- the functions of an adapter that are exported, and the callee of an async one between two instances
-abbrev pub functions_of : Adapter → List Exported
+abbrev pub functions_of : LinkedAdapter → List Exported
 functions_of a =
     if is_async a && is_crossing a
     then Part (codes "[async-start]" ++ a.name) ∷ Part (codes "[async-return]" ++ a.name) ∷ Whole a.name a.lower.core_type ∷ []
     else Whole a.name a.lower.core_type ∷ []
 
-abbrev pub callee_of : Adapter → List Exported
+abbrev pub callee_of : LinkedAdapter → List Exported
 callee_of a = if is_async a && is_crossing a then Callee (codes "[adapter-callee]" ++ a.name) a.callee ∷ [] else []
 
-abbrev pub exported : List Adapter → List Exported
+abbrev pub exported : List LinkedAdapter → List Exported
 exported adapters = flat_map functions_of adapters ++ flat_map callee_of adapters
 
 abbrev pub type_of : WasmModule → Option WasmFunc → Option FuncType
@@ -73,17 +63,11 @@ exported_as name (e ∷ es) = if bytes_eq e.name name then Some e.func else expo
 
 -- The import section names the imports, the exports are exactly the adapters' names, and each sync adapter between two
 -- instances carries its values.
-pub record Faithful (m : WasmModule) (is : List Import) (debug : Bool) (adapters : List Adapter) : Type 0 where
+pub record Faithful (m : WasmModule) (is : List Import) (debug : Bool) (adapters : List LinkedAdapter) : Type 0 where
   pub imports : NamesImports m is adapters
   pub exports : AllZip (IsExport m is) m.exports (exported adapters)
   pub behaves : All (λ a. IsTrue (not (is_async a) && is_crossing a) → (k : ℕ) → exported_as a.name m.exports ≡ Some (func.Defined k) → Behaves m is debug a k) adapters
 
--- all that a fused module promises, whose import section names the imports
-pub record Promised (m : WasmModule) (is : List Import) (p : FusePlan) : Type 0 where
-  pub faithful : Faithful m is p.tunables.debug (adapters_of p)
-
--- a module in range, its bytes and its imports, with all that it promises
-pub record IsFused (f : Fused) (p : FusePlan) : Type 0 where
-  pub in_range : InRange f.module
-  pub spelled : Spells f.bytes f.module
-  pub promised : Promised f.module f.imports p
+-- all that the module of these adapters promises, whose import section names the imports
+pub record Promised (m : WasmModule) (is : List Import) (debug : Bool) (adapters : List LinkedAdapter) : Type 0 where
+  pub faithful : Faithful m is debug adapters

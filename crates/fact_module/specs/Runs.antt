@@ -1,5 +1,5 @@
 -- Runs of an adapter: typed, honest, and what they carry.
-use Rattle.std.specs.Prelude.{◌≡◌, ◌≢◌, ℕ, ◌+◌, ◌*◌, ◌%◌, ◌/◌, ◌<◌, ◌≤◌, ◌^◌, Bool, true, false, nat_eq, List, [], ◌∷◌, Option, Some, None, slice_get, All, filter, length, ◌⊎◌, if◌then◌else◌, IsSome, unwrap_or}
+use Rattle.std.specs.Prelude.{◌≡◌, ◌≢◌, ℕ, ◌+◌, ◌*◌, ◌%◌, ◌/◌, ◌<◌, ◌≤◌, ◌^◌, Bool, true, false, nat_eq, List, [], ◌∷◌, Option, Some, None, slice_get, All, filter, length, ◌⊎◌, if◌then◌else◌, IsSome, unwrap_or, suc, option_map}
 use Rattle.std.specs.List.{AllZip, flat_map, filter_map}
 use Rattle.fact_wasm.specs.declared.types.ValType.{ValType}
 use Rattle.fact_wasm.specs.declared.types.FuncType.{FuncType}
@@ -21,8 +21,8 @@ use Rattle.fact_machine.specs.declared.types.End.TheVariants.{Returned, Lacks}
 use Rattle.fact_machine.specs.Machine.{has_type, func_import, page_bytes, run_of}
 use Rattle.fact_module.specs.declared.plain.Import.{Import}
 use Rattle.fact_module.specs.declared.plain.Import.TheVariants as known
-use Rattle.fact_module.specs.Adapters.{Adapter}
-use Rattle.fact_module.specs.Imports.{same_def, imported_function, imported_globals}
+use Rattle.fact_checks.specs.Adapters.{LinkedAdapter}
+use Rattle.fact_module.specs.Imports.{a_global, same_def, imported_function, imports_of}
 use Rattle.fact_module.specs.Values.{Value, lift_all, carry_all, weights}
 
 -- ---- typed runs
@@ -108,13 +108,14 @@ abbrev pub is_flags : ℕ → Import → Bool
 is_flags instance (known.CoreDef (def.InstanceFlags i)) = nat_eq i.number instance
 is_flags instance _ = false
 
-abbrev pub flags_among : ℕ → List Import → List CoreValue → Option CoreValue
-flags_among instance (i ∷ is) (v ∷ vs) = if is_flags instance i then Some v else flags_among instance is vs
-flags_among instance _ _ = None
+-- the place of an instance's flags among the imported globals
+abbrev pub flags_place : ℕ → List Import → Option ℕ
+flags_place instance [] = None
+flags_place instance (i ∷ is) = if is_flags instance i then Some 0 else option_map suc (flags_place instance is)
 
 -- the flags of an instance, in a state
 abbrev pub flags_of : WasmModule → List Import → ℕ → MachineState → Option CoreValue
-flags_of m is instance s = flags_among instance (imported_globals m.imports is) s.globals
+flags_of m is instance s = flags_place instance (imports_of a_global m.imports is) >>= slice_get s.globals
 
 -- the instance may be left
 abbrev pub IsSet : Option CoreValue → Type 0
@@ -141,20 +142,20 @@ abbrev pub transfers_of : WasmModule → List Import → List Event → List Eve
 transfers_of m is log = filter (λ e. is_transfer (imported_function m is (func.Import e.func))) log
 
 -- the values that an answer of the callee gives
-abbrev pub answered_values : Adapter → Answer → Option (List Value)
+abbrev pub answered_values : LinkedAdapter → Answer → Option (List Value)
 answered_values a (Returns results after) = lift_all a.lift.results results
 answered_values a Traps = Some []
 answered_values a Throws = Some []
 
 -- the values of all answers of the callee
-abbrev pub results_in : WasmModule → List Import → Adapter → List Event → List Value
+abbrev pub results_in : WasmModule → List Import → LinkedAdapter → List Event → List Value
 results_in m is a log = flat_map (λ e. unwrap_or (answered_values a e.answer) []) (calls_of m is a.callee log)
 
 -- ---- the promise on runs
 
 -- What a run that returned these results did: the caller could be left, the callee was called once, its arguments are the
 -- caller's, and its results are what the caller got.
-pub record Carried (m : WasmModule) (is : List Import) (a : Adapter) (before : MachineState) (args : List CoreValue) (log : List Event) (results : List CoreValue) : Type 0 where
+pub record Carried (m : WasmModule) (is : List Import) (a : LinkedAdapter) (before : MachineState) (args : List CoreValue) (log : List Event) (results : List CoreValue) : Type 0 where
   pub flag : IsSet (flags_of m is a.lower.instance before)
   pub call : Event
   pub called_once : calls_of m is a.callee log ≡ call ∷ []
@@ -177,12 +178,12 @@ abbrev pub IsOver : End → Type 0
 IsOver e = ((results : List CoreValue) × (e ≡ Returned results)) ⊎ (e ≡ Lacks)
 
 -- A run that ended, by returning or for want of an answer, with no more outside calls than its values account for.
-pub record EndsSoon (m : WasmModule) (is : List Import) (a : Adapter) (args : List CoreValue) (o : Outcome) : Type 0 where
+pub record EndsSoon (m : WasmModule) (is : List Import) (a : LinkedAdapter) (args : List CoreValue) (o : Outcome) : Type 0 where
   pub over : IsOver o.end
   pub few_calls : length o.log ≤ 30 * (weights (unwrap_or (lift_all a.lower.params args) []) + weights (results_in m is a o.log) + 1)
 
 -- What every run of an adapter's function, on a typed state and typed arguments, does.
-pub record Behaves (m : WasmModule) (is : List Import) (debug : Bool) (a : Adapter) (f : ℕ) : Type 0 where
+pub record Behaves (m : WasmModule) (is : List Import) (debug : Bool) (a : LinkedAdapter) (f : ℕ) : Type 0 where
   -- where all answers so far were typed and honest and the run has returned, values were carried
   pub carries : (before : MachineState) (args : List CoreValue) (answers : List Answer) (steps : ℕ) (results : List CoreValue)
       → TypedState m before → AllZip (λ v t. IsValue v t) args a.lower.core_type.params

@@ -1,48 +1,48 @@
-//! The code of an adapter of plain numbers, and the imports of its module.
+//! The code of an adapter of plain numbers.
 
-ghost use Rattle.std.specs.Prelude.{◌≡◌, ◌++◌, ◌∷◌, [], ◌+◌, ◌<◌, ◌^◌, IfOk, OnOk};
+ghost use Rattle.std.specs.Prelude.{◌≡◌, ◌++◌, ◌∷◌, [], ◌+◌, ◌<◌, ◌≤◌, ◌^◌, length, IfOk, OnOk};
 ghost use Rattle.fact_module.specs.Body as code;
-ghost use Rattle.fact_module.specs.PlainModule.{flags_import, function_import};
+ghost use Rattle.fact_module.specs.Body.{function_of, saved};
 
-use fact_wasm::{
-    BlockType, FuncName, ImportType, Instr, OutOfMemory, Seq, Text, ValType, WasmImport,
-};
+use fact_wasm::{BlockType, FuncName, FuncType, Instr, OutOfMemory, Seq, ValType, WasmFunc};
 use std::alloc::Global;
 
-const LIFT_FLAG: u32 = 0;
-
-const LOWER_FLAG: u32 = 1;
-
-const CALLEE: FuncName = FuncName::Import(0);
-
-const TRAP: FuncName = FuncName::Import(1);
+/// Where the code of an adapter finds what it uses: the flags of its two sides among the globals, its callee and the trap
+/// of a caller that may not leave its component among the imported functions.
+#[derive(Clone, Copy)]
+pub struct Places {
+    pub lift_flag: u32,
+    pub lower_flag: u32,
+    pub callee: u32,
+    pub trap: u32,
+}
 
 /// Traps where the caller may not leave its component, and saves its flag behind the parameters.
-fn emit_guard(alloc: Global, params: u32) -> Result<Seq<Instr>, OutOfMemory>
-    ensures { IfOk result (λ instrs. instrs ≡ code.guard params) }
+fn emit_guard(alloc: Global, at: Places, params: u32) -> Result<Seq<Instr>, OutOfMemory>
+    ensures { IfOk result (λ instrs. instrs ≡ code.guard at params) }
 {
     let instrs = vec![in alloc;
-        Instr::GlobalGet(LOWER_FLAG),
+        Instr::GlobalGet(at.lower_flag),
         Instr::LocalTee(params),
         Instr::BrIf(0),
-        Instr::Call(TRAP),
+        Instr::Call(FuncName::Import(at.trap)),
         Instr::Unreachable,
     ]?;
     Ok(Seq::from_vec(instrs))
 }
 
 /// The guard, and the callee's flag saved and cleared.
-fn emit_enter(alloc: Global, params: u32) -> Result<Vec<Instr>, OutOfMemory>
+fn emit_enter(alloc: Global, at: Places, params: u32) -> Result<Vec<Instr>, OutOfMemory>
     requires { params + 2 < 2 ^ 32 }
-    ensures { IfOk result (λ instrs. instrs.items ≡ code.enter params) }
+    ensures { IfOk result (λ instrs. instrs.items ≡ code.enter at params) }
 {
-    let guard = emit_guard(alloc, params)?;
+    let guard = emit_guard(alloc, at, params)?;
     let instrs = vec![in alloc;
         Instr::Block(BlockType::Empty, guard),
-        Instr::GlobalGet(LIFT_FLAG),
+        Instr::GlobalGet(at.lift_flag),
         Instr::LocalSet(params + 1),
         Instr::I32Const(0),
-        Instr::GlobalSet(LIFT_FLAG),
+        Instr::GlobalSet(at.lift_flag),
     ]?;
     Ok(instrs)
 }
@@ -58,84 +58,94 @@ fn push_params(instrs: &mut Vec<Instr>, params: u32) -> Result<(), OutOfMemory>
 }
 
 /// Restores the callee's flag, and calls the callee.
-fn push_call(instrs: &mut Vec<Instr>, params: u32) -> Result<(), OutOfMemory>
+fn push_call(instrs: &mut Vec<Instr>, at: Places, params: u32) -> Result<(), OutOfMemory>
     requires { params + 2 < 2 ^ 32 }
-    ensures { OnOk result (instrs.new.items ≡ instrs.old.items ++ code.call params) }
+    ensures { OnOk result (instrs.new.items ≡ instrs.old.items ++ code.call at params) }
 {
     instrs.push(Instr::LocalGet(params + 1))?;
-    instrs.push(Instr::GlobalSet(LIFT_FLAG))?;
-    instrs.push(Instr::Call(CALLEE))?;
+    instrs.push(Instr::GlobalSet(at.lift_flag))?;
+    instrs.push(Instr::Call(FuncName::Import(at.callee)))?;
     Ok(())
 }
 
 /// Puts the result, where there is one, into a local, clears the caller's flag, gives the result and restores the flag.
-fn emit_leave(alloc: Global, params: u32, returns: bool) -> Result<Vec<Instr>, OutOfMemory>
+fn emit_leave(
+    alloc: Global,
+    at: Places,
+    params: u32,
+    returns: bool,
+) -> Result<Vec<Instr>, OutOfMemory>
     requires { params + 2 < 2 ^ 32 }
-    ensures { IfOk result (λ instrs. instrs.items ≡ code.leave params returns) }
+    ensures { IfOk result (λ instrs. instrs.items ≡ code.leave at params returns) }
 {
     if returns {
         let instrs = vec![in alloc;
             Instr::LocalSet(params + 2),
             Instr::I32Const(0),
-            Instr::GlobalSet(LOWER_FLAG),
+            Instr::GlobalSet(at.lower_flag),
             Instr::LocalGet(params + 2),
             Instr::LocalGet(params),
-            Instr::GlobalSet(LOWER_FLAG),
+            Instr::GlobalSet(at.lower_flag),
         ]?;
         return Ok(instrs);
     }
     let instrs = vec![in alloc;
         Instr::I32Const(0),
-        Instr::GlobalSet(LOWER_FLAG),
+        Instr::GlobalSet(at.lower_flag),
         Instr::LocalGet(params),
-        Instr::GlobalSet(LOWER_FLAG),
+        Instr::GlobalSet(at.lower_flag),
     ]?;
     Ok(instrs)
 }
 
 /// The body for so many parameters, each of one core value, with or without a result.
-pub fn emit_body(alloc: Global, params: u32, returns: bool) -> Result<Seq<Instr>, OutOfMemory>
+fn emit_body(
+    alloc: Global,
+    at: Places,
+    params: u32,
+    returns: bool,
+) -> Result<Seq<Instr>, OutOfMemory>
     requires { params + 2 < 2 ^ 32 }
-    ensures { IfOk result (λ instrs. instrs ≡ code.body params returns) }
+    ensures { IfOk result (λ instrs. instrs ≡ code.body at params returns) }
 {
-    let mut instrs = emit_enter(alloc, params)?;
+    let mut instrs = emit_enter(alloc, at, params)?;
     push_params(&mut instrs, params)?;
-    push_call(&mut instrs, params)?;
-    let mut leave = emit_leave(alloc, params, returns)?;
+    push_call(&mut instrs, at, params)?;
+    let mut leave = emit_leave(alloc, at, params, returns)?;
     instrs.append(&mut leave)?;
     Ok(Seq::from_vec(instrs))
 }
 
-/// The import of an instance's flags.
-pub fn import_flags(alloc: Global, instance: u32) -> Result<WasmImport, OutOfMemory>
-    ensures { IfOk result (λ i. i ≡ flags_import instance) }
+/// Runs of locals behind the parameters: the two saved flags, and the result where there is one.
+fn locals(alloc: Global, results: &[ValType]) -> Result<Seq<(u32, ValType)>, OutOfMemory>
+    requires { length results.now ≤ 1 }
+    ensures { IfOk result (λ locals. locals ≡ saved results.now) }
 {
-    let name = format!(in alloc; "instance{instance}")?;
-    let origin = Text::from_str(alloc, "flags")?;
-    Ok(WasmImport {
-        module: origin,
-        name: Text::from_string(name),
-        ty: ImportType::Global {
-            ty: ValType::I32,
-            mutable: true,
-        },
-    })
+    let runs = match results {
+        [] => vec![in alloc; (2u32, ValType::I32)]?,
+        [ty, ..] => vec![in alloc; (2u32, ValType::I32), (1u32, *ty)]?,
+    };
+    Ok(Seq::from_vec(runs))
 }
 
-/// The import of a function.
-pub fn import_function(
+/// The function of an adapter of a core type, whose number among the types of the module is `number`.
+pub fn emit_function(
     alloc: Global,
-    origin: &str,
-    name: &str,
-    ty: u32,
-) -> Result<WasmImport, OutOfMemory>
-    ensures { IfOk result (λ i. i ≡ function_import origin.now name.now ty) }
+    at: Places,
+    number: u32,
+    ty: &FuncType,
+) -> Result<WasmFunc, OutOfMemory>
+    requires params { length ty.now.params ≤ 16 }
+    requires results { length ty.now.results ≤ 1 }
+    ensures { IfOk result (λ f. f ≡ function_of at number ty.now) }
 {
-    let origin = Text::from_str(alloc, origin)?;
-    let name = Text::from_str(alloc, name)?;
-    Ok(WasmImport {
-        module: origin,
-        name,
-        ty: ImportType::Func(ty),
+    let params = ty.params.len() as u32;
+    let returns = !ty.results.as_slice().is_empty();
+    let locals = locals(alloc, ty.results.as_slice())?;
+    let body = emit_body(alloc, at, params, returns)?;
+    Ok(WasmFunc {
+        ty: number,
+        locals,
+        body,
     })
 }

@@ -2,10 +2,19 @@
 //! component lifts to the function that another lowers (Component Model, canonical ABI, `canon lift`, `canon lower`).
 #![tactic(auto)]
 
+mod built;
+mod dfg;
 mod emit;
 mod fusion;
+mod imported;
+mod module;
 mod plain;
+mod state;
+mod taken;
+mod tunables;
+mod typed;
 
+pub use dfg::ComponentDfg;
 pub use fact_checks::{Adapter, AdapterOptionsDfg, FuseError, MemoryOption, Place, check_plan};
 pub use fact_plan::{
     FusePlan, PlanAdapter, PlanFunc, PlanMemory, PlanRef, PlanSide, PlanTunables, PlanType,
@@ -16,4 +25,6 @@ pub use fact_types::{
     TrampolineIndex, Transcode, Trap, UnsafeIntrinsic,
 };
 pub use fusion::{Fused, fuse};
+pub use module::Module;
 pub use plain::Import;
+pub use tunables::{Tunables, WasmFeatures};

@@ -1,8 +1,8 @@
 -- How the ends of a run follow from what was read and written.
-use Rattle.std.proofs.Common.{◌≡◌, ◌≢◌, ℕ, zero, suc, ◌≤◌, ◌<◌, Bool, true, false, List, [], ◌++◌, length, Option, None, Some, Result, Ok, Err, OnOk, OnErr, IfSome, ◌⊎◌, inl, inr, refl, sym, subst, ap, ◌∙◌, arith, append-nil, length-append, string_bytes}
-use Rattle.std.specs.Prelude.{⊤, nat_lt}
+use Rattle.std.proofs.Common.{◌≡◌, ◌≢◌, ℕ, zero, suc, ◌≤◌, ◌<◌, Bool, true, false, true≢false, List, [], ◌++◌, length, Option, None, Some, Result, Ok, Err, OnOk, OnErr, IfSome, ◌⊎◌, inl, inr, refl, sym, subst, ap, ◌∙◌, arith, append-nil, length-append, string_bytes}
+use Rattle.std.specs.Prelude.{⊤, IsSome, nat_lt}
 use Rattle.std.proofs.lemmas.Bool.{lt-ltb, le-ltb}
-use Rattle.std.specs.Io.KnownBytes.{Appends, Keeps}
+use Rattle.std.specs.Io.KnownBytes.{Appends}
 use Rattle.serde_json.specs.Data.{Data}
 use Rattle.fact_io.specs.Transfers.{AppendsFront, TakesAll}
 use Rattle.fact_io.specs.Faults.{Rose}
@@ -21,7 +21,9 @@ use Rattle.fact_run.specs.declared.status.Status.{Status}
 use Rattle.fact_run.specs.declared.status.Status.TheVariants as status
 use Rattle.fact_run.specs.declared.answer.Reply.{Reply}
 use Rattle.fact_run.specs.declared.answer.Reply.TheVariants as reply
-use Rattle.fact_run.specs.Answer.{IsEnd, IsEnding, IsReply, IsReplyTo, IsReplyToFault, IsReplyToPlan, TellsFault, TellsRefusalIn}
+use Rattle.fact_run.specs.Answer.{IsEnding, IsReply, IsReplyTo, IsReplyToFault, IsReplyToPlan, TellsFault, TellsRefusalIn}
+use Rattle.fact_run.specs.declared.command.CommandOptions.{CommandOptions}
+use Rattle.fact_run.specs.Command.{reading}
 use Rattle.fact_run.specs.Refusal.{refusal_line}
 use Rattle.fact_run.specs.Status.{line_of}
 use Rattle.fact_run.specs.Run.{Answers, HoldsBuilt, HoldsFault, HoldsNoJson, HoldsPlan, HoldsRefusal, HoldsUnbuilt, IsOrMemory, IsTooLong, IsUndisturbed, Read, ReadPast, TellsLine, limit}
@@ -37,64 +39,64 @@ unless (fault.WrongKind path) P n h = h
 unless (fault.OutOfRange path) P n h = h
 
 -- a fault that the bytes hold
-pub replied-fault : (bytes : List ℕ) (v : Data) (f : PlanFault) (r : Reply) → length bytes ≤ limit → value_in bytes ≡ Some v → UnlessMemory f (plan_of v ≡ Err f) → IsReplyToFault f r → IsReplyTo bytes r
-replied-fault bytes v f (reply.BadPlan line) within j h e = record {
+pub replied-fault : (o : CommandOptions) (bytes : List ℕ) (v : Data) (f : PlanFault) (r : Reply) → length bytes ≤ limit → value_in bytes ≡ Some v → UnlessMemory f (plan_of v ≡ Err f) → IsReplyToFault f r → IsReplyTo o bytes r
+replied-fault o bytes v f (reply.BadPlan line) within j h e = record {
   fault = f;
   holds = record { within = within; value = v; is_json = j; is_fault = unless f (plan_of v ≡ Err f) e.0 h };
   is_line = e.1;
 }
-replied-fault bytes v f reply.OutOfMemory within j h e = tt
-replied-fault bytes v f (reply.Page text) within j h e = absurd e
-replied-fault bytes v f reply.ReadFault within j h e = absurd e
-replied-fault bytes v f reply.TooLong within j h e = absurd e
-replied-fault bytes v f reply.NotJson within j h e = absurd e
-replied-fault bytes v f (reply.Refused line) within j h e = absurd e
-replied-fault bytes v f reply.NotBuilt within j h e = absurd e
+replied-fault o bytes v f reply.OutOfMemory within j h e = tt
+replied-fault o bytes v f (reply.Page text) within j h e = absurd e
+replied-fault o bytes v f reply.ReadFault within j h e = absurd e
+replied-fault o bytes v f reply.TooLong within j h e = absurd e
+replied-fault o bytes v f reply.NotJson within j h e = absurd e
+replied-fault o bytes v f (reply.Refused line) within j h e = absurd e
+replied-fault o bytes v f reply.NotBuilt within j h e = absurd e
 
 -- a plan that the bytes hold
-pub replied-plan : (bytes : List ℕ) (p : FusePlan) (r : Reply) → HoldsPlan bytes p → IsReplyToPlan p r → IsReplyTo bytes r
-replied-plan bytes p (reply.Page text) h e = record {
+pub replied-plan : (o : CommandOptions) (bytes : List ℕ) (p : FusePlan) (r : Reply) → HoldsPlan bytes p → IsReplyToPlan o p r → IsReplyTo o bytes r
+replied-plan o bytes p (reply.Page text) h e = record {
   holds = record { plan = p; is_plan = h; faultless = e.0; is_built = e.1 };
   text = string_bytes text;
   prints = e.2;
   sent = refl;
 }
-replied-plan bytes p reply.NotBuilt h e = record { plan = p; is_plan = h; faultless = e.0; not_built = e.1 }
-replied-plan bytes p (reply.Refused line) h e = record {
+replied-plan o bytes p reply.NotBuilt h e = record { plan = p; is_plan = h; faultless = e.0; not_built = e.1 }
+replied-plan o bytes p (reply.Refused line) h e = record {
   fault = e.fault;
   place = e.place;
   holds = record { plan = p; is_plan = h; is_first = e.is_first };
   is_line = e.is_line;
 }
-replied-plan bytes p reply.OutOfMemory h e = tt
-replied-plan bytes p (reply.BadPlan line) h e = absurd e
-replied-plan bytes p reply.ReadFault h e = absurd e
-replied-plan bytes p reply.TooLong h e = absurd e
-replied-plan bytes p reply.NotJson h e = absurd e
+replied-plan o bytes p reply.OutOfMemory h e = tt
+replied-plan o bytes p (reply.BadPlan line) h e = absurd e
+replied-plan o bytes p reply.ReadFault h e = absurd e
+replied-plan o bytes p reply.TooLong h e = absurd e
+replied-plan o bytes p reply.NotJson h e = absurd e
 
 -- all the bytes of a source
-pub replied : (left left' : Option (List ℕ)) (fault : Type 0) (bytes : List ℕ) (r : Reply) → TakesAll left left' bytes → IsReplyTo bytes r → IsReply left left' fault r
-replied left left' fault bytes (reply.Page text) all h = record { bytes = bytes; all = all; is_so = h }
-replied left left' fault bytes reply.ReadFault all h = absurd h
-replied left left' fault bytes reply.TooLong all h = absurd h
-replied left left' fault bytes reply.NotJson all h = record { bytes = bytes; all = all; is_so = h }
-replied left left' fault bytes (reply.BadPlan line) all h = record { bytes = bytes; all = all; is_so = h }
-replied left left' fault bytes (reply.Refused line) all h = record { bytes = bytes; all = all; is_so = h }
-replied left left' fault bytes reply.NotBuilt all h = record { bytes = bytes; all = all; is_so = h }
-replied left left' fault bytes reply.OutOfMemory all h = tt
+pub replied : (o : CommandOptions) (left left' : Option (List ℕ)) (fault : Type 0) (bytes : List ℕ) (r : Reply) → TakesAll left left' bytes → IsReplyTo o bytes r → IsReply o left left' fault r
+replied o left left' fault bytes (reply.Page text) all h = record { bytes = bytes; all = all; is_so = h }
+replied o left left' fault bytes reply.ReadFault all h = absurd h
+replied o left left' fault bytes reply.TooLong all h = absurd h
+replied o left left' fault bytes reply.NotJson all h = record { bytes = bytes; all = all; is_so = h }
+replied o left left' fault bytes (reply.BadPlan line) all h = record { bytes = bytes; all = all; is_so = h }
+replied o left left' fault bytes (reply.Refused line) all h = record { bytes = bytes; all = all; is_so = h }
+replied o left left' fault bytes reply.NotBuilt all h = record { bytes = bytes; all = all; is_so = h }
+replied o left left' fault bytes reply.OutOfMemory all h = tt
 
 -- ---- from a reply to an end
 
 -- what was sent of a text
-sent-as : (bytes : List ℕ) (P Q : List ℕ → Type 0) → ((t : List ℕ) → P t → Q t) → Answers bytes P → Answers bytes Q
-sent-as bytes P Q f a = record { holds = a.holds; text = a.text; prints = a.prints; sent = f a.text a.sent }
+sent-as : (o : CommandOptions) (bytes : List ℕ) (P Q : List ℕ → Type 0) → ((t : List ℕ) → P t → Q t) → Answers o bytes P → Answers o bytes Q
+sent-as o bytes P Q f a = record { holds = a.holds; text = a.text; prints = a.prints; sent = f a.text a.sent }
 
 -- the text that a source comes to was sent
-pub sent-of : (left left' : Option (List ℕ)) (text : List ℕ) (Q : List ℕ → Type 0) → Read left left' (λ bytes. Answers bytes (λ sent. sent ≡ text)) → Q text → Read left left' (λ bytes. Answers bytes Q)
-sent-of left left' text Q r q = record {
+pub sent-of : (o : CommandOptions) (left left' : Option (List ℕ)) (text : List ℕ) (Q : List ℕ → Type 0) → Read left left' (λ bytes. Answers o bytes (λ sent. sent ≡ text)) → Q text → Read left left' (λ bytes. Answers o bytes Q)
+sent-of o left left' text Q r q = record {
   bytes = r.bytes;
   all = r.all;
-  is_so = sent-as r.bytes (λ sent. sent ≡ text) Q (λ t e. subst Q (sym e) q) r.is_so;
+  is_so = sent-as o r.bytes (λ sent. sent ≡ text) Q (λ t e. subst Q (sym e) q) r.is_so;
 }
 
 -- ---- each input comes to one end
@@ -166,33 +168,33 @@ past : (bytes : List ℕ) (left' : Option (List ℕ)) → ReadPast (Some bytes) 
 past bytes None r = absurd r.taken
 past bytes (Some ys) r = omega (arith, r.past, ap length r.taken, length-append r.bytes ys)
 
--- an end without a fault tells what the bytes hold
-end-of : (bytes : List ℕ) (left' : Option (List ℕ)) (read : Type 0) (old new : Option (List ℕ)) (write : Type 0) (s : Status) (line : List ℕ)
-    → IsEnd (Some bytes) left' read old new write s line → (read → ⊥) → IsOf s bytes ⊎ (s ≡ status.OutOfMemory)
-end-of bytes left' read old new write status.Done line h none = inl (so bytes left' (λ b. Answers b (λ text. Appends old new text)) h.0).holds
-end-of bytes left' read old new write status.Usage line h none = absurd h
-end-of bytes left' read old new write status.ReadFault line h none = absurd (none h.0)
-end-of bytes left' read old new write status.WriteFault line h none = inl (so bytes left' (λ b. Answers b (λ text. AppendsFront old new text)) h.1).holds
-end-of bytes left' read old new write status.TooLong line h none = inl (past bytes left' h.0)
-end-of bytes left' read old new write status.NotJson line h none = inl (so bytes left' HoldsNoJson h.0)
-end-of bytes left' read old new write status.BadPlan line h none = let t = so bytes left' _ h.0 in inl (t.fault, t.holds)
-end-of bytes left' read old new write status.Refused line h none = let t = so bytes left' _ h.0 in inl (t.fault, t.place, t.holds)
-end-of bytes left' read old new write status.NotBuilt line h none = inl (so bytes left' HoldsUnbuilt h.0)
-end-of bytes left' read old new write status.OutOfMemory line h none = inr refl
+-- an end without a fault, of a run whose words are read, tells what the bytes hold
+end-of : (words : List (List ℕ)) (bytes : List ℕ) (left' : Option (List ℕ)) (read : Type 0) (old new : Option (List ℕ)) (write : Type 0) (s : Status) (line : List ℕ)
+    → IsEnding words (Some bytes) left' read old new write s line → IsSome (reading words) → (read → ⊥) → IsOf s bytes ⊎ (s ≡ status.OutOfMemory)
+end-of words bytes left' read old new write status.Done line h given none = inl (so bytes left' (λ b. Answers h.0 b (λ text. Appends old new text)) h.2.0).holds
+end-of words bytes left' read old new write status.Usage line h given none = absurd (true≢false (sym (subst IsSome h.0 given)))
+end-of words bytes left' read old new write status.ReadFault line h given none = absurd (none h.2.0)
+end-of words bytes left' read old new write status.WriteFault line h given none = inl (so bytes left' (λ b. Answers h.0 b (λ text. AppendsFront old new text)) h.2.1).holds
+end-of words bytes left' read old new write status.TooLong line h given none = inl (past bytes left' h.2.0)
+end-of words bytes left' read old new write status.NotJson line h given none = inl (so bytes left' HoldsNoJson h.2.0)
+end-of words bytes left' read old new write status.BadPlan line h given none = let t = so bytes left' _ h.2.0 in inl (t.fault, t.holds)
+end-of words bytes left' read old new write status.Refused line h given none = let t = so bytes left' _ h.2.0 in inl (t.fault, t.place, t.holds)
+end-of words bytes left' read old new write status.NotBuilt line h given none = inl (so bytes left' HoldsUnbuilt h.2.0)
+end-of words bytes left' read old new write status.OutOfMemory line h given none = inr refl
 
--- a run without words ends so
-without-words : {W : Type 0} (words : List W) (left left' : Option (List ℕ)) (read : Type 0) (old new : Option (List ℕ)) (write : Type 0) (s : Status) (line : List ℕ)
-    → IsEnding words left left' read old new write s line → words ≡ [] → IsEnd left left' read old new write s line
-without-words words left left' read old new write status.Done line h e = h.1
-without-words words left left' read old new write status.Usage line h e = absurd (h.0 e)
-without-words words left left' read old new write status.ReadFault line h e = h.1
-without-words words left left' read old new write status.WriteFault line h e = h.1
-without-words words left left' read old new write status.TooLong line h e = h.1
-without-words words left left' read old new write status.NotJson line h e = h.1
-without-words words left left' read old new write status.BadPlan line h e = h.1
-without-words words left left' read old new write status.OutOfMemory line h e = h.1
-without-words words left left' read old new write status.Refused line h e = h.1
-without-words words left left' read old new write status.NotBuilt line h e = h.1
+-- words that are not read are told so
+pub usage-end : (words : List (List ℕ)) (left left' : Option (List ℕ)) (read : Type 0) (old new : Option (List ℕ)) (write : Type 0) (s : Status) (line : List ℕ)
+    → IsEnding words left left' read old new write s line → reading words ≡ None → IsOrMemory status.Usage s
+usage-end words left left' read old new write status.Usage line h none = inl refl
+usage-end words left left' read old new write status.OutOfMemory line h none = inr refl
+usage-end words left left' read old new write status.Done line h none = cc
+usage-end words left left' read old new write status.ReadFault line h none = cc
+usage-end words left left' read old new write status.WriteFault line h none = cc
+usage-end words left left' read old new write status.TooLong line h none = cc
+usage-end words left left' read old new write status.NotJson line h none = cc
+usage-end words left left' read old new write status.BadPlan line h none = cc
+usage-end words left left' read old new write status.Refused line h none = cc
+usage-end words left left' read old new write status.NotBuilt line h none = cc
 
 -- before a plan is read, an end is that of its stage
 of-stage : (s : Status) (bytes : List ℕ) → IsOf s bytes → (stage_of bytes ≡ 3) ⊎ (s ≡ end_at (stage_of bytes))
@@ -276,33 +278,33 @@ built-end status.Usage bytes unfaulted b (inl h) = absurd h
 built-end status.ReadFault bytes unfaulted b (inl h) = absurd h
 built-end status.OutOfMemory bytes unfaulted b (inl h) = absurd h
 
--- Without words, what holds of a source's bytes decides the end.
-pub exactly : {W : Type 0} (words : List W) (left left' : Option (List ℕ)) (before now : ℕ) (old new : Option (List ℕ)) (write : Type 0) (s wanted : Status) (line : List ℕ) (P : List ℕ → Type 0)
+-- Where the words are read, what holds of a source's bytes decides the end.
+pub exactly : (words : List (List ℕ)) (left left' : Option (List ℕ)) (before now : ℕ) (old new : Option (List ℕ)) (write : Type 0) (s wanted : Status) (line : List ℕ) (P : List ℕ → Type 0)
     → ((bytes : List ℕ) → P bytes → IsOf s bytes ⊎ (s ≡ status.OutOfMemory) → IsOrMemory wanted s)
     → IsEnding words left left' (Rose before now) old new write s line → IsUndisturbed words before now → IfSome left (λ bytes. P bytes → IsOrMemory wanted s)
 exactly words None left' before now old new write s wanted line P decides h calm = tt
 exactly words (Some bytes) left' before now old new write s wanted line P decides h calm =
-    λ p. decides bytes p (end-of bytes left' (Rose before now) old new write s line (without-words words (Some bytes) left' (Rose before now) old new write s line h calm.no_words) calm.no_fault)
+    λ p. decides bytes p (end-of words bytes left' (Rose before now) old new write s line h calm.are_words calm.no_fault)
 
 -- a write fault has its cause
-pub no-write-fault : {W : Type 0} (words : List W) (left left' : Option (List ℕ)) (read : Type 0) (old new : Option (List ℕ)) (write : Type 0) (s : Status) (line : List ℕ)
+pub no-write-fault : (words : List (List ℕ)) (left left' : Option (List ℕ)) (read : Type 0) (old new : Option (List ℕ)) (write : Type 0) (s : Status) (line : List ℕ)
     → IsEnding words left left' read old new write s line → (write → ⊥) → s ≡ status.WriteFault → ⊥
 no-write-fault words left left' read old new write s line h none e =
-    let P : Status → Type 0 = λ t. IsEnding words left left' read old new write t line in none (subst P e h).1.0
+    let P : Status → Type 0 = λ t. IsEnding words left left' read old new write t line in none (subst P e h).2.0
 
 -- the line of an end, but for one that names a fault
-pub plain-line : {W : Type 0} (words : List W) (left left' : Option (List ℕ)) (read : Type 0) (old new : Option (List ℕ)) (write : Type 0) (s : Status) (line : List ℕ)
+pub plain-line : (words : List (List ℕ)) (left left' : Option (List ℕ)) (read : Type 0) (old new : Option (List ℕ)) (write : Type 0) (s : Status) (line : List ℕ)
     → IsEnding words left left' read old new write s line → s ≢ status.BadPlan → s ≢ status.Refused → line ≡ line_of s
-plain-line words left left' read old new write status.Done line h other told = h.1.1
+plain-line words left left' read old new write status.Done line h other told = h.2.1
 plain-line words left left' read old new write status.Usage line h other told = h.2
-plain-line words left left' read old new write status.ReadFault line h other told = h.1.2
-plain-line words left left' read old new write status.WriteFault line h other told = h.1.2
-plain-line words left left' read old new write status.TooLong line h other told = h.1.2
-plain-line words left left' read old new write status.NotJson line h other told = h.1.2
+plain-line words left left' read old new write status.ReadFault line h other told = h.2.2
+plain-line words left left' read old new write status.WriteFault line h other told = h.2.2
+plain-line words left left' read old new write status.TooLong line h other told = h.2.2
+plain-line words left left' read old new write status.NotJson line h other told = h.2.2
 plain-line words left left' read old new write status.BadPlan line h other told = absurd (other refl)
 plain-line words left left' read old new write status.Refused line h other told = absurd (told refl)
-plain-line words left left' read old new write status.OutOfMemory line h other told = h.1.1
-plain-line words left left' read old new write status.NotBuilt line h other told = h.1.2
+plain-line words left left' read old new write status.OutOfMemory line h other told = h.1
+plain-line words left left' read old new write status.NotBuilt line h other told = h.2.2
 
 -- The fault of a plan was told, where its line was.
 pub told-fault : (left left' : Option (List ℕ)) (line : List ℕ) (old new : Option (List ℕ)) (before now : ℕ) → Read left left' (λ bytes. TellsFault bytes line) → TellsLine old new before now line
@@ -323,10 +325,21 @@ told-refusal left left' line old new before now r h = record {
 }
 
 -- an end that is this one
-pub is-end : {W : Type 0} (words : List W) (left left' : Option (List ℕ)) (read : Type 0) (old new : Option (List ℕ)) (write : Type 0) (s t : Status) (line : List ℕ)
+pub is-end : (words : List (List ℕ)) (left left' : Option (List ℕ)) (read : Type 0) (old new : Option (List ℕ)) (write : Type 0) (s t : Status) (line : List ℕ)
     → IsEnding words left left' read old new write s line → s ≡ t → IsEnding words left left' read old new write t line
 is-end words left left' read old new write s t line h e =
     let P : Status → Type 0 = λ u. IsEnding words left left' read old new write u line in subst P e h
+
+-- what was written at an end that says so
+pub printed : (words : List (List ℕ)) (left left' : Option (List ℕ)) (read : Type 0) (old new : Option (List ℕ)) (write : Type 0) (s : Status) (line : List ℕ)
+    → IsEnding words left left' read old new write s line → s ≡ status.Done
+    → (o : CommandOptions) × (reading words ≡ Some o) × Read left left' (λ bytes. Answers o bytes (λ text. Appends old new text))
+printed words left left' read old new write s line h e = let k = is-end words left left' read old new write s status.Done line h e in (k.0, k.1, k.2.0)
+
+pub printed-front : (words : List (List ℕ)) (left left' : Option (List ℕ)) (read : Type 0) (old new : Option (List ℕ)) (write : Type 0) (s : Status) (line : List ℕ)
+    → IsEnding words left left' read old new write s line → s ≡ status.WriteFault
+    → (o : CommandOptions) × (reading words ≡ Some o) × Read left left' (λ bytes. Answers o bytes (λ text. AppendsFront old new text))
+printed-front words left left' read old new write s line h e = let k = is-end words left left' read old new write s status.WriteFault line h e in (k.0, k.1, k.2.1)
 
 -- a line that was written, whole or in part
 pub told : {E : Type 0} (r : Result ⊤ E) (old new : Option (List ℕ)) (before now : ℕ) (line : List ℕ)

@@ -1,1 +1,3 @@
+pub mod Configured
 pub mod Ends
+pub mod Words

@@ -1,11 +1,12 @@
 -- What an inner answer and an ending say of the source and of the sink.
-use Rattle.std.specs.Prelude.{ℕ, ◌≡◌, ◌≢◌, List, [], Option, Some, None, string_bytes}
+use Rattle.std.specs.Prelude.{ℕ, ◌≡◌, List, Option, Some, None, string_bytes}
 use Rattle.std.specs.Io.KnownBytes.{Appends, Keeps}
 use Rattle.fact_io.specs.Transfers.{AppendsFront}
 use Rattle.fact_plan.specs.declared.fault.PlanFault.{PlanFault}
 use Rattle.fact_plan.specs.declared.plan.FusePlan.{FusePlan}
 use Rattle.fact_plan.specs.Built.{IsBuilt}
 use Rattle.fact_plan.specs.Fault.{IsNotMemory, fault_line}
+use Rattle.fact_run.specs.declared.command.CommandOptions.{CommandOptions}
 use Rattle.fact_run.specs.declared.status.Status.{Status}
 use Rattle.fact_run.specs.declared.status.Status.TheVariants as status
 use Rattle.fact_run.specs.declared.answer.Reply.{Reply}
@@ -13,8 +14,9 @@ use Rattle.fact_run.specs.declared.answer.Reply.TheVariants as reply
 use Rattle.fact_plan_types.specs.declared.error.Place.{Place}
 use Rattle.fact_plan_types.specs.Faults.{Fault}
 use Rattle.fact_checks.specs.FirstFault.{IsFaultless, IsFirstAt}
+use Rattle.fact_run.specs.Command.{reading}
 use Rattle.fact_run.specs.Refusal.{refusal_line}
-use Rattle.fact_run.specs.Run.{Answers, HoldsFault, HoldsNoJson, HoldsPlan, HoldsRefusal, HoldsUnbuilt, IsTooLong, Prints, Read, ReadPast}
+use Rattle.fact_run.specs.Run.{Answers, HoldsFault, HoldsNoJson, HoldsRefusal, HoldsUnbuilt, Prints, Read, ReadPast}
 use Rattle.fact_run.specs.Status.{line_of}
 
 -- the line tells the fault that the bytes hold
@@ -50,50 +52,51 @@ pub record TellsRefusal (p : FusePlan) (line : List ℕ) : Type 0 where
   pub is_line : line ≡ refusal_line fault place
 
 -- what a plan comes to
-abbrev pub IsReplyToPlan : FusePlan → Reply → Type 0
-IsReplyToPlan p (reply.Page text) = IsFaultless p × IsBuilt p × Prints (string_bytes text) p
-IsReplyToPlan p (reply.Refused line) = TellsRefusal p (string_bytes line)
-IsReplyToPlan p reply.NotBuilt = IsFaultless p × (IsBuilt p → ⊥)
-IsReplyToPlan p reply.OutOfMemory = Unit {0}
-IsReplyToPlan p _ = ⊥
+abbrev pub IsReplyToPlan : CommandOptions → FusePlan → Reply → Type 0
+IsReplyToPlan o p (reply.Page text) = IsFaultless p × IsBuilt p × Prints o p (string_bytes text)
+IsReplyToPlan o p (reply.Refused line) = TellsRefusal p (string_bytes line)
+IsReplyToPlan o p reply.NotBuilt = IsFaultless p × (IsBuilt p → ⊥)
+IsReplyToPlan o p reply.OutOfMemory = Unit {0}
+IsReplyToPlan o p _ = ⊥
 
 -- what some bytes, no more than an input may have, come to
-abbrev pub IsReplyTo : List ℕ → Reply → Type 0
-IsReplyTo bytes (reply.Page text) = Answers bytes (λ sent. sent ≡ string_bytes text)
-IsReplyTo bytes reply.ReadFault = ⊥
-IsReplyTo bytes reply.TooLong = ⊥
-IsReplyTo bytes reply.NotJson = HoldsNoJson bytes
-IsReplyTo bytes (reply.BadPlan line) = TellsFault bytes (string_bytes line)
-IsReplyTo bytes (reply.Refused line) = TellsRefusalIn bytes (string_bytes line)
-IsReplyTo bytes reply.NotBuilt = HoldsUnbuilt bytes
-IsReplyTo bytes reply.OutOfMemory = Unit {0}
+abbrev pub IsReplyTo : CommandOptions → List ℕ → Reply → Type 0
+IsReplyTo o bytes (reply.Page text) = Answers o bytes (λ sent. sent ≡ string_bytes text)
+IsReplyTo o bytes reply.ReadFault = ⊥
+IsReplyTo o bytes reply.TooLong = ⊥
+IsReplyTo o bytes reply.NotJson = HoldsNoJson bytes
+IsReplyTo o bytes (reply.BadPlan line) = TellsFault bytes (string_bytes line)
+IsReplyTo o bytes (reply.Refused line) = TellsRefusalIn bytes (string_bytes line)
+IsReplyTo o bytes reply.NotBuilt = HoldsUnbuilt bytes
+IsReplyTo o bytes reply.OutOfMemory = Unit {0}
 
 -- what a source comes to
-abbrev pub IsReply : Option (List ℕ) → Option (List ℕ) → Type 0 → Reply → Type 0
-IsReply left left' fault reply.ReadFault = fault
-IsReply left left' fault reply.TooLong = ReadPast left left'
-IsReply left left' fault reply.OutOfMemory = Unit {0}
-IsReply left left' fault r = Read left left' (λ bytes. IsReplyTo bytes r)
+abbrev pub IsReply : CommandOptions → Option (List ℕ) → Option (List ℕ) → Type 0 → Reply → Type 0
+IsReply o left left' fault reply.ReadFault = fault
+IsReply o left left' fault reply.TooLong = ReadPast left left'
+IsReply o left left' fault reply.OutOfMemory = Unit {0}
+IsReply o left left' fault r = Read left left' (λ bytes. IsReplyTo o bytes r)
 
 -- the line of an ending
 abbrev pub line_in : Status → Option (List ℕ) → List ℕ
 line_in s None = line_of s
 line_in s (Some line) = line
 
--- how a run without words ends, with the line that tells it
-abbrev pub IsEnd : Option (List ℕ) → Option (List ℕ) → Type 0 → Option (List ℕ) → Option (List ℕ) → Type 0 → Status → List ℕ → Type 0
-IsEnd left left' read old new write status.Done line = Read left left' (λ bytes. Answers bytes (λ text. Appends old new text)) × (line ≡ line_of status.Done)
-IsEnd left left' read old new write status.Usage line = ⊥
-IsEnd left left' read old new write status.ReadFault line = read × Keeps old new × (line ≡ line_of status.ReadFault)
-IsEnd left left' read old new write status.WriteFault line = write × Read left left' (λ bytes. Answers bytes (λ text. AppendsFront old new text)) × (line ≡ line_of status.WriteFault)
-IsEnd left left' read old new write status.TooLong line = ReadPast left left' × Keeps old new × (line ≡ line_of status.TooLong)
-IsEnd left left' read old new write status.NotJson line = Read left left' HoldsNoJson × Keeps old new × (line ≡ line_of status.NotJson)
-IsEnd left left' read old new write status.BadPlan line = Read left left' (λ bytes. TellsFault bytes line) × Keeps old new
-IsEnd left left' read old new write status.Refused line = Read left left' (λ bytes. TellsRefusalIn bytes line) × Keeps old new
-IsEnd left left' read old new write status.OutOfMemory line = Keeps old new × (line ≡ line_of status.OutOfMemory)
-IsEnd left left' read old new write status.NotBuilt line = Read left left' HoldsUnbuilt × Keeps old new × (line ≡ line_of status.NotBuilt)
+-- how a run with these options ends, with the line that tells it
+abbrev pub IsEnd : CommandOptions → Option (List ℕ) → Option (List ℕ) → Type 0 → Option (List ℕ) → Option (List ℕ) → Type 0 → Status → List ℕ → Type 0
+IsEnd o left left' read old new write status.Done line = Read left left' (λ bytes. Answers o bytes (λ text. Appends old new text)) × (line ≡ line_of status.Done)
+IsEnd o left left' read old new write status.Usage line = ⊥
+IsEnd o left left' read old new write status.ReadFault line = read × Keeps old new × (line ≡ line_of status.ReadFault)
+IsEnd o left left' read old new write status.WriteFault line = write × Read left left' (λ bytes. Answers o bytes (λ text. AppendsFront old new text)) × (line ≡ line_of status.WriteFault)
+IsEnd o left left' read old new write status.TooLong line = ReadPast left left' × Keeps old new × (line ≡ line_of status.TooLong)
+IsEnd o left left' read old new write status.NotJson line = Read left left' HoldsNoJson × Keeps old new × (line ≡ line_of status.NotJson)
+IsEnd o left left' read old new write status.BadPlan line = Read left left' (λ bytes. TellsFault bytes line) × Keeps old new
+IsEnd o left left' read old new write status.Refused line = Read left left' (λ bytes. TellsRefusalIn bytes line) × Keeps old new
+IsEnd o left left' read old new write status.OutOfMemory line = Keeps old new × (line ≡ line_of status.OutOfMemory)
+IsEnd o left left' read old new write status.NotBuilt line = Read left left' HoldsUnbuilt × Keeps old new × (line ≡ line_of status.NotBuilt)
 
 -- how a run ends
-abbrev pub IsEnding : {W : Type 0} → List W → Option (List ℕ) → Option (List ℕ) → Type 0 → Option (List ℕ) → Option (List ℕ) → Type 0 → Status → List ℕ → Type 0
-IsEnding words left left' read old new write status.Usage line = (words ≢ []) × Keeps old new × (line ≡ line_of status.Usage)
-IsEnding words left left' read old new write s line = (words ≡ []) × IsEnd left left' read old new write s line
+abbrev pub IsEnding : List (List ℕ) → Option (List ℕ) → Option (List ℕ) → Type 0 → Option (List ℕ) → Option (List ℕ) → Type 0 → Status → List ℕ → Type 0
+IsEnding words left left' read old new write status.Usage line = (reading words ≡ None) × Keeps old new × (line ≡ line_of status.Usage)
+IsEnding words left left' read old new write status.OutOfMemory line = Keeps old new × (line ≡ line_of status.OutOfMemory)
+IsEnding words left left' read old new write s line = (o : CommandOptions) × (reading words ≡ Some o) × IsEnd o left left' read old new write s line

@@ -1,4 +1,6 @@
 pub mod Answer
+pub mod Command
+pub mod ImportLines
 pub mod Refusal
 pub mod Run
 pub mod Status

@@ -1,5 +1,5 @@
 -- What a run reads and writes.
-use Rattle.std.specs.Prelude.{ℕ, ◌≡◌, ◌≤◌, ◌<◌, List, [], ◌∷◌, ◌++◌, length, Option, Some, None, Ok, Err, ◌⊎◌}
+use Rattle.std.specs.Prelude.{ℕ, ◌≡◌, ◌≤◌, ◌<◌, List, [], ◌∷◌, ◌++◌, length, Bool, ◌||◌, if◌then◌else◌, Option, Some, None, IsSome, Ok, Err, ◌⊎◌}
 use Rattle.std.specs.Io.KnownBytes.{Appends, Consumes}
 use Rattle.hex.specs.Hex.{encode_lower}
 use Rattle.serde_json.specs.Data.{Data}
@@ -17,9 +17,13 @@ use Rattle.fact_plan_types.specs.declared.error.Place.{Place}
 use Rattle.fact_plan_types.specs.Faults.{Fault}
 use Rattle.fact_checks.specs.FirstFault.{IsFaultless, IsFirstAt}
 use Rattle.fact_module.specs.declared.fusion.Fused.{Fused}
-use Rattle.fact_module.specs.Faithful.{IsFused}
+use Rattle.fact_module.specs.declared.plain.Import.{Import}
+use Rattle.fact_module.specs.Fused.{IsFused}
+use Rattle.fact_run.specs.declared.command.CommandOptions.{CommandOptions}
 use Rattle.fact_run.specs.declared.status.Status.{Status}
 use Rattle.fact_run.specs.declared.status.Status.TheVariants as status
+use Rattle.fact_run.specs.Command.{reading}
+use Rattle.fact_run.specs.ImportLines.{import_lines}
 
 -- the most bytes that an input may have
 abbrev pub limit : ℕ
@@ -72,26 +76,30 @@ pub record HoldsBuilt (bytes : List ℕ) : Type 0 where
 
 -- ---- what is written
 
--- the plan with the tunables of the run
-abbrev pub configured : FusePlan → FusePlan
-configured p = record p { tunables = record p.tunables { fuel = 1000 } }
+-- the plan with the tunables of the run: debug checks where the plan or the words ask for them, and the words' fuel
+abbrev pub configured : CommandOptions → FusePlan → FusePlan
+configured o p = record p { tunables = record p.tunables { debug = p.tunables.debug || o.debug; fuel = o.fuel } }
 
--- the printed text of a module's bytes: lower-case hex and a newline
-abbrev pub page : List ℕ → List ℕ
-page bytes = encode_lower bytes ++ 10 ∷ []
+-- bytes in lower-case hex and a newline
+abbrev pub hex_line : List ℕ → List ℕ
+hex_line bytes = encode_lower bytes ++ 10 ∷ []
+
+-- the printed text of a module: its bytes, and the lines of its imports where they are asked for
+abbrev pub page : List ℕ → List Import → Bool → List ℕ
+page bytes imports asked = hex_line bytes ++ (if asked then import_lines imports else [])
 
 -- The text prints the module of the plan: its bytes spell it, and no other module in range.
-pub record Prints (text : List ℕ) (p : FusePlan) : Type 0 where
+pub record Prints (o : CommandOptions) (p : FusePlan) (text : List ℕ) : Type 0 where
   pub fused : Fused
-  pub is_fused : IsFused fused (configured p)
+  pub is_fused : IsFused fused (configured o p)
   pub is_only : (m : WasmModule) → InRange m → Spells fused.bytes m → m ≡ fused.module
-  pub is_page : text ≡ page fused.bytes
+  pub is_page : text ≡ page fused.bytes fused.imports o.imports
 
 -- The bytes hold a plan that is built, and of the text that prints its module this was sent.
-pub record Answers (bytes : List ℕ) (Sent : List ℕ → Type 0) : Type 0 where
+pub record Answers (o : CommandOptions) (bytes : List ℕ) (Sent : List ℕ → Type 0) : Type 0 where
   pub holds : HoldsBuilt bytes
   pub text : List ℕ
-  pub prints : Prints text holds.plan
+  pub prints : Prints o holds.plan text
   pub sent : Sent text
 
 -- ---- sources and lines
@@ -113,9 +121,9 @@ pub record TellsLine (old new : Option (List ℕ)) (before now : ℕ) (line : Li
   pub front : AppendsFront old new line
   pub whole : (Rose before now → ⊥) → Appends old new line
 
--- No words were given and no read failed.
-pub record IsUndisturbed {W : Type 0} (words : List W) (before now : ℕ) : Type 0 where
-  pub no_words : words ≡ []
+-- The command takes the words, and no read failed.
+pub record IsUndisturbed (words : List (List ℕ)) (before now : ℕ) : Type 0 where
+  pub are_words : IsSome (reading words)
   pub no_fault : Rose before now → ⊥
 
 -- The end is this one, or a want of memory.

@@ -5,9 +5,11 @@ ghost use Rattle.fact_io.specs.Faults.{Rose};
 ghost use Rattle.fact_plan.specs.Built.{IsBuilt};
 ghost use Rattle.fact_plan_types.specs.PlanTypes.{told};
 ghost use Rattle.fact_run.specs.declared.answer.Reply.TheVariants as reply;
+ghost use Rattle.fact_run.specs.declared.command.CommandOptions.{CommandOptions};
 ghost use Rattle.fact_run.specs.Answer.{IsReply, IsReplyTo, IsReplyToFault, IsReplyToPlan, IsReplyToRefusal};
 ghost use Rattle.fact_run.specs.Run.{HoldsPlan, Prints, configured, limit};
 
+use crate::command::CommandOptions;
 use crate::page::page_text;
 use crate::refusal::refusal_line;
 use fact_io::{InputError, Source, read_all};
@@ -15,8 +17,6 @@ use fact_module::{FuseError, FusePlan, PlanTunables, check_plan, fuse};
 use fact_plan::{PlanFault, fault_line, plan_of, read_value};
 use fact_wasm::{OutOfMemory, bytes_spell_one_module};
 use std::alloc::{AllocError, Global};
-
-const FUEL: u32 = 1000;
 
 /// What a run has to tell.
 #[derive(Drop)]
@@ -58,7 +58,7 @@ fn reply_to_fault(alloc: Global, fault: &PlanFault) -> Reply
 /// The plan in some bytes, or what they come to without one.
 fn plan_in(alloc: Global, bytes: &[u8]) -> Result<FusePlan, Reply>
     requires { length bytes.now ≤ limit }
-    ensures { MatchResult result (λ p. HoldsPlan bytes.now p) (λ r. IsReplyTo bytes.now r) }
+    ensures { MatchResult result (λ p. HoldsPlan bytes.now p) (λ r. (o : CommandOptions) → IsReplyTo o bytes.now r) }
 {
     let Some(value) = read_value(alloc, bytes)? else {
         return Err(Reply::NotJson);
@@ -69,25 +69,30 @@ fn plan_in(alloc: Global, bytes: &[u8]) -> Result<FusePlan, Reply>
     }
 }
 
-fn configure(plan: FusePlan) -> FusePlan
-    ensures { result ≡ configured plan }
+/// The plan with the tunables that the words ask for.
+fn configure(plan: FusePlan, options: CommandOptions) -> FusePlan
+    ensures { result ≡ configured options plan }
 {
     let tunables = PlanTunables {
-        fuel: FUEL,
+        debug: plan.tunables.debug || options.debug,
+        fuel: options.fuel,
         ..plan.tunables
     };
     FusePlan { tunables, ..plan }
 }
 
-fn print(alloc: Global, plan: FusePlan) -> Result<String, OutOfMemory>
-    requires { IsBuilt plan }
-    ensures { IfOk result (λ text. Prints (string_bytes text) plan) }
+fn print(alloc: Global, plan: FusePlan, options: CommandOptions) -> Result<String, OutOfMemory>
+    requires built { IsBuilt plan }
+    requires fuel { 1 ≤ options.fuel }
+    ensures { IfOk result (λ text. Prints options plan (string_bytes text)) }
 {
     bytes_spell_one_module();
-    let plan = configure(plan);
+    let plan = configure(plan, options);
     match fuse(alloc, &plan) {
         Ok(fused) => {
-            let text = page_text(alloc, fused.bytes.as_slice())?;
+            let bytes = fused.bytes.as_slice();
+            let imports = fused.imports.as_slice();
+            let text = page_text(alloc, bytes, imports, options.imports)?;
             Ok(text)
         }
         Err(_) => Err(AllocError),
@@ -108,8 +113,9 @@ fn reply_to_refusal(alloc: Global, error: &FuseError) -> Reply
 }
 
 /// What a plan comes to.
-fn reply_to_plan(alloc: Global, plan: FusePlan) -> Reply
-    ensures { IsReplyToPlan plan result }
+fn reply_to_plan(alloc: Global, plan: FusePlan, options: CommandOptions) -> Reply
+    requires { 1 ≤ options.fuel }
+    ensures { IsReplyToPlan options plan result }
 {
     if let Err(error) = check_plan(alloc, &plan) {
         return reply_to_refusal(alloc, &error);
@@ -117,29 +123,31 @@ fn reply_to_plan(alloc: Global, plan: FusePlan) -> Reply
     if !plan.built() {
         return Reply::NotBuilt;
     }
-    match print(alloc, plan) {
+    match print(alloc, plan, options) {
         Ok(text) => Reply::Page(text),
         Err(_) => Reply::OutOfMemory,
     }
 }
 
 /// What some bytes come to.
-fn reply_to(alloc: Global, bytes: &[u8]) -> Reply
-    requires { length bytes.now ≤ limit }
-    ensures { IsReplyTo bytes.now result }
+fn reply_to(alloc: Global, bytes: &[u8], options: CommandOptions) -> Reply
+    requires within { length bytes.now ≤ limit }
+    requires fuel { 1 ≤ options.fuel }
+    ensures { IsReplyTo options bytes.now result }
 {
     match plan_in(alloc, bytes) {
-        Ok(plan) => reply_to_plan(alloc, plan),
+        Ok(plan) => reply_to_plan(alloc, plan, options),
         Err(reply) => reply,
     }
 }
 
 /// What all that the source has comes to.
-pub fn reply_of<S: Source>(alloc: Global, source: &mut S) -> Reply
-    ensures { IsReply (S.left source.old) (S.left source.new) (Rose (S.faults source.old) (S.faults source.new)) result }
+pub fn reply_of<S: Source>(alloc: Global, source: &mut S, options: CommandOptions) -> Reply
+    requires { 1 ≤ options.fuel }
+    ensures { IsReply options (S.left source.old) (S.left source.new) (Rose (S.faults source.old) (S.faults source.new)) result }
 {
     match read_all(alloc, source) {
-        Ok(bytes) => reply_to(alloc, &bytes),
+        Ok(bytes) => reply_to(alloc, &bytes, options),
         Err(InputError::Fault) => Reply::ReadFault,
         Err(InputError::TooLong) => Reply::TooLong,
         Err(InputError::OutOfMemory) => Reply::OutOfMemory,

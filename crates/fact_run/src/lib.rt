@@ -1,8 +1,11 @@
-//! The program's top call: a plan in JSON from a source, the adapter module in hex to a sink.
+//! The program's top call: a plan in JSON from a source, the adapter module in hex to a sink, with its imports where the words
+//! ask for them.
 #![tactic(auto)]
 
 mod answer;
+mod command;
 mod ending;
+mod import_lines;
 mod page;
 mod refusal;
 mod status;

@@ -54,7 +54,7 @@ impl Status {
     {
         match self {
             Status::Done | Status::BadPlan | Status::Refused => "",
-            Status::Usage => "usage: factc\n",
+            Status::Usage => "usage: factc [--debug] [--fuel N] [--imports]\n",
             Status::ReadFault => "read fault\n",
             Status::WriteFault => "write fault\n",
             Status::TooLong => "input too long\n",

@@ -1,6 +1,6 @@
 //! The top call.
 
-ghost use Rattle.std.specs.Prelude.{◌≡◌, ◌≢◌, ◌↔◌, [], length, IfSome, List, ℕ, option_map, string_bytes};
+ghost use Rattle.std.specs.Prelude.{◌≡◌, ◌≢◌, ◌≤◌, IfSome, None, Some, map, option_map, string_bytes};
 ghost use Rattle.std.specs.Io.KnownBytes.{Appends, Keeps};
 ghost use Rattle.fact_io.specs.Faults.{Rose};
 ghost use Rattle.fact_io.specs.Transfers.{AppendsFront};
@@ -8,23 +8,32 @@ ghost use Rattle.fact_plan.specs.Fault.{fault_line};
 ghost use Rattle.fact_plan.specs.declared.fault.PlanFault.{PlanFault};
 ghost use Rattle.fact_plan_types.specs.declared.error.Place.{Place};
 ghost use Rattle.fact_plan_types.specs.Faults.{Fault};
+ghost use Rattle.fact_run.specs.declared.command.CommandOptions.{CommandOptions};
+ghost use Rattle.fact_run.specs.Command.{reading};
 ghost use Rattle.fact_run.specs.Refusal.{refusal_line};
 ghost use Rattle.fact_run.specs.Answer.{IsEnd, IsEnding, line_in};
 ghost use Rattle.fact_run.specs.Run.{Answers, HoldsBuilt, HoldsFault, HoldsNoJson, HoldsRefusal, HoldsUnbuilt, IsOrMemory, IsTooLong, IsUndisturbed, Read, ReadPast, TellsLine};
 ghost use Rattle.fact_run.specs.Status.{line_of};
 
 use crate::answer::{Reply, reply_of};
+use crate::command::{CommandOptions, command_of};
 use crate::ending::Ending;
 use crate::status::Status;
 use fact_io::{Sink, Source, write_text};
 use std::alloc::Global;
 
 /// Reads the source and writes the text of its module.
-fn end<S: Source, K: Sink>(alloc: Global, source: &mut S, out: &mut K) -> Ending
-    ensures { IsEnd (S.left source.old) (S.left source.new) (Rose (S.faults source.old) (S.faults source.new))
+fn end<S: Source, K: Sink>(
+    alloc: Global,
+    options: CommandOptions,
+    source: &mut S,
+    out: &mut K,
+) -> Ending
+    requires { 1 ≤ options.fuel }
+    ensures { IsEnd options (S.left source.old) (S.left source.new) (Rose (S.faults source.old) (S.faults source.new))
         (K.written out.old) (K.written out.new) (Rose (K.faults out.old) (K.faults out.new)) result.status (line_in result.status (option_map string_bytes result.told)) }
 {
-    match reply_of(alloc, source) {
+    match reply_of(alloc, source, options) {
         Reply::Page(text) => match write_text(out, text.as_bytes()) {
             Ok(()) => Ending::of(Status::Done),
             Err(_) => Ending::of(Status::WriteFault),
@@ -39,26 +48,28 @@ fn end<S: Source, K: Sink>(alloc: Global, source: &mut S, out: &mut K) -> Ending
     }
 }
 
-/// Looks at the words, and without any reads and writes.
+/// Reads the words, and where they are a command the source.
 fn ending_of<S: Source, K: Sink>(
     alloc: Global,
     words: &[String],
     source: &mut S,
     out: &mut K,
 ) -> Ending
-    ensures { IsEnding words.now (S.left source.old) (S.left source.new) (Rose (S.faults source.old) (S.faults source.new))
+    ensures { IsEnding (map string_bytes words.now) (S.left source.old) (S.left source.new) (Rose (S.faults source.old) (S.faults source.new))
         (K.written out.old) (K.written out.new) (Rose (K.faults out.old) (K.faults out.new)) result.status (line_in result.status (option_map string_bytes result.told)) }
 {
-    if words.is_empty() {
-        end(alloc, source, out)
-    } else {
-        Ending::of(Status::Usage)
+    match command_of(alloc, words) {
+        Ok(Some(options)) => end(alloc, options, source, out),
+        Ok(None) => Ending::of(Status::Usage),
+        Err(_) => Ending::of(Status::OutOfMemory),
     }
 }
 
 /// Reads a plan in JSON from the source, to its end, and writes the bytes of its module to `out`, in lower-case hex and
-/// with a newline. What went wrong is told on `err` by one line. `words` are those after the program's name; none is taken
-/// so far. Want of memory may be answered at any point.
+/// with a newline, and behind it one line an import where the words ask for them. What went wrong is told on `err` by one
+/// line. `words` are those after the program's name: `--debug` adds debug checks, `--fuel N` says how much translation a
+/// function may hold (1 to 1,000,000, else 1,000), `--imports` asks for the lines of the imports. Want of memory may be
+/// answered at any point.
 pub fn run<S: Source, K: Sink, E: Sink>(
     alloc: Global,
     words: &[String],
@@ -67,7 +78,7 @@ pub fn run<S: Source, K: Sink, E: Sink>(
     err: &mut E,
 ) -> Status
     // Why each end comes.
-    ensures usage { (result ≡ Status.Usage) ↔ (words.now ≢ []) }
+    ensures usage { result ≡ Status.Usage → reading (map string_bytes words.now) ≡ None }
     ensures read_fault { result ≡ Status.ReadFault → Rose (S.faults source.old) (S.faults source.new) }
     ensures too_long { result ≡ Status.TooLong → ReadPast (S.left source.old) (S.left source.new) }
     ensures not_json { result ≡ Status.NotJson → Read (S.left source.old) (S.left source.new) HoldsNoJson }
@@ -77,27 +88,28 @@ pub fn run<S: Source, K: Sink, E: Sink>(
         × HoldsRefusal bytes f place × TellsLine (E.written err.old) (E.written err.new) (E.faults err.old) (E.faults err.new) (refusal_line f place)) }
     ensures not_built { result ≡ Status.NotBuilt → Read (S.left source.old) (S.left source.new) HoldsUnbuilt }
     ensures write_fault { result ≡ Status.WriteFault → Rose (K.faults out.old) (K.faults out.new) }
-    ensures done { result ≡ Status.Done → Read (S.left source.old) (S.left source.new) (λ bytes. Answers bytes (λ text.
-        Appends (K.written out.old) (K.written out.new) text)) }
+    ensures done { result ≡ Status.Done → (o : CommandOptions) × (reading (map string_bytes words.now) ≡ Some o)
+        × Read (S.left source.old) (S.left source.new) (λ bytes. Answers o bytes (λ text. Appends (K.written out.old) (K.written out.new) text)) }
 
-    // The other way round, where the source tells its bytes, no words are given and no read failed.
-    ensures exactly_too_long { IsUndisturbed words.now (S.faults source.old) (S.faults source.new)
+    // The other way round: of the words, and where these are read, the source tells its bytes and no read failed, of the bytes.
+    ensures exactly_usage { reading (map string_bytes words.now) ≡ None → IsOrMemory Status.Usage result }
+    ensures exactly_too_long { IsUndisturbed (map string_bytes words.now) (S.faults source.old) (S.faults source.new)
         → IfSome (S.left source.old) (λ bytes. IsTooLong bytes → IsOrMemory Status.TooLong result) }
-    ensures exactly_not_json { IsUndisturbed words.now (S.faults source.old) (S.faults source.new)
+    ensures exactly_not_json { IsUndisturbed (map string_bytes words.now) (S.faults source.old) (S.faults source.new)
         → IfSome (S.left source.old) (λ bytes. HoldsNoJson bytes → IsOrMemory Status.NotJson result) }
-    ensures exactly_bad_plan { IsUndisturbed words.now (S.faults source.old) (S.faults source.new)
+    ensures exactly_bad_plan { IsUndisturbed (map string_bytes words.now) (S.faults source.old) (S.faults source.new)
         → IfSome (S.left source.old) (λ bytes. ((f : PlanFault) × HoldsFault bytes f) → IsOrMemory Status.BadPlan result) }
-    ensures exactly_refused { IsUndisturbed words.now (S.faults source.old) (S.faults source.new)
+    ensures exactly_refused { IsUndisturbed (map string_bytes words.now) (S.faults source.old) (S.faults source.new)
         → IfSome (S.left source.old) (λ bytes. ((f : Fault) × (place : Place) × HoldsRefusal bytes f place) → IsOrMemory Status.Refused result) }
-    ensures exactly_not_built { IsUndisturbed words.now (S.faults source.old) (S.faults source.new)
+    ensures exactly_not_built { IsUndisturbed (map string_bytes words.now) (S.faults source.old) (S.faults source.new)
         → IfSome (S.left source.old) (λ bytes. HoldsUnbuilt bytes → IsOrMemory Status.NotBuilt result) }
-    ensures complete { IsUndisturbed words.now (S.faults source.old) (S.faults source.new)
+    ensures complete { IsUndisturbed (map string_bytes words.now) (S.faults source.old) (S.faults source.new)
         → (Rose (K.faults out.old) (K.faults out.new) → ⊥)
         → IfSome (S.left source.old) (λ bytes. HoldsBuilt bytes → IsOrMemory Status.Done result) }
 
     // What was written.
-    ensures part { result ≡ Status.WriteFault → Read (S.left source.old) (S.left source.new) (λ bytes. Answers bytes (λ text.
-        AppendsFront (K.written out.old) (K.written out.new) text)) }
+    ensures part { result ≡ Status.WriteFault → (o : CommandOptions) × (reading (map string_bytes words.now) ≡ Some o)
+        × Read (S.left source.old) (S.left source.new) (λ bytes. Answers o bytes (λ text. AppendsFront (K.written out.old) (K.written out.new) text)) }
     ensures kept { result ≢ Status.Done → result ≢ Status.WriteFault → Keeps (K.written out.old) (K.written out.new) }
     ensures told { result ≢ Status.BadPlan → result ≢ Status.Refused
         → TellsLine (E.written err.old) (E.written err.new) (E.faults err.old) (E.faults err.new) (line_of result) }

@@ -18,6 +18,9 @@ pub struct Given<'a> {
 
 const CLEAN: u64 = 0;
 
+/// The most bytes that a run may print.
+const ROOM: usize = 20_000;
+
 /// How a run ended, and what it left.
 #[derive(Drop)]
 pub struct Seen {
@@ -39,7 +42,7 @@ pub fn run_on(alloc: Global, given: &Given) -> Result<Seen, AllocError> {
     let input = Vec::from_slice(alloc, given.input)?;
     let piece = given.piece.max(1);
     let mut source = BytesSource::new(input, piece, vec![in alloc; given.failing_read]?);
-    let mut out = BytesSink::new(alloc, 2000, piece, vec![in alloc; given.failing_write]?)?;
+    let mut out = BytesSink::new(alloc, ROOM, piece, vec![in alloc; given.failing_write]?)?;
     let mut err = BytesSink::new(alloc, 200, piece, vec![in alloc; given.failing_tell]?)?;
     let status = run(alloc, words.as_slice(), &mut source, &mut out, &mut err);
     Ok(Seen { status, out, err })

@@ -6,9 +6,15 @@ mod decoded;
 #[cfg(test)]
 mod ends;
 #[cfg(test)]
+mod entry_faults;
+#[cfg(test)]
 mod faults;
 #[cfg(test)]
 mod machine;
+#[cfg(test)]
+mod many;
+#[cfg(test)]
+mod near;
 #[cfg(test)]
 mod plans;
 #[cfg(test)]
@@ -17,3 +23,5 @@ mod refusals;
 mod runs;
 #[cfg(test)]
 mod streams;
+#[cfg(test)]
+mod words;

@@ -20,21 +20,34 @@ pub fn fused(rt: &impl Abort, alloc: Global, text: &str) -> Result<Fused, Fail> 
     Ok(fuse(alloc, &plan)?)
 }
 
-/// A state with the flags of the lift side and of the lower side.
-fn flags(alloc: Global, lift: u32, lower: u32) -> Result<MachineState, AllocError> {
-    let globals = vec![in alloc; CoreValue::I32(lift), CoreValue::I32(lower)]?;
+/// A state with these flags, in the order of the imports.
+pub fn set_flags(alloc: Global, flags: &[u32]) -> Result<MachineState, AllocError> {
+    let mut globals = Vec::new(alloc);
+    for flag in flags {
+        globals.push(CoreValue::I32(*flag))?;
+    }
     Ok(MachineState {
         memories: Seq::new(alloc),
         globals: Seq::from_vec(globals),
     })
 }
 
-/// The answer of an outside call that returns these results and leaves the flags set.
-fn returning(alloc: Global, results: &[CoreValue]) -> Result<Answer, AllocError> {
+/// The answer of an outside call that returns these results and leaves this state.
+pub fn returning(
+    alloc: Global,
+    state: &MachineState,
+    results: &[CoreValue],
+) -> Result<Answer, AllocError> {
     Ok(Answer::Returns {
         results: Seq::from_vec(Vec::from_slice(alloc, results)?),
-        state: flags(alloc, 1, 1)?,
+        state: state.try_clone()?,
     })
+}
+
+/// The answer of an outside call that returns these results and leaves the two flags set.
+fn returning_set(alloc: Global, results: &[CoreValue]) -> Result<Answer, AllocError> {
+    let state = set_flags(alloc, &[1, 1])?;
+    returning(alloc, &state, results)
 }
 
 fn run(
@@ -45,12 +58,12 @@ fn run(
     answers: &[Answer],
     steps: u64,
 ) -> Result<Outcome, Fail> {
-    let state = flags(alloc, 1, lower)?;
+    let state = set_flags(alloc, &[1, lower])?;
     Ok(Machine::run(alloc, &module.module, 0, args, &state, answers, steps)?)
 }
 
 /// Whether the run returned these values.
-fn returned(outcome: &Outcome, values: &[CoreValue]) -> bool {
+pub fn returned(outcome: &Outcome, values: &[CoreValue]) -> bool {
     match &outcome.end {
         End::Returned(results) => results.as_slice() == values,
         _ => false,
@@ -58,7 +71,7 @@ fn returned(outcome: &Outcome, values: &[CoreValue]) -> bool {
 }
 
 /// Whether the run made one outside call, of this function with these arguments.
-fn called_once(outcome: &Outcome, func: u32, args: &[CoreValue]) -> bool {
+pub fn called_once(outcome: &Outcome, func: u32, args: &[CoreValue]) -> bool {
     match outcome.log.as_slice() {
         [event] => event.func == func && event.args.as_slice() == args,
         _ => false,
@@ -69,7 +82,7 @@ fn called_once(outcome: &Outcome, func: u32, args: &[CoreValue]) -> bool {
 fn worked_module_runs(rt: HostRuntime) -> Result<(), Fail> {
     let module = fused(&rt, rt.alloc(), edited(rt.alloc(), &[])?.as_str())?;
     let args = [CoreValue::I32(7)];
-    let answers = [returning(rt.alloc(), &[])?];
+    let answers = [returning_set(rt.alloc(), &[])?];
     let outcome = run(rt.alloc(), &module, 1, &args, &answers, STEPS)?;
     assert!(rt; returned(&outcome, &[]));
     assert!(rt; called_once(&outcome, 0, &args));
@@ -113,7 +126,7 @@ fn results_are_given_back(rt: HostRuntime) -> Result<(), Fail> {
     )?;
     let module = fused(&rt, rt.alloc(), text.as_str())?;
     let args = [CoreValue::I32(7)];
-    let answers = [returning(rt.alloc(), &[CoreValue::I64(9)])?];
+    let answers = [returning_set(rt.alloc(), &[CoreValue::I64(9)])?];
     let outcome = run(rt.alloc(), &module, 1, &args, &answers, STEPS)?;
     assert!(rt; returned(&outcome, &[CoreValue::I64(9)]));
     assert!(rt; called_once(&outcome, 0, &args));
@@ -129,7 +142,7 @@ fn sixteen_arguments_arrive(rt: HostRuntime) -> Result<(), Fail> {
         args.push(CoreValue::I32(n))?;
         args.push(CoreValue::I64(u64::from(n) + (1 << 40)))?;
     }
-    let answers = [returning(rt.alloc(), &[])?];
+    let answers = [returning_set(rt.alloc(), &[])?];
     let outcome = run(rt.alloc(), &module, 1, args.as_slice(), &answers, STEPS)?;
     assert!(rt; returned(&outcome, &[]));
     assert!(rt; called_once(&outcome, 0, args.as_slice()));

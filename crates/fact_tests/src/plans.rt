@@ -10,6 +10,17 @@ pub const PLAN: &str =
 pub const PAGE: &str =
     "0061736d0100000001080260017f0060000002430405666c61677309696e7374616e636531037f0105666c61677309696e7374616e636530037f010663616c6c656502663000000772756e74696d6505747261703000010302010007060102663000020a2a012801027f0240230122010d001001000b2300210241002400200020022400100041002401200124010b\n";
 
+/// The lines of its imports.
+pub const IMPORTS: &str =
+    "core-def instance-flags 1\ncore-def instance-flags 0\ncore-def export 0 72756e\ntrap 0\n";
+
+/// A plan without entries.
+pub const EMPTY: &str =
+    "{\"instances\":0,\"types\":[],\"tables\":[],\"funcs\":[],\"core_types\":[],\"core_defs\":[],\"adapters\":[]}";
+
+/// The module of every plan without adapters, printed.
+pub const EMPTY_PAGE: &str = "0061736d010000000101000201000301000701000a0100\n";
+
 /// Parts of the worked plan that others replace.
 pub const PARAMS: &str = "[[\"x\",\"u32\"]],\"results\":[]";
 

@@ -1,9 +1,7 @@
 //! Runs of the top call over memory.
 
-use crate::ends::{Given, end_with, plain, run_on, status_of_plan};
-use crate::plans::{
-    CORE, PAGE, PARAMS, PLAN, SEVENTEEN, SEVENTEEN_CORE, SIXTEEN, SIXTEEN_CORE, edited,
-};
+use crate::ends::{Given, end_with, plain};
+use crate::plans::{EMPTY, PAGE, PLAN, edited};
 use fact_run::Status;
 use std::alloc::{AllocError, Global};
 use std::test::Fail;
@@ -19,75 +17,6 @@ fn runs_end_as_they_should(rt: HostRuntime) -> Result<(), Fail> {
         Status::Done,
         PAGE,
         "",
-    )?;
-    end_with(
-        &rt,
-        rt.alloc(),
-        &Given {
-            words: &["--imports"],
-            ..one
-        },
-        Status::Usage,
-        "",
-        "usage: factc\n",
-    )?;
-    end_with(
-        &rt,
-        rt.alloc(),
-        &Given {
-            words: &[""],
-            ..one
-        },
-        Status::Usage,
-        "",
-        "usage: factc\n",
-    )?;
-    end_with(
-        &rt,
-        rt.alloc(),
-        &Given {
-            failing_read: 1,
-            ..one
-        },
-        Status::ReadFault,
-        "",
-        "read fault\n",
-    )?;
-    end_with(
-        &rt,
-        rt.alloc(),
-        &Given {
-            failing_write: 1,
-            ..one
-        },
-        Status::WriteFault,
-        "",
-        "write fault\n",
-    )?;
-    end_with(
-        &rt,
-        rt.alloc(),
-        &Given {
-            piece: 8,
-            failing_write: 2,
-            ..one
-        },
-        Status::WriteFault,
-        "0061736d",
-        "write fault\n",
-    )?;
-    end_with(
-        &rt,
-        rt.alloc(),
-        &Given {
-            piece: 4,
-            failing_read: 7,
-            failing_tell: 2,
-            ..one
-        },
-        Status::ReadFault,
-        "",
-        "read",
     )?;
     end_with(
         &rt,
@@ -167,195 +96,96 @@ fn inputs_end_at_a_limit(rt: HostRuntime) -> Result<(), Fail> {
     Ok(())
 }
 
-/// Plans that are all but plain numbers, each with what is told of it.
-const NEAR_MISSES: [(&str, &[(&str, &str)]); 29] = [
+/// A plan of one faulty type.
+const FAULTY: &str =
+    "{\"instances\":0,\"types\":[{\"tuple\":[]}],\"tables\":[],\"funcs\":[],\"core_types\":[],\"core_defs\":[],\"adapters\":[]}";
+
+/// A run whose streams fail: its input, and the most bytes that a call takes; the calls of reading, of writing and of telling
+/// that fail, or 0 where none does; and how it ends, with what was written and told.
+type Failing = (
+    &'static str,
+    usize,
+    [u64; 3],
+    Status,
+    &'static str,
+    &'static str,
+);
+
+/// The worked plan is read in pieces of 100 by four calls, the last of which finds the end, and its page is written in pieces
+/// of 8 by 36.
+const FAILING: &[Failing] = &[
+    (PLAN, 100, [1, 0, 0], Status::ReadFault, "", "read fault\n"),
+    (PLAN, 100, [2, 0, 0], Status::ReadFault, "", "read fault\n"),
+    (PLAN, 100, [3, 0, 0], Status::ReadFault, "", "read fault\n"),
+    (PLAN, 100, [4, 0, 0], Status::ReadFault, "", "read fault\n"),
+    (PLAN, 100, [5, 4, 1], Status::Done, PAGE, ""),
+    (PLAN, 8, [0, 1, 0], Status::WriteFault, "", "write fault\n"),
     (
-        "refused: BadMemory at adapter 0",
-        &[(PARAMS, SEVENTEEN), (CORE, SEVENTEEN_CORE)],
+        PLAN,
+        8,
+        [0, 2, 0],
+        Status::WriteFault,
+        "0061736d",
+        "write fault\n",
     ),
     (
-        "refused: BadType at function 0",
-        &[
-            (PARAMS, "[[\"x\",\"u32\"],[\"x\",\"u32\"]],\"results\":[]"),
-            (CORE, "[\"i32\",\"i32\"],\"results\":[]"),
-        ],
+        PLAN,
+        8,
+        [0, 3, 0],
+        Status::WriteFault,
+        "0061736d01000000",
+        "write fault\n",
     ),
+    (PLAN, 8, [0, 37, 0], Status::Done, PAGE, ""),
     (
-        "refused: BadSignature at adapter 0",
-        &[
-            (PARAMS, "[[\"x\",\"u32\"],[\"y\",\"u64\"]],\"results\":[]"),
-            (CORE, "[\"i64\",\"i32\"],\"results\":[]"),
-        ],
+        EMPTY,
+        10,
+        [0, 2, 0],
+        Status::WriteFault,
+        "0061736d01",
+        "write fault\n",
     ),
+    (PLAN, 4, [7, 0, 2], Status::ReadFault, "", "read"),
+    (PLAN, 100, [1, 1, 1], Status::ReadFault, "", ""),
+    (PLAN, 8, [0, 2, 1], Status::WriteFault, "0061736d", ""),
+    ("", 8, [0, 1, 1], Status::NotJson, "", ""),
+    ("", 4, [0, 0, 2], Status::NotJson, "", "not "),
+    ("{}", 8, [0, 1, 1], Status::BadPlan, "", ""),
+    ("{}", 8, [0, 0, 3], Status::BadPlan, "", "bad plan: Missin"),
+    (FAULTY, 8, [0, 1, 1], Status::Refused, "", ""),
     (
-        "refused: BadMemory at adapter 0",
-        &[
-            (PARAMS, "[],\"results\":[\"u32\",\"u32\"]"),
-            (CORE, "[],\"results\":[\"i32\",\"i32\"]"),
-        ],
-    ),
-    (
-        "refused: BadSignature at adapter 0",
-        &[("\"u32\"", "\"u64\"")],
-    ),
-    ("not built", &[("\"u32\"", "\"s32\"")]),
-    (
-        "refused: BadMemory at adapter 0",
-        &[("\"u32\"", "\"string\"")],
-    ),
-    ("refused: UnknownIndex at function 0", &[("\"u32\"", "0")]),
-    (
-        "refused: BadSignature at adapter 0",
-        &[("\"i32\"", "\"f32\"")],
-    ),
-    ("not built", &[("\"instance\":1", "\"instance\":0")]),
-    (
-        "refused: UnknownIndex at adapter 0",
-        &[("\"instance\":1", "\"instance\":2")],
-    ),
-    (
-        "refused: TooLarge at adapter 0",
-        &[
-            ("\"instances\":2", "\"instances\":4294967295"),
-            ("\"instance\":1", "\"instance\":2147483648"),
-        ],
-    ),
-    (
-        "refused: UnknownIndex at type 0",
-        &[("\"types\":[]", "\"types\":[{\"own\":0}]")],
-    ),
-    ("not built", &[("\"tables\":[]", "\"tables\":[[0,0]]")]),
-    (
-        "not built",
-        &[("{\"export\":[0,\"run\"]}", "{\"trampoline\":0}")],
-    ),
-    (
-        "not built",
-        &[(
-            "{\"export\":[0,\"run\"]}",
-            "{\"export\":[0,\"run\"]},{\"export\":[0,\"walk\"]}",
-        )],
-    ),
-    (
-        "refused: UnknownIndex at adapter 0",
-        &[("\"func\":0", "\"func\":1")],
-    ),
-    (
-        "not built",
-        &[("}}]}", "}}],\"tunables\":{\"debug\":true}}")],
-    ),
-    (
-        "not built",
-        &[("}}]}", "}}],\"tunables\":{\"concurrency\":true}}")],
-    ),
-    (
-        "not built",
-        &[("}}]}", "}}],\"tunables\":{\"exceptions\":true}}")],
-    ),
-    (
-        "not built",
-        &[(
-            "\"core_type\":0}",
-            "\"core_type\":0,\"encoding\":\"utf16\"}",
-        )],
-    ),
-    (
-        "refused: BadOptions at adapter 0",
-        &[("\"core_type\":0}", "\"core_type\":0,\"async\":true}")],
-    ),
-    (
-        "refused: BadMemory at adapter 0",
-        &[("\"core_type\":0}", "\"core_type\":0,\"realloc\":0}")],
-    ),
-    (
-        "refused: ImportConflict at adapter 0",
-        &[("\"core_type\":0}", "\"core_type\":0,\"callback\":0}")],
-    ),
-    (
-        "refused: ImportConflict at adapter 0",
-        &[("\"core_type\":0}", "\"core_type\":0,\"post_return\":0}")],
-    ),
-    (
-        "refused: ImportConflict at adapter 0",
-        &[(
-            "\"core_type\":0}",
-            "\"core_type\":0,\"memory\":{\"def\":0}}",
-        )],
-    ),
-    (
-        "not built",
-        &[("\"func\":0", "\"func\":0,\"transparent\":true")],
-    ),
-    (
-        "not built",
-        &[(
-            "\"adapters\":[{",
-            "\"adapters\":[{\"name\":\"g\",\"func\":0,\"lift\":{\"ty\":0,\"instance\":1,\"core_type\":0},\"lower\":{\"ty\":0,\"instance\":0,\"core_type\":0}},{",
-        )],
-    ),
-    (
-        "not built",
-        &[(
-            "\"adapters\":[{\"name\":\"f0\",\"func\":0,\"lift\":{\"ty\":0,\"instance\":1,\"core_type\":0},\"lower\":{\"ty\":0,\"instance\":0,\"core_type\":0}}]",
-            "\"adapters\":[]",
-        )],
+        FAULTY,
+        8,
+        [0, 0, 4],
+        Status::Refused,
+        "",
+        "refused: BadType at type",
     ),
 ];
 
 #[test]
-fn near_misses_are_not_built(rt: HostRuntime) -> Result<(), Fail> {
-    for (told, edits) in NEAR_MISSES {
-        let text = edited(rt.alloc(), edits)?;
-        assert!(rt; text.as_str() != "no such part");
-        let line = format!(in rt.alloc(); "{told}\n")?;
-        end_with(
-            &rt,
-            rt.alloc(),
-            &plain(text.as_str()),
-            status_of_plan(told),
-            "",
-            line.as_str(),
-        )?;
+fn streams_that_fail_change_no_other_end(rt: HostRuntime) -> Result<(), Fail> {
+    for (input, piece, calls, status, out, told) in FAILING {
+        let [failing_read, failing_write, failing_tell] = *calls;
+        let given = Given {
+            piece: *piece,
+            failing_read,
+            failing_write,
+            failing_tell,
+            ..plain(input)
+        };
+        end_with(&rt, rt.alloc(), &given, *status, out, told)?;
     }
-    Ok(())
-}
-
-/// Texts of plain numbers, some of which name defaults.
-const PLAIN_NUMBERS: [&[(&str, &str)]; 12] = [
-    &[(PARAMS, "[],\"results\":[]"), (CORE, "[],\"results\":[]")],
-    &[(PARAMS, SIXTEEN), (CORE, SIXTEEN_CORE)],
-    &[
-        (PARAMS, "[],\"results\":[\"u32\"]"),
-        (CORE, "[],\"results\":[\"i32\"]"),
-    ],
-    &[
-        ("\"instances\":2", "\"instances\":2147483648"),
-        ("\"instance\":1", "\"instance\":2147483647"),
-        ("\"instance\":0", "\"instance\":2147483646"),
-    ],
-    &[("\"f0\"", "\"é漢\""), ("\"x\"", "\"ü\"")],
-    &[("\"f0\"", "\"\""), ("\"x\"", "\"\"")],
-    &[("\"f0\"", "\"a\\u0000b\""), ("\"run\"", "\"\\u0000\"")],
-    &[("\"instances\":2", " \"instances\" : 2 ")],
-    &[("}}]}", "}}],\"tunables\":{\"debug\":false}}")],
-    &[(
-        "\"results\":[]}],\"core_types\"",
-        "\"results\":[],\"async\":false}],\"core_types\"",
-    )],
-    &[("\"func\":0", "\"func\":0,\"transparent\":false")],
-    &[(
-        "\"core_type\":0}",
-        "\"core_type\":0,\"encoding\":\"utf8\",\"async\":false,\"memory\":null,\"realloc\":null,\"callback\":null,\"post_return\":null}",
-    )],
-];
-
-#[test]
-fn plain_numbers_are_built(rt: HostRuntime) -> Result<(), Fail> {
-    for edits in PLAIN_NUMBERS {
-        let text = edited(rt.alloc(), edits)?;
-        let seen = run_on(rt.alloc(), &plain(text.as_str()))?;
-        assert_eq!(rt; seen.status, Status::Done);
-        assert_eq!(rt; seen.err.written(), b"".as_slice());
-    }
-    Ok(())
+    let unbuilt = edited(rt.alloc(), &[("\"instance\":1", "\"instance\":0")])?;
+    let given = Given {
+        failing_tell: 1,
+        ..plain(unbuilt.as_str())
+    };
+    end_with(&rt, rt.alloc(), &given, Status::NotBuilt, "", "")?;
+    let given = Given {
+        words: &["--help"],
+        failing_tell: 1,
+        ..plain(PLAN)
+    };
+    end_with(&rt, rt.alloc(), &given, Status::Usage, "", "")
 }

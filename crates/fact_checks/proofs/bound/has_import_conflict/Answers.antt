@@ -12,7 +12,7 @@ returns-then-is_callee_twice-clause-exact c = λ before a h us. here _ _ (grante
 
 pub returns-clause-exact : goal.returns-clause-exact
 returns-clause-exact c = λ before a h us.
-    there _ _ _ (denied _ _ (c.is_callee_twice.ensures _ a h) c.if-is_callee_twice.false) (bound-exactly uses_of before a _ _ _ (c.in_ok-pairs.ensures a h) _ c.in_ok-fits.ensures us)
+    there _ _ _ (denied _ _ (c.is_callee_twice.ensures _ a h) c.if-is_callee_twice.false) (bound-exactly uses_of before a _ _ _ (c.in_ok-pairs.ensures a h) _ c.in_ok-fits.ensures.binds us)
 
 pub returns-clause-bound : goal.returns-clause-bound
-returns-clause-bound c = λ fits before a h us. bound-with uses_of before a _ _ _ (c.in_ok-pairs.ensures a h) _ c.in_ok-fits.ensures (unless-not _ fits) us
+returns-clause-bound c = λ fits before a h us. bound-with uses_of before a _ _ _ (c.in_ok-pairs.ensures a h) _ c.in_ok-fits.ensures.binds (unless-not _ fits) us

@@ -1,7 +1,5 @@
-use Rattle.std.proofs.Common.{sym, subst, ◌∙◌}
-use Rattle.std.specs.Prelude.{◌↔◌, IsTrue}
-use Rattle.fact_checks.specs.AdapterRules.{IsByPointer}
-use Rattle.fact_checks.proofs.Decisions.{here, there, granted, denied, mapped}
+use Rattle.std.proofs.Common.{sym, ◌∙◌}
+use Rattle.fact_checks.proofs.Decisions.{here, there, denied}
 use Rattle.fact_checks.proofs.memories.holds_pointer.Goals as goal
 
 pub returns-then-takes_pointer : goal.returns-then-takes_pointer

@@ -1,7 +1,4 @@
-use Rattle.std.proofs.Common.{sym, subst, ◌∙◌}
-use Rattle.std.specs.Prelude.{◌↔◌, IsTrue}
-use Rattle.fact_checks.specs.AdapterRules.{IsByPointer}
-use Rattle.fact_checks.proofs.Decisions.{here, there, granted, denied, mapped}
+use Rattle.fact_checks.proofs.Decisions.{here, there, granted, denied}
 use Rattle.fact_checks.proofs.memories.lift_needs_memory.Goals as goal
 
 pub returns-then-branch-2 : goal.returns-then-branch-2

@@ -1,7 +1,7 @@
-use Rattle.std.proofs.Common.{sym, subst, ◌∙◌}
+use Rattle.std.proofs.Common.{sym, subst}
 use Rattle.std.specs.Prelude.{◌↔◌, IsTrue}
 use Rattle.fact_checks.specs.AdapterRules.{IsByPointer}
-use Rattle.fact_checks.proofs.Decisions.{here, there, granted, denied, mapped}
+use Rattle.fact_checks.proofs.Decisions.{mapped}
 use Rattle.fact_checks.proofs.memories.lift_params_by_pointer.Goals as goal
 
 pub returns : goal.returns

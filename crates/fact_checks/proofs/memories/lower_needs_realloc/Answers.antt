@@ -1,7 +1,4 @@
-use Rattle.std.proofs.Common.{sym, subst, ◌∙◌}
-use Rattle.std.specs.Prelude.{◌↔◌, IsTrue}
-use Rattle.fact_checks.specs.AdapterRules.{IsByPointer}
-use Rattle.fact_checks.proofs.Decisions.{here, there, granted, denied, mapped}
+use Rattle.std.proofs.Common.{sym, ◌∙◌}
 use Rattle.fact_checks.proofs.memories.lower_needs_realloc.Goals as goal
 
 pub returns : goal.returns

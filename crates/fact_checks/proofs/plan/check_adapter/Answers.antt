@@ -3,31 +3,25 @@ use Rattle.std.proofs.lemmas.Option.{IfSome_then}
 use Rattle.std.proofs.lemmas.Result.{IfErr-weaker, on_ok_weaker}
 use Rattle.fact_plan_types.specs.PlanTypes.{told}
 use Rattle.fact_checks.specs.Links.{LinksAdapter}
-use Rattle.fact_checks.proofs.Decisions.{denied, granted}
 use Rattle.fact_checks.proofs.LinkLaws.{sides-typed}
-use Rattle.fact_checks.proofs.PlanLaws.{first-large, refused-here, sound-next}
+use Rattle.fact_checks.proofs.PlanLaws.{refused-here, sound-next}
 use Rattle.fact_checks.proofs.plan.check_adapter.Goals as goal
-
-pub returns-then-is_large-clause-refused : goal.returns-then-is_large-clause-refused
-returns-then-is_large-clause-refused c =
-    first-large c.args.plan.now c.args.k c.args.adapter.now c.requires.there _ refl
-    (denied _ _ c.adapter_lacks.ensures c.if-adapter_lacks.false) (granted _ _ c.is_large.ensures c.if-is_large.true)
 
 pub check-requires : goal.check-requires
 check-requires c =
-    let links : LinksAdapter c.args.plan.now c.args.types.now.builder c.args.adapter.now c.in_ok-linked.linked = c.in_ok-linked.ensures in
+    let links : LinksAdapter c.args.plan.now c.args.types.now.builder c.args.adapter.now c.in_ok-linked.linked = c.in_ok-linked.ensures.links in
     rw c.requires.at.builder (sides-typed _ _ links.linked links.stands)
 
 pub returns-clause-sound : goal.returns-clause-sound
 returns-clause-sound c =
     on_ok_weaker c.check.result
-    (sound-next _ _ _ _ _ _ c.requires.at c.requires.there c.in_ok-linked.ensures c.as_str.ensures refl
-    (denied _ _ c.adapter_lacks.ensures c.if-adapter_lacks.false) (denied _ _ c.is_large.ensures c.if-is_large.false) _ c.check.ensures.builder c.check.ensures.concurrency)
+    (sound-next _ _ _ _ _ _ c.requires.at c.requires.there c.in_ok-linked.ensures.links c.as_str.ensures refl
+    c.in_ok-linked.ensures.known c.in_ok-linked.ensures.small _ c.check.ensures.builder c.check.ensures.concurrency)
     c.check.ensures.sound
 
 pub returns-clause-refused : goal.returns-clause-refused
 returns-clause-refused c =
     IfErr-weaker c.check.result _ _
-    (λ e h. IfSome_then (told e) h (λ x. refused-here _ _ _ _ _ _ c.requires.at c.requires.there c.in_ok-linked.ensures c.as_str.ensures refl
-    (denied _ _ c.adapter_lacks.ensures c.if-adapter_lacks.false) (denied _ _ c.is_large.ensures c.if-is_large.false) x.0 x.1))
+    (λ e h. IfSome_then (told e) h (λ x. refused-here _ _ _ _ _ _ c.requires.at c.requires.there c.in_ok-linked.ensures.links c.as_str.ensures refl
+    c.in_ok-linked.ensures.known c.in_ok-linked.ensures.small x.0 x.1))
     c.check.ensures.refused

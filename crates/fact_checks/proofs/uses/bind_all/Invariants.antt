@@ -1,7 +1,12 @@
 use Rattle.std.proofs.Common.{true, ◌≡◌, ◌++◌}
 use Rattle.std.specs.Vec.Iter.{into_iter_items}
+use Rattle.fact_uses.specs.Fronts.{IsFront}
 use Rattle.fact_checks.specs.Binding.{Binds}
 use Rattle.fact_checks.proofs.uses.bind_all.Given as goal
 
 abbrev pub invariant-loop-def : goal.invariant-loop-def
-invariant-loop-def g l = Binds l.fn.bindings l.bindings l.yielded true × (l.fn.pairs.items ≡ l.yielded ++ into_iter_items l.def-iterator)
+invariant-loop-def g l = record {
+  bound : Binds l.fn.bindings l.bindings l.yielded true;
+  pairs : l.fn.pairs.items ≡ l.yielded ++ into_iter_items l.def-iterator;
+  front : IsFront l.fn.bindings l.bindings;
+}

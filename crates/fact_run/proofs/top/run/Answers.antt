@@ -1,5 +1,5 @@
 use Rattle.fact_run.specs.declared.status.Status.TheVariants as status
-use Rattle.fact_run.proofs.Ends.{exactly, fault-end, json-end, long-end, refused-end, unbuilt-end, plain-line, told, told-fault, told-refusal, is-end}
+use Rattle.fact_run.proofs.Ends.{exactly, printed, printed-front, usage-end, fault-end, json-end, long-end, refused-end, unbuilt-end, plain-line, told, told-fault, told-refusal, is-end}
 use Rattle.fact_run.proofs.top.run.Goals as goal
 
 pub returns-clause-exactly_too_long : goal.returns-clause-exactly_too_long
@@ -21,16 +21,25 @@ pub returns-clause-bad_plan : goal.returns-clause-bad_plan
 returns-clause-bad_plan g c =
     λ e. let line = told c.write_text.result _ _ _ _ _ (rw (c.as_bytes.ensures.value, c.line.ensures) at c.write_text.ensures.whole)
     (rw (c.as_bytes.ensures.value, c.line.ensures) at c.write_text.ensures.part) c.write_text.ensures.rose in
-    told-fault _ _ _ _ _ _ _ (is-end _ _ _ _ _ _ _ _ status.BadPlan _ c.ending_of-ending.ensures e).1.0 line
+    told-fault _ _ _ _ _ _ _ (is-end _ _ _ _ _ _ _ _ status.BadPlan _ c.ending_of-ending.ensures e).2.0 line
 
 pub returns-clause-refused : goal.returns-clause-refused
 returns-clause-refused g c =
     λ e. let line = told c.write_text.result _ _ _ _ _ (rw (c.as_bytes.ensures.value, c.line.ensures) at c.write_text.ensures.whole)
     (rw (c.as_bytes.ensures.value, c.line.ensures) at c.write_text.ensures.part) c.write_text.ensures.rose in
-    told-refusal _ _ _ _ _ _ _ (is-end _ _ _ _ _ _ _ _ status.Refused _ c.ending_of-ending.ensures e).1.0 line
+    told-refusal _ _ _ _ _ _ _ (is-end _ _ _ _ _ _ _ _ status.Refused _ c.ending_of-ending.ensures e).2.0 line
 
 pub returns-clause-told : goal.returns-clause-told
 returns-clause-told g c =
     λ other told_otherwise. rw (← plain-line _ _ _ _ _ _ _ _ _ c.ending_of-ending.ensures other told_otherwise)
     (told c.write_text.result _ _ _ _ _ (rw (c.as_bytes.ensures.value, c.line.ensures) at c.write_text.ensures.whole)
     (rw (c.as_bytes.ensures.value, c.line.ensures) at c.write_text.ensures.part) c.write_text.ensures.rose)
+
+pub returns-clause-exactly_usage : goal.returns-clause-exactly_usage
+returns-clause-exactly_usage g c = usage-end _ _ _ _ _ _ _ _ _ c.ending_of-ending.ensures
+
+pub returns-clause-done : goal.returns-clause-done
+returns-clause-done g c = printed _ _ _ _ _ _ _ _ _ c.ending_of-ending.ensures
+
+pub returns-clause-part : goal.returns-clause-part
+returns-clause-part g c = printed-front _ _ _ _ _ _ _ _ _ c.ending_of-ending.ensures

@@ -1,0 +1,276 @@
+-- A module that takes one adapter more.
+use Rattle.std.proofs.Common.{◌≡◌, ◌≢◌, ℕ, suc, ◌+◌, ◌<◌, ◌≤◌, ◌^◌, AllPairs, Bool, true, List, [], ◌∷◌, ◌++◌, Some, refl, sym, ap, ◌∙◌, subst, arith, length, slice_get, inl, inr}
+use Rattle.std.specs.Prelude.{All, IfSome, None, Option}
+use Rattle.fact_plan_types.specs.declared.error.Place.{Place}
+use Rattle.fact_plan_types.specs.declared.error.Place.TheVariants.{Adapter as at_adapter}
+use Rattle.std.specs.List.{AllZip}
+use Rattle.std.proofs.lemmas.List.{length-map}
+use Rattle.std.proofs.lemmas.Option.{get_or_from_slice_get}
+use Rattle.fact_entity.specs.declared.id.Id.{Id}
+use Rattle.fact_entity.specs.declared.table.TypeFuncs.{TypeFuncs}
+use Rattle.fact_wasm.specs.declared.types.FuncType.{FuncType}
+use Rattle.fact_types.specs.declared.interface.InterfaceType.{InterfaceType}
+use Rattle.fact_types.specs.Functions.{HasSignature, HaveShapes}
+use Rattle.fact_types.specs.Shapes.{Shape}
+use Rattle.fact_types.specs.Tables.{IsLive, IsSound as IsSoundTables, Tables, of_functions}
+use Rattle.fact_builder.specs.Builder.{Builder}
+use Rattle.fact_builder.proofs.HandleLaws.{tuple_live}
+use Rattle.fact_uses.proofs.BindingLaws.{AreConsistent-covered, Covers-nothing}
+use Rattle.fact_plan_types.specs.Faults.{Fault, bad_signature, type_mismatch}
+use Rattle.fact_checks.specs.declared.adapter.Adapter.{Adapter}
+use Rattle.fact_checks.specs.declared.adapter.AdapterOptionsDfg.{AdapterOptionsDfg}
+use Rattle.fact_checks.specs.declared.sides.Candidate.{Candidate}
+use Rattle.fact_checks.specs.Adapters.{LinkedAdapter, Side}
+use Rattle.fact_checks.specs.AdapterRules.{LinkedHas}
+use Rattle.fact_checks.specs.Checked.{AreBound, Checks, IsFirstOf, IsSound}
+use Rattle.fact_checks.specs.Linked.{HasSides, IsLinked, IsSideOf, IsTyped}
+use Rattle.fact_module.specs.declared.plain.Import.{Import}
+use Rattle.fact_module.specs.declared.taken.TakenAdapter.{TakenAdapter}
+use Rattle.fact_module.specs.declared.tunables.Tunables.{Tunables}
+use Rattle.fact_module.specs.declared.tunables.WasmFeatures.{WasmFeatures}
+use Rattle.fact_module.specs.Built.{IsBuiltAdapter}
+use Rattle.fact_module.specs.Collected.{AreTaken, Collected, Covers, HasLinkedFault, IsMade, IsModuleOf, IsTakenAs, taken_of}
+use Rattle.fact_module.specs.Emitted.{Adds, Emitted, functions_of, module_of, nothing_emitted}
+use Rattle.fact_module.specs.Faithful.{Promised}
+use Rattle.fact_module.specs.Holding.{AreBuilt, ArePlain}
+use Rattle.fact_module.specs.Plain.{IsPlain, core_of}
+use Rattle.fact_module.specs.Taking.{HasFault, IsFirstBehind, MayTake}
+use Rattle.fact_module.proofs.Adding.{whole-more, holds-more, holds-nothing, instance_of, last-or-before}
+use Rattle.fact_module.proofs.BuiltLaws.{plain-of}
+use Rattle.fact_module.proofs.Sections.{get-within}
+use Rattle.fact_module.proofs.Whole.{whole-promised, whole-range}
+
+-- ---- what a typed adapter names can be looked up
+
+shapes-of : (t : Tables) → IsSoundTables t → (tys : List InterfaceType) → All (IsLive t) tys → (ss : List Shape) × HaveShapes t tys ss
+shapes-of t sound [] live = ([], tt)
+shapes-of t sound (ty ∷ tys) live =
+    let (s, has, deep) = sound.shaped ty (live 0 ty (omega arith)) in
+    let (ss, have) = shapes-of t sound tys (λ k d within. live (suc k) d (omega (arith, within))) in
+    (s ∷ ss, (has, have))
+
+pub signature-of : (t : Tables) → IsSoundTables t → (i : Id TypeFuncs) → i.number < length t.functions → (params : List Shape) × (results : List Shape) × HasSignature t i params results
+signature-of t sound i live =
+    let (func, there) = get-within t.functions i.number live in
+    let linked = sound.linked of_functions i.number func live in
+    let is_func = get_or_from_slice_get t.functions i.number func func there in
+    let (taken, taken_there) = get-within t.tuples func.params.number (subst (λ f. f.params.number < length t.tuples) is_func linked.params) in
+    let (given, given_there) = get-within t.tuples func.results.number (subst (λ f. f.results.number < length t.tuples) is_func linked.results) in
+    let (params, takes) = shapes-of t sound taken.types (tuple_live t sound _ _ taken_there) in
+    let (results, gives) = shapes-of t sound given.types (tuple_live t sound _ _ given_there) in
+    (params, results, record { func = func; func_there = there; taken = taken; taken_there = taken_there; takes = takes; given = given; given_there = given_there; gives = gives })
+
+side-of : (b : Builder) → IsSoundTables b.tables → (ty : Id TypeFuncs) (o : AdapterOptionsDfg) → ty.number < length b.tables.functions → o.core_type.number < length b.module_types → (s : Side) × IsSideOf b ty o s
+side-of b sound ty o live core =
+    let (params, results, signature) = signature-of b.tables sound ty live in
+    let (core_type, there) = get-within b.module_types o.core_type.number core in (
+      record {
+        instance = o.instance.number;
+        params = params;
+        results = results;
+        async_type = signature.func.async_;
+        core_type = core_type;
+        encoding = o.string_encoding;
+        async_side = o.async_;
+        memory = o.memory;
+        realloc = o.realloc;
+        callback = o.callback;
+        post_return = o.post_return;
+      },
+      record {
+        signature = signature;
+        async_type = refl;
+        core_type = there;
+        instance = refl;
+        encoding = refl;
+        async_side = refl;
+        memory = refl;
+        realloc = refl;
+        callback = refl;
+        post_return = refl;
+      },
+    )
+
+pub sides-of : (b : Builder) → IsSoundTables b.tables → (adapter : Adapter) (name : List ℕ) (transparent : Bool) → IsTyped b adapter
+    → (a : LinkedAdapter) × HasSides b adapter a × (a.name ≡ name) × (a.transparent ≡ transparent)
+sides-of b sound adapter name transparent typed =
+    let (lift, lifts) = side-of b sound adapter.lift_ty adapter.lift_options typed.lift typed.lift_core in
+    let (lower, lowers) = side-of b sound adapter.lower_ty adapter.lower_options typed.lower typed.lower_core in
+    (record { name = name; callee = adapter.func; transparent = transparent; lift = lift; lower = lower }, record { lift = lifts; lower = lowers; callee = refl }, refl, refl)
+
+pub linked-of : (b : Builder) → IsSoundTables b.tables → (c : Candidate) → IsTyped b c.adapter.now → (a : LinkedAdapter) × IsLinked b c a
+linked-of b sound c typed =
+    let (a, sides, name, transparent) = sides-of b sound c.adapter.now c.name.now c.transparent typed in
+    (a, record { sides = sides; name = name; transparent = transparent })
+
+-- ---- the list of those that were taken
+
+pub zip-push : {X Y : Type 0} (R : X → Y → Type 0) (xs : List X) (ys : List Y) (x : X) (y : Y) → AllZip R xs ys → R x y → AllZip R (xs ++ x ∷ []) (ys ++ y ∷ [])
+zip-push R [] [] x y h r = (r, tt)
+zip-push R [] (z ∷ ys) x y h r = absurd h
+zip-push R (w ∷ xs) [] x y h r = absurd h
+zip-push R (w ∷ xs) (z ∷ ys) x y h r = (h.0, zip-push R xs ys x y h.1 r)
+
+zip-pop : {X Y : Type 0} (R : X → Y → Type 0) (xs : List X) (x : X) (zs : List Y) → AllZip R (xs ++ x ∷ []) zs → (ys : List Y) × (y : Y) × (zs ≡ ys ++ y ∷ []) × AllZip R xs ys × R x y
+zip-pop R [] x [] h = absurd h
+zip-pop R [] x (y ∷ []) h = ([], y, refl, tt, h.0)
+zip-pop R [] x (y ∷ z ∷ zs) h = absurd h.1
+zip-pop R (w ∷ xs) x [] h = absurd h
+zip-pop R (w ∷ xs) x (z ∷ zs) h = let (ys, y, is, all, one) = zip-pop R xs x zs h.1 in (z ∷ ys, y, ap (λ l. z ∷ l) is, (h.0, all), one)
+
+pub is-taken : (b : Builder) (c : Candidate) (a : LinkedAdapter) → IsLinked b c a → IsTakenAs b (taken_of c) a
+is-taken b c a h = record { sides = h.sides; name = h.name; transparent = h.transparent }
+
+pub is-linked : (b : Builder) (c : Candidate) (a : LinkedAdapter) → IsTakenAs b (taken_of c) a → IsLinked b c a
+is-linked b c a h = record { sides = h.sides; name = h.name; transparent = h.transparent }
+
+built-push : (concurrency exceptions : Bool) (adapters : List LinkedAdapter) (a : LinkedAdapter) → AreBuilt concurrency exceptions adapters → IsBuiltAdapter concurrency exceptions a → AreBuilt concurrency exceptions (adapters ++ a ∷ [])
+built-push concurrency exceptions [] a h b = (b, tt)
+built-push concurrency exceptions (x ∷ adapters) a h b = (h.0, built-push concurrency exceptions adapters a h.1 b)
+
+plain-push : (adapters : List LinkedAdapter) (a : LinkedAdapter) → ArePlain adapters → ((params : List InterfaceType) × (results : List InterfaceType) × IsPlain a params results) → ArePlain (adapters ++ a ∷ [])
+plain-push adapters a h p k b e = elim (last-or-before adapters a k b e) [ inl there ↦ h k b there | inr at_last ↦ subst (λ x. (params : List InterfaceType) × (results : List InterfaceType) × IsPlain x params results) at_last.1 p ]
+
+-- ---- one adapter more
+
+module _ (old : Collected) (checks checks' : Checks) (s s' : Emitted) (candidate : Candidate) (made : IsMade old checks s) (whole : old.whole ≡ true) (sound : IsSoundTables old.builder.tables)
+    (typed : IsTyped old.builder candidate.adapter.now) (may : MayTake old candidate) (checked : IsSound checks checks' candidate) where
+  linked : LinkedAdapter
+  linked = (linked-of old.builder sound candidate typed).0
+
+  some : List LinkedAdapter
+  some = made.some.0
+
+  under : (a : LinkedAdapter) → IsLinked old.builder candidate a → IsLinked checks.builder candidate a
+  under a h = subst (λ (b : Builder). IsLinked b candidate a) (sym made.builder) h
+
+  -- behind those that were taken it has no fault, and is bound
+  pub sound-behind : (before : List LinkedAdapter) (a : LinkedAdapter) → AreTaken old before → IsLinked old.builder candidate a → (f : Fault) → HasFault old before a f → ⊥
+  sound-behind before a taken h f has =
+      (checked before a (made.covers whole before taken).checked (under a h)).0 f (subst (λ on. LinkedHas on before a f) (sym made.concurrency) has)
+
+  bound-behind : (before : List LinkedAdapter) (a : LinkedAdapter) → AreTaken old before → IsLinked old.builder candidate a → AreBound checks'.bound (before ++ a ∷ [])
+  bound-behind before a taken h = (checked before a (made.covers whole before taken).checked (under a h)).1
+
+  built-here : (before : List LinkedAdapter) (a : LinkedAdapter) → AreTaken old before → IsLinked old.builder candidate a → IsBuiltAdapter old.tunables.concurrency_support old.features.exceptions a
+  built-here before a taken h = may none-linked a (is-taken old.builder candidate a h)
+    where
+      none-linked : (f : Fault) → HasLinkedFault old (taken_of candidate) f → ⊥
+      none-linked f k = sound-behind k.before k.linked k.taken (is-linked old.builder candidate k.linked k.is_linked) f k.has
+
+  plain-here : (before : List LinkedAdapter) (a : LinkedAdapter) → AreTaken old before → IsLinked old.builder candidate a → (params : List InterfaceType) × (results : List InterfaceType) × IsPlain a params results
+  plain-here before a taken h =
+      let none = sound-behind before a taken h in
+      plain-of old.tunables.concurrency_support old.features.exceptions a (built-here before a taken h) (λ m. none type_mismatch m) (λ m. none bad_signature m)
+
+  -- its core type has few parameters and results
+  pub few-values : (ty : FuncType) → slice_get old.builder.module_types candidate.adapter.now.lift_options.core_type.number ≡ Some ty → (length ty.params ≤ 16) × (length ty.results ≤ 1)
+  unfolding linked some
+  few-values ty there =
+      let is_linked = (linked-of old.builder sound candidate typed).1 in
+      let (params, results, p) = plain-here some linked made.some.1 is_linked in
+      let same : Some linked.lift.core_type ≡ Some ty = sym is_linked.sides.lift.core_type ∙ there in
+      let is_ty : linked.lift.core_type ≡ ty = cc in
+      let is : ty ≡ _ = sym is_ty ∙ p.lift.core_type_is in
+      (omega (arith, ap (λ (t : FuncType). length t.params) is, length-map params core_of, p.few_params), omega (arith, ap (λ (t : FuncType). length t.results) is, length-map results core_of, p.few_results))
+
+  -- the module of all of them
+  pub made-more : (new : Collected) → new.builder ≡ old.builder → new.tunables ≡ old.tunables → new.features ≡ old.features → new.taken ≡ old.taken ++ taken_of candidate ∷ [] → checks'.builder ≡ checks.builder → checks'.concurrency ≡ checks.concurrency
+      → ((ty : FuncType) → slice_get old.builder.module_types candidate.adapter.now.lift_options.core_type.number ≡ Some ty
+      → Adds s s' candidate.name.now candidate.adapter.now.lift_options.instance candidate.adapter.now.lower_options.instance candidate.adapter.now.func ty)
+      → IsMade new checks' s'
+  unfolding linked some
+  made-more new builder tunables features taken same_builder same_concurrency adds = record {
+    builder = same_builder ∙ made.builder ∙ sym builder;
+    concurrency = same_concurrency ∙ made.concurrency ∙ ap (λ t. t.concurrency_support) (sym tunables);
+    some = (some ++ linked ∷ [], all some linked made.some.1 (linked-of old.builder sound candidate typed).1);
+    covers = λ _ adapters are_taken.
+        let (before, a, is, those, this) = zip-pop (IsTakenAs old.builder) old.taken (taken_of candidate) adapters (rw (builder, taken) at are_taken) in
+        let h = is-linked old.builder candidate a this in
+        let covers = made.covers whole before those in
+        let bound = bound-behind before a those h in
+        let built = built-push old.tunables.concurrency_support old.features.exceptions before a covers.built (built-here before a those h) in
+        rw (is, tunables, features) (record {
+          checked = bound;
+          holds = holds-more old.tunables.concurrency_support old.features.exceptions s s' before a built (built-here before a those h) (AreConsistent-covered _ _ bound.uses) covers.holds (adds-linked a h);
+          built = built;
+          plain = plain-push before a covers.plain (plain-here before a those h);
+        });
+  }
+    where
+      all : (before : List LinkedAdapter) (a : LinkedAdapter) → AreTaken old before → IsLinked old.builder candidate a → AreTaken new (before ++ a ∷ [])
+      all before a those h = rw (builder, taken) (zip-push (IsTakenAs old.builder) old.taken before (taken_of candidate) a those (is-taken old.builder candidate a h))
+
+      adds-linked : (a : LinkedAdapter) → IsLinked old.builder candidate a → Adds s s' a.name (instance_of a.lift.instance) (instance_of a.lower.instance) a.callee a.lift.core_type
+      adds-linked a h = rw (h.name, h.sides.lift.instance, h.sides.lower.instance, h.sides.callee) (adds a.lift.core_type h.sides.lift.core_type)
+
+-- the first fault that the checks tell
+pub first-behind : (old : Collected) (checks : Checks) (s : Emitted) (candidate : Candidate) (f : Fault) → IsMade old checks s → old.whole ≡ true → IsFirstOf checks candidate f → IsFirstBehind old candidate f
+first-behind old checks s candidate f made whole first before a taken h =
+    let under = subst (λ (b : Builder). IsLinked b candidate a) (sym made.builder) h in
+    let told = first before a (made.covers whole before taken).checked under in
+    (subst (λ on. LinkedHas on before a f) made.concurrency told.0, λ g less has. told.1 g less (subst (λ on. LinkedHas on before a g) (sym made.concurrency) has))
+
+pub refused-behind : (old now : Collected) (checks : Checks) (s : Emitted) (candidate : Candidate) (number : ℕ) (o : Option (Fault × Place)) → old ≡ now → IsMade old checks s → now.whole ≡ true
+    → IfSome o (λ x. IsFirstOf checks candidate x.0 × (x.1 ≡ at_adapter number)) → IfSome o (λ x. (old ≡ now) × IsFirstBehind now candidate x.0 × (x.1 ≡ at_adapter number))
+refused-behind old now checks s candidate number None same made whole h = tt
+refused-behind old now checks s candidate number (Some x) same made whole h =
+    (same, subst (λ c. IsFirstBehind c candidate x.0) same (first-behind old checks s candidate x.0 made (ap (λ c. c.whole) same ∙ whole) h.0), h.1)
+
+-- it is whole after it took one
+pub whole-after : (b : Builder) (s s' : Emitted) (candidate : Candidate) → IsTyped b candidate.adapter.now → s.whole ≡ true
+    → ((ty : FuncType) → slice_get b.module_types candidate.adapter.now.lift_options.core_type.number ≡ Some ty
+    → Adds s s' candidate.name.now candidate.adapter.now.lift_options.instance candidate.adapter.now.lower_options.instance candidate.adapter.now.func ty) → s'.whole ≡ true
+whole-after b s s' candidate typed whole adds =
+    let (ty, there) = get-within b.module_types candidate.adapter.now.lift_options.core_type.number typed.lift_core in
+    whole-more s s' _ _ _ _ ty (adds ty there) ∙ whole
+
+-- none was taken
+module _ (b : Builder) (t : Tunables) (f : WasmFeatures) where
+  no_collected : Collected
+  no_collected = record { builder = b; tunables = t; features = f; taken = []; imports = []; whole = true }
+
+  no_checks : Checks
+  no_checks = record { builder = b; concurrency = t.concurrency_support; bound = record { memories = []; reallocs = []; uses = []; names = [] } }
+
+  covers-none : (adapters : List LinkedAdapter) → AllZip (IsTakenAs b) [] adapters → Covers no_collected no_checks nothing_emitted adapters
+  unfolding no_collected no_checks
+  covers-none [] h = record {
+    checked = record { memories = Covers-nothing; reallocs = Covers-nothing; uses = Covers-nothing; names = refl; distinct = λ i j d below within. absurd (omega arith) };
+    holds = holds-nothing;
+    built = tt;
+    plain = λ k a e. cc;
+  }
+  covers-none (a ∷ adapters) h = absurd h
+
+  pub made-first : (taken : List TakenAdapter) (imports : List Import) (whole : Bool) (checks : Checks) (s : Emitted) → taken ≡ [] → s ≡ nothing_emitted
+      → checks ≡ record { builder = b; concurrency = t.concurrency_support; bound = record { memories = []; reallocs = []; uses = []; names = [] } }
+      → IsMade (record { builder = b; tunables = t; features = f; taken = taken; imports = imports; whole = whole }) checks s
+  unfolding no_collected no_checks
+  made-first taken imports whole checks s none nothing first = rw (none, nothing, first) (record {
+    builder = refl;
+    concurrency = refl;
+    some = ([], tt);
+    covers = λ _ adapters are. let h = covers-none adapters are in record { checked = h.checked; holds = h.holds; built = h.built; plain = h.plain };
+  })
+
+-- what it has emitted keeps its promise for those that it took
+pub promised-of : (c : Collected) (checks : Checks) (s : Emitted) → IsMade c checks s → c.imports ≡ s.imports → c.whole ≡ true
+    → (adapters : List LinkedAdapter) → AreTaken c adapters → Promised (module_of s) c.imports c.tunables.debug_adapter_modules adapters
+promised-of c checks s made imports whole adapters taken =
+    let covers = made.covers whole adapters taken in
+    rw imports (whole-promised c.tunables.concurrency_support c.features.exceptions s adapters covers.holds covers.built covers.plain
+    (AreConsistent-covered _ _ covers.checked.uses) (subst (AllPairs (λ x y. x ≢ y)) covers.checked.names covers.checked.distinct) c.tunables.debug_adapter_modules)
+
+-- and is their module
+pub module-of : (c : Collected) (checks : Checks) (s : Emitted) → IsMade c checks s → c.imports ≡ s.imports → c.whole ≡ true → length (functions_of s) + length s.functions < 2 ^ 32 → IsModuleOf c (module_of s)
+module-of c checks s made imports whole numbered =
+    let adapters = made.some.0 in
+    let covers = made.covers whole adapters made.some.1 in
+    record {
+      in_range = whole-range c.tunables.concurrency_support c.features.exceptions s adapters covers.holds covers.built covers.plain
+          (AreConsistent-covered _ _ covers.checked.uses) (subst (AllPairs (λ x y. x ≢ y)) covers.checked.names covers.checked.distinct) numbered;
+      adapters = adapters;
+      taken = made.some.1;
+      promised = promised-of c checks s made imports whole adapters made.some.1;
+    }

@@ -1,0 +1,16 @@
+use Rattle.std.proofs.Common.{ap, ◌∙◌, refl}
+use Rattle.fact_module.specs.Collected.{Collected}
+use Rattle.fact_module.proofs.TakeLaws.{module-of, promised-of}
+use Rattle.fact_module.proofs.module.Module.into_parts.Goals as goal
+
+pub returns-clause-parts : goal.returns-clause-parts
+returns-clause-parts c =
+    let whole = ap (λ (v : Collected). v.whole) c.self.view_is ∙ c.requires in (
+      rw (← c.self.view_is, c.into_parts.ensures.parts.0) (module-of _ c.self.inside.checks c.self.inside.state c.self.invariant.0 refl whole c.into_parts.ensures.numbered),
+      c.into_parts.ensures.parts.1 ∙ ap (λ (v : Collected). v.imports) c.self.view_is,
+    )
+
+pub returns-clause-promised : goal.returns-clause-promised
+returns-clause-promised c =
+    let whole = ap (λ (v : Collected). v.whole) c.self.view_is ∙ c.requires in
+    rw (← c.self.view_is, c.into_parts.ensures.parts.0) (promised-of _ c.self.inside.checks c.self.inside.state c.self.invariant.0 refl whole)

@@ -1,0 +1,97 @@
+-- A module as contracts see it while adapters are added to it.
+use Rattle.std.specs.Prelude.{◌≡◌, ℕ, Bool, true, List, [], ◌∷◌, ◌++◌}
+use Rattle.std.specs.List.{AllZip}
+use Rattle.fact_wasm.specs.declared.module.WasmModule.{WasmModule}
+use Rattle.fact_wasm.specs.Ranges.{InRange}
+use Rattle.fact_wasm.specs.Spelling.{Spells}
+use Rattle.fact_builder.specs.Builder.{Builder}
+use Rattle.fact_plan_types.specs.Faults.{Fault}
+use Rattle.fact_checks.specs.declared.sides.Candidate.{Candidate}
+use Rattle.fact_checks.specs.Adapters.{LinkedAdapter}
+use Rattle.fact_checks.specs.AdapterRules.{LinkedHas}
+use Rattle.fact_checks.specs.Checked.{AreChecked, Checks}
+use Rattle.fact_checks.specs.Linked.{HasSides}
+use Rattle.fact_module.specs.declared.plain.Import.{Import}
+use Rattle.fact_module.specs.declared.tunables.Tunables.{Tunables}
+use Rattle.fact_module.specs.declared.tunables.WasmFeatures.{WasmFeatures}
+use Rattle.fact_module.specs.declared.taken.TakenAdapter.{TakenAdapter}
+use Rattle.fact_module.specs.Built.{IsBuiltAdapter}
+use Rattle.fact_module.specs.Emitted.{Emitted}
+use Rattle.fact_module.specs.Faithful.{Promised}
+use Rattle.fact_module.specs.Holding.{AreBuilt, ArePlain, Holds}
+
+-- ---- a module
+
+-- The builder of its types, what it was made with, the adapters that it took, what its imports are, and whether it is whole:
+-- a want of memory leaves it in parts for good.
+pub record Collected : Type 0 where
+  pub builder : Builder
+  pub tunables : Tunables
+  pub features : WasmFeatures
+  pub taken : List TakenAdapter
+  pub imports : List Import
+  pub whole : Bool
+
+-- An adapter that was taken, with all that it names looked up in a builder.
+pub record IsTakenAs (b : Builder) (t : TakenAdapter) (a : LinkedAdapter) : Type 0 where
+  pub sides : HasSides b t.adapter a
+  pub name : a.name ≡ t.name
+  pub transparent : a.transparent ≡ t.transparent
+
+-- The adapters that it took are these.
+abbrev pub AreTaken : Collected → List LinkedAdapter → Type 0
+AreTaken c adapters = AllZip (IsTakenAs c.builder) c.taken adapters
+
+abbrev pub taken_of : Candidate → TakenAdapter
+taken_of c = record { name = c.name.now; transparent = c.transparent; adapter = c.adapter.now }
+
+-- What it was made with stays.
+pub record Keeps (old new : Collected) : Type 0 where
+  pub builder : new.builder ≡ old.builder
+  pub tunables : new.tunables ≡ old.tunables
+  pub features : new.features ≡ old.features
+
+-- It took one adapter more.
+pub record HasTaken (old new : Collected) (t : TakenAdapter) : Type 0 where
+  pub taken : new.taken ≡ old.taken ++ t ∷ []
+  pub whole : new.whole ≡ true
+
+-- Behind the adapters that it took, with all that they and this one name looked up, this one has a fault.
+pub record HasLinkedFault (c : Collected) (t : TakenAdapter) (f : Fault) : Type 0 where
+  pub before : List LinkedAdapter
+  pub linked : LinkedAdapter
+  pub taken : AreTaken c before
+  pub is_linked : IsTakenAs c.builder t linked
+  pub has : LinkedHas c.tunables.concurrency_support before linked f
+
+-- An adapter is built.
+abbrev pub IsBuilt : Collected → TakenAdapter → Type 0
+IsBuilt c t = (a : LinkedAdapter) → IsTakenAs c.builder t a → IsBuiltAdapter c.tunables.concurrency_support c.features.exceptions a
+
+-- The module of the adapters that it took, which are these, with all that it promises.
+pub record IsModuleOf (c : Collected) (m : WasmModule) : Type 0 where
+  pub in_range : InRange m
+  pub adapters : List LinkedAdapter
+  pub taken : AreTaken c adapters
+  pub promised : Promised m c.imports c.tunables.debug_adapter_modules adapters
+
+-- The bytes of that module.
+pub record Spelled (c : Collected) (bytes : List ℕ) : Type 0 where
+  pub «module» : WasmModule
+  pub is_module : IsModuleOf c «module»
+  pub spelled : Spells bytes «module»
+
+-- ---- what holds of it at all times
+
+-- The checks and the parts of the module are those of these adapters.
+pub record Covers (c : Collected) (checks : Checks) (s : Emitted) (adapters : List LinkedAdapter) : Type 0 where
+  pub checked : AreChecked checks adapters
+  pub holds : Holds s adapters
+  pub built : AreBuilt c.tunables.concurrency_support c.features.exceptions adapters
+  pub plain : ArePlain adapters
+
+pub record IsMade (c : Collected) (checks : Checks) (s : Emitted) : Type 0 where
+  pub builder : checks.builder ≡ c.builder
+  pub concurrency : checks.concurrency ≡ c.tunables.concurrency_support
+  pub some : (adapters : List LinkedAdapter) × AreTaken c adapters
+  pub covers : c.whole ≡ true → (adapters : List LinkedAdapter) → AreTaken c adapters → Covers c checks s adapters

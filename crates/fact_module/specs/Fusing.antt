@@ -1,0 +1,30 @@
+-- A module that takes the adapters of a plan, one after another.
+use Rattle.std.specs.Prelude.{◌≡◌, ℕ, ◌<◌, ◌≤◌, true}
+use Rattle.fact_builder.specs.Builder.{Builder}
+use Rattle.fact_plan.specs.declared.plan.FusePlan.{FusePlan}
+use Rattle.fact_plan_types.specs.Faults.{Fault}
+use Rattle.fact_plan_types.specs.TypeRules.{most_entries}
+use Rattle.fact_checks.specs.Adapters.{adapters_before, adapters_of}
+use Rattle.fact_checks.specs.AdapterRules.{HasAdapterFault}
+use Rattle.fact_module.specs.Collected.{AreTaken, Collected}
+
+-- It was made with what the plan says, over the types in a builder.
+pub record IsFor (p : FusePlan) (b : Builder) (c : Collected) : Type 0 where
+  pub builder : c.builder ≡ b
+  pub concurrency : c.tunables.concurrency_support ≡ p.tunables.concurrency
+  pub debug : c.tunables.debug_adapter_modules ≡ p.tunables.debug
+  pub exceptions : c.features.exceptions ≡ p.tunables.exceptions
+
+-- It took the adapters before a place, which have no fault.
+pub record HasTakenTo (p : FusePlan) (b : Builder) (c : Collected) (k : ℕ) : Type 0 where
+  pub is_for : IsFor p b c
+  pub whole : c.whole ≡ true
+  pub taken : AreTaken c (adapters_before p k)
+  pub sound : (j : ℕ) (f : Fault) → j < k → HasAdapterFault p j f → ⊥
+  pub few : k ≤ most_entries
+
+-- It took all of them.
+pub record HasTakenAll (p : FusePlan) (c : Collected) : Type 0 where
+  pub whole : c.whole ≡ true
+  pub debug : c.tunables.debug_adapter_modules ≡ p.tunables.debug
+  pub taken : AreTaken c (adapters_of p)

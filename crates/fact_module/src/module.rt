@@ -1,0 +1,265 @@
+//! A module to which adapters are added one after another.
+
+ghost use Rattle.std.specs.Prelude.{◌≡◌, ◌↔◌, ◌++◌, ◌∷◌, ◌<◌, ◌≤◌, [], List, true, false, Err, length, slice_get, IfErr, IfOk, IfSome, IsTrue, OnErr, OnOk};
+ghost use Rattle.fact_wasm.specs.declared.types.FuncType.{FuncType};
+ghost use Rattle.fact_plan_types.specs.PlanTypes.{told};
+ghost use Rattle.fact_plan_types.specs.declared.error.Place.TheVariants as place_at;
+ghost use Rattle.fact_checks.specs.Linked.{IsTyped};
+ghost use Rattle.fact_module.specs.Adapted.{IsFaultless, IsFirst, MayAdapt, OfAdapter};
+ghost use Rattle.fact_module.specs.Collected.{AreTaken, HasTaken, IsModuleOf, Keeps, Spelled, taken_of};
+ghost use Rattle.fact_checks.specs.Adapters.{LinkedAdapter};
+ghost use Rattle.fact_module.specs.Emitted.{Adds};
+ghost use Rattle.fact_module.specs.Faithful.{Promised};
+ghost use Rattle.fact_module.specs.Taking.{IsFirstBehind, IsSoundBehind, MayTake};
+ghost use Rattle.fact_module.specs.Typed.{HasSoundTypes};
+
+use crate::built::is_built;
+use crate::dfg::ComponentDfg;
+use crate::plain::Import;
+use crate::state::ModuleState;
+use crate::taken::{TakenAdapter, copy_candidate};
+use crate::tunables::{Tunables, WasmFeatures};
+use crate::typed::check_types;
+use fact_builder::ComponentTypesBuilder;
+use fact_checks::{AdapterChecks, Candidate, FuseError};
+use fact_entity::{AdapterId, EntityRef};
+use fact_type_rules::FunctionTypes;
+use fact_wasm::{OutOfMemory, Seq, WasmModule, encode};
+use std::alloc::Global;
+use std::marker::Model;
+
+/// A module to which adapters are added one after another, over the types of a builder. Contracts see it as the list of the
+/// adapters that it took, what its imports are, and what it was made with.
+#[derive(Drop)]
+pub struct Module<'a> {
+    alloc: Global,
+    builder: &'a ComponentTypesBuilder,
+    tunables: &'a Tunables,
+    features: WasmFeatures,
+    types: FunctionTypes<'a>,
+    checks: AdapterChecks<'a>,
+    taken: Vec<TakenAdapter>,
+    state: ModuleState,
+}
+
+impl<'a> Model for Module<'a> {
+    ghost use Rattle.fact_module.specs.Collected.{Collected, IsMade};
+    ghost use Rattle.fact_wasm.specs.contracts.instr.Instr as instr;
+    ghost use Rattle.std.specs.Prelude.{◌≡◌};
+    ghost use Rattle.std.specs.Coded.{codes};
+
+    ghost Value = { Collected };
+
+    ghost view = { λ m. record { builder = m.builder.now; tunables = m.tunables.now; features = m.features; taken = m.taken.items; imports = m.state.imports; whole = m.state.whole } };
+
+    ghost invariant = { λ m. IsMade (record { builder = m.builder.now; tunables = m.tunables.now; features = m.features; taken = m.taken.items; imports = m.state.imports; whole = m.state.whole }) m.checks m.state × (m.types ≡ m.builder.now) };
+}
+
+/// Whether an error is a want of memory.
+fn is_memory(error: FuseError) -> bool
+    ensures { IsTrue result ↔ (error ≡ FuseError.OutOfMemory) }
+{
+    matches!(error, FuseError::OutOfMemory)
+}
+
+/// Adds the code of an adapter, and the adapter to those that were taken.
+fn emit(
+    alloc: Global,
+    builder: &ComponentTypesBuilder,
+    state: &mut ModuleState,
+    taken: &mut Vec<TakenAdapter>,
+    candidate: &Candidate<'_>,
+) -> Result<(), OutOfMemory>
+    requires whole { state.old.whole ≡ true }
+    requires typed { candidate.now.adapter.now.lift_options.core_type.number < length builder.now.module_types }
+    requires few { (ty : FuncType) → slice_get builder.now.module_types candidate.now.adapter.now.lift_options.core_type.number ≡ Some ty → (length ty.params ≤ 16) × (length ty.results ≤ 1) }
+    ensures taken { OnOk result (taken.new.items ≡ taken.old.items ++ taken_of candidate.now ∷ []) }
+    ensures emitted { OnOk result ((ty : FuncType) → slice_get builder.now.module_types candidate.now.adapter.now.lift_options.core_type.number ≡ Some ty
+        → Adds state.old state.new candidate.now.name.now candidate.now.adapter.now.lift_options.instance candidate.now.adapter.now.lower_options.instance candidate.now.adapter.now.func ty) }
+    ensures refused { OnErr result (taken.new.items ≡ taken.old.items) }
+{
+    let adapter = candidate.adapter;
+    let copy = copy_candidate(alloc, candidate)?;
+    state.add_adapter(
+        candidate.name,
+        adapter.lift_options.instance,
+        adapter.lower_options.instance,
+        &adapter.func,
+        &builder[adapter.lift_options.core_type],
+    )?;
+    taken.push(copy)?;
+    Ok(())
+}
+
+impl<'a> Module<'a> {
+    /// A module without adapters, over the types of a builder. It takes no memory.
+    pub fn new(
+        alloc: Global,
+        types: &'a ComponentTypesBuilder,
+        tunables: &'a Tunables,
+        features: WasmFeatures,
+    ) -> Module<'a>
+        requires fuel { 1 ≤ tunables.now.fuel }
+        ensures { result ≡ record { builder = types.now; tunables = tunables.now; features = features; taken = []; imports = []; whole = true } }
+    {
+        Module {
+            alloc,
+            builder: types,
+            tunables,
+            features,
+            types: FunctionTypes::new(alloc, types),
+            checks: AdapterChecks::new(alloc, types, tunables.concurrency_support),
+            taken: Vec::new(alloc),
+            state: ModuleState::new(alloc),
+        }
+    }
+
+    /// Tells the first fault of an adapter behind those that were taken, and keeps nothing of it.
+    fn judge(&mut self, number: u32, candidate: &Candidate<'_>) -> Result<(), FuseError>
+        requires whole { self.old.whole ≡ true }
+        ensures unchanged { self.new ≡ self.old }
+        ensures types { OnOk result (HasSoundTypes self.old.builder number candidate.now.adapter.now) }
+        ensures faultless { OnOk result (IsFaultless self.old number (taken_of candidate.now)) }
+        ensures refused { IfErr result (λ e. IfSome (told e) (λ x. IsFirst self.old number (taken_of candidate.now) x.0 × (x.1 ≡ place_at.Adapter number))) }
+    {
+        check_types(self.builder, &mut self.types, number, candidate.adapter)?;
+        self.checks.judge(number, candidate)
+    }
+
+    /// Takes an adapter, whose types are in the builder and have no fault, behind those that were taken, or tells its first
+    /// fault, with its number as place. After a want of memory the module is whole no more.
+    pub(crate) fn take(&mut self, number: u32, candidate: &Candidate<'_>) -> Result<(), FuseError>
+        requires whole { self.old.whole ≡ true }
+        requires typed { IsTyped self.old.builder candidate.now.adapter.now }
+        requires built { MayTake self.old candidate.now }
+        ensures keeps { Keeps self.old self.new }
+        ensures taken { OnOk result (HasTaken self.old self.new (taken_of candidate.now)) }
+        ensures sound { OnOk result (IsSoundBehind self.old candidate.now) }
+        ensures lost { result ≡ Err FuseError.OutOfMemory → self.new.whole ≡ false }
+        ensures refused { IfErr result (λ e. IfSome (told e) (λ x. (self.new ≡ self.old) × IsFirstBehind self.old candidate.now x.0 × (x.1 ≡ place_at.Adapter number))) }
+    {
+        self.builder.reveal();
+        self.builder.component_types().reveal();
+        if let Err(error) = self.checks.check(number, candidate) {
+            if is_memory(error) {
+                self.state.give_up();
+            }
+            return Err(error);
+        }
+        match emit(
+            self.alloc,
+            self.builder,
+            &mut self.state,
+            &mut self.taken,
+            candidate,
+        ) {
+            Ok(()) => Ok(()),
+            Err(_) => {
+                self.state.give_up();
+                Err(FuseError::OutOfMemory)
+            }
+        }
+    }
+
+    /// Takes the adapter of an id, which is live, under a name, behind those that were taken, or tells its first fault behind
+    /// them, with the id's number as place; the types are judged as they stand in the builder. After a refusal but
+    /// `OutOfMemory` the module is as before; after `OutOfMemory` it is whole no more, and answers nothing else. The adapter
+    /// is built where it has no fault, which [`Module::may_adapt`] tells.
+    pub fn adapt(
+        &mut self,
+        name: &str,
+        component: &ComponentDfg,
+        adapter: AdapterId,
+    ) -> Result<(), FuseError>
+        requires live { adapter.number < length component.now.adapters }
+        requires built { OfAdapter component.now adapter name.now (MayAdapt self.old adapter.number) }
+        ensures keeps { Keeps self.old self.new }
+        ensures taken { OnOk result (OfAdapter component.now adapter name.now (HasTaken self.old self.new)) }
+        ensures faultless { OnOk result (OfAdapter component.now adapter name.now (IsFaultless self.old adapter.number)) }
+        ensures refused { IfErr result (λ e. IfSome (told e) (λ x. (self.new ≡ self.old) × OfAdapter component.now adapter name.now (λ t. IsFirst self.old adapter.number t x.0) × (x.1 ≡ place_at.Adapter adapter.number))) }
+        ensures lost { result ≡ Err FuseError.OutOfMemory → self.new.whole ≡ false }
+        ensures spent { self.old.whole ≡ false → result ≡ Err FuseError.OutOfMemory }
+    {
+        if !self.state.is_whole() {
+            return Err(FuseError::OutOfMemory);
+        }
+        let candidate = component.candidate(name, adapter);
+        let number = adapter.as_u32();
+        if let Err(error) = check_types(self.builder, &mut self.types, number, candidate.adapter) {
+            if is_memory(error) {
+                self.state.give_up();
+            }
+            return Err(error);
+        }
+        self.take(number, &candidate)
+    }
+
+    /// Whether the adapter of an id, which is live, is built, where it has no fault behind those that were taken: whether
+    /// [`Module::adapt`] may be asked to take it under this name. A module that is whole no more may be asked for any.
+    /// `OutOfMemory` is the one refusal.
+    pub fn may_adapt(
+        &mut self,
+        name: &str,
+        component: &ComponentDfg,
+        adapter: AdapterId,
+    ) -> Result<bool, FuseError>
+        requires live { adapter.number < length component.now.adapters }
+        ensures unchanged { self.new ≡ self.old }
+        ensures exact { IfOk result (λ may. IsTrue may ↔ OfAdapter component.now adapter name.now (MayAdapt self.new adapter.number)) }
+        ensures memory { IfErr result (λ e. e ≡ FuseError.OutOfMemory) }
+    {
+        if !self.state.is_whole() {
+            return Ok(true);
+        }
+        let candidate = component.candidate(name, adapter);
+        if let Err(error) = self.judge(adapter.as_u32(), &candidate) {
+            if is_memory(error) {
+                return Err(error);
+            }
+            return Ok(true);
+        }
+        Ok(is_built(self.builder, self.tunables, self.features, &candidate))
+    }
+
+    /// A copy of the module of the adapters so far. `OutOfMemory` is the one refusal; it comes for good once [`Module::adapt`]
+    /// answered it.
+    pub fn build(&mut self) -> Result<WasmModule, FuseError>
+        ensures unchanged { self.new ≡ self.old }
+        ensures built { IfOk result (λ m. IsModuleOf self.old m) }
+        ensures memory { IfErr result (λ e. e ≡ FuseError.OutOfMemory) }
+        ensures lost { self.old.whole ≡ false → result ≡ Err FuseError.OutOfMemory }
+    {
+        if !self.state.is_whole() {
+            return Err(FuseError::OutOfMemory);
+        }
+        Ok(self.state.copy()?)
+    }
+
+    /// The bytes of the module of the adapters so far (core specification, "Binary Format"), as [`Module::build`].
+    pub fn encode(&mut self) -> Result<Vec<u8>, FuseError>
+        ensures unchanged { self.new ≡ self.old }
+        ensures spelled { IfOk result (λ bytes. Spelled self.old bytes.items) }
+        ensures memory { IfErr result (λ e. e ≡ FuseError.OutOfMemory) }
+        ensures lost { self.old.whole ≡ false → result ≡ Err FuseError.OutOfMemory }
+    {
+        let module = self.build()?;
+        Ok(encode(self.alloc, &module)?)
+    }
+
+    /// The module, and what its imports are.
+    pub(crate) fn into_parts(self) -> (WasmModule, Seq<Import>)
+        requires { self.whole ≡ true }
+        ensures parts { IsModuleOf self.entry result.0 × (result.1 ≡ self.entry.imports) }
+        ensures promised { (adapters : List LinkedAdapter) → AreTaken self.entry adapters → Promised result.0 self.entry.imports self.entry.tunables.debug_adapter_modules adapters }
+    {
+        let Module { state, .. } = self;
+        state.into_parts()
+    }
+
+    /// What the imports so far are, in the order of the import section.
+    pub fn imports(&self) -> &[Import]
+        ensures { result.now ≡ self.now.imports }
+    {
+        self.state.imports()
+    }
+}

@@ -1,0 +1,276 @@
+//! The parts of a module that is being made.
+
+ghost use Rattle.std.specs.Prelude.{◌≡◌, ◌+◌, ◌<◌, ◌≤◌, ◌^◌, Some, slice_get, length, IfOk, IsFalse, OnOk, true};
+ghost use Rattle.fact_module.specs.Emitted.{Adds, AddsTrap, HasType, Imports, in_parts, module_of, flags as flags_known, flags_import as flags_import_of, function_import as function_import_of, functions_of, globals_of, nothing_emitted, with_function};
+ghost use Rattle.fact_module.specs.Runs.{flags_place};
+ghost use Rattle.fact_module.specs.Imported.{known_as};
+
+use crate::emit::{Places, emit_function};
+use crate::imported::{ImportedFunction, flags_import, function_import};
+use crate::plain::Import;
+use fact_entity::{
+    EntityRef, FuncIndex, GlobalIndex, Interner, ModuleInternedTypeIndex,
+    RuntimeComponentInstanceIndex,
+};
+use fact_types::{CoreDef, Trap};
+use fact_wasm::{FuncName, FuncType, OutOfMemory, Seq, Text, WasmExport, WasmFunc, WasmModule};
+use std::alloc::{AllocError, Global};
+use std::marker::Model;
+
+/// The most functions that a module has, imported and defined.
+const MOST_FUNCTIONS: usize = 4_294_967_295;
+
+/// The sections of a module that is being made, and what its imports are. Each type, each flag global and each function
+/// stands in them once.
+#[derive(Drop)]
+pub struct ModuleState {
+    alloc: Global,
+    types: Interner<ModuleInternedTypeIndex, FuncType>,
+    // The instances whose flags are imported, in the order of the imported globals.
+    flags: Interner<GlobalIndex, RuntimeComponentInstanceIndex>,
+    // The imported functions, in order.
+    imported: Interner<FuncIndex, ImportedFunction>,
+    module: WasmModule,
+    // What the imports of the module are.
+    imports: Seq<Import>,
+    // False from the first step of an addition to its last: a want of memory between them leaves it so.
+    whole: bool,
+}
+
+impl Model for ModuleState {
+    ghost use Rattle.fact_module.specs.Emitted.{Emitted};
+    ghost use Rattle.fact_module.specs.State.{IsIndexed};
+    ghost use Rattle.std.specs.Prelude.{IsTrue};
+    ghost use Rattle.fact_wasm.specs.contracts.instr.Instr as instr;
+    ghost use Rattle.std.specs.Coded.{codes};
+
+    ghost Value = { Emitted };
+
+    ghost coded = { Prim.hlevel (codes, instr.the_row.coded) };
+
+    ghost view = { λ s. record { types = s.module.types; section = s.module.imports; imports = s.imports; functions = s.module.funcs; exports = s.module.exports; whole = s.whole } };
+
+    ghost invariant = { λ s. IsTrue s.whole → IsIndexed (record { types = s.module.types; section = s.module.imports; imports = s.imports; functions = s.module.funcs; exports = s.module.exports; whole = s.whole }) s.types s.flags s.imported };
+}
+
+fn copy_type(alloc: Global, ty: &FuncType) -> Result<FuncType, OutOfMemory>
+    ensures { IfOk result (λ copy. copy ≡ ty.now) }
+{
+    let params = Vec::from_slice(alloc, ty.params.as_slice())?;
+    let results = Vec::from_slice(alloc, ty.results.as_slice())?;
+    Ok(FuncType {
+        params: Seq::from_vec(params),
+        results: Seq::from_vec(results),
+    })
+}
+
+impl ModuleState {
+    /// Nothing is there yet. It takes no memory.
+    pub fn new(alloc: Global) -> ModuleState
+        ensures { result ≡ nothing_emitted }
+    {
+        ModuleState {
+            alloc,
+            types: Interner::new(alloc),
+            flags: Interner::new(alloc),
+            imported: Interner::new(alloc),
+            module: WasmModule {
+                types: Seq::new(alloc),
+                imports: Seq::new(alloc),
+                funcs: Seq::new(alloc),
+                exports: Seq::new(alloc),
+            },
+            imports: Seq::new(alloc),
+            whole: true,
+        }
+    }
+
+    /// What the imports are, in the order of the import section.
+    pub fn imports(&self) -> &[Import]
+        ensures { result.now ≡ self.now.imports }
+    {
+        self.imports.as_slice()
+    }
+
+    /// Whether no want of memory left it in parts.
+    pub fn is_whole(&self) -> bool
+        ensures { result ≡ self.now.whole }
+    {
+        self.whole
+    }
+
+    /// Is not whole from now on.
+    pub fn give_up(&mut self)
+        ensures { self.new ≡ in_parts self.old }
+    {
+        self.whole = false;
+    }
+
+    /// A copy of the module so far.
+    pub fn copy(&self) -> Result<WasmModule, OutOfMemory>
+        requires { self.now.whole ≡ true }
+        ensures copy { IfOk result (λ m. m ≡ module_of self.now) }
+        ensures numbered { length (functions_of self.now) + length self.now.functions < 2 ^ 32 }
+    {
+        self.module.try_clone()
+    }
+
+    /// The module, and what its imports are.
+    pub fn into_parts(self) -> (WasmModule, Seq<Import>)
+        requires { self.whole ≡ true }
+        ensures parts { (result.0 ≡ module_of self) × (result.1 ≡ self.imports) }
+        ensures numbered { length (functions_of self) + length self.functions < 2 ^ 32 }
+    {
+        let ModuleState {
+            module,
+            imports,
+            ..
+        } = self;
+        (module, imports)
+    }
+
+    /// The number of a type among those of the module.
+    fn type_index(&mut self, ty: &FuncType) -> Result<u32, OutOfMemory>
+        requires whole { self.old.whole ≡ true }
+        ensures place { IfOk result (λ n. slice_get self.new.types n ≡ Some ty.now) }
+        ensures types { OnOk result (HasType self.old self.new ty.now) }
+    {
+        if let Some(place) = self.types.find(ty) {
+            return Ok(place.as_u32());
+        }
+        let copy = copy_type(self.alloc, ty)?;
+        let listed = copy_type(self.alloc, ty)?;
+        self.whole = false;
+        self.module.types.push(listed)?;
+        let Ok(place) = self.types.add_new(copy) else {
+            return Err(AllocError);
+        };
+        self.whole = true;
+        Ok(place.as_u32())
+    }
+
+    /// The place of an instance's flags among the imported globals.
+    fn import_flags(&mut self, instance: RuntimeComponentInstanceIndex) -> Result<u32, OutOfMemory>
+        requires whole { self.old.whole ≡ true }
+        ensures place { IfOk result (λ n. flags_place instance.number (globals_of self.new) ≡ Some n) }
+        ensures imports { OnOk result (Imports self.old self.new (flags_import_of instance.number) (flags_known instance)) }
+    {
+        if let Some(place) = self.flags.find(&instance) {
+            return Ok(place.as_u32());
+        }
+        let import = flags_import(self.alloc, instance.as_u32())?;
+        self.whole = false;
+        self.module.imports.push(import)?;
+        self.imports
+            .push(Import::CoreDef(CoreDef::InstanceFlags(instance)))?;
+        let Ok(place) = self.flags.add_new(instance) else {
+            return Err(AllocError);
+        };
+        self.whole = true;
+        Ok(place.as_u32())
+    }
+
+    /// The place of a function among the imported ones. A new one is imported under these names, with the type of this number.
+    fn import_function(
+        &mut self,
+        function: ImportedFunction,
+        origin: &str,
+        name: &str,
+        ty: u32,
+    ) -> Result<u32, OutOfMemory>
+        requires whole { self.old.whole ≡ true }
+        ensures place { IfOk result (λ n. slice_get (functions_of self.new) n ≡ Some (known_as function)) }
+        ensures imports { OnOk result (Imports self.old self.new (function_import_of origin.now name.now ty) (known_as function)) }
+    {
+        if let Some(place) = self.imported.find(&function) {
+            return Ok(place.as_u32());
+        }
+        if self.is_full() {
+            return Err(AllocError);
+        }
+        let import = function_import(self.alloc, origin, name, ty)?;
+        let known = function.import()?;
+        self.whole = false;
+        self.module.imports.push(import)?;
+        self.imports.push(known)?;
+        let Ok(place) = self.imported.add_new(function) else {
+            return Err(AllocError);
+        };
+        self.whole = true;
+        Ok(place.as_u32())
+    }
+
+    /// Whether no further function has a number.
+    fn is_full(&self) -> bool
+        requires { self.now.whole ≡ true }
+        ensures { IsFalse result → length (functions_of self.now) + length self.now.functions + 1 < 2 ^ 32 }
+    {
+        self.imported.len() + self.module.funcs.len() >= MOST_FUNCTIONS
+    }
+
+    /// Adds a function, exported under a name.
+    fn add_function(&mut self, name: &str, function: WasmFunc) -> Result<(), OutOfMemory>
+        requires whole { self.old.whole ≡ true }
+        ensures { OnOk result (self.new ≡ with_function self.old name.now function) }
+    {
+        if self.is_full() {
+            return Err(AllocError);
+        }
+        let number = self.module.funcs.len() as u32;
+        let name = Text::from_str(self.alloc, name)?;
+        self.whole = false;
+        self.module.funcs.push(function)?;
+        self.module.exports.push(WasmExport {
+            name,
+            func: FuncName::Defined(number),
+        })?;
+        self.whole = true;
+        Ok(())
+    }
+
+    /// Adds what an adapter of plain numbers between two instances uses, and its function, which is exported under its name.
+    pub fn add_adapter(
+        &mut self,
+        name: &str,
+        lift: RuntimeComponentInstanceIndex,
+        lower: RuntimeComponentInstanceIndex,
+        callee: &CoreDef,
+        ty: &FuncType,
+    ) -> Result<(), OutOfMemory>
+        requires whole { self.old.whole ≡ true }
+        requires params { length ty.now.params ≤ 16 }
+        requires results { length ty.now.results ≤ 1 }
+        ensures { OnOk result (Adds self.old self.new name.now lift lower callee.now ty.now) }
+    {
+        let lift_flag = self.import_flags(lift)?;
+        let lower_flag = self.import_flags(lower)?;
+        let number = self.type_index(ty)?;
+        let def = ImportedFunction::Def(callee.try_clone()?);
+        let callee = self.import_function(def, "callee", name, number)?;
+        let trap = self.import_trap()?;
+        let at = Places {
+            lift_flag,
+            lower_flag,
+            callee,
+            trap,
+        };
+        let function = emit_function(self.alloc, at, number, ty)?;
+        self.add_function(name, function)?;
+        Ok(())
+    }
+
+    /// The place, among the imported functions, of the trap of a caller that may not leave its component.
+    fn import_trap(&mut self) -> Result<u32, OutOfMemory>
+        requires whole { self.old.whole ≡ true }
+        ensures { IfOk result (λ n. AddsTrap self.old self.new n) }
+    {
+        let void = FuncType {
+            params: Seq::new(self.alloc),
+            results: Seq::new(self.alloc),
+        };
+        let ty = self.type_index(&void)?;
+        let trap = ImportedFunction::Trap(Trap::CannotLeaveComponent);
+        let place = self.import_function(trap, "runtime", "trap0", ty)?;
+        Ok(place)
+    }
+}

@@ -1,0 +1,90 @@
+-- What the words of the command line ask for: `clap`'s reading of them as one simple command.
+use Rattle.std.specs.Prelude.{ℕ, ◌==◌, ◌&&◌, nat_le, not, Bool, true, false, List, [], ◌∷◌, Option, Some, None, codes, find, if◌then◌else◌, length, option_and_then, option_map}
+use Rattle.std.specs.List.{list_all, list_any}
+use Rattle.std.specs.Char.{is_ascii_digit}
+use Rattle.std.specs.Option.{option_map_or}
+use Rattle.std.specs.Str.{bytes_eq}
+use Rattle.std.specs.Str.Parse.{digits_value}
+use Rattle.clap.specs.Walk.{Row, Rule, first_of}
+use Rattle.clap.specs.Simple.{App, matches_of, new_rule, new_shape}
+use Rattle.clap.specs.Faults.{fault_of}
+use Rattle.clap.specs.declared.builder.action.ArgAction.TheVariants.{Set, SetTrue}
+use Rattle.clap.specs.declared.parser.matches.ValueSource.{ValueSource}
+use Rattle.clap.specs.declared.parser.matches.ValueSource.TheVariants as source
+use Rattle.fact_run.specs.declared.command.CommandOptions.{CommandOptions}
+
+-- ---- the command
+
+-- `--name`, and `--name VALUE` or `--name=VALUE`
+abbrev pub flag : List ℕ → Rule
+flag name = record (new_rule name) { long = Some name; action = Some SetTrue }
+
+abbrev pub option : List ℕ → Rule
+option name = record (new_rule name) { long = Some name; action = Some Set }
+
+-- all that the command knows: neither help nor a version
+abbrev pub command : App
+command = record {
+  top = record (new_shape (codes "factc")) {
+    rules = flag (codes "debug") ∷ option (codes "fuel") ∷ flag (codes "imports") ∷ [];
+    no_binary_name = true;
+    disable_help_flag = true;
+    disable_version_flag = true;
+  };
+  subs = [];
+}
+
+-- ---- the number behind `--fuel`
+
+abbrev pub least_fuel : ℕ
+least_fuel = 1
+
+abbrev pub most_fuel : ℕ
+most_fuel = 1_000_000
+
+abbrev pub default_fuel : ℕ
+default_fuel = 1000
+
+-- decimal digits, without a sign and without a leading zero
+abbrev pub is_plain_number : List ℕ → Bool
+is_plain_number [] = false
+is_plain_number (d ∷ ds) = not (d == 48) && list_all is_ascii_digit (d ∷ ds)
+
+abbrev pub is_fuel : List ℕ → Bool
+is_fuel text = is_plain_number text && (nat_le least_fuel (digits_value 10 text) && nat_le (digits_value 10 text) most_fuel)
+
+abbrev pub fuel_in : List ℕ → Option ℕ
+fuel_in text = if is_fuel text then Some (digits_value 10 text) else None
+
+abbrev pub fuel_or_default : Option (List ℕ) → Option ℕ
+fuel_or_default None = Some default_fuel
+fuel_or_default (Some text) = fuel_in text
+
+-- ---- the reading
+
+abbrev pub is_from_words : ValueSource → Bool
+is_from_words source.CommandLine = true
+is_from_words source.DefaultValue = false
+
+abbrev pub source_of : List ℕ → List Row → Option ValueSource
+source_of name rows = option_and_then (λ r. r.source) (find (λ r. bytes_eq r.id name) rows)
+
+-- the words themselves have the flag
+abbrev pub is_used : List ℕ → List Row → Bool
+is_used name rows = option_map_or is_from_words (source_of name rows) false
+
+-- what the matches ask for, where the number has its form
+abbrev pub options_in : List Row → Option CommandOptions
+options_in rows = option_map (λ fuel. record {
+  debug = is_used (codes "debug") rows;
+  imports = is_used (codes "imports") rows;
+  fuel = fuel;
+}) (fuel_or_default (first_of (codes "fuel") rows))
+
+-- `clap` finds no fault in the words, and none is a bare `--`
+abbrev pub are_taken : List (List ℕ) → Bool
+are_taken words = not (list_any (λ word. bytes_eq word (codes "--")) words) && length (fault_of command words) == 0
+
+-- the one reading of the words, where they have one
+unfoldable pub reading : List (List ℕ) → Option CommandOptions
+reading words = if are_taken words then options_in (matches_of command words) else None

@@ -1,0 +1,82 @@
+-- The printed lines of what a module imports.
+use Rattle.std.specs.Prelude.{ℕ, Bool, List, [], ◌∷◌, ◌++◌, Option, Some, None, codes, if◌then◌else◌}
+use Rattle.std.specs.List.{flat_map}
+use Rattle.std.specs.Fmt.{decimal}
+use Rattle.hex.specs.Hex.{encode_lower}
+use Rattle.fact_types.specs.declared.outside.CoreDef.{CoreDef}
+use Rattle.fact_types.specs.declared.outside.CoreDef.TheVariants as def
+use Rattle.fact_types.specs.declared.outside.FixedEncoding.{FixedEncoding}
+use Rattle.fact_types.specs.declared.outside.FixedEncoding.TheVariants as encoding
+use Rattle.fact_types.specs.declared.outside.Transcode.{Transcode}
+use Rattle.fact_types.specs.declared.outside.Transcode.TheVariants as op
+use Rattle.fact_types.specs.declared.outside.UnsafeIntrinsic.{UnsafeIntrinsic}
+use Rattle.fact_types.specs.declared.outside.UnsafeIntrinsic.TheVariants as slot
+use Rattle.fact_module.specs.declared.plain.Import.{Import}
+use Rattle.fact_module.specs.declared.plain.Import.TheVariants as known
+use Rattle.fact_module.specs.Imports.{trap_number}
+
+-- a core definition: an export by its instance and its name in lower-case hex
+abbrev pub def_text : CoreDef → List ℕ
+def_text (def.Export i name) = codes "export " ++ (decimal i.number ++ (codes " " ++ encode_lower name))
+def_text (def.InstanceFlags i) = codes "instance-flags " ++ decimal i.number
+def_text (def.Trampoline i) = codes "trampoline " ++ decimal i.number
+
+abbrev pub optional_text : Option CoreDef → List ℕ
+optional_text None = codes "none"
+optional_text (Some d) = def_text d
+
+-- the width of a memory's pointers in bits
+abbrev pub width_text : Bool → List ℕ
+width_text wide = if wide then codes "64" else codes "32"
+
+-- a memory, behind the width of its pointers
+abbrev pub memory_text : Bool → CoreDef → List ℕ
+memory_text wide d = width_text wide ++ (codes " " ++ def_text d)
+
+abbrev pub encoding_text : FixedEncoding → List ℕ
+encoding_text encoding.Utf8 = codes "utf8"
+encoding_text encoding.Utf16 = codes "utf16"
+encoding_text encoding.Latin1 = codes "latin1"
+
+-- a transcoder, as its import name begins
+abbrev pub transcode_text : Transcode → List ℕ
+transcode_text (op.Copy e) = encoding_text e ++ (codes "-to-" ++ encoding_text e)
+transcode_text op.Latin1ToUtf16 = codes "latin1-to-utf16"
+transcode_text op.Latin1ToUtf8 = codes "latin1-to-utf8"
+transcode_text op.Utf16ToCompactProbablyUtf16 = codes "utf16-to-compact-probably-utf16"
+transcode_text op.Utf16ToCompactUtf16 = codes "utf16-to-compact-utf16"
+transcode_text op.Utf16ToLatin1 = codes "utf16-to-latin1"
+transcode_text op.Utf16ToUtf8 = codes "utf16-to-utf8"
+transcode_text op.Utf8ToCompactUtf16 = codes "utf8-to-compact-utf16"
+transcode_text op.Utf8ToLatin1 = codes "utf8-to-latin1"
+transcode_text op.Utf8ToUtf16 = codes "utf8-to-utf16"
+
+abbrev pub intrinsic_text : UnsafeIntrinsic → List ℕ
+intrinsic_text slot.ContextGetI32_0 = codes "get0"
+intrinsic_text slot.ContextGetI32_1 = codes "get1"
+intrinsic_text slot.ContextSetI32_0 = codes "set0"
+intrinsic_text slot.ContextSetI32_1 = codes "set1"
+
+-- an import, by what it stands for
+abbrev pub import_text : Import → List ℕ
+import_text (known.CoreDef d) = codes "core-def " ++ def_text d
+import_text (known.Transcode how from from64 to to64) =
+    codes "transcode " ++ (transcode_text how ++ (codes " " ++ (memory_text from64 from ++ (codes " " ++ memory_text to64 to))))
+import_text known.ResourceTransferOwn = codes "resource-transfer-own"
+import_text known.ResourceTransferBorrow = codes "resource-transfer-borrow"
+import_text (known.PrepareCall memory) = codes "prepare-call " ++ optional_text memory
+import_text (known.StartCall callback post_return) = codes "start-call " ++ (optional_text callback ++ (codes " " ++ optional_text post_return))
+import_text known.FutureTransfer = codes "future-transfer"
+import_text known.StreamTransfer = codes "stream-transfer"
+import_text known.ErrorContextTransfer = codes "error-context-transfer"
+import_text (known.Trap t) = codes "trap " ++ decimal (trap_number t)
+import_text known.EnterSyncCall = codes "enter-sync-call"
+import_text known.ExitSyncCall = codes "exit-sync-call"
+import_text (known.UnsafeIntrinsic i) = codes "unsafe-intrinsic " ++ intrinsic_text i
+
+abbrev pub import_line : Import → List ℕ
+import_line i = import_text i ++ 10 ∷ []
+
+-- one line an import, in order
+abbrev pub import_lines : List Import → List ℕ
+import_lines is = flat_map import_line is

@@ -1,0 +1,150 @@
+//! The words of the command line.
+
+ghost use Rattle.std.specs.Prelude.{◌≡◌, ◌≤◌, IfOk, IfSome, codes, false, map, string_bytes};
+ghost use Rattle.std.specs.Char.{is_ascii_digit};
+ghost use Rattle.std.specs.List.{list_all, list_any};
+ghost use Rattle.std.specs.Option.{option_map_or};
+ghost use Rattle.std.specs.Str.{bytes_eq};
+ghost use Rattle.clap.specs.Simple.{app_of};
+ghost use Rattle.clap.specs.Walk.{first_of, rows_of, rule_of};
+ghost use Rattle.clap.specs.Matches.{found_of};
+ghost use Rattle.fact_run.specs.Command.{command, flag, fuel_in, fuel_or_default, is_from_words, is_plain_number, is_used, option, options_in, reading};
+
+use clap::error::ErrorKind;
+use clap::parser::ValueSource;
+use clap::{Arg, ArgAction, ArgMatches, Command};
+use fact_wasm::OutOfMemory;
+use std::alloc::{AllocError, Global};
+
+const DEFAULT_FUEL: u32 = 1000;
+
+const MIN_FUEL: u32 = 1;
+
+const MAX_FUEL: u32 = 1_000_000;
+
+/// What the words ask for.
+#[derive(Clone, Copy, Debug, PartialEq, Eq)]
+pub struct CommandOptions {
+    /// Debug checks are emitted, whatever the plan says.
+    pub debug: bool,
+    /// The imports are printed.
+    pub imports: bool,
+    /// How much translation a function may hold before parts of it become helpers.
+    pub fuel: u32,
+}
+
+fn flag<'a>(alloc: Global, name: &'a str) -> Arg<'a>
+    ensures rule { rule_of result ≡ flag name.entry.now }
+    ensures local { result.global ≡ false }
+{
+    Arg::new(alloc, name).long(name).action(ArgAction::SetTrue)
+}
+
+fn option<'a>(alloc: Global, name: &'a str) -> Arg<'a>
+    ensures rule { rule_of result ≡ option name.entry.now }
+    ensures local { result.global ≡ false }
+{
+    Arg::new(alloc, name).long(name).action(ArgAction::Set)
+}
+
+/// The command, which has neither help nor a version.
+fn command<'a>(alloc: Global) -> Result<Command<'a>, OutOfMemory>
+    ensures { IfOk result (λ c. app_of c ≡ command) }
+{
+    Command::new(alloc, "factc")
+        .no_binary_name(true)
+        .disable_help_flag(true)
+        .disable_version_flag(true)
+        .arg(flag(alloc, "debug"))?
+        .arg(option(alloc, "fuel"))?
+        .arg(flag(alloc, "imports"))
+}
+
+fn are_digits(text: &[u8]) -> bool
+    ensures { result ≡ list_all is_ascii_digit text.now }
+{
+    text.iter().all(|digit| digit.is_ascii_digit())
+}
+
+fn is_plain_number(text: &[u8]) -> bool
+    ensures { result ≡ is_plain_number text.now }
+{
+    match text {
+        [] => false,
+        [first, ..] => *first != b'0' && are_digits(text),
+    }
+}
+
+/// The number behind `--fuel`, where it has its form.
+fn fuel_in(text: &str) -> Option<u32>
+    ensures { result ≡ fuel_in text.now }
+{
+    if !is_plain_number(text.as_bytes()) {
+        return None;
+    }
+    let Ok(fuel) = text.parse::<u32>() else {
+        return None;
+    };
+    if MIN_FUEL <= fuel && fuel <= MAX_FUEL {
+        Some(fuel)
+    } else {
+        None
+    }
+}
+
+fn is_from_words(source: Option<ValueSource>) -> bool
+    ensures { result ≡ option_map_or is_from_words source false }
+{
+    matches!(source, Some(ValueSource::CommandLine))
+}
+
+/// Whether the words themselves have the flag.
+fn is_used(matches: &ArgMatches, name: &str) -> bool
+    ensures { result ≡ is_used name.now (rows_of (found_of matches.now)) }
+{
+    is_from_words(matches.value_source(name))
+}
+
+/// The fuel, where the value of `--fuel` has its form.
+fn fuel_of(matches: &ArgMatches) -> Option<u32>
+    ensures { result ≡ fuel_or_default (first_of (codes "fuel") (rows_of (found_of matches.now))) }
+{
+    match matches.get_str("fuel") {
+        Some(text) => fuel_in(text),
+        None => Some(DEFAULT_FUEL),
+    }
+}
+
+fn options_in(matches: &ArgMatches) -> Option<CommandOptions>
+    ensures { result ≡ options_in (rows_of (found_of matches.now)) }
+{
+    let fuel = fuel_of(matches)?;
+    Some(CommandOptions {
+        debug: is_used(matches, "debug"),
+        imports: is_used(matches, "imports"),
+        fuel,
+    })
+}
+
+/// Whether a word is a bare `--`.
+fn has_bare_dashes(words: &[String]) -> bool
+    ensures { result ≡ list_any (λ word. bytes_eq (string_bytes word) (codes "--")) words.now }
+{
+    words.iter().any(|word| word.as_str() == "--")
+}
+
+/// What the words ask for, or nothing where the command does not take them.
+#[tactic(auto, unfolding(crate::specs::Command::reading))]
+pub fn command_of(alloc: Global, words: &[String]) -> Result<Option<CommandOptions>, OutOfMemory>
+    ensures reading { IfOk result (λ options. options ≡ reading (map string_bytes words.now)) }
+    ensures fuel { IfOk result (λ options. IfSome options (λ o. 1 ≤ o.fuel)) }
+{
+    if has_bare_dashes(words) {
+        return Ok(None);
+    }
+    match command(alloc)?.try_get_matches_from(words) {
+        Ok(matches) => Ok(options_in(&matches)),
+        Err(error) if error.kind() == ErrorKind::OutOfMemory => Err(AllocError),
+        Err(_) => Ok(None),
+    }
+}

@@ -1,0 +1,195 @@
+//! The printed lines of what a module imports.
+
+ghost use Rattle.std.specs.Prelude.{◌≡◌, ◌++◌, IfOk, codes, string_bytes};
+ghost use Rattle.fact_run.specs.ImportLines.{def_text, encoding_text, import_lines, import_text, intrinsic_text, memory_text, optional_text, transcode_text, width_text};
+ghost use Rattle.fact_module.specs.Imports.{trap_number};
+
+use fact_entity::EntityRef;
+use fact_module::{CoreDef, FixedEncoding, Import, Transcode, Trap, UnsafeIntrinsic};
+use fact_wasm::OutOfMemory;
+use std::alloc::Global;
+
+fn def_text(alloc: Global, def: &CoreDef) -> Result<String, OutOfMemory>
+    ensures { IfOk result (λ text. string_bytes text ≡ def_text def.now) }
+{
+    match def {
+        CoreDef::Export { instance, name } => {
+            let number = instance.as_u32();
+            let name = hex::encode(alloc, name.as_str().as_bytes())?;
+            format!(in alloc; "export {number} {name}")
+        }
+        CoreDef::InstanceFlags(instance) => {
+            let number = instance.as_u32();
+            format!(in alloc; "instance-flags {number}")
+        }
+        CoreDef::Trampoline(trampoline) => {
+            let number = trampoline.as_u32();
+            format!(in alloc; "trampoline {number}")
+        }
+    }
+}
+
+fn optional_text(alloc: Global, def: &Option<CoreDef>) -> Result<String, OutOfMemory>
+    ensures { IfOk result (λ text. string_bytes text ≡ optional_text def.now) }
+{
+    match def {
+        None => String::from_str(alloc, "none"),
+        Some(def) => def_text(alloc, def),
+    }
+}
+
+/// The width of a memory's pointers in bits.
+fn width(wide: bool) -> &'static str
+    ensures { result.now ≡ width_text wide }
+{
+    if wide { "64" } else { "32" }
+}
+
+fn encoding(encoding: FixedEncoding) -> &'static str
+    ensures { result.now ≡ encoding_text encoding }
+{
+    match encoding {
+        FixedEncoding::Utf8 => "utf8",
+        FixedEncoding::Utf16 => "utf16",
+        FixedEncoding::Latin1 => "latin1",
+    }
+}
+
+/// A transcoder, as its import name begins.
+fn transcoder(op: Transcode) -> &'static str
+    ensures { result.now ≡ transcode_text op }
+{
+    match op {
+        Transcode::Copy(FixedEncoding::Utf8) => "utf8-to-utf8",
+        Transcode::Copy(FixedEncoding::Utf16) => "utf16-to-utf16",
+        Transcode::Copy(FixedEncoding::Latin1) => "latin1-to-latin1",
+        Transcode::Latin1ToUtf16 => "latin1-to-utf16",
+        Transcode::Latin1ToUtf8 => "latin1-to-utf8",
+        Transcode::Utf16ToCompactProbablyUtf16 => "utf16-to-compact-probably-utf16",
+        Transcode::Utf16ToCompactUtf16 => "utf16-to-compact-utf16",
+        Transcode::Utf16ToLatin1 => "utf16-to-latin1",
+        Transcode::Utf16ToUtf8 => "utf16-to-utf8",
+        Transcode::Utf8ToCompactUtf16 => "utf8-to-compact-utf16",
+        Transcode::Utf8ToLatin1 => "utf8-to-latin1",
+        Transcode::Utf8ToUtf16 => "utf8-to-utf16",
+    }
+}
+
+fn intrinsic(intrinsic: UnsafeIntrinsic) -> &'static str
+    ensures { result.now ≡ intrinsic_text intrinsic }
+{
+    match intrinsic {
+        UnsafeIntrinsic::ContextGetI32_0 => "get0",
+        UnsafeIntrinsic::ContextGetI32_1 => "get1",
+        UnsafeIntrinsic::ContextSetI32_0 => "set0",
+        UnsafeIntrinsic::ContextSetI32_1 => "set1",
+    }
+}
+
+fn trap_number(trap: Trap) -> u8
+    ensures { result ≡ trap_number trap }
+{
+    match trap {
+        Trap::CannotLeaveComponent => 0,
+        Trap::CannotEnterComponent => 1,
+        Trap::MemoryOutOfBounds => 2,
+        Trap::StringOutOfBounds => 3,
+        Trap::ListOutOfBounds => 4,
+        Trap::UnalignedPointer => 5,
+        Trap::InvalidChar => 6,
+        Trap::InvalidDiscriminant => 7,
+        Trap::UncaughtException => 8,
+        Trap::DebugAssertPointerAligned => 9,
+        Trap::DebugAssertUpperBitsUnset => 10,
+        Trap::DebugAssertStringEncodingFinished => 11,
+        Trap::DebugAssertEqualCodeUnits => 12,
+    }
+}
+
+/// A memory, behind the width of its pointers.
+fn memory_text(alloc: Global, wide: bool, def: &CoreDef) -> Result<String, OutOfMemory>
+    ensures { IfOk result (λ text. string_bytes text ≡ memory_text wide def.now) }
+{
+    let width = width(wide);
+    let def = def_text(alloc, def)?;
+    format!(in alloc; "{width} {def}")
+}
+
+fn transcode_text(alloc: Global, op: Transcode, from: &str, to: &str) -> Result<String, OutOfMemory>
+    ensures { IfOk result (λ text. string_bytes text ≡ codes "transcode " ++ (transcode_text op ++ (codes " " ++ (from.now ++ (codes " " ++ to.now))))) }
+{
+    let op = transcoder(op);
+    format!(in alloc; "transcode {op} {from} {to}")
+}
+
+fn start_call_text(alloc: Global, callback: &str, post_return: &str) -> Result<String, OutOfMemory>
+    ensures { IfOk result (λ text. string_bytes text ≡ codes "start-call " ++ (callback.now ++ (codes " " ++ post_return.now))) }
+{
+    format!(in alloc; "start-call {callback} {post_return}")
+}
+
+/// An import, by what it stands for.
+fn import_text(alloc: Global, import: &Import) -> Result<String, OutOfMemory>
+    ensures { IfOk result (λ text. string_bytes text ≡ import_text import.now) }
+{
+    match import {
+        Import::CoreDef(def) => {
+            let def = def_text(alloc, def)?;
+            format!(in alloc; "core-def {def}")
+        }
+        Import::Transcode {
+            op,
+            from,
+            from64,
+            to,
+            to64,
+        } => {
+            let from = memory_text(alloc, *from64, from)?;
+            let to = memory_text(alloc, *to64, to)?;
+            transcode_text(alloc, *op, &from, &to)
+        }
+        Import::ResourceTransferOwn => String::from_str(alloc, "resource-transfer-own"),
+        Import::ResourceTransferBorrow => String::from_str(alloc, "resource-transfer-borrow"),
+        Import::PrepareCall { memory } => {
+            let memory = optional_text(alloc, memory)?;
+            format!(in alloc; "prepare-call {memory}")
+        }
+        Import::StartCall {
+            callback,
+            post_return,
+        } => {
+            let callback = optional_text(alloc, callback)?;
+            let post_return = optional_text(alloc, post_return)?;
+            start_call_text(alloc, &callback, &post_return)
+        }
+        Import::FutureTransfer => String::from_str(alloc, "future-transfer"),
+        Import::StreamTransfer => String::from_str(alloc, "stream-transfer"),
+        Import::ErrorContextTransfer => String::from_str(alloc, "error-context-transfer"),
+        Import::Trap(trap) => {
+            let number = trap_number(*trap);
+            format!(in alloc; "trap {number}")
+        }
+        Import::EnterSyncCall => String::from_str(alloc, "enter-sync-call"),
+        Import::ExitSyncCall => String::from_str(alloc, "exit-sync-call"),
+        Import::UnsafeIntrinsic(slot) => {
+            let slot = intrinsic(*slot);
+            format!(in alloc; "unsafe-intrinsic {slot}")
+        }
+    }
+}
+
+/// The text with one line an import behind it, in order.
+pub fn with_import_lines(
+    alloc: Global,
+    mut text: String,
+    imports: &[Import],
+) -> Result<String, OutOfMemory>
+    ensures { IfOk result (λ page. string_bytes page ≡ string_bytes text ++ import_lines imports.now) }
+{
+    for import in imports {
+        let line = import_text(alloc, import)?;
+        text.push_str(&line)?;
+        text.push('\n')?;
+    }
+    Ok(text)
+}

@@ -1,0 +1,2 @@
+pub mod TypeFaults
+pub mod Walk

@@ -1,0 +1,7 @@
+//! Tests of modules that take adapters one after another.
+#![tactic(auto)]
+
+#[cfg(test)]
+mod adapted;
+#[cfg(test)]
+mod types;
