@@ -27,7 +27,7 @@ module _ (b : Builder) (sound : IsSoundTables b.tables) (ty : Id TypeFuncs) (liv
       let (params, results, s) = signature-of b.tables sound ty live in
       (λ t. record { params = params; results = results; signature = s; is_bad = (h params results s).0 t }, λ x. (h x.params x.results x.signature).1 x.is_bad)
 
-  pub large-type : ((params results : List Shape) → HasSignature b.tables ty params results → (IsTrue found ↔ IsLargeFunction params results)) → (IsTrue found ↔ IsLargeType b ty)
+  pub large-type : ((params results : List Shape) (s : HasSignature b.tables ty params results) → (IsTrue found ↔ IsLargeFunction s.func.param_names params results)) → (IsTrue found ↔ IsLargeType b ty)
   large-type h =
       let (params, results, s) = signature-of b.tables sound ty live in
       (λ t. record { params = params; results = results; signature = s; is_large = (h params results s).0 t }, λ x. (h x.params x.results x.signature).1 x.is_large)

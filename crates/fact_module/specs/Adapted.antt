@@ -44,7 +44,7 @@ pub record IsLargeType (b : Builder) (ty : Id TypeFuncs) : Type 0 where
   pub params : List Shape
   pub results : List Shape
   pub signature : HasSignature b.tables ty params results
-  pub is_large : IsLargeFunction params results
+  pub is_large : IsLargeFunction signature.func.param_names params results
 
 -- The types of an adapter of this number are none or too large, or its numbers are.
 abbrev pub TypesHave : Builder → ℕ → Adapter → Fault → Type 0

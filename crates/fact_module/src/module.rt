@@ -10,6 +10,7 @@ ghost use Rattle.fact_module.specs.Collected.{AreTaken, HasTaken, IsModuleOf, Ke
 ghost use Rattle.fact_checks.specs.Adapters.{LinkedAdapter};
 ghost use Rattle.fact_module.specs.Emitted.{Adds};
 ghost use Rattle.fact_module.specs.Faithful.{Promised};
+ghost use Rattle.fact_module.specs.Imports.{AreMentioned};
 ghost use Rattle.fact_module.specs.Taking.{IsFirstBehind, IsSoundBehind, MayTake};
 ghost use Rattle.fact_module.specs.Typed.{HasSoundTypes};
 
@@ -258,7 +259,8 @@ impl<'a> Module<'a> {
 
     /// What the imports so far are, in the order of the import section.
     pub fn imports(&self) -> &[Import]
-        ensures { result.now ≡ self.now.imports }
+        ensures imports { result.now ≡ self.now.imports }
+        ensures mentioned { self.now.whole ≡ true → (adapters : List LinkedAdapter) → AreTaken self.now adapters → AreMentioned adapters result.now }
     {
         self.state.imports()
     }

@@ -14,7 +14,7 @@ use Rattle.fact_types.specs.Shapes.{Shape, layout_of, plain_layout, IsWithin}
 use Rattle.fact_types.specs.Tables.{Tables, abi_at, placed, stored, tuple_node, IsSound}
 use Rattle.fact_types.proofs.ShapeLaws.{layout_is, more, same_some}
 use Rattle.fact_plan_types.specs.TypeRules.{IsPast, most_entries, tuple_layout}
-use Rattle.fact_type_rules.specs.TypeFaults.{IsLongFunction}
+use Rattle.fact_type_rules.specs.TypeFaults.{HasManyTypes}
 use Rattle.fact_type_rules.proofs.EntryLaws.{not-past}
 use Rattle.fact_type_rules.proofs.KindLaws.{above-test, is-above}
 
@@ -51,15 +51,18 @@ module _ (t : Tables) (k : IsSound t) (i : Id TypeFuncs) (f : TypeFunc) (there :
 pub same-names : (t : Tables) (i : Id TypeFuncs) (f : TypeFunc) (ps rs : List Shape) → slice_get t.functions i.number ≡ Some f → (h : HasSignature t i ps rs) → f.param_names ≡ h.func.param_names
 same-names t i f ps rs there h = ap (λ (g : TypeFunc). g.param_names) (same_some (slice_get t.functions i.number) f h.func there h.func_there)
 
--- ---- too many parameters or results
+-- ---- too many names, parameters or results
 
-pub long-params : (ps rs : List Shape) (n : ℕ) → n ≡ length ps → most_entries < n → IsTrue (nat_lt most_entries n) ↔ IsLongFunction ps rs
+pub many-names : (names : List (List ℕ)) (n : ℕ) → n ≡ length names → IsTrue (nat_lt most_entries n) ↔ (most_entries < length names)
+many-names names n e = (λ b. omega (arith, e, above-test most_entries n b), λ l. is-above most_entries n (omega (arith, e, l)))
+
+pub long-params : (ps rs : List Shape) (n : ℕ) → n ≡ length ps → most_entries < n → IsTrue (nat_lt most_entries n) ↔ HasManyTypes ps rs
 long-params ps rs n e l = (λ b. inl (omega (arith, e, l)), λ f. is-above most_entries n l)
 
-pub long-results : (ps rs : List Shape) (m n : ℕ) → m ≡ length ps → n ≡ length rs → m ≤ most_entries → IsTrue (nat_lt most_entries n) ↔ IsLongFunction ps rs
+pub long-results : (ps rs : List Shape) (m n : ℕ) → m ≡ length ps → n ≡ length rs → m ≤ most_entries → IsTrue (nat_lt most_entries n) ↔ HasManyTypes ps rs
 long-results ps rs m n e f few = (λ b. inr (omega (arith, f, above-test most_entries n b)), to)
   where
-    to : IsLongFunction ps rs → IsTrue (nat_lt most_entries n)
+    to : HasManyTypes ps rs → IsTrue (nat_lt most_entries n)
     to (inl h) = absurd (omega (arith, e, few, h))
     to (inr h) = is-above most_entries n (omega (arith, f, h))
 

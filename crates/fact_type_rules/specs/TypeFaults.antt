@@ -93,11 +93,15 @@ IsBadFunction names params results =
     IsRepeated names ⊎ (Any (λ s. IsTrue (has_borrow s)) results ⊎ (Any (AnyIn IsBadShape) params ⊎ Any (AnyIn IsBadShape) results))
 
 -- More than 268,435,456 types of parameters or of results.
-abbrev pub IsLongFunction : (params results : List Shape) → Type 0
-IsLongFunction params results = (most_entries < length params) ⊎ (most_entries < length results)
+abbrev pub HasManyTypes : (params results : List Shape) → Type 0
+HasManyTypes params results = (most_entries < length params) ⊎ (most_entries < length results)
 
--- The list of the parameters or that of the results is too long, their tuple takes too many bytes, or a type of one, or one
--- in it, is too large.
-abbrev pub IsLargeFunction : (params results : List Shape) → Type 0
-IsLargeFunction params results =
-    IsLongFunction params results ⊎ ((IsPast (tuple_layout params) ⊎ IsPast (tuple_layout results)) ⊎ (Any (AnyIn IsLargeShape) params ⊎ Any (AnyIn IsLargeShape) results))
+-- The same, or so many names of parameters.
+abbrev pub IsLongFunction : List (List ℕ) → (params results : List Shape) → Type 0
+IsLongFunction names params results = (most_entries < length names) ⊎ HasManyTypes params results
+
+-- A list of the function is too long, the tuple of its parameters or of its results takes too many bytes, or a type of one,
+-- or one in it, is too large.
+abbrev pub IsLargeFunction : List (List ℕ) → (params results : List Shape) → Type 0
+IsLargeFunction names params results =
+    IsLongFunction names params results ⊎ ((IsPast (tuple_layout params) ⊎ IsPast (tuple_layout results)) ⊎ (Any (AnyIn IsLargeShape) params ⊎ Any (AnyIn IsLargeShape) results))

@@ -5,8 +5,8 @@ ghost use Rattle.fact_types.specs.Functions.{HasSignature, HaveShapes};
 ghost use Rattle.fact_types.specs.Shapes.{Shape};
 ghost use Rattle.fact_types.specs.Tables.{IsLive};
 ghost use Rattle.fact_builder.specs.Handles.{has_borrow};
-ghost use Rattle.fact_plan_types.specs.TypeRules.{IsPast, IsRepeated, tuple_layout};
-ghost use Rattle.fact_type_rules.specs.TypeFaults.{AnyIn, IsBadFunction, IsLargeFunction, IsLongFunction};
+ghost use Rattle.fact_plan_types.specs.TypeRules.{IsPast, IsRepeated, most_entries, tuple_layout};
+ghost use Rattle.fact_type_rules.specs.TypeFaults.{AnyIn, HasManyTypes, IsBadFunction, IsLargeFunction, IsLongFunction};
 ghost use Rattle.fact_type_rules.specs.Walk.{Breaks, IsClean};
 
 use crate::entries::MOST_ENTRIES;
@@ -72,12 +72,12 @@ impl<'a> FunctionTypes<'a> {
         has_faulty_types(builder, Rules::OfKind, &mut self.of_kind, ty)
     }
 
-    /// Whether a live function type is too large, or a type in it: by the number of parameters or results, by the bytes that they
-    /// take, or by a type's table, members, bytes or nesting.
+    /// Whether a live function type is too large, or a type in it: by the number of parameters, of their names or of results, by
+    /// the bytes that they take, or by a type's table, members, bytes or nesting.
     pub fn is_large(&mut self, ty: TypeFuncIndex) -> Result<bool, OutOfMemory>
         requires { ty.number < length self.old.tables.functions }
         ensures same { self.new ≡ self.old }
-        ensures exact { IfOk result (λ found. (params results : List Shape) → HasSignature self.old.tables ty params results → (IsTrue found ↔ IsLargeFunction params results)) }
+        ensures exact { IfOk result (λ found. (params results : List Shape) (s : HasSignature self.old.tables ty params results) → (IsTrue found ↔ IsLargeFunction s.func.param_names params results)) }
     {
         let builder = self.builder;
         reveal_tuples(builder, ty);
@@ -155,10 +155,26 @@ fn is_any_borrow(builder: &ComponentTypesBuilder, types: &[InterfaceType]) -> bo
     false
 }
 
-/// Whether the list of the parameters of a live function or that of its results is too long.
+/// Whether a live function has too many names of parameters.
+fn has_many_names(builder: &ComponentTypesBuilder, ty: TypeFuncIndex) -> bool
+    requires { ty.number < length builder.now.tables.functions }
+    ensures { (params results : List Shape) (s : HasSignature builder.now.tables ty params results) → (IsTrue result ↔ (most_entries < length s.func.param_names)) }
+{
+    builder[ty].param_names.len() > MOST_ENTRIES
+}
+
+/// Whether a live function has too many names of parameters, parameters or results.
 fn is_long(builder: &ComponentTypesBuilder, ty: TypeFuncIndex) -> bool
     requires { ty.number < length builder.now.tables.functions }
-    ensures { (params results : List Shape) → HasSignature builder.now.tables ty params results → (IsTrue result ↔ IsLongFunction params results) }
+    ensures { (params results : List Shape) (s : HasSignature builder.now.tables ty params results) → (IsTrue result ↔ IsLongFunction s.func.param_names params results) }
+{
+    has_many_names(builder, ty) || has_many_types(builder, ty)
+}
+
+/// Whether a live function has too many parameters or results.
+fn has_many_types(builder: &ComponentTypesBuilder, ty: TypeFuncIndex) -> bool
+    requires { ty.number < length builder.now.tables.functions }
+    ensures { (params results : List Shape) → HasSignature builder.now.tables ty params results → (IsTrue result ↔ HasManyTypes params results) }
 {
     params_of(builder, ty).len() > MOST_ENTRIES || results_of(builder, ty).len() > MOST_ENTRIES
 }

@@ -13,4 +13,4 @@ pub returns-clause-exact : goal.returns-clause-exact
 returns-clause-exact c =
     let sound = subst (λ (t : Tables). IsSound t) c.component_types.ensures c.reveal-2.ensures.sound in
     IfOk-weaker c.is_large.result _ _ (large-type c.args.builder.now sound c.args.ty c.requires.live)
-    (subst (λ (b : Builder). IfOk c.is_large.result (λ found. (params results : List Shape) → HasSignature b.tables c.args.ty params results → (IsTrue found ↔ IsLargeFunction params results))) c.requires.same c.is_large.ensures.exact)
+    (subst (λ (b : Builder). IfOk c.is_large.result (λ found. (params results : List Shape) (s : HasSignature b.tables c.args.ty params results) → (IsTrue found ↔ IsLargeFunction s.func.param_names params results))) c.requires.same c.is_large.ensures.exact)

@@ -1,10 +1,11 @@
-use Rattle.fact_type_rules.proofs.FunctionLaws.{as-many, long-params, long-results}
+use Rattle.std.proofs.Common.{inl, sym, ◌∙◌}
+use Rattle.std.proofs.lemmas.Bool.{false≢true}
+use Rattle.fact_type_rules.proofs.FunctionLaws.{none-before}
 use Rattle.fact_type_rules.proofs.functions.is_long.Goals as goal
 
-pub returns-then-params_of-gt-MOST_ENTRIES : goal.returns-then-params_of-gt-MOST_ENTRIES
-returns-then-params_of-gt-MOST_ENTRIES c = λ ps rs h.
-    long-params ps rs _ (as-many c.args.builder.now.tables _ ps (c.params_of.ensures.shaped ps rs h)) c.if-params_of-gt-MOST_ENTRIES.true
+pub returns-then-has_many_names : goal.returns-then-has_many_names
+returns-then-has_many_names c = λ ps rs s. (λ b. inl ((c.has_many_names.ensures ps rs s).0 c.if-has_many_names.true), λ f. c.if-has_many_names.true)
 
-pub returns-else-params_of-gt-MOST_ENTRIES : goal.returns-else-params_of-gt-MOST_ENTRIES
-returns-else-params_of-gt-MOST_ENTRIES c = λ ps rs h.
-    long-results ps rs _ _ (as-many c.args.builder.now.tables _ ps (c.params_of.ensures.shaped ps rs h)) (as-many c.args.builder.now.tables _ rs (c.results_of.ensures.shaped ps rs h)) c.if-params_of-gt-MOST_ENTRIES.false
+pub returns-else-has_many_names : goal.returns-else-has_many_names
+returns-else-has_many_names c = λ ps rs s.
+    none-before _ _ c.has_many_types.result (c.has_many_types.ensures ps rs s) (λ n. false≢true (sym c.if-has_many_names.false ∙ (c.has_many_names.ensures ps rs s).1 n))
