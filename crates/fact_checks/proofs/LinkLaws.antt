@@ -14,7 +14,8 @@ use Rattle.fact_plan_types.specs.PlanTypes.{AreTypesOf}
 use Rattle.fact_plan_types.specs.TypeRules.{param_shapes, result_shapes}
 use Rattle.fact_plan_types.specs.declared.plan_types.PlanTypes.{PlanTypes}
 use Rattle.fact_checks.specs.AdapterRules.{SideLacks}
-use Rattle.fact_checks.specs.Adapters.{LinkedAdapter, def_of, memory_of}
+use Rattle.fact_types.specs.Adapters.{LinkedAdapter}
+use Rattle.fact_checks.specs.Adapters.{def_of, memory_of}
 use Rattle.fact_checks.specs.Linked.{HasSides, IsTyped}
 use Rattle.fact_checks.specs.Links.{LinksAdapter, LinksSide}
 use Rattle.fact_checks.specs.declared.adapter.Adapter.{Adapter}

@@ -16,7 +16,8 @@ use Rattle.fact_plan_types.specs.declared.error.Place.{Place}
 use Rattle.fact_plan_types.specs.declared.error.Place.TheVariants.{Adapter}
 use Rattle.fact_uses.proofs.BindingLaws.{Covers-nothing}
 use Rattle.fact_checks.specs.AdapterRules.{AdapterHas, AdapterLacks, HasAdapterFault, LinkedHas}
-use Rattle.fact_checks.specs.Adapters.{LinkedAdapter, adapter_of, adapters_before}
+use Rattle.fact_types.specs.Adapters.{LinkedAdapter}
+use Rattle.fact_checks.specs.Adapters.{adapter_of, adapters_before}
 use Rattle.fact_checks.specs.Checked.{AreChecked, Checks, IsFirstOf, IsSound}
 use Rattle.fact_checks.specs.FirstFault.{IsFirstAt}
 use Rattle.fact_checks.specs.Linked.{HasSides, IsLinked}

@@ -9,7 +9,7 @@ use Rattle.fact_uses.specs.Bindings.{AreConsistent, Covers}
 use Rattle.fact_uses.proofs.BindingLaws.{AreConsistent-covered}
 use Rattle.fact_plan_types.specs.Faults.{Fault, unknown_index, bad_type, too_large, bad_options, type_mismatch, bad_memory, bad_signature, import_conflict, duplicate_name, rank}
 use Rattle.fact_plan_types.specs.TypeRules.{IsRepeated}
-use Rattle.fact_checks.specs.Adapters.{LinkedAdapter}
+use Rattle.fact_types.specs.Adapters.{LinkedAdapter}
 use Rattle.fact_checks.specs.AdapterRules.{HasBadMemory, HasBadOptions, HasBadSignature, HasDuplicateName, HasImportConflict, HasTypeMismatch, LinkedHas, export_names, with}
 use Rattle.fact_checks.specs.Binding.{AddsNames, AreDistinct, Binds}
 use Rattle.fact_checks.proofs.BindingLaws.{flat_map-with}

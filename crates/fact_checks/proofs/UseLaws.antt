@@ -14,7 +14,7 @@ use Rattle.fact_checks.specs.declared.uses.Use.{Use}
 use Rattle.fact_checks.specs.declared.uses.Use.TheVariants.{FlagGlobal, Memory, Function}
 use Rattle.fact_types.specs.declared.outside.CoreDef.{CoreDef}
 use Rattle.fact_checks.specs.AdapterRules.{callee_uses, side_uses, uses_of}
-use Rattle.fact_checks.specs.Adapters.{LinkedAdapter}
+use Rattle.fact_types.specs.Adapters.{LinkedAdapter}
 use Rattle.fact_checks.specs.contracts.uses.UsePartialEq.TheImpl as use_eq
 
 exact_bool : (a b : Bool) → beq a b ≡ true → a ≡ b

@@ -5,9 +5,12 @@ use Rattle.fact_wasm.specs.declared.types.ValType.TheVariants as val
 use Rattle.fact_wasm.specs.declared.types.FuncType.{FuncType}
 use Rattle.fact_types.specs.declared.outside.CoreDef.{CoreDef}
 use Rattle.fact_types.specs.declared.outside.CoreDef.TheVariants as def
+use Rattle.fact_types.specs.declared.outside.MemoryOption.{MemoryOption}
 use Rattle.fact_types.specs.declared.signature.Signature.{Signature}
+use Rattle.fact_types.specs.Adapters.{LinkedAdapter, Side, is_async, is_crossing, is_wide}
+use Rattle.fact_types.specs.ImportTypes.{callback_type, post_return_type, realloc_type}
 use Rattle.fact_types.specs.Shapes.{Shape}
-use Rattle.fact_types.specs.Signatures.{address, flat_values, lower_by, lift_by, lift_results_limit, lower_limit}
+use Rattle.fact_types.specs.Signatures.{flat_values, lower_by, lift_by, lift_results_limit, lower_limit}
 use Rattle.fact_builder.specs.Handles.{any_handle, has_borrow}
 use Rattle.fact_builder.specs.PointerPairs.{any_pointer_pair}
 use Rattle.fact_agreement.specs.Lists.{AgreeAll}
@@ -18,10 +21,9 @@ use Rattle.fact_plan.specs.declared.plan.PlanAdapter.{PlanAdapter}
 use Rattle.fact_plan.specs.declared.plan.FusePlan.{FusePlan}
 use Rattle.fact_plan_types.specs.Faults.{Fault, unknown_index, too_large, bad_options, type_mismatch, bad_memory, bad_signature, import_conflict, duplicate_name}
 use Rattle.fact_plan_types.specs.TypeRules.{IsRepeated, most_entries}
-use Rattle.fact_checks.specs.declared.adapter.MemoryOption.{MemoryOption}
 use Rattle.fact_checks.specs.declared.uses.Use.{Use}
 use Rattle.fact_checks.specs.declared.uses.Use.TheVariants as used_as
-use Rattle.fact_checks.specs.Adapters.{LinkedAdapter, Side, adapter_of, adapters_before}
+use Rattle.fact_checks.specs.Adapters.{adapter_of, adapters_before}
 
 -- ---- what an adapter of a plan names
 
@@ -46,20 +48,6 @@ AdapterLacks p a = (length p.core_defs ≤ a.func) ⊎ (SideLacks p a.lift ⊎ S
 -- the greatest number of an instance
 abbrev pub most_instance : ℕ
 most_instance = 2147483647
-
--- ---- what an adapter is
-
--- an adapter is async where a side is or either function type is marked so, and crossing where its instances differ
-abbrev pub is_async : LinkedAdapter → Bool
-is_async a = a.lift.async_side || a.lower.async_side || a.lift.async_type || a.lower.async_type
-
-abbrev pub is_crossing : LinkedAdapter → Bool
-is_crossing a = not (nat_eq a.lift.instance a.lower.instance)
-
--- the addresses of a side's memory have 64 bits
-abbrev pub is_wide : Option MemoryOption → Bool
-is_wide None = false
-is_wide (Some m) = m.memory64
 
 -- ---- options
 
@@ -191,12 +179,6 @@ HasBadSignature a = Differs a.lift.core_type (lift_side_signature a.lift) ⊎ Di
 
 -- ---- imports
 
-abbrev pub realloc_type : Bool → FuncType
-realloc_type wide = record { params = address wide ∷ address wide ∷ address wide ∷ address wide ∷ []; results = address wide ∷ [] }
-
-abbrev pub callback_type : FuncType
-callback_type = record { params = val.I32 ∷ val.I32 ∷ val.I32 ∷ []; results = val.I32 ∷ [] }
-
 abbrev pub memory_use : Option MemoryOption → Use
 memory_use None = used_as.FlagGlobal
 memory_use (Some m) = used_as.Memory m.memory64 m.page_size_log2
@@ -209,7 +191,7 @@ side_uses s =
 
 -- the callee, of a core type, and the post-return, which takes the results of the callee
 abbrev pub callee_uses : CoreDef → FuncType → Option CoreDef → List (CoreDef × Use)
-callee_uses callee ty post_return = (callee, used_as.Function ty) ∷ bound post_return (used_as.Function (record { params = ty.results; results = [] }))
+callee_uses callee ty post_return = (callee, used_as.Function ty) ∷ bound post_return (used_as.Function (post_return_type ty.results))
 
 -- those of both sides, the callee and the post-return
 abbrev pub uses_of : LinkedAdapter → List (CoreDef × Use)

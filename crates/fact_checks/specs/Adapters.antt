@@ -1,39 +1,14 @@
 -- The adapters of a plan, with all that they name looked up.
-use Rattle.std.specs.Prelude.{ℕ, Bool, List, Option, Some, None, slice_get, take}
+use Rattle.std.specs.Prelude.{ℕ, List, Option, Some, None, slice_get, take}
 use Rattle.std.specs.List.{filter_map}
-use Rattle.fact_wasm.specs.declared.types.FuncType.{FuncType}
 use Rattle.fact_types.specs.declared.outside.CoreDef.{CoreDef}
-use Rattle.fact_types.specs.declared.outside.StringEncoding.{StringEncoding}
-use Rattle.fact_types.specs.Shapes.{Shape}
+use Rattle.fact_types.specs.Adapters.{LinkedAdapter, Side}
 use Rattle.fact_plan.specs.declared.plan.PlanMemory.{PlanMemory}
 use Rattle.fact_plan.specs.declared.plan.PlanSide.{PlanSide}
 use Rattle.fact_plan.specs.declared.plan.PlanAdapter.{PlanAdapter}
 use Rattle.fact_plan.specs.declared.plan.FusePlan.{FusePlan}
 use Rattle.fact_plan_types.specs.TypeRules.{param_shapes, result_shapes}
-use Rattle.fact_checks.specs.declared.adapter.MemoryOption.{MemoryOption}
-
--- one side of an adapter: its instance, the shapes of the parameters and results of its function type, its core type, its
--- options
-pub record Side : Type 0 where
-  pub instance : ℕ
-  pub params : List Shape
-  pub results : List Shape
-  pub async_type : Bool
-  pub core_type : FuncType
-  pub encoding : StringEncoding
-  pub async_side : Bool
-  pub memory : Option MemoryOption
-  pub realloc : Option CoreDef
-  pub callback : Option CoreDef
-  pub post_return : Option CoreDef
-
--- the lift side gives the function that the lower side calls
-pub record LinkedAdapter : Type 0 where
-  pub name : List ℕ
-  pub callee : CoreDef
-  pub transparent : Bool
-  pub lift : Side
-  pub lower : Side
+use Rattle.fact_types.specs.declared.outside.MemoryOption.{MemoryOption}
 
 infixl 10 ◌>>=◌
 abbrev ◌>>=◌ : {A B : Type 0} → Option A → (A → Option B) → Option B

@@ -6,7 +6,7 @@ use Rattle.fact_uses.specs.Bindings.{Covers}
 use Rattle.fact_plan_types.specs.Faults.{Fault, rank}
 use Rattle.fact_checks.specs.declared.bound.Bound.{Bound}
 use Rattle.fact_checks.specs.declared.sides.Candidate.{Candidate}
-use Rattle.fact_checks.specs.Adapters.{LinkedAdapter}
+use Rattle.fact_types.specs.Adapters.{LinkedAdapter}
 use Rattle.fact_checks.specs.AdapterRules.{LinkedHas, export_names, memories_of, reallocs_of, uses_of}
 use Rattle.fact_checks.specs.Binding.{AreDistinct}
 use Rattle.fact_checks.specs.Linked.{IsLinked}

@@ -8,8 +8,7 @@ use Rattle.fact_builder.specs.Builder.{Builder}
 use Rattle.fact_checks.specs.declared.adapter.Adapter.{Adapter}
 use Rattle.fact_checks.specs.declared.adapter.AdapterOptionsDfg.{AdapterOptionsDfg}
 use Rattle.fact_checks.specs.declared.sides.Candidate.{Candidate}
-use Rattle.fact_checks.specs.Adapters.{LinkedAdapter, Side}
-use Rattle.fact_checks.specs.AdapterRules.{is_wide}
+use Rattle.fact_types.specs.Adapters.{LinkedAdapter, Side, is_wide}
 
 -- The side of a function type and options, as its types stand in a builder.
 pub record IsSideOf (b : Builder) (ty : Id TypeFuncs) (o : AdapterOptionsDfg) (s : Side) : Type 0 where

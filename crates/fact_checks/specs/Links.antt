@@ -12,7 +12,8 @@ use Rattle.fact_plan_types.specs.Faults.{Fault, rank}
 use Rattle.fact_plan_types.specs.TypeRules.{most_entries}
 use Rattle.fact_checks.specs.declared.adapter.Adapter.{Adapter}
 use Rattle.fact_checks.specs.declared.adapter.AdapterOptionsDfg.{AdapterOptionsDfg}
-use Rattle.fact_checks.specs.Adapters.{LinkedAdapter, Side, adapter_of, adapters_before, side_of}
+use Rattle.fact_types.specs.Adapters.{LinkedAdapter, Side}
+use Rattle.fact_checks.specs.Adapters.{adapter_of, adapters_before, side_of}
 use Rattle.fact_checks.specs.AdapterRules.{HasAdapterFault}
 use Rattle.fact_checks.specs.Checked.{AreChecked, Checks}
 use Rattle.fact_checks.specs.Linked.{HasSides, IsSideOf}

@@ -1,17 +1,7 @@
 //! Adapters over the types of a builder.
 
 use fact_entity::{ModuleInternedTypeIndex, RuntimeComponentInstanceIndex, TypeFuncIndex};
-use fact_types::{CoreDef, StringEncoding};
-
-/// A memory of a side: its core definition, whether its addresses have 64 bits, whether it is shared, and the exponent of
-/// its page size in bytes.
-#[derive(Debug, Drop, PartialEq, Eq, Hash)]
-pub struct MemoryOption {
-    pub def: CoreDef,
-    pub memory64: bool,
-    pub shared: bool,
-    pub page_size_log2: u8,
-}
+use fact_types::{CoreDef, MemoryOption, StringEncoding};
 
 /// The options of one side of an adapter (canonical ABI, "Canonical ABI options"), its component instance, and the core
 /// type of its function.

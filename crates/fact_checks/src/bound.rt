@@ -4,7 +4,7 @@ ghost use Rattle.std.specs.Prelude.{◌≡◌, ◌↔◌, List, [], IfOk, IsFals
 ghost use Rattle.std.specs.List.{flat_map};
 ghost use Rattle.fact_uses.specs.Bindings.{Covers};
 ghost use Rattle.fact_uses.specs.Fronts.{IsFront};
-ghost use Rattle.fact_checks.specs.Adapters.{LinkedAdapter};
+ghost use Rattle.fact_types.specs.Adapters.{LinkedAdapter};
 ghost use Rattle.fact_checks.specs.AdapterRules.{HasBadMemory, HasDuplicateName, HasImportConflict, export_names, memories_of, reallocs_of, uses_of, with};
 ghost use Rattle.fact_checks.specs.Binding.{AreDistinct};
 ghost use Rattle.fact_checks.specs.Linked.{HasSides, IsLinked, IsTyped};

@@ -17,8 +17,9 @@ mod sides;
 mod signatures;
 mod uses;
 
-pub use adapter::{Adapter, AdapterOptionsDfg, MemoryOption};
+pub use adapter::{Adapter, AdapterOptionsDfg};
 pub use checks::AdapterChecks;
 pub use fact_plan_types::{FuseError, Place};
+pub use fact_types::MemoryOption;
 pub use plan::{check_plan, linked_adapter, one_first_fault};
 pub use sides::{Candidate, params_of, results_of};

@@ -8,11 +8,11 @@ ghost use Rattle.fact_checks.specs.Adapters.{def_of as def_named, memory_of as m
 ghost use Rattle.fact_checks.specs.AdapterRules.{AdapterLacks, IsPast, SideLacks, memory_def as memory_number};
 ghost use Rattle.fact_checks.specs.Links.{LinksAdapter, LinksSide};
 
-use crate::adapter::{Adapter, AdapterOptionsDfg, MemoryOption};
+use crate::adapter::{Adapter, AdapterOptionsDfg};
 use fact_entity::{EntityRef, RuntimeComponentInstanceIndex};
 use fact_plan::{FusePlan, PlanAdapter, PlanMemory, PlanSide};
 use fact_plan_types::PlanTypes;
-use fact_types::CoreDef;
+use fact_types::{CoreDef, MemoryOption};
 use fact_wasm::OutOfMemory;
 
 /// Whether a plan lacks the core definition of a number.

@@ -11,10 +11,10 @@ ghost use Rattle.fact_builder.specs.Builder.{Builder};
 ghost use Rattle.fact_builder.specs.PointerPairs.{any_pointer_pair};
 ghost use Rattle.fact_checks.specs.declared.adapter.AdapterOptionsDfg.{AdapterOptionsDfg as Options};
 ghost use Rattle.fact_checks.specs.AdapterRules.{CannotUseMemory, HasOddMemory, HoldsPointer, IsByPointer, IsOdd, LacksMemory, LiftLacksMemory, LiftNeedsMemory, LiftNeedsRealloc, LiftParamsByPointer, LiftResultsByPointer, LowerLacksMemory, LowerNeedsMemory, LowerNeedsRealloc, LowerParamsByPointer, LowerResultsByPointer};
-ghost use Rattle.fact_checks.specs.Adapters.{LinkedAdapter, Side};
+ghost use Rattle.fact_types.specs.Adapters.{LinkedAdapter, Side};
 ghost use Rattle.fact_checks.specs.Linked.{HasSides, IsSideOf, IsTyped};
 
-use crate::adapter::{Adapter, AdapterOptionsDfg, MemoryOption};
+use crate::adapter::{Adapter, AdapterOptionsDfg};
 use crate::sides::{is_wide, params_of, params_tuple, results_of, results_tuple};
 use fact_builder::ComponentTypesBuilder;
 use fact_types::{

@@ -6,7 +6,7 @@ ghost use Rattle.fact_types.specs.Shapes.{Shape};
 ghost use Rattle.fact_agreement.specs.Lists.{AgreeAll};
 ghost use Rattle.fact_checks.specs.declared.adapter.AdapterOptionsDfg.{AdapterOptionsDfg as Options};
 ghost use Rattle.fact_checks.specs.AdapterRules.{HasTypeMismatch, any_borrow};
-ghost use Rattle.fact_checks.specs.Adapters.{LinkedAdapter, Side};
+ghost use Rattle.fact_types.specs.Adapters.{LinkedAdapter, Side};
 ghost use Rattle.fact_checks.specs.Linked.{HasSides, IsSideOf, IsTyped};
 
 use crate::adapter::Adapter;

@@ -2,7 +2,7 @@
 
 ghost use Rattle.std.specs.Prelude.{◌≡◌, ◌↔◌, ◌||◌, IsTrue};
 ghost use Rattle.fact_checks.specs.AdapterRules.{HasBadOptions, holds_handle as holds_handle_in};
-ghost use Rattle.fact_checks.specs.Adapters.{LinkedAdapter};
+ghost use Rattle.fact_types.specs.Adapters.{LinkedAdapter};
 ghost use Rattle.fact_checks.specs.Linked.{HasSides, IsLinked, IsTyped};
 
 use crate::adapter::Adapter;

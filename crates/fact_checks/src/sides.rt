@@ -4,8 +4,7 @@ ghost use Rattle.std.specs.Prelude.{◌≡◌, ◌<◌, List, All, length, slice
 ghost use Rattle.fact_types.specs.Functions.{HasSignature, HaveShapes};
 ghost use Rattle.fact_types.specs.Shapes.{Shape};
 ghost use Rattle.fact_types.specs.Tables.{HasShape, IsLive};
-ghost use Rattle.fact_checks.specs.AdapterRules.{is_async as is_async_adapter, is_crossing as is_crossing_adapter, is_wide as is_wide_memory};
-ghost use Rattle.fact_checks.specs.Adapters.{LinkedAdapter};
+ghost use Rattle.fact_types.specs.Adapters.{LinkedAdapter, is_async as is_async_adapter, is_crossing as is_crossing_adapter, is_wide as is_wide_memory};
 ghost use Rattle.fact_checks.specs.Linked.{HasSides, IsTyped, sig_of};
 ghost use Rattle.fact_checks.specs.Tuples.{tuple_of};
 

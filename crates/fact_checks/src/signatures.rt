@@ -3,7 +3,7 @@
 ghost use Rattle.std.specs.Prelude.{◌≡◌, ◌↔◌, ◌<◌, IfOk, IsTrue, length};
 ghost use Rattle.fact_wasm.specs.CoreTypes.{signature as signature_type};
 ghost use Rattle.fact_checks.specs.AdapterRules.{Differs, HasBadSignature, lift_side_signature, lower_side_signature};
-ghost use Rattle.fact_checks.specs.Adapters.{LinkedAdapter, Side};
+ghost use Rattle.fact_types.specs.Adapters.{LinkedAdapter, Side};
 ghost use Rattle.fact_checks.specs.Linked.{HasSides, IsSideOf, IsTyped};
 
 use crate::adapter::{Adapter, AdapterOptionsDfg};

@@ -13,9 +13,9 @@ use Rattle.fact_types.specs.declared.outside.CoreDef.{CoreDef}
 use Rattle.fact_types.specs.declared.outside.CoreDef.TheVariants as def
 use Rattle.fact_types.specs.declared.outside.Trap.TheVariants as trap
 use Rattle.fact_uses.specs.Bindings.{AreConsistent}
-use Rattle.fact_checks.specs.Adapters.{LinkedAdapter}
+use Rattle.fact_types.specs.Adapters.{LinkedAdapter}
 use Rattle.fact_checks.specs.AdapterRules.{uses_of}
-use Rattle.fact_module.specs.declared.plain.Import.{Import}
+use Rattle.fact_types.specs.declared.import.Import.{Import}
 use Rattle.fact_module.specs.Body.{function_of}
 use Rattle.fact_module.specs.Built.{IsBuiltAdapter}
 use Rattle.fact_module.specs.Emitted.{Adds, Emitted, HasType, Imports, flags_import, function_import, no_type, nothing_emitted}

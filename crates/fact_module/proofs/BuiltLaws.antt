@@ -18,8 +18,8 @@ use Rattle.fact_types.specs.FlatShapes.{flat_each}
 use Rattle.fact_types.specs.Signatures.{flat_values, width}
 use Rattle.fact_wasm.specs.declared.types.ValType.TheVariants as V
 use Rattle.fact_agreement.specs.Lists.{AgreeAll}
-use Rattle.fact_checks.specs.Adapters.{LinkedAdapter, Side}
-use Rattle.fact_checks.specs.AdapterRules.{Differs, HasBadSignature, HasTypeMismatch, is_wide, lift_side_signature, lower_side_signature}
+use Rattle.fact_types.specs.Adapters.{LinkedAdapter, Side, is_wide}
+use Rattle.fact_checks.specs.AdapterRules.{Differs, HasBadSignature, HasTypeMismatch, lift_side_signature, lower_side_signature}
 use Rattle.fact_module.specs.Built.{IsBuiltAdapter, IsNumberShape}
 use Rattle.fact_module.specs.Plain.{AreNumbers, IsNumber, IsPlain, core_of, core_type}
 use Rattle.fact_module.proofs.Exact.{exact_func}

@@ -27,7 +27,8 @@ use Rattle.fact_plan_types.specs.TypeRules.{param_shapes, result_shapes}
 use Rattle.fact_wasm.specs.declared.types.FuncType.{FuncType}
 use Rattle.fact_types.specs.declared.outside.CoreDef.{CoreDef}
 use Rattle.fact_checks.specs.declared.adapter.AdapterOptionsDfg.{AdapterOptionsDfg}
-use Rattle.fact_checks.specs.Adapters.{LinkedAdapter, Side, adapter_of, side_of}
+use Rattle.fact_types.specs.Adapters.{LinkedAdapter, Side}
+use Rattle.fact_checks.specs.Adapters.{adapter_of, side_of}
 use Rattle.fact_checks.specs.Linked.{HasSides, IsLinked, IsSideOf}
 use Rattle.fact_checks.specs.Links.{LinksAdapter}
 use Rattle.fact_checks.specs.declared.sides.Candidate.{Candidate}

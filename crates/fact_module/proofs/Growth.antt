@@ -4,7 +4,7 @@ use Rattle.std.specs.Prelude.{cond}
 use Rattle.fact_wasm.specs.declared.types.FuncType.{FuncType}
 use Rattle.fact_wasm.specs.declared.module.WasmFunc.{WasmFunc}
 use Rattle.fact_wasm.specs.declared.module.WasmImport.{WasmImport}
-use Rattle.fact_module.specs.declared.plain.Import.{Import}
+use Rattle.fact_types.specs.declared.import.Import.{Import}
 use Rattle.fact_module.specs.Emitted.{Emitted, HasType, Imports, globals_of, with_function}
 use Rattle.fact_module.specs.Imports.{Sort, a_global, imports_of}
 use Rattle.fact_module.specs.Runs.{flags_place, is_flags}

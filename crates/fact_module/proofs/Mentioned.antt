@@ -15,8 +15,8 @@ use Rattle.fact_wasm.specs.declared.module.WasmImport.{WasmImport}
 use Rattle.fact_types.specs.declared.outside.CoreDef.{CoreDef}
 use Rattle.fact_types.specs.declared.outside.CoreDef.TheVariants as def
 use Rattle.fact_types.specs.declared.outside.Trap.{Trap}
-use Rattle.fact_module.specs.declared.plain.Import.{Import}
-use Rattle.fact_module.specs.declared.plain.Import.TheVariants as known
+use Rattle.fact_types.specs.declared.import.Import.{Import}
+use Rattle.fact_types.specs.declared.import.Import.TheVariants as known
 use Rattle.fact_module.specs.Emitted.{Emitted, HasType, Imports}
 use Rattle.fact_module.specs.Holding.{Lists}
 use Rattle.fact_module.specs.Imports.{AreNamed, IsTrap, Mention, Role, Sort, StandsFor, a_function, a_global, a_memory, def_of, imports_of, is_mentioned, is_of, same_def, same_sort, sort_of, with_mention}

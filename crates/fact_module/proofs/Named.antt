@@ -6,8 +6,8 @@ use Rattle.fact_wasm.specs.declared.module.ImportType.{ImportType}
 use Rattle.fact_wasm.specs.declared.module.ImportType.TheVariants as import
 use Rattle.fact_wasm.specs.declared.module.WasmImport.{WasmImport}
 use Rattle.fact_machine.specs.Machine.{func_import}
-use Rattle.fact_module.specs.declared.plain.Import.{Import}
-use Rattle.fact_module.specs.declared.plain.Import.TheVariants as known
+use Rattle.fact_types.specs.declared.import.Import.{Import}
+use Rattle.fact_types.specs.declared.import.Import.TheVariants as known
 use Rattle.fact_module.specs.Imports.{AreNamed, Callback, Callee, Flags, IsFunction, IsNamed, Mention, PostReturn, Realloc, Role, Sort, StandsFor, Storage, a_function, a_global, a_memory, imported_type, imports_of, sort_of}
 use Rattle.fact_module.proofs.Sections.{get-append}
 

@@ -36,13 +36,13 @@ use Rattle.fact_machine.proofs.WholeRuns.{first_world, run_exit, run_returns}
 use Rattle.fact_machine.proofs.RowLaws.{leaves_unreachable}
 use Rattle.fact_machine.proofs.OutsideCalls.{CallsImport, res_exit, leaves_import, leaves_import_lacks, leaves_import_returns, leaves_import_traps, leaves_import_throws}
 use Rattle.fact_machine.proofs.Grows.{exit_world}
-use Rattle.fact_module.specs.declared.plain.Import.{Import}
+use Rattle.fact_types.specs.declared.import.Import.{Import}
 use Rattle.fact_module.specs.declared.emit.Places.{Places}
 use Rattle.fact_module.specs.Body.{gets, enter, call, leave, body, has_result, saved}
 use Rattle.fact_module.specs.Imports.{same_def, imported_function}
 use Rattle.fact_module.specs.Plain.{core_of, core_type, IsPlain, IsPlainFunction, ImportsFlags}
 use Rattle.fact_module.specs.Runs.{is_def, is_transfer, IsValue, IsHonest, TypedState, IsSet, flags_of, Carried, EndsSoon, Behaves}
-use Rattle.fact_checks.specs.Adapters.{LinkedAdapter}
+use Rattle.fact_types.specs.Adapters.{LinkedAdapter}
 use Rattle.fact_module.proofs.PlainRuns.{locals, world, reset, result_local, front, front_runs, guard_stops, last, leave_runs}
 use Rattle.fact_module.proofs.Settled.{Settles, Passes, at-return, no-return, first-call, settles, passes}
 use Rattle.fact_module.proofs.PlainValues.{i32-is, are-typed, AllSame, all-same}

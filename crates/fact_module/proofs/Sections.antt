@@ -7,7 +7,7 @@ use Rattle.fact_entity.specs.declared.id.Id.{Id}
 use Rattle.fact_entity.specs.declared.table.RuntimeComponentInstances.{RuntimeComponentInstances}
 use Rattle.fact_entity.specs.Places.{IsInterned}
 use Rattle.fact_wasm.specs.declared.module.WasmImport.{WasmImport}
-use Rattle.fact_module.specs.declared.plain.Import.{Import}
+use Rattle.fact_types.specs.declared.import.Import.{Import}
 use Rattle.fact_module.specs.Emitted.{flags}
 use Rattle.fact_module.specs.Imports.{Sort, imports_of, is_of}
 use Rattle.fact_module.specs.Runs.{flags_place}

@@ -12,7 +12,7 @@ use Rattle.fact_entity.specs.declared.table.TypeFuncs.{TypeFuncs}
 use Rattle.fact_builder.specs.Builder.{Builder}
 use Rattle.fact_checks.specs.declared.adapter.AdapterOptionsDfg.{AdapterOptionsDfg}
 use Rattle.fact_checks.specs.declared.sides.Candidate.{Candidate}
-use Rattle.fact_checks.specs.Adapters.{LinkedAdapter, Side}
+use Rattle.fact_types.specs.Adapters.{LinkedAdapter, Side}
 use Rattle.fact_checks.specs.Linked.{IsLinked, IsSideOf}
 use Rattle.fact_module.specs.Built.{IsBuiltAdapter, IsBuiltSide, IsNumberShape}
 use Rattle.fact_module.specs.Candidates.{AreFewNumbers, HasBuiltFunction, IsPlainCrossing, NamesNothing}

@@ -5,7 +5,7 @@ use Rattle.fact_entity.specs.declared.table.RuntimeComponentInstances.{RuntimeCo
 use Rattle.fact_wasm.specs.declared.module.WasmImport.{WasmImport}
 use Rattle.fact_module.specs.declared.imported.ImportedFunction.{ImportedFunction}
 use Rattle.fact_module.specs.declared.imported.ImportedFunction.TheVariants as imported
-use Rattle.fact_module.specs.declared.plain.Import.{Import}
+use Rattle.fact_types.specs.declared.import.Import.{Import}
 use Rattle.fact_wasm.specs.declared.types.FuncType.{FuncType}
 use Rattle.fact_module.specs.Emitted.{Emitted, HasType, Imports, flags, flags_import, function_import, with_import}
 use Rattle.fact_module.specs.Imported.{known_as}

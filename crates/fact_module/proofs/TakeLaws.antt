@@ -20,11 +20,11 @@ use Rattle.fact_plan_types.specs.Faults.{Fault, bad_signature, type_mismatch}
 use Rattle.fact_checks.specs.declared.adapter.Adapter.{Adapter}
 use Rattle.fact_checks.specs.declared.adapter.AdapterOptionsDfg.{AdapterOptionsDfg}
 use Rattle.fact_checks.specs.declared.sides.Candidate.{Candidate}
-use Rattle.fact_checks.specs.Adapters.{LinkedAdapter, Side}
+use Rattle.fact_types.specs.Adapters.{LinkedAdapter, Side}
 use Rattle.fact_checks.specs.AdapterRules.{LinkedHas}
 use Rattle.fact_checks.specs.Checked.{AreBound, Checks, IsFirstOf, IsSound}
 use Rattle.fact_checks.specs.Linked.{HasSides, IsLinked, IsSideOf, IsTyped}
-use Rattle.fact_module.specs.declared.plain.Import.{Import}
+use Rattle.fact_types.specs.declared.import.Import.{Import}
 use Rattle.fact_module.specs.declared.taken.TakenAdapter.{TakenAdapter}
 use Rattle.fact_module.specs.declared.tunables.Tunables.{Tunables}
 use Rattle.fact_module.specs.declared.tunables.WasmFeatures.{WasmFeatures}

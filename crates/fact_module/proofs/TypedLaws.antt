@@ -12,7 +12,7 @@ use Rattle.fact_plan_types.specs.Faults.{Fault, unknown_index, bad_type, too_lar
 use Rattle.fact_plan_types.specs.TypeRules.{most_entries}
 use Rattle.fact_type_rules.specs.TypeFaults.{IsBadFunction, IsLargeFunction}
 use Rattle.fact_checks.specs.declared.adapter.Adapter.{Adapter}
-use Rattle.fact_checks.specs.Adapters.{LinkedAdapter}
+use Rattle.fact_types.specs.Adapters.{LinkedAdapter}
 use Rattle.fact_checks.specs.AdapterRules.{most_instance}
 use Rattle.fact_checks.specs.Linked.{HasSides, IsTyped}
 use Rattle.fact_module.specs.Adapted.{IsBadType, IsLargeType, TypesHave}

@@ -14,8 +14,9 @@ use Rattle.fact_types.specs.declared.outside.CoreDef.TheVariants as def
 use Rattle.fact_uses.specs.Bindings.{AreConsistent}
 use Rattle.fact_checks.specs.declared.uses.Use.{Use}
 use Rattle.fact_checks.specs.declared.uses.Use.TheVariants as used_as
-use Rattle.fact_checks.specs.Adapters.{LinkedAdapter}
-use Rattle.fact_checks.specs.AdapterRules.{callback_type, realloc_type, uses_of}
+use Rattle.fact_types.specs.Adapters.{LinkedAdapter}
+use Rattle.fact_types.specs.ImportTypes.{callback_type, realloc_type}
+use Rattle.fact_checks.specs.AdapterRules.{uses_of}
 use Rattle.fact_module.specs.Built.{IsBuiltAdapter}
 use Rattle.fact_module.specs.Holding.{AreBuilt}
 use Rattle.fact_module.specs.Imports.{Callback, Callee, Flags, Mention, PostReturn, Realloc, Role, Sort, StandsFor, Storage, a_function, a_global, a_memory, adapter_mentions, imported_type, is_mentioned, mentions, with_mention, with_mentions}

@@ -21,8 +21,8 @@ use Rattle.fact_wasm.specs.Spelling.{imported_functions, is_function}
 use Rattle.fact_types.specs.declared.outside.CoreDef.TheVariants as def
 use Rattle.fact_types.specs.declared.interface.InterfaceType.{InterfaceType}
 use Rattle.fact_uses.specs.Bindings.{AreConsistent}
-use Rattle.fact_checks.specs.Adapters.{LinkedAdapter}
-use Rattle.fact_checks.specs.AdapterRules.{export_names, is_async, uses_of}
+use Rattle.fact_types.specs.Adapters.{LinkedAdapter, is_async}
+use Rattle.fact_checks.specs.AdapterRules.{export_names, uses_of}
 use Rattle.fact_module.specs.Built.{IsBuiltAdapter}
 use Rattle.fact_module.specs.Emitted.{Emitted, functions_of as functions_in, module_of}
 use Rattle.fact_module.specs.Faithful.{IsExport, Promised, Whole, callee_of, exported, exported_as, functions_of}
@@ -35,8 +35,8 @@ use Rattle.fact_module.proofs.PlainBehaves.{plain-behaves}
 use Rattle.fact_module.proofs.PlainRange.{function-ranged}
 use Rattle.fact_module.proofs.Sections.{get-map, get-within, there-get}
 use Rattle.fact_module.proofs.Uses.{built-mentions, in-mentions, stands-typed, used-alike}
-use Rattle.fact_module.specs.declared.plain.Import.{Import}
-use Rattle.fact_module.specs.declared.plain.Import.TheVariants as known
+use Rattle.fact_types.specs.declared.import.Import.{Import}
+use Rattle.fact_types.specs.declared.import.Import.TheVariants as known
 use Rattle.fact_module.specs.Imports.{adapter_mentions, AreNamed, Callback, Callee, Flags, IsNamed, Mention, PostReturn, Realloc, Role, StandsFor, Storage, a_function, a_global, imported_type, imports_of, sort_of}
 use Rattle.fact_module.specs.Runs.{Behaves, flags_place, global_type, is_flags}
 use Rattle.fact_module.proofs.Growth.{no-zero, one-less}

@@ -2,7 +2,7 @@
 use Rattle.std.specs.Prelude.{◌≡◌, ◌≢◌, ◌≤◌, Bool, false, None, length}
 use Rattle.std.specs.List.{AllByRecursion}
 use Rattle.fact_types.specs.Shapes.{Shape, s_plain, s_node}
-use Rattle.fact_checks.specs.Adapters.{LinkedAdapter, Side}
+use Rattle.fact_types.specs.Adapters.{LinkedAdapter, Side}
 use Rattle.fact_module.specs.Plain.{IsNumber}
 
 -- the shape of a plain number

@@ -4,7 +4,7 @@ use Rattle.std.specs.List.{AllByRecursion}
 use Rattle.fact_types.specs.Shapes.{Shape}
 use Rattle.fact_checks.specs.declared.adapter.AdapterOptionsDfg.{AdapterOptionsDfg}
 use Rattle.fact_checks.specs.declared.sides.Candidate.{Candidate}
-use Rattle.fact_checks.specs.Adapters.{Side}
+use Rattle.fact_types.specs.Adapters.{Side}
 use Rattle.fact_module.specs.Built.{IsNumberShape}
 
 -- at most so many plain numbers

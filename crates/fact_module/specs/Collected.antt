@@ -7,11 +7,11 @@ use Rattle.fact_wasm.specs.Spelling.{Spells}
 use Rattle.fact_builder.specs.Builder.{Builder}
 use Rattle.fact_plan_types.specs.Faults.{Fault}
 use Rattle.fact_checks.specs.declared.sides.Candidate.{Candidate}
-use Rattle.fact_checks.specs.Adapters.{LinkedAdapter}
+use Rattle.fact_types.specs.Adapters.{LinkedAdapter}
 use Rattle.fact_checks.specs.AdapterRules.{LinkedHas}
 use Rattle.fact_checks.specs.Checked.{AreChecked, Checks}
 use Rattle.fact_checks.specs.Linked.{HasSides}
-use Rattle.fact_module.specs.declared.plain.Import.{Import}
+use Rattle.fact_types.specs.declared.import.Import.{Import}
 use Rattle.fact_module.specs.declared.tunables.Tunables.{Tunables}
 use Rattle.fact_module.specs.declared.tunables.WasmFeatures.{WasmFeatures}
 use Rattle.fact_module.specs.declared.taken.TakenAdapter.{TakenAdapter}

@@ -9,10 +9,9 @@ use Rattle.fact_wasm.specs.declared.module.WasmFunc.{WasmFunc}
 use Rattle.fact_wasm.specs.declared.module.WasmExport.{WasmExport}
 use Rattle.fact_wasm.specs.declared.module.WasmModule.{WasmModule}
 use Rattle.fact_types.specs.declared.outside.CoreDef.{CoreDef}
-use Rattle.fact_module.specs.declared.plain.Import.{Import}
-use Rattle.fact_module.specs.declared.plain.Import.TheVariants as known
-use Rattle.fact_checks.specs.Adapters.{LinkedAdapter}
-use Rattle.fact_checks.specs.AdapterRules.{is_async, is_crossing}
+use Rattle.fact_types.specs.declared.import.Import.{Import}
+use Rattle.fact_types.specs.declared.import.Import.TheVariants as known
+use Rattle.fact_types.specs.Adapters.{LinkedAdapter, is_async, is_crossing}
 use Rattle.fact_module.specs.Imports.{NamesImports, imported_function}
 use Rattle.fact_module.specs.Runs.{Behaves}
 

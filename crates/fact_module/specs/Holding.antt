@@ -5,8 +5,8 @@ use Rattle.fact_wasm.specs.declared.instr.FuncName.TheVariants as func
 use Rattle.fact_wasm.specs.declared.module.WasmExport.{WasmExport}
 use Rattle.fact_types.specs.declared.interface.InterfaceType.{InterfaceType}
 use Rattle.fact_types.specs.declared.outside.Trap.TheVariants as trap
-use Rattle.fact_checks.specs.Adapters.{LinkedAdapter}
-use Rattle.fact_module.specs.declared.plain.Import.TheVariants as known
+use Rattle.fact_types.specs.Adapters.{LinkedAdapter}
+use Rattle.fact_types.specs.declared.import.Import.TheVariants as known
 use Rattle.fact_module.specs.declared.emit.Places.{Places}
 use Rattle.fact_module.specs.Body.{function_of}
 use Rattle.fact_module.specs.Built.{IsBuiltAdapter}

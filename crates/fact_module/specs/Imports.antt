@@ -16,11 +16,11 @@ use Rattle.fact_types.specs.declared.outside.CoreDef.{CoreDef}
 use Rattle.fact_types.specs.declared.outside.CoreDef.TheVariants as def
 use Rattle.fact_types.specs.declared.outside.Trap.{Trap}
 use Rattle.fact_types.specs.declared.outside.Trap.TheVariants as trap
-use Rattle.fact_module.specs.declared.plain.Import.{Import}
-use Rattle.fact_module.specs.declared.plain.Import.TheVariants as known
-use Rattle.fact_checks.specs.declared.adapter.MemoryOption.{MemoryOption}
-use Rattle.fact_checks.specs.Adapters.{Side, LinkedAdapter}
-use Rattle.fact_checks.specs.AdapterRules.{is_wide}
+use Rattle.fact_types.specs.declared.import.Import.{Import}
+use Rattle.fact_types.specs.declared.import.Import.TheVariants as known
+use Rattle.fact_types.specs.declared.outside.MemoryOption.{MemoryOption}
+use Rattle.fact_types.specs.Adapters.{LinkedAdapter, Side, is_wide}
+use Rattle.fact_types.specs.ImportTypes.{callback_type, post_return_type, realloc_type, trap_type}
 
 -- ---- what the adapters mention
 
@@ -82,9 +82,6 @@ mentions adapters = with_mentions [] (flat_map adapter_mentions adapters)
 
 -- ---- how the import section names them
 
-abbrev pub pointer : Bool → ValType
-pointer wide = if wide then val.I64 else val.I32
-
 -- the kinds of imports
 pub data Sort : Type 0 where
   a_function : Sort
@@ -126,13 +123,11 @@ abbrev pub StandsFor : List FuncType → List WasmImport → Role → WasmImport
 StandsFor types before (Flags i) w = w ≡ record { «module» = codes "flags"; name = codes "instance" ++ decimal i; ty = import.Global val.I32 true }
 StandsFor types before (Storage wide k) w = w ≡ record { «module» = codes "memory"; name = codes "m" ++ decimal (count_by (is_of a_memory) before); ty = import.Memory 0 wide (custom_page_size k) }
 StandsFor types before (Realloc wide) w =
-    IsFunction types w (codes "realloc") (codes "f" ++ decimal (count_by (is_of a_function) before))
-    (record { params = pointer wide ∷ pointer wide ∷ pointer wide ∷ pointer wide ∷ []; results = pointer wide ∷ [] })
+    IsFunction types w (codes "realloc") (codes "f" ++ decimal (count_by (is_of a_function) before)) (realloc_type wide)
 StandsFor types before Callback w =
-    IsFunction types w (codes "callback") (codes "f" ++ decimal (count_by (is_of a_function) before))
-    (record { params = val.I32 ∷ val.I32 ∷ val.I32 ∷ []; results = val.I32 ∷ [] })
+    IsFunction types w (codes "callback") (codes "f" ++ decimal (count_by (is_of a_function) before)) callback_type
 StandsFor types before (Callee adapter ty) w = IsFunction types w (codes "callee") adapter ty
-StandsFor types before (PostReturn adapter results) w = IsFunction types w (codes "post_return") adapter (record { params = results; results = [] })
+StandsFor types before (PostReturn adapter results) w = IsFunction types w (codes "post_return") adapter (post_return_type results)
 
 abbrev pub trap_number : Trap → ℕ
 trap_number trap.CannotLeaveComponent = 0
@@ -150,7 +145,7 @@ trap_number trap.DebugAssertStringEncodingFinished = 11
 trap_number trap.DebugAssertEqualCodeUnits = 12
 
 abbrev pub IsTrap : List FuncType → Trap → WasmImport → Type 0
-IsTrap types t w = IsFunction types w (codes "runtime") (codes "trap" ++ decimal (trap_number t)) (record { params = []; results = [] })
+IsTrap types t w = IsFunction types w (codes "runtime") (codes "trap" ++ decimal (trap_number t)) trap_type
 
 -- The import, behind these others, has the names and the type of what it is: a core definition those of the role in which it is
 -- mentioned. Adapters that are built so far import nothing else.

@@ -19,9 +19,9 @@ use Rattle.fact_machine.specs.declared.types.Outcome.{Outcome}
 use Rattle.fact_machine.specs.declared.types.End.{End}
 use Rattle.fact_machine.specs.declared.types.End.TheVariants.{Returned, Lacks}
 use Rattle.fact_machine.specs.Machine.{has_type, func_import, page_bytes, run_of}
-use Rattle.fact_module.specs.declared.plain.Import.{Import}
-use Rattle.fact_module.specs.declared.plain.Import.TheVariants as known
-use Rattle.fact_checks.specs.Adapters.{LinkedAdapter}
+use Rattle.fact_types.specs.declared.import.Import.{Import}
+use Rattle.fact_types.specs.declared.import.Import.TheVariants as known
+use Rattle.fact_types.specs.Adapters.{LinkedAdapter}
 use Rattle.fact_module.specs.Imports.{a_global, same_def, imported_function, imports_of}
 use Rattle.fact_module.specs.Values.{Value, lift_all, carry_all, weights}
 

@@ -2,7 +2,7 @@
 use Rattle.std.specs.Prelude.{◌<◌, List}
 use Rattle.fact_plan_types.specs.Faults.{Fault, rank}
 use Rattle.fact_checks.specs.declared.sides.Candidate.{Candidate}
-use Rattle.fact_checks.specs.Adapters.{LinkedAdapter}
+use Rattle.fact_types.specs.Adapters.{LinkedAdapter}
 use Rattle.fact_checks.specs.AdapterRules.{LinkedHas}
 use Rattle.fact_checks.specs.Linked.{IsLinked}
 use Rattle.fact_module.specs.Collected.{AreTaken, Collected, HasLinkedFault, IsBuilt, taken_of}

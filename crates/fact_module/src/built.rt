@@ -1,7 +1,7 @@
 //! The adapters that are built so far.
 
 ghost use Rattle.std.specs.Prelude.{◌≡◌, ◌↔◌, ◌<◌, ◌≤◌, false, IsTrue, List, length};
-ghost use Rattle.fact_checks.specs.Adapters.{LinkedAdapter, Side};
+ghost use Rattle.fact_types.specs.Adapters.{LinkedAdapter, Side};
 ghost use Rattle.fact_checks.specs.Linked.{HasSides, IsLinked, IsSideOf, IsTyped};
 ghost use Rattle.fact_module.specs.Built.{IsBuiltAdapter, IsBuiltSide};
 ghost use Rattle.fact_module.specs.Candidates.{AreFewNumbers, HasBuiltFunction, IsPlainCrossing, NamesNothing};

@@ -11,11 +11,11 @@ ghost use Rattle.fact_wasm.specs.Ranges.{InRange};
 ghost use Rattle.fact_wasm.specs.Spelling.{Spells};
 
 use crate::module::Module;
-use crate::plain::Import;
 use crate::tunables::{Tunables, WasmFeatures};
 use fact_checks::{Candidate, FuseError, linked_adapter};
 use fact_plan::{FusePlan, PlanAdapter};
 use fact_plan_types::PlanTypes;
+use fact_types::Import;
 use fact_wasm::{OutOfMemory, Seq, WasmModule, encode};
 use std::alloc::Global;
 

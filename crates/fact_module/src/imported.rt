@@ -4,8 +4,7 @@ ghost use Rattle.std.specs.Prelude.{◌≡◌, IfOk};
 ghost use Rattle.fact_module.specs.Emitted.{flags_import as flags_import_of, function_import as function_import_of};
 ghost use Rattle.fact_module.specs.Imported.{known_as};
 
-use crate::plain::Import;
-use fact_types::{CoreDef, Trap};
+use fact_types::{CoreDef, Import, Trap};
 use fact_wasm::{ImportType, OutOfMemory, Text, ValType, WasmImport};
 use std::alloc::Global;
 

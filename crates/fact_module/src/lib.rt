@@ -8,7 +8,6 @@ mod emit;
 mod fusion;
 mod imported;
 mod module;
-mod plain;
 mod state;
 mod taken;
 mod tunables;
@@ -21,10 +20,9 @@ pub use fact_plan::{
     PrimitiveValType,
 };
 pub use fact_types::{
-    CoreDef, FixedEncoding, RuntimeComponentInstanceIndex, RuntimeInstanceIndex, StringEncoding,
+    CoreDef, FixedEncoding, Import, RuntimeComponentInstanceIndex, RuntimeInstanceIndex, StringEncoding,
     TrampolineIndex, Transcode, Trap, UnsafeIntrinsic,
 };
 pub use fusion::{Fused, fuse};
 pub use module::Module;
-pub use plain::Import;
 pub use tunables::{Tunables, WasmFeatures};

@@ -7,7 +7,7 @@ ghost use Rattle.fact_plan_types.specs.declared.error.Place.TheVariants as place
 ghost use Rattle.fact_checks.specs.Linked.{IsTyped};
 ghost use Rattle.fact_module.specs.Adapted.{IsFaultless, IsFirst, MayAdapt, OfAdapter};
 ghost use Rattle.fact_module.specs.Collected.{AreTaken, HasTaken, IsModuleOf, Keeps, Spelled, taken_of};
-ghost use Rattle.fact_checks.specs.Adapters.{LinkedAdapter};
+ghost use Rattle.fact_types.specs.Adapters.{LinkedAdapter};
 ghost use Rattle.fact_module.specs.Emitted.{Adds};
 ghost use Rattle.fact_module.specs.Faithful.{Promised};
 ghost use Rattle.fact_module.specs.Imports.{AreMentioned};
@@ -16,7 +16,6 @@ ghost use Rattle.fact_module.specs.Typed.{HasSoundTypes};
 
 use crate::built::is_built;
 use crate::dfg::ComponentDfg;
-use crate::plain::Import;
 use crate::state::ModuleState;
 use crate::taken::{TakenAdapter, copy_candidate};
 use crate::tunables::{Tunables, WasmFeatures};

@@ -7,12 +7,11 @@ ghost use Rattle.fact_module.specs.Imported.{known_as};
 
 use crate::emit::{Places, emit_function};
 use crate::imported::{ImportedFunction, flags_import, function_import};
-use crate::plain::Import;
 use fact_entity::{
     EntityRef, FuncIndex, GlobalIndex, Interner, ModuleInternedTypeIndex,
     RuntimeComponentInstanceIndex,
 };
-use fact_types::{CoreDef, Trap};
+use fact_types::{CoreDef, Import, Trap};
 use fact_wasm::{FuncName, FuncType, OutOfMemory, Seq, Text, WasmExport, WasmFunc, WasmModule};
 use std::alloc::{AllocError, Global};
 use std::marker::Model;

@@ -5,7 +5,7 @@ ghost use Rattle.fact_plan_types.specs.PlanTypes.{told};
 ghost use Rattle.fact_plan_types.specs.TypeRules.{most_entries};
 ghost use Rattle.fact_plan_types.specs.declared.error.Place.TheVariants as place_at;
 ghost use Rattle.fact_checks.specs.AdapterRules.{most_instance};
-ghost use Rattle.fact_checks.specs.Adapters.{LinkedAdapter};
+ghost use Rattle.fact_types.specs.Adapters.{LinkedAdapter};
 ghost use Rattle.fact_checks.specs.Linked.{HasSides, IsTyped};
 ghost use Rattle.fact_module.specs.Adapted.{IsBadType, IsLargeType};
 ghost use Rattle.fact_module.specs.Typed.{HasSoundTypes, TypesHaveFirst};

@@ -11,8 +11,8 @@ use Rattle.fact_types.specs.declared.outside.Transcode.{Transcode}
 use Rattle.fact_types.specs.declared.outside.Transcode.TheVariants as op
 use Rattle.fact_types.specs.declared.outside.UnsafeIntrinsic.{UnsafeIntrinsic}
 use Rattle.fact_types.specs.declared.outside.UnsafeIntrinsic.TheVariants as slot
-use Rattle.fact_module.specs.declared.plain.Import.{Import}
-use Rattle.fact_module.specs.declared.plain.Import.TheVariants as known
+use Rattle.fact_types.specs.declared.import.Import.{Import}
+use Rattle.fact_types.specs.declared.import.Import.TheVariants as known
 use Rattle.fact_module.specs.Imports.{trap_number}
 
 -- a core definition: an export by its instance and its name in lower-case hex

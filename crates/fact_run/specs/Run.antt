@@ -17,7 +17,7 @@ use Rattle.fact_plan_types.specs.declared.error.Place.{Place}
 use Rattle.fact_plan_types.specs.Faults.{Fault}
 use Rattle.fact_checks.specs.FirstFault.{IsFaultless, IsFirstAt}
 use Rattle.fact_module.specs.declared.fusion.Fused.{Fused}
-use Rattle.fact_module.specs.declared.plain.Import.{Import}
+use Rattle.fact_types.specs.declared.import.Import.{Import}
 use Rattle.fact_module.specs.Fused.{IsFused}
 use Rattle.fact_run.specs.declared.command.CommandOptions.{CommandOptions}
 use Rattle.fact_run.specs.declared.status.Status.{Status}

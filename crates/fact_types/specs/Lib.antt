@@ -1,3 +1,4 @@
+pub mod Adapters
 pub mod Agrees
 pub mod Described
 pub mod Equality
@@ -9,6 +10,7 @@ pub mod Flat
 pub mod FlatShapes
 pub mod Functions
 pub mod Heights
+pub mod ImportTypes
 pub mod Layout
 pub mod Lending
 pub mod Ordered

@@ -9,6 +9,7 @@ mod abi;
 mod externs;
 mod fields;
 mod flats;
+mod import;
 mod interface;
 mod kinds;
 mod lookup;
@@ -42,6 +43,7 @@ pub use fields::FieldPlace;
 pub use flats::{
     FlatType, FlatTypes, MAX_FLAT_ASYNC_PARAMS, MAX_FLAT_PARAMS, MAX_FLAT_RESULTS, MAX_FLAT_TYPES,
 };
+pub use import::Import;
 pub use interface::{ComponentItem, InterfaceType, TypeDef};
 pub use kinds::{
     RecordField, TypeErrorContextTable, TypeFixedLengthList, TypeFunc, TypeFuture, TypeFutureTable,
@@ -51,7 +53,9 @@ pub use kinds::{
 pub use lookup::Lookup;
 pub use module_types::{ModuleTypes, ModuleTypesBuilder};
 pub use ordered::{TypeEnum, TypeFlags, TypeVariant};
-pub use outside::{CoreDef, FixedEncoding, StringEncoding, Transcode, Trap, UnsafeIntrinsic};
+pub use outside::{
+    CoreDef, FixedEncoding, MemoryOption, StringEncoding, Transcode, Trap, UnsafeIntrinsic,
+};
 pub use signature::{SideSig, Signature};
 pub use sizes::{DiscriminantSize, FlagsSize};
 pub use tables::ComponentTypes;

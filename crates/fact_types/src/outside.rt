@@ -52,6 +52,16 @@ impl CoreDef {
     }
 }
 
+/// A memory of a side: its core definition, whether its addresses have 64 bits, whether it is shared, and the exponent of
+/// its page size in bytes.
+#[derive(Debug, Drop, PartialEq, Eq, Hash)]
+pub struct MemoryOption {
+    pub def: CoreDef,
+    pub memory64: bool,
+    pub shared: bool,
+    pub page_size_log2: u8,
+}
+
 /// A function of the runtime that writes text of one memory into another.
 #[derive(Clone, Copy, Debug, PartialEq, Eq, Hash)]
 pub enum Transcode {

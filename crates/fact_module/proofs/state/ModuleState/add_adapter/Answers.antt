@@ -1,7 +1,7 @@
 use Rattle.std.proofs.Common.{ap, ◌∙◌, codes, Some, subst}
 use Rattle.fact_types.specs.declared.outside.CoreDef.{CoreDef}
 use Rattle.fact_wasm.specs.declared.module.WasmFunc.{WasmFunc}
-use Rattle.fact_module.specs.declared.plain.Import.TheVariants as known
+use Rattle.fact_types.specs.declared.import.Import.TheVariants as known
 use Rattle.fact_module.specs.Emitted.{Imports, function_import, with_function}
 use Rattle.fact_module.proofs.state.ModuleState.add_adapter.Goals as goal
 

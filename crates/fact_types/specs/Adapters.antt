@@ -1,0 +1,43 @@
+-- Adapters, with all that they name looked up.
+-- Component Model, canonical ABI, "Canonical ABI options", `canon lift`, `canon lower`.
+use Rattle.std.specs.Prelude.{ℕ, Bool, false, ◌&&◌, ◌||◌, not, nat_eq, List, Option, Some, None}
+use Rattle.fact_wasm.specs.declared.types.FuncType.{FuncType}
+use Rattle.fact_types.specs.declared.outside.CoreDef.{CoreDef}
+use Rattle.fact_types.specs.declared.outside.MemoryOption.{MemoryOption}
+use Rattle.fact_types.specs.declared.outside.StringEncoding.{StringEncoding}
+use Rattle.fact_types.specs.Shapes.{Shape}
+
+-- one side of an adapter: its instance, the shapes of the parameters and results of its function type, its core type, its
+-- options
+pub record Side : Type 0 where
+  pub instance : ℕ
+  pub params : List Shape
+  pub results : List Shape
+  pub async_type : Bool
+  pub core_type : FuncType
+  pub encoding : StringEncoding
+  pub async_side : Bool
+  pub memory : Option MemoryOption
+  pub realloc : Option CoreDef
+  pub callback : Option CoreDef
+  pub post_return : Option CoreDef
+
+-- the lift side gives the function that the lower side calls
+pub record LinkedAdapter : Type 0 where
+  pub name : List ℕ
+  pub callee : CoreDef
+  pub transparent : Bool
+  pub lift : Side
+  pub lower : Side
+
+-- an adapter is async where a side is or either function type is marked so, and crossing where its instances differ
+abbrev pub is_async : LinkedAdapter → Bool
+is_async a = a.lift.async_side || a.lower.async_side || a.lift.async_type || a.lower.async_type
+
+abbrev pub is_crossing : LinkedAdapter → Bool
+is_crossing a = not (nat_eq a.lift.instance a.lower.instance)
+
+-- the addresses of a side's memory have 64 bits
+abbrev pub is_wide : Option MemoryOption → Bool
+is_wide None = false
+is_wide (Some m) = m.memory64
