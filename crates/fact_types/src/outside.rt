@@ -50,6 +50,16 @@ impl CoreDef {
             CoreDef::Trampoline(number) => CoreDef::Trampoline(*number),
         })
     }
+
+    /// An equal core item, where there is one.
+    pub fn try_clone_option(def: &Option<CoreDef>) -> Result<Option<CoreDef>, OutOfMemory>
+        ensures { IfOk result (λ copy. copy ≡ def.now) }
+    {
+        match def {
+            Some(def) => Ok(Some(def.try_clone()?)),
+            None => Ok(None),
+        }
+    }
 }
 
 /// A memory of a side: its core definition, whether its addresses have 64 bits, whether it is shared, and the exponent of

@@ -32,11 +32,20 @@ fn copy_items<T: Copy>(items: &Seq<T>) -> Result<Seq<T>, OutOfMemory>
     Ok(Seq::from_vec(copy))
 }
 
-impl Copied for FuncType {
-    fn copied(&self) -> Result<FuncType, OutOfMemory> {
+impl FuncType {
+    /// An equal function type.
+    pub fn try_clone(&self) -> Result<FuncType, OutOfMemory>
+        ensures { IfOk result (λ copy. copy ≡ self.now) }
+    {
         let params = copy_items(&self.params)?;
         let results = copy_items(&self.results)?;
         Ok(FuncType { params, results })
+    }
+}
+
+impl Copied for FuncType {
+    fn copied(&self) -> Result<FuncType, OutOfMemory> {
+        self.try_clone()
     }
 }
 
