@@ -1,23 +1,30 @@
 //! The list of the function types of a module that is being made.
 
-ghost use Rattle.std.specs.Prelude.{◌≡◌, ◌≢◌, ◌⊎◌, ◌↔◌, ◌<◌, ◌≤◌, ◌++◌, ◌∷◌, [], ℕ, length, slice_get, IsTrue, IfOk, OnOk, OnErr};
+ghost use Rattle.std.specs.Prelude.{◌≡◌, ◌⊎◌, ◌++◌, ◌∷◌, [], ℕ, None, position, slice_get, IfOk, IfSome, IfNone, OnOk, OnErr};
 ghost use Rattle.fact_wasm.specs.CoreTypes.{signature, IsOnlyPlace, HasNoTwins};
 
 use crate::OutOfMemory;
 use crate::seq::Seq;
 use crate::types::{FuncType, ValType};
+use fact_entity::{EntityRef, Interner, ModuleInternedTypeIndex};
 use std::alloc::{AllocError, Global};
 use std::marker::Model;
 
+/// Function types by their hashes. The number of a key is the place of its type in the type section.
+type Places = Interner<ModuleInternedTypeIndex, FuncType>;
+
 /// The function types of a module, each signature once (core specification, "Structure", "Modules", "Types"). Contracts
 /// see it as the list of the types, in the order in which they came.
-#[derive(Drop, Debug)]
+#[derive(Drop)]
 pub struct CoreTypes {
+    alloc: Global,
     section: Seq<FuncType>,
+    // The same types, by which a signature is found.
+    places: Places,
 }
 
 impl Model for CoreTypes {
-    ghost use Rattle.std.specs.Prelude.{List, ◌≤◌, length};
+    ghost use Rattle.std.specs.Prelude.{List, ◌≡◌};
     ghost use Rattle.fact_wasm.specs.declared.types.FuncType.{FuncType};
     ghost use Rattle.fact_wasm.specs.CoreTypes.{HasNoTwins};
 
@@ -25,38 +32,41 @@ impl Model for CoreTypes {
 
     ghost view = { λ s. s.section };
 
-    ghost invariant = { λ s. (length s.section ≤ 4294967296) × HasNoTwins s.section };
+    ghost invariant = { λ s. (s.places ≡ s.section) × HasNoTwins s.section };
 }
 
-/// Whether this is the type of these parameters and results.
-fn is_signature(ty: &FuncType, params: &[ValType], results: &[ValType]) -> bool
-    ensures { IsTrue result ↔ (ty.now ≡ signature params.now results.now) }
+/// The key of a type, or `None` where it is not among them.
+fn key_of(places: &Places, ty: &FuncType) -> Option<ModuleInternedTypeIndex>
+    ensures found { IfSome result (λ k. IsOnlyPlace places.now ty.now k.number) }
+    ensures absent { IfNone result (position (⟦<FuncType as PartialEq>⟧.eq ty.now) places.now ≡ None) }
 {
-    ty.params.as_slice() == params && ty.results.as_slice() == results
+    places.find(ty)
 }
 
-/// The place of the type of these parameters and results, or the number of types where there is none.
-fn place_of(types: &[FuncType], params: &[ValType], results: &[ValType]) -> usize
-    ensures within { result ≤ length types.now }
-    ensures before { (k : ℕ) → k < result → slice_get types.now k ≢ Some (signature params.now results.now) }
-    ensures found { result < length types.now → slice_get types.now result ≡ Some (signature params.now results.now) }
+/// Puts a type that is not among them behind the last one, and answers its place. The types are unchanged after a refusal.
+fn push_type(
+    section: &mut Seq<FuncType>,
+    places: &mut Places,
+    ty: FuncType,
+) -> Result<u32, OutOfMemory>
+    requires same { places.old ≡ section.old }
+    requires apart { HasNoTwins section.old }
+    requires absent { position (⟦<FuncType as PartialEq>⟧.eq ty) places.old ≡ None }
+    ensures place { IfOk result (λ place. IsOnlyPlace section.new ty place) }
+    ensures list { OnOk result (section.new ≡ section.old ++ ty ∷ []) }
+    ensures distinct { HasNoTwins section.new }
+    ensures same { places.new ≡ section.new }
+    ensures refused { OnErr result (section.new ≡ section.old) }
 {
-    for (place, ty) in types.iter().enumerate() {
-        if is_signature(ty, params, results) {
-            return place;
-        }
+    let listed = ty.try_clone()?;
+    let Ok(key) = places.add_new(ty) else {
+        return Err(AllocError);
+    };
+    if let Err(error) = section.push(listed) {
+        places.pop();
+        return Err(error);
     }
-    types.len()
-}
-
-/// A list of these values, made of an empty list.
-fn filled(empty: Seq<ValType>, values: &[ValType]) -> Result<Seq<ValType>, OutOfMemory>
-    requires { empty ≡ [] }
-    ensures { IfOk result (λ list. list ≡ values.now) }
-{
-    let mut list = empty.into_vec();
-    list.extend_from_slice(values)?;
-    Ok(Seq::from_vec(list))
+    Ok(key.as_u32())
 }
 
 impl CoreTypes {
@@ -65,7 +75,9 @@ impl CoreTypes {
         ensures { result ≡ [] }
     {
         CoreTypes {
+            alloc,
             section: Seq::new(alloc),
+            places: Interner::new(alloc),
         }
     }
 
@@ -86,16 +98,10 @@ impl CoreTypes {
         ensures distinct { HasNoTwins self.new }
         ensures refused { OnErr result (self.new ≡ self.old) }
     {
-        let place = place_of(self.section.as_slice(), params, results);
-        if place > u32::MAX as usize {
-            return Err(AllocError);
+        let ty = FuncType::from_slices(self.alloc, params, results)?;
+        if let Some(key) = key_of(&self.places, &ty) {
+            return Ok(key.as_u32());
         }
-        if place < self.section.len() {
-            return Ok(place as u32);
-        }
-        let params = filled(self.section.empty_like(), params)?;
-        let results = filled(self.section.empty_like(), results)?;
-        self.section.push(FuncType { params, results })?;
-        Ok(place as u32)
+        push_type(&mut self.section, &mut self.places, ty)
     }
 }
