@@ -12,6 +12,7 @@ mod flats;
 mod import;
 mod interface;
 mod kinds;
+mod live;
 mod lookup;
 mod module_types;
 mod ordered;
