@@ -53,7 +53,7 @@ field_live t [] a i d l = absurd (omega (arith, l))
 field_live t (f ∷ fs) a zero d l = a 0 f (omega arith)
 field_live t (f ∷ fs) a (suc i) d l = field_live t fs (λ i d l. a (suc i) d (omega (arith, l))) i d (omega (arith, l))
 
-field_layouts : (t : Tables) (fs : List RecordField) → map (λ (f : RecordField). abi_at t f.ty) fs ≡ payloads (map (λ (m : List ℕ × Option InterfaceType). option_map (abi_at t) m.1) (map (λ (f : RecordField). (f.name, Some f.ty)) fs))
+pub field_layouts : (t : Tables) (fs : List RecordField) → map (λ (f : RecordField). abi_at t f.ty) fs ≡ payloads (map (λ (m : List ℕ × Option InterfaceType). option_map (abi_at t) m.1) (map (λ (f : RecordField). (f.name, Some f.ty)) fs))
 field_layouts t [] = refl
 field_layouts t (f ∷ fs) = more _ _ _ _ refl (field_layouts t fs)
 
@@ -65,7 +65,7 @@ placed_live t n [] a i d l = absurd (omega (arith, l))
 placed_live t n (y ∷ ys) a zero d l = a 0 y (omega arith)
 placed_live t n (y ∷ ys) a (suc i) d l = placed_live t (suc n) ys (λ i d l. a (suc i) d (omega (arith, l))) i d (omega (arith, l))
 
-placed_layouts : (t : Tables) (n : ℕ) (ys : List InterfaceType) → map (abi_at t) ys ≡ payloads (map (λ (m : List ℕ × Option InterfaceType). option_map (abi_at t) m.1) (placed n ys))
+pub placed_layouts : (t : Tables) (n : ℕ) (ys : List InterfaceType) → map (abi_at t) ys ≡ payloads (map (λ (m : List ℕ × Option InterfaceType). option_map (abi_at t) m.1) (placed n ys))
 placed_layouts t n [] = refl
 placed_layouts t n (y ∷ ys) = more _ _ _ _ refl (placed_layouts t (suc n) ys)
 
@@ -73,7 +73,7 @@ pub tuple_stands : (t : Tables) (e : TypeTuple) → All (IsLive t) e.types → e
 tuple_stands t e l a = record { live = placed_live t 0 e.types l; laid = a ∙ ap record_layout (placed_layouts t 0 e.types); parts = refl }
 
 -- ---- names
-abbrev bare_names : List (List ℕ) → List (List ℕ × Option InterfaceType)
+abbrev pub bare_names : List (List ℕ) → List (List ℕ × Option InterfaceType)
 bare_names xs = map (λ n. (n, None)) xs
 
 names_live : (t : Tables) (xs : List (List ℕ)) → All (λ (m : List ℕ × Option InterfaceType). IsLiveMember t m.1) (bare_names xs)
@@ -81,7 +81,7 @@ names_live t [] i d l = absurd (omega (arith, l))
 names_live t (x ∷ xs) zero d l = tt
 names_live t (x ∷ xs) (suc i) d l = names_live t xs i d (omega (arith, l))
 
-names_count : (t : Tables) (xs : List (List ℕ)) → length xs ≡ length (map (λ (m : List ℕ × Option InterfaceType). option_map (abi_at t) m.1) (bare_names xs))
+pub names_count : (t : Tables) (xs : List (List ℕ)) → length xs ≡ length (map (λ (m : List ℕ × Option InterfaceType). option_map (abi_at t) m.1) (bare_names xs))
 names_count t [] = refl
 names_count t (x ∷ xs) = ap suc (names_count t xs)
 

@@ -1,13 +1,17 @@
 -- Values that are equal by their tests are the same.
-use Rattle.std.specs.Prelude.{◌≡◌, ℕ, List, [], ◌∷◌, Option, Some, None, true, refl, Bool, nat_eq}
+use Rattle.std.specs.Prelude.{◌≡◌, ℕ, List, [], ◌∷◌, Option, Some, None, true, false, refl, Bool, nat_eq}
 use Rattle.std.proofs.Common.{ap, sym}
 use Rattle.std.proofs.lemmas.Bool.{eqb-true, true≢false}
+use Rattle.std.specs.Bool.{beq}
 use Rattle.std.specs.Cmp.{first_so, second_so}
 use Rattle.std.specs.Option.{option_eq}
 use Rattle.std.specs.Cmp.Lexicographic.{pointwise}
+use Rattle.fact_entity.specs.declared.id.Id.{Id}
 use Rattle.fact_types.specs.declared.abi.CanonicalAbiInfo.{CanonicalAbiInfo}
 use Rattle.fact_types.specs.declared.interface.InterfaceType.{InterfaceType}
 use Rattle.fact_types.specs.declared.interface.InterfaceType.TheVariants.{Bool as t_bool, S8 as t_s8, U8 as t_u8, S16 as t_s16, U16 as t_u16, S32 as t_s32, U32 as t_u32, S64 as t_s64, U64 as t_u64, Float32 as t_float32, Float64 as t_float64, Char as t_char, String as t_string, Record as t_record, Variant as t_variant, List as t_list, Tuple as t_tuple, Map as t_map, Flags as t_flags, Enum as t_enum, Option as t_option, Result as t_result, Own as t_own, Borrow as t_borrow, Future as t_future, Stream as t_stream, ErrorContext as t_error_context, FixedLengthList as t_fixed_length_list}
+use Rattle.fact_types.specs.declared.outside.CoreDef.{CoreDef}
+use Rattle.fact_types.specs.declared.outside.CoreDef.TheVariants as def
 use Rattle.fact_types.specs.declared.sizes.DiscriminantSize.{DiscriminantSize}
 use Rattle.fact_types.specs.declared.sizes.DiscriminantSize.TheVariants.{Size1 as one_byte, Size2 as two_bytes, Size4 as four_bytes}
 use Rattle.fact_types.specs.declared.variants.VariantInfo.{VariantInfo}
@@ -17,6 +21,7 @@ use Rattle.fact_types.specs.contracts.interface.InterfaceTypePartialEq.TheImpl a
 use Rattle.fact_types.specs.contracts.variants.VariantInfoPartialEq.TheImpl as info_eq
 use Rattle.fact_types.specs.contracts.sizes.DiscriminantSizePartialEq.TheImpl as size_eq
 use Rattle.fact_types.specs.contracts.abi.CanonicalAbiInfoPartialEq.TheImpl as abi_eq
+use Rattle.fact_types.specs.contracts.outside.CoreDefPartialEq.TheImpl as def_eq
 
 pub exact_type : (a b : InterfaceType) → type_eq.ghosts.eq a b ≡ true → a ≡ b
 exact_type t_bool t_bool h = refl
@@ -64,13 +69,13 @@ exact_list E f (x ∷ xs) (y ∷ ys) h =
     let q = exact_list E f xs ys (second_so (E x y) (pointwise E xs ys) h) in
     cc
 
-exact_text : (a b : List ℕ) → pointwise nat_eq a b ≡ true → a ≡ b
+pub exact_text : (a b : List ℕ) → pointwise nat_eq a b ≡ true → a ≡ b
 exact_text = exact_list nat_eq (λ a b h. eqb-true a b h)
 
-exact_texts : (a b : List (List ℕ)) → texts_eq a b ≡ true → a ≡ b
+pub exact_texts : (a b : List (List ℕ)) → texts_eq a b ≡ true → a ≡ b
 exact_texts = exact_list (pointwise nat_eq) exact_text
 
-exact_abi : (a b : CanonicalAbiInfo) → abi_eq.ghosts.eq a b ≡ true → a ≡ b
+pub exact_abi : (a b : CanonicalAbiInfo) → abi_eq.ghosts.eq a b ≡ true → a ≡ b
 exact_abi a b h =
     let e1 = eqb-true a.size32 b.size32 (first_so _ _ h) in
     let r1 = second_so _ _ h in
@@ -88,7 +93,7 @@ exact_size two_bytes two_bytes h = refl
 exact_size four_bytes four_bytes h = refl
 exact_size a b h = absurd (true≢false (sym h))
 
-exact_info : (a b : VariantInfo) → info_eq.ghosts.eq a b ≡ true → a ≡ b
+pub exact_info : (a b : VariantInfo) → info_eq.ghosts.eq a b ≡ true → a ≡ b
 exact_info a b h =
     let e1 = exact_size a.size b.size (first_so _ _ h) in
     let r1 = second_so (size_eq.ghosts.eq a.size b.size) _ h in
@@ -123,3 +128,20 @@ exact_enum a b h =
     let e2 = exact_abi a.abi b.abi (first_so _ _ r1) in
     let e3 = exact_info a.info b.info (second_so (abi_eq.ghosts.eq a.abi b.abi) _ r1) in
     λ i. record { names = e1 i; abi = e2 i; info = e3 i }
+
+pub exact_bool : (a b : Bool) → beq a b ≡ true → a ≡ b
+exact_bool true true h = refl
+exact_bool false false h = refl
+exact_bool a b h = absurd (true≢false (sym h))
+
+pub exact_key : {T : Type 0} (a b : Id T) → nat_eq a.number b.number ≡ true → a ≡ b
+exact_key a b h = ap (λ (n : ℕ). record { number = n; table = a.table }) (eqb-true a.number b.number h)
+
+pub exact_def : (a b : CoreDef) → def_eq.ghosts.eq a b ≡ true → a ≡ b
+exact_def (def.Export i x) (def.Export j y) h =
+    let e1 = exact_key i j (first_so _ _ h) in
+    let e2 = exact_text x y (second_so _ _ h) in
+    λ k. def.Export (e1 k) (e2 k)
+exact_def (def.InstanceFlags i) (def.InstanceFlags j) h = ap def.InstanceFlags (exact_key i j h)
+exact_def (def.Trampoline i) (def.Trampoline j) h = ap def.Trampoline (exact_key i j h)
+exact_def a b h = absurd (true≢false (sym h))

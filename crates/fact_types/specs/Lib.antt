@@ -17,5 +17,6 @@ pub mod Ordered
 pub mod Shapes
 pub mod Signatures
 pub mod Sound
+pub mod Steps
 pub mod Tables
 pub mod Valid
