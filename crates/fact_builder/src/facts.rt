@@ -8,7 +8,7 @@ ghost use Rattle.fact_types.specs.Flat.{flat_within};
 ghost use Rattle.fact_types.specs.FlatShapes.{flat, flat_types as flat_types_of};
 ghost use Rattle.fact_types.specs.Functions.{HasSignature};
 ghost use Rattle.fact_types.specs.Shapes.{Shape, layout_of, IsWithin};
-ghost use Rattle.fact_types.specs.Sound as abi_laws;
+ghost use Rattle.fact_types.specs.Sound.{IsSoundLayout, TakesBytes};
 ghost use Rattle.fact_types.specs.Tables.{abi_at, IsLive, HasShape, IsSound};
 ghost use Rattle.fact_types.specs.Valid.{IsValid, nesting};
 ghost use Rattle.fact_builder.specs.Handles.{has_borrow, any_handle};
@@ -61,8 +61,8 @@ impl ComponentTypesBuilder {
         requires { IsLive self.now.tables ty.now }
         ensures stands { result.now ≡ abi_at self.now.tables ty.now }
         ensures laid { (s : Shape) → HasShape self.now.tables ty.now s → result.now ≡ layout_of s }
-        ensures sound { abi_laws.IsSound result.now }
-        ensures takes_bytes { (s : Shape) → HasShape self.now.tables ty.now s → IsValid s → abi_laws.TakesBytes result.now }
+        ensures sound { IsSoundLayout result.now }
+        ensures takes_bytes { (s : Shape) → HasShape self.now.tables ty.now s → IsValid s → TakesBytes result.now }
         ensures counts { (s : Shape) (w : MemoryWidth) → HasShape self.now.tables ty.now s → IsValid s → result.now.flat_count ≡ flat_within (length (flat w s)) }
         ensures within { IsWithin result.now }
     {

@@ -41,7 +41,7 @@ use Rattle.fact_types.specs.Fits.{FieldFits, FieldsFit, RecordFits, CasesFit, Va
 use Rattle.fact_types.specs.Layout.{extent, extents, aligned, payloads, payload_offset, variant_info, record_layout, variant_layout, discriminant_size, discriminant_bytes, enum_layout, flags_extent, flags_layout}
 use Rattle.fact_types.specs.Ordered.{VariantType, FlagsType, EnumType}
 use Rattle.fact_types.specs.Shapes.{Kind, k_record, k_variant, k_list, k_tuple, k_map, k_flags, k_enum, k_option, k_result, k_fixed, k_future, k_stream, Members, no_members, bare, typed, layout_by, layouts_of, repeated_layout, IsWithin}
-use Rattle.fact_types.specs.Sound as abi_laws
+use Rattle.fact_types.specs.Sound.{IsSoundLayout}
 use Rattle.fact_types.specs.Tables.{Tables, Node, placed, node_of, record_node, variant_node, tuple_node, flags_node, enum_node, option_node, result_node, list_node, map_node, fixed_length_list_node, IsLive, IsLiveMember, HasMembers, IsSound, entries, abi_at}
 use Rattle.fact_types.proofs.AlignLaws.{aligned_bounds, aligned_multiple, power_pos}
 use Rattle.fact_types.proofs.FieldLaws.{walk_start, walk_on, walk_fits}
@@ -130,36 +130,36 @@ pub passed : {P : Type 0} → (IsTrue true ↔ P) → P
 passed e = e.0 refl
 
 -- ---- layouts of shapes are aligned to powers of two
-power_in : (w : MemoryWidth) (c : CanonicalAbiInfo) → abi_laws.IsSound c → IsPowerOfTwo (extent w c).align
+power_in : (w : MemoryWidth) (c : CanonicalAbiInfo) → IsSoundLayout c → IsPowerOfTwo (extent w c).align
 power_in Memory32 c s = s.memory32.power
 power_in Memory64 c s = s.memory64.power
 
-power_case : (w : MemoryWidth) (o : Option CanonicalAbiInfo) → IfSome o abi_laws.IsSound → IfSome o (λ p. IsPowerOfTwo (extent w p).align)
+power_case : (w : MemoryWidth) (o : Option CanonicalAbiInfo) → IfSome o IsSoundLayout → IfSome o (λ p. IsPowerOfTwo (extent w p).align)
 power_case w None s = tt
 power_case w (Some c) s = power_in w c s
 
-cases_powers : (w : MemoryWidth) (ls : List (Option CanonicalAbiInfo)) → All (λ l. IfSome l abi_laws.IsSound) ls → All (λ c. IfSome c (λ p. IsPowerOfTwo (extent w p).align)) ls
+cases_powers : (w : MemoryWidth) (ls : List (Option CanonicalAbiInfo)) → All (λ l. IfSome l IsSoundLayout) ls → All (λ c. IfSome c (λ p. IsPowerOfTwo (extent w p).align)) ls
 cases_powers w [] a i d h = absurd (omega (arith, h))
 cases_powers w (l ∷ ls) a zero d h = power_case w l (a 0 l (omega arith))
 cases_powers w (l ∷ ls) a (suc i) d h = cases_powers w ls (λ i d h. a (suc i) d (omega (arith, h))) i d (omega (arith, h))
 
-fields_powers : (w : MemoryWidth) (ls : List (Option CanonicalAbiInfo)) → All (λ l. IfSome l abi_laws.IsSound) ls → All (λ f. IsPowerOfTwo (extent w f).align) (payloads ls)
+fields_powers : (w : MemoryWidth) (ls : List (Option CanonicalAbiInfo)) → All (λ l. IfSome l IsSoundLayout) ls → All (λ f. IsPowerOfTwo (extent w f).align) (payloads ls)
 fields_powers w ls a = payloads_all (λ f. IsPowerOfTwo (extent w f).align) ls (cases_powers w ls a)
 
-record_fits : (ls : List (Option CanonicalAbiInfo)) → All (λ l. IfSome l abi_laws.IsSound) ls → IsWithin (record_layout (payloads ls)) → RecordFits (payloads ls)
+record_fits : (ls : List (Option CanonicalAbiInfo)) → All (λ l. IfSome l IsSoundLayout) ls → IsWithin (record_layout (payloads ls)) → RecordFits (payloads ls)
 record_fits ls a f = record {
   memory32 = record { powers = fields_powers Memory32 ls a; within = f.memory32 };
   memory64 = record { powers = fields_powers Memory64 ls a; within = f.memory64 };
 }
 
-cases_fit : (ls : List (Option CanonicalAbiInfo)) → All (λ l. IfSome l abi_laws.IsSound) ls → IsWithin (variant_layout ls) → CasesFit Memory32 ls × CasesFit Memory64 ls
+cases_fit : (ls : List (Option CanonicalAbiInfo)) → All (λ l. IfSome l IsSoundLayout) ls → IsWithin (variant_layout ls) → CasesFit Memory32 ls × CasesFit Memory64 ls
 cases_fit ls a f =
     (record { powers = cases_powers Memory32 ls a; within = f.memory32 }, record { powers = cases_powers Memory64 ls a; within = f.memory64 })
 
 pub variant_fits : (ls : List (Option CanonicalAbiInfo)) → CasesFit Memory32 ls × CasesFit Memory64 ls → length ls ≤ 4294967295 → VariantFits ls
 variant_fits ls f n = record { cases = n; memory32 = f.0; memory64 = f.1 }
 
-elements_fit : (n : ℕ) (cs : List CanonicalAbiInfo) → All abi_laws.IsSound cs → IsWithin (repeated_layout n cs) → ElementsFitBoth n cs
+elements_fit : (n : ℕ) (cs : List CanonicalAbiInfo) → All IsSoundLayout cs → IsWithin (repeated_layout n cs) → ElementsFitBoth n cs
 elements_fit n [] a f = tt
 elements_fit n (c ∷ cs) a f =
     let s = a 0 c (omega arith) in
@@ -175,7 +175,7 @@ fits_passes k_flags ms f = f.few
 fits_passes k_enum ms f = f.few
 fits_passes k_option ms f = cases_fit (layouts_of ms) (layouts_sound ms) f.within
 fits_passes k_result ms f = cases_fit (layouts_of ms) (layouts_sound ms) f.within
-fits_passes (k_fixed n) ms f = elements_fit n (payloads (layouts_of ms)) (payloads_all abi_laws.IsSound (layouts_of ms) (layouts_sound ms)) f.within
+fits_passes (k_fixed n) ms f = elements_fit n (payloads (layouts_of ms)) (payloads_all IsSoundLayout (layouts_of ms) (layouts_sound ms)) f.within
 fits_passes (k_future table instance) ms f = tt
 fits_passes (k_stream table instance) ms f = tt
 

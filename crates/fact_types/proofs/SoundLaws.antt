@@ -16,7 +16,7 @@ use Rattle.fact_types.specs.declared.widths.Extent.{Extent}
 use Rattle.fact_types.specs.declared.widths.MemoryWidth.{MemoryWidth}
 use Rattle.fact_types.specs.declared.widths.MemoryWidth.TheVariants.{Memory32, Memory64}
 use Rattle.fact_types.specs.Layout.{extent, extents, aligned, greatest_align, greatest_size, end_of_fields, record_extent, record_layout, payloads, payload_offset, discriminant_size, discriminant_bytes, variant_extent, variant_layout, enum_layout, fixed_list_extent, fixed_list_layout, flags_size, flags_extent, flags_layout, zero_layout, scalar_layout, pointer_pair_layout}
-use Rattle.fact_types.specs.Sound.{IsSoundExtent, IsSound, TakesBytes}
+use Rattle.fact_types.specs.Sound.{IsSoundExtent, IsSoundLayout, TakesBytes}
 use Rattle.fact_types.proofs.AlignLaws.{aligned_bounds, aligned_multiple}
 use Rattle.fact_types.proofs.FieldLaws.{greatest_align_pos, end_grows}
 
@@ -61,33 +61,33 @@ payloads_all P (None ∷ cs) a k d h = payloads_all P cs (λ k d h. a (suc k) d 
 payloads_all P (Some p ∷ cs) a zero d h = a 0 None (omega arith)
 payloads_all P (Some p ∷ cs) a (suc k) d h = payloads_all P cs (λ k d h. a (suc k) d (omega (arith, h))) k d (omega (arith, h))
 
-powers_of : (w : MemoryWidth) (c : CanonicalAbiInfo) → IsSound c → IsPowerOfTwo (extent w c).align
+powers_of : (w : MemoryWidth) (c : CanonicalAbiInfo) → IsSoundLayout c → IsPowerOfTwo (extent w c).align
 powers_of Memory32 c s = s.memory32.power
 powers_of Memory64 c s = s.memory64.power
 
-all_powers : (w : MemoryWidth) (fs : List CanonicalAbiInfo) → All IsSound fs → All (λ f. IsPowerOfTwo (extent w f).align) fs
+all_powers : (w : MemoryWidth) (fs : List CanonicalAbiInfo) → All IsSoundLayout fs → All (λ f. IsPowerOfTwo (extent w f).align) fs
 all_powers w fs a k d h = powers_of w (get_or fs k d) (a k d h)
 
-pub record_sound : (fs : List CanonicalAbiInfo) → All IsSound fs → IsSound (record_layout fs)
+pub record_sound : (fs : List CanonicalAbiInfo) → All IsSoundLayout fs → IsSoundLayout (record_layout fs)
 record_sound fs a = record {
   memory32 = record_extent_sound Memory32 fs (all_powers Memory32 fs a);
   memory64 = record_extent_sound Memory64 fs (all_powers Memory64 fs a);
 }
 
-pub variant_sound : (cs : List (Option CanonicalAbiInfo)) → All (λ c. IfSome c IsSound) cs → IsSound (variant_layout cs)
+pub variant_sound : (cs : List (Option CanonicalAbiInfo)) → All (λ c. IfSome c IsSoundLayout) cs → IsSoundLayout (variant_layout cs)
 variant_sound cs a =
-    let each = payloads_all IsSound cs a in
+    let each = payloads_all IsSoundLayout cs a in
     record {
       memory32 = variant_extent_sound Memory32 (discriminant_size (length cs)) (payloads cs) (all_powers Memory32 (payloads cs) each);
       memory64 = variant_extent_sound Memory64 (discriminant_size (length cs)) (payloads cs) (all_powers Memory64 (payloads cs) each);
     }
 
-no_payload : (n : ℕ) → All (λ c. IfSome c IsSound) (replicate n None)
+no_payload : (n : ℕ) → All (λ c. IfSome c IsSoundLayout) (replicate n None)
 no_payload zero k d h = absurd (omega (arith, h))
 no_payload (suc n) zero d h = tt
 no_payload (suc n) (suc k) d h = no_payload n k d (omega (arith, h))
 
-pub enum_sound : (n : ℕ) → IsSound (enum_layout n)
+pub enum_sound : (n : ℕ) → IsSoundLayout (enum_layout n)
 enum_sound n = variant_sound (replicate n None) (no_payload n)
 
 -- a multiple of a multiple
@@ -99,7 +99,7 @@ times_divides s a n h =
 fixed_list_extent_sound : (e : Extent) (n : ℕ) → IsSoundExtent e → IsSoundExtent (fixed_list_extent e n)
 fixed_list_extent_sound e n s = record { power = s.power; divides = times_divides e.size e.align n s.divides }
 
-pub fixed_list_sound : (c : CanonicalAbiInfo) (n : ℕ) → IsSound c → IsSound (fixed_list_layout c n)
+pub fixed_list_sound : (c : CanonicalAbiInfo) (n : ℕ) → IsSoundLayout c → IsSoundLayout (fixed_list_layout c n)
 fixed_list_sound c n s = record {
   memory32 = fixed_list_extent_sound (extent Memory32 c) n s.memory32;
   memory64 = fixed_list_extent_sound (extent Memory64 c) n s.memory64;
@@ -111,16 +111,16 @@ flags_extent_sound Size1 = record { power = (0, refl); divides = refl }
 flags_extent_sound Size2 = record { power = (1, refl); divides = refl }
 flags_extent_sound (Size4Plus words) = record { power = (2, refl); divides = mul-mod_left words 4 }
 
-pub flags_sound : (n : ℕ) → IsSound (flags_layout n)
+pub flags_sound : (n : ℕ) → IsSoundLayout (flags_layout n)
 flags_sound n = record { memory32 = flags_extent_sound (flags_size n); memory64 = flags_extent_sound (flags_size n) }
 
-pub zero_sound : IsSound zero_layout
+pub zero_sound : IsSoundLayout zero_layout
 zero_sound = let e : IsSoundExtent (extent Memory32 zero_layout) = record { power = (0, refl); divides = refl } in record { memory32 = e; memory64 = e }
 
-pub pointer_pair_sound : IsSound pointer_pair_layout
+pub pointer_pair_sound : IsSoundLayout pointer_pair_layout
 pointer_pair_sound = record { memory32 = record { power = (2, refl); divides = refl }; memory64 = record { power = (3, refl); divides = refl } }
 
-pub scalar_sound : (n : ℕ) → IsPowerOfTwo n → IsSound (scalar_layout n)
+pub scalar_sound : (n : ℕ) → IsPowerOfTwo n → IsSoundLayout (scalar_layout n)
 scalar_sound n p =
     let e : IsSoundExtent (extent Memory32 (scalar_layout n)) = record { power = p; divides = mod_self n } in record { memory32 = e; memory64 = e }
 
@@ -131,12 +131,12 @@ end_covers w [] n i d a h = absurd (omega (arith, h))
 end_covers w (f ∷ fs) n zero d a h = omega (arith, end_grows w fs (aligned n (extent w f).align + (extent w f).size) (λ k d h. a (suc k) d (omega (arith, h))))
 end_covers w (f ∷ fs) n (suc i) d a h = end_covers w fs (aligned n (extent w f).align + (extent w f).size) i d (λ k d h. a (suc k) d (omega (arith, h))) (omega (arith, h))
 
-record_covers : (w : MemoryWidth) (fs : List CanonicalAbiInfo) (i : ℕ) (d : CanonicalAbiInfo) → All IsSound fs → i < length fs → (extent w (get_or fs i d)).size ≤ (record_extent (extents w fs)).size
+record_covers : (w : MemoryWidth) (fs : List CanonicalAbiInfo) (i : ℕ) (d : CanonicalAbiInfo) → All IsSoundLayout fs → i < length fs → (extent w (get_or fs i d)).size ≤ (record_extent (extents w fs)).size
 record_covers w fs i d a h =
     omega (arith, end_covers w fs 0 i d (all_powers w fs a) h, (aligned_bounds (end_of_fields 0 (extents w fs)) (greatest_align (extents w fs)) (greatest_align_pos (extents w fs))).0)
 
 -- a record with a field that takes bytes takes bytes
-pub record_takes_bytes : (fs : List CanonicalAbiInfo) (i : ℕ) (d : CanonicalAbiInfo) → All IsSound fs → i < length fs → TakesBytes (get_or fs i d) → TakesBytes (record_layout fs)
+pub record_takes_bytes : (fs : List CanonicalAbiInfo) (i : ℕ) (d : CanonicalAbiInfo) → All IsSoundLayout fs → i < length fs → TakesBytes (get_or fs i d) → TakesBytes (record_layout fs)
 record_takes_bytes fs i d a h t = record {
   memory32 = omega (arith, record_covers Memory32 fs i d a h, t.memory32);
   memory64 = omega (arith, record_covers Memory64 fs i d a h, t.memory64);

@@ -6,7 +6,7 @@ use Rattle.fact_types.specs.declared.interface.InterfaceType.{InterfaceType}
 use Rattle.fact_types.specs.declared.interface.InterfaceType.TheVariants.{Bool as t_bool, S8 as t_s8, U8 as t_u8, S16 as t_s16, U16 as t_u16, S64 as t_s64, U64 as t_u64, Float64 as t_float64, String as t_string}
 use Rattle.fact_types.specs.FlatShapes.{IsCountedBy, IsCounted, AreCounted}
 use Rattle.fact_types.specs.Layout.{payloads, pointer_pair_layout}
-use Rattle.fact_types.specs.Sound.{IsSound, TakesBytes}
+use Rattle.fact_types.specs.Sound.{IsSoundLayout, TakesBytes}
 use Rattle.fact_types.specs.Shapes.{Kind, k_record, k_variant, k_list, k_tuple, k_map, k_flags, k_enum, k_option, k_result, k_fixed, k_future, k_stream, Shape, s_plain, s_node, Members, no_members, bare, typed, plain_layout, repeated_layout, layout_by, layout_of, layouts_of}
 use Rattle.fact_types.specs.Valid.{AreEnough, IsRuled, AreRuled, IsValid}
 use Rattle.fact_types.proofs.ShapeSound.{layouts_sound}
@@ -32,11 +32,11 @@ repeated_takes_bytes count [] h e a = absurd (omega (arith, e))
 repeated_takes_bytes count (c ∷ cs) h e a = fixed_list_takes_bytes c count h (a 0 c (omega arith))
 
 -- the first field of a record takes bytes
-fields_take_bytes : (ls : List (Option CanonicalAbiInfo)) → All (λ l. IfSome l IsSound) ls → All (λ l. IfSome l TakesBytes) ls → 1 ≤ length (payloads ls) → TakesBytes (layout_by k_record ls)
+fields_take_bytes : (ls : List (Option CanonicalAbiInfo)) → All (λ l. IfSome l IsSoundLayout) ls → All (λ l. IfSome l TakesBytes) ls → 1 ≤ length (payloads ls) → TakesBytes (layout_by k_record ls)
 fields_take_bytes ls sound takes h =
-    record_takes_bytes (payloads ls) 0 pointer_pair_layout (payloads_all IsSound ls sound) (omega (arith, h)) (payloads_all TakesBytes ls takes 0 pointer_pair_layout (omega (arith, h)))
+    record_takes_bytes (payloads ls) 0 pointer_pair_layout (payloads_all IsSoundLayout ls sound) (omega (arith, h)) (payloads_all TakesBytes ls takes 0 pointer_pair_layout (omega (arith, h)))
 
-by_takes_bytes : (k : Kind) (ls : List (Option CanonicalAbiInfo)) → All (λ l. IfSome l IsSound) ls → All (λ l. IfSome l TakesBytes) ls
+by_takes_bytes : (k : Kind) (ls : List (Option CanonicalAbiInfo)) → All (λ l. IfSome l IsSoundLayout) ls → All (λ l. IfSome l TakesBytes) ls
     → AreEnough k (length ls) (length (payloads ls)) → TakesBytes (layout_by k ls)
 by_takes_bytes k_record ls sound takes h = fields_take_bytes ls sound takes h
 by_takes_bytes k_tuple ls sound takes h = fields_take_bytes ls sound takes h

@@ -11,7 +11,7 @@ pub record IsSoundExtent (e : Extent) : Type 0 where
   pub power : IsPowerOfTwo e.align
   pub divides : e.size % e.align ≡ 0
 
-pub record IsSound (c : CanonicalAbiInfo) : Type 0 where
+pub record IsSoundLayout (c : CanonicalAbiInfo) : Type 0 where
   pub memory32 : IsSoundExtent (extent Memory32 c)
   pub memory64 : IsSoundExtent (extent Memory64 c)
 

@@ -8,7 +8,7 @@ ghost use Rattle.fact_types.specs.declared.widths.MemoryWidth.{MemoryWidth};
 ghost use Rattle.fact_types.specs.Flat.{flat_within};
 ghost use Rattle.fact_types.specs.FlatShapes.{flat};
 ghost use Rattle.fact_types.specs.Lending.{LendsTypes};
-ghost use Rattle.fact_types.specs.Sound as abi_laws;
+ghost use Rattle.fact_types.specs.Sound.{IsSoundLayout, TakesBytes};
 ghost use Rattle.fact_types.specs.Shapes.{Shape, layout_of, depth, IsWithin};
 ghost use Rattle.fact_types.specs.Functions.{HasSignature};
 ghost use Rattle.fact_types.specs.Tables.{no_tables, abi_at, IsLive, HasShape, IsSound, Node, node_of, entries};
@@ -124,8 +124,8 @@ impl ComponentTypes {
         ensures stands { result.now ≡ abi_at self.now ty.now }
         ensures shaped { (s : Shape) × HasShape self.now ty.now s × (depth s ≤ entries self.now) }
         ensures laid { (s : Shape) → HasShape self.now ty.now s → result.now ≡ layout_of s }
-        ensures sound { abi_laws.IsSound result.now }
-        ensures takes_bytes { (s : Shape) → HasShape self.now ty.now s → IsValid s → abi_laws.TakesBytes result.now }
+        ensures sound { IsSoundLayout result.now }
+        ensures takes_bytes { (s : Shape) → HasShape self.now ty.now s → IsValid s → TakesBytes result.now }
         ensures counts { (s : Shape) (w : MemoryWidth) → HasShape self.now ty.now s → IsValid s → result.now.flat_count ≡ flat_within (length (flat w s)) }
         ensures within { IsWithin result.now }
     {
