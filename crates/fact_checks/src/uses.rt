@@ -17,7 +17,7 @@ use fact_builder::ComponentTypesBuilder;
 use fact_entity::EntityRef;
 use fact_types::{CoreDef, MemoryOption};
 use fact_uses::Bindings;
-use fact_wasm::{FuncType, OutOfMemory, Seq, ValType};
+use fact_wasm::{FuncType, OutOfMemory, ValType};
 use std::alloc::Global;
 
 /// What an adapter module imports a core definition as.
@@ -101,35 +101,19 @@ pub(crate) fn reallocs(alloc: Global, adapter: &Adapter) -> Result<Vec<(CoreDef,
     Ok(pairs)
 }
 
-/// A function type of these parameters and results.
-fn func_type(
-    alloc: Global,
-    params: &[ValType],
-    results: &[ValType],
-) -> Result<FuncType, OutOfMemory>
-    ensures { IfOk result (λ ty. ty ≡ record { params = params.now; results = results.now }) }
-{
-    let params = Vec::from_slice(alloc, params)?;
-    let results = Vec::from_slice(alloc, results)?;
-    Ok(FuncType {
-        params: Seq::from_vec(params),
-        results: Seq::from_vec(results),
-    })
-}
-
 /// The type of a realloc over addresses of 64 or of 32 bits.
 fn realloc_type(alloc: Global, memory64: bool) -> Result<FuncType, OutOfMemory>
     ensures { IfOk result (λ ty. ty ≡ realloc_type_of memory64) }
 {
     let address = if memory64 { ValType::I64 } else { ValType::I32 };
-    func_type(alloc, &[address, address, address, address], &[address])
+    FuncType::from_slices(alloc, &[address, address, address, address], &[address])
 }
 
 /// The type of a callback.
 fn callback_type(alloc: Global) -> Result<FuncType, OutOfMemory>
     ensures { IfOk result (λ ty. ty ≡ callback_type_of) }
 {
-    func_type(
+    FuncType::from_slices(
         alloc,
         &[ValType::I32, ValType::I32, ValType::I32],
         &[ValType::I32],
@@ -174,9 +158,9 @@ fn push_callee(
 ) -> Result<(), OutOfMemory>
     ensures { OnOk result (pairs.new.items ≡ pairs.old.items ++ callee_uses adapter.now.func ty.now adapter.now.lift_options.post_return) }
 {
-    let callee = func_type(alloc, ty.params.as_slice(), ty.results.as_slice())?;
+    let callee = ty.try_clone()?;
     pairs.push((adapter.func.try_clone()?, Use::Function(callee)))?;
-    let post_return = func_type(alloc, ty.results.as_slice(), &[])?;
+    let post_return = FuncType::from_slices(alloc, ty.results.as_slice(), &[])?;
     push_def(
         pairs,
         &adapter.lift_options.post_return,

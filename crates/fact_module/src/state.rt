@@ -52,17 +52,6 @@ impl Model for ModuleState {
     ghost invariant = { λ s. IsTrue s.whole → IsIndexed (record { types = s.module.types; section = s.module.imports; imports = s.imports; functions = s.module.funcs; exports = s.module.exports; whole = s.whole }) s.types s.flags s.imported };
 }
 
-fn copy_type(alloc: Global, ty: &FuncType) -> Result<FuncType, OutOfMemory>
-    ensures { IfOk result (λ copy. copy ≡ ty.now) }
-{
-    let params = Vec::from_slice(alloc, ty.params.as_slice())?;
-    let results = Vec::from_slice(alloc, ty.results.as_slice())?;
-    Ok(FuncType {
-        params: Seq::from_vec(params),
-        results: Seq::from_vec(results),
-    })
-}
-
 impl ModuleState {
     /// Nothing is there yet. It takes no memory.
     pub fn new(alloc: Global) -> ModuleState
@@ -137,8 +126,8 @@ impl ModuleState {
         if let Some(place) = self.types.find(ty) {
             return Ok(place.as_u32());
         }
-        let copy = copy_type(self.alloc, ty)?;
-        let listed = copy_type(self.alloc, ty)?;
+        let copy = ty.try_clone()?;
+        let listed = ty.try_clone()?;
         self.whole = false;
         self.module.types.push(listed)?;
         let Ok(place) = self.types.add_new(copy) else {

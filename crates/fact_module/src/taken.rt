@@ -16,15 +16,6 @@ pub struct TakenAdapter {
     pub adapter: Adapter,
 }
 
-fn copy_def(def: &Option<CoreDef>) -> Result<Option<CoreDef>, OutOfMemory>
-    ensures { IfOk result (λ copy. copy ≡ def.now) }
-{
-    match def {
-        Some(def) => Ok(Some(def.try_clone()?)),
-        None => Ok(None),
-    }
-}
-
 fn copy_memory(memory: &Option<MemoryOption>) -> Result<Option<MemoryOption>, OutOfMemory>
     ensures { IfOk result (λ copy. copy ≡ memory.now) }
 {
@@ -46,9 +37,9 @@ fn copy_options(options: &AdapterOptionsDfg) -> Result<AdapterOptionsDfg, OutOfM
         instance: options.instance,
         string_encoding: options.string_encoding,
         memory: copy_memory(&options.memory)?,
-        realloc: copy_def(&options.realloc)?,
-        callback: copy_def(&options.callback)?,
-        post_return: copy_def(&options.post_return)?,
+        realloc: CoreDef::try_clone_option(&options.realloc)?,
+        callback: CoreDef::try_clone_option(&options.callback)?,
+        post_return: CoreDef::try_clone_option(&options.post_return)?,
         async_: options.async_,
         core_type: options.core_type,
     })

@@ -4,7 +4,7 @@ ghost use Rattle.std.specs.Prelude.{◌≡◌, IfOk, Some, slice_get};
 ghost use Rattle.std.specs.List.{AllZip};
 
 use fact_types::{ModuleInternedTypeIndex, ModuleTypesBuilder};
-use fact_wasm::{FuncType, OutOfMemory, Seq};
+use fact_wasm::{FuncType, OutOfMemory};
 use std::alloc::{AllocError, Global};
 
 /// The index of each core type, in order. Where the types have no room for more, it is answered as want of memory.
@@ -17,22 +17,10 @@ pub(crate) fn intern_all(
 {
     let mut found = Vec::new(alloc);
     for ty in types {
-        match interned.intern(copy_of(alloc, ty)?) {
+        match interned.intern(ty.try_clone()?) {
             Ok(index) => found.push(index)?,
             Err(_) => return Err(AllocError),
         }
     }
     Ok(found)
-}
-
-/// An equal type.
-fn copy_of(alloc: Global, ty: &FuncType) -> Result<FuncType, OutOfMemory>
-    ensures { IfOk result (λ copy. copy ≡ ty.now) }
-{
-    let params = Vec::from_slice(alloc, ty.params.as_slice())?;
-    let results = Vec::from_slice(alloc, ty.results.as_slice())?;
-    Ok(FuncType {
-        params: Seq::from_vec(params),
-        results: Seq::from_vec(results),
-    })
 }
