@@ -25,7 +25,7 @@ use Rattle.fact_types.specs.declared.kinds.TypeErrorContextTable.{TypeErrorConte
 use Rattle.fact_types.specs.declared.abi.CanonicalAbiInfo.{CanonicalAbiInfo}
 use Rattle.fact_types.specs.Equality.{variant_eq, flags_eq, enum_eq}
 use Rattle.fact_types.specs.Ordered.{VariantType, FlagsType, EnumType}
-use Rattle.fact_types.specs.Exact.{exact_type, exact_option, exact_list, exact_variant, exact_flags, exact_enum}
+use Rattle.fact_types.specs.Exact.{exact_bool, exact_text, exact_abi, exact_type, exact_option, exact_list, exact_variant, exact_flags, exact_enum}
 use Rattle.fact_types.specs.contracts.interface.InterfaceTypePartialEq.TheImpl as type_eq
 use Rattle.fact_types.specs.contracts.abi.CanonicalAbiInfoPartialEq.TheImpl as abi_eq
 use Rattle.fact_types.specs.contracts.kinds.TypeFuncPartialEq.TheImpl as func_eq
@@ -42,17 +42,6 @@ use Rattle.fact_types.specs.contracts.kinds.TypeFutureTablePartialEq.TheImpl as 
 use Rattle.fact_types.specs.contracts.kinds.TypeStreamPartialEq.TheImpl as stream_eq
 use Rattle.fact_types.specs.contracts.kinds.TypeStreamTablePartialEq.TheImpl as stream_table_eq
 use Rattle.fact_types.specs.contracts.kinds.TypeErrorContextTablePartialEq.TheImpl as error_context_table_eq
-
-exact_bool : (a b : Bool) → beq a b ≡ true → a ≡ b
-exact_bool true true h = refl
-exact_bool false false h = refl
-exact_bool a b h = absurd (true≢false (sym h))
-
-exact_text : (a b : List ℕ) → pointwise nat_eq a b ≡ true → a ≡ b
-exact_text = exact_list nat_eq (λ a b h. eqb-true a b h)
-
-exact_abi : (a b : CanonicalAbiInfo) → abi_eq.ghosts.eq a b ≡ true → a ≡ b
-exact_abi a b h = ap (λ f. f.abi) (exact_flags (record { names = []; abi = a }) (record { names = []; abi = b }) h)
 
 exact_func : (a b : TypeFunc) → func_eq.ghosts.eq a b ≡ true → a ≡ b
 exact_func a b h =

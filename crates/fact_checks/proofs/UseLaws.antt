@@ -1,40 +1,18 @@
 -- What definitions are used as: equal by `==` where it is the same, and gathered of an adapter.
-use Rattle.std.proofs.Common.{◌≡◌, Bool, true, false, List, [], ◌++◌, Option, Some, refl, sym, ap, ◌∙◌}
+use Rattle.std.proofs.Common.{◌≡◌, true, List, [], ◌++◌, Option, Some, refl, sym, ap, ◌∙◌}
 use Rattle.std.proofs.lemmas.List.{append_assoc}
 use Rattle.std.specs.Bool.{beq}
 use Rattle.std.specs.Cmp.{first_so, second_so}
 use Rattle.std.proofs.lemmas.Bool.{eqb-true, true≢false}
-use Rattle.fact_wasm.specs.declared.types.ValType.{ValType}
-use Rattle.fact_wasm.specs.declared.types.ValType.TheVariants.{I32, I64, F32, F64, FuncRef}
 use Rattle.fact_wasm.specs.declared.types.FuncType.{FuncType}
-use Rattle.fact_wasm.specs.contracts.types.ValTypePartialEq.TheImpl as val_eq
-use Rattle.fact_wasm.specs.contracts.types.FuncTypePartialEq.TheImpl as func_eq
-use Rattle.fact_types.specs.Exact.{exact_list}
+use Rattle.fact_wasm.proofs.Signatures.{exact_func}
+use Rattle.fact_types.specs.Exact.{exact_bool}
 use Rattle.fact_checks.specs.declared.uses.Use.{Use}
 use Rattle.fact_checks.specs.declared.uses.Use.TheVariants.{FlagGlobal, Memory, Function}
 use Rattle.fact_types.specs.declared.outside.CoreDef.{CoreDef}
 use Rattle.fact_checks.specs.AdapterRules.{callee_uses, side_uses, uses_of}
 use Rattle.fact_types.specs.Adapters.{LinkedAdapter}
 use Rattle.fact_checks.specs.contracts.uses.UsePartialEq.TheImpl as use_eq
-
-exact_bool : (a b : Bool) → beq a b ≡ true → a ≡ b
-exact_bool true true h = refl
-exact_bool false false h = refl
-exact_bool a b h = absurd (true≢false (sym h))
-
-pub exact_value : (a b : ValType) → val_eq.ghosts.eq a b ≡ true → a ≡ b
-exact_value I32 I32 h = refl
-exact_value I64 I64 h = refl
-exact_value F32 F32 h = refl
-exact_value F64 F64 h = refl
-exact_value FuncRef FuncRef h = refl
-exact_value a b h = absurd (true≢false (sym h))
-
-pub exact_func : (a b : FuncType) → func_eq.ghosts.eq a b ≡ true → a ≡ b
-exact_func a b h =
-    let e1 = exact_list val_eq.ghosts.eq exact_value a.params b.params (first_so _ _ h) in
-    let e2 = exact_list val_eq.ghosts.eq exact_value a.results b.results (second_so _ _ h) in
-    λ i. record { params = e1 i; results = e2 i }
 
 pub exact_use : (a b : Use) → use_eq.ghosts.eq a b ≡ true → a ≡ b
 exact_use FlagGlobal FlagGlobal h = refl

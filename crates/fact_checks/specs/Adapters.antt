@@ -3,17 +3,13 @@ use Rattle.std.specs.Prelude.{ℕ, List, Option, Some, None, slice_get, take}
 use Rattle.std.specs.List.{filter_map}
 use Rattle.fact_types.specs.declared.outside.CoreDef.{CoreDef}
 use Rattle.fact_types.specs.Adapters.{LinkedAdapter, Side}
+use Rattle.fact_types.specs.Steps.{◌>>=◌}
 use Rattle.fact_plan.specs.declared.plan.PlanMemory.{PlanMemory}
 use Rattle.fact_plan.specs.declared.plan.PlanSide.{PlanSide}
 use Rattle.fact_plan.specs.declared.plan.PlanAdapter.{PlanAdapter}
 use Rattle.fact_plan.specs.declared.plan.FusePlan.{FusePlan}
 use Rattle.fact_plan_types.specs.TypeRules.{param_shapes, result_shapes}
 use Rattle.fact_types.specs.declared.outside.MemoryOption.{MemoryOption}
-
-infixl 10 ◌>>=◌
-abbrev ◌>>=◌ : {A B : Type 0} → Option A → (A → Option B) → Option B
-None >>= f = None
-Some x >>= f = f x
 
 -- the definition that an option names, where it names one: none where the plan lacks it
 abbrev pub def_of : FusePlan → Option ℕ → Option (Option CoreDef)

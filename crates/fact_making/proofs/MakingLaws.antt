@@ -371,18 +371,6 @@ fixed_length_list_made old new eq i v s k d e r p =
     made old new (t_fixed_length_list i) (fixed_length_list_node v) s k (slice_live new.tables.fixed_length_lists i.number fixed_length_list_node (fixed_length_list_node v) n) n p (grown _ _ _ (ap (λ (b : Builder). entries b.tables) r) h) (one_table old new _ r refl)
 
 -- ---- lists of members
-pub names_count : (t : Tables) (ns : List (List ℕ)) → length (laid t (map (λ n. (n, None)) ns)) ≡ length ns
-names_count t [] = refl
-names_count t (n ∷ ns) = ap suc (names_count t ns)
-
-pub placed_layouts : (t : Tables) (n : ℕ) (ys : List InterfaceType) → map (abi_at t) ys ≡ payloads (laid t (placed n ys))
-placed_layouts t n [] = refl
-placed_layouts t n (y ∷ ys) = more _ _ _ _ refl (placed_layouts t (suc n) ys)
-
-pub field_layouts : (t : Tables) (fs : List RecordField) → map (λ (f : RecordField). abi_at t f.ty) fs ≡ payloads (laid t (map (λ (f : RecordField). (f.name, Some f.ty)) fs))
-field_layouts t [] = refl
-field_layouts t (f ∷ fs) = more _ _ _ _ refl (field_layouts t fs)
-
 pub case_layouts : (t : Tables) (cs : List (List ℕ × Option InterfaceType)) → map (option_map (abi_at t)) (map (λ c. c.1) cs) ≡ laid t cs
 case_layouts t [] = refl
 case_layouts t (c ∷ cs) = more _ _ _ _ refl (case_layouts t cs)

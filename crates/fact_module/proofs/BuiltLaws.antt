@@ -22,7 +22,7 @@ use Rattle.fact_types.specs.Adapters.{LinkedAdapter, Side, is_wide}
 use Rattle.fact_checks.specs.AdapterRules.{Differs, HasBadSignature, HasTypeMismatch, lift_side_signature, lower_side_signature}
 use Rattle.fact_module.specs.Built.{IsBuiltAdapter, IsNumberShape}
 use Rattle.fact_module.specs.Plain.{AreNumbers, IsNumber, IsPlain, core_of, core_type}
-use Rattle.fact_module.proofs.Exact.{exact_func}
+use Rattle.fact_wasm.proofs.Signatures.{exact_func}
 
 -- ---- numbers
 

@@ -11,7 +11,8 @@ use Rattle.fact_types.specs.declared.import.Import.{Import}
 use Rattle.fact_module.specs.Emitted.{flags}
 use Rattle.fact_module.specs.Imports.{Sort, imports_of, is_of}
 use Rattle.fact_module.specs.Runs.{flags_place}
-use Rattle.fact_module.proofs.Exact.{exact_key, same_key, same_number}
+use Rattle.fact_types.specs.Exact.{exact_key}
+use Rattle.fact_module.proofs.Exact.{same_key, same_number}
 
 -- ---- lists
 

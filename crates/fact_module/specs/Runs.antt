@@ -9,6 +9,7 @@ use Rattle.fact_wasm.specs.declared.module.WasmImport.{WasmImport}
 use Rattle.fact_wasm.specs.declared.module.WasmModule.{WasmModule}
 use Rattle.fact_types.specs.declared.outside.CoreDef.{CoreDef}
 use Rattle.fact_types.specs.declared.outside.CoreDef.TheVariants as def
+use Rattle.fact_types.specs.Steps.{◌>>=◌}
 use Rattle.fact_machine.specs.declared.types.CoreValue.{CoreValue}
 use Rattle.fact_machine.specs.declared.types.CoreValue.TheVariants.{I32, I64, F32, F64, Func}
 use Rattle.fact_machine.specs.declared.types.MachineState.{MachineState}
@@ -60,11 +61,6 @@ global_type w = elim w.ty [ import.Func t ↦ None | import.Memory least wide pa
 pub record TypedState (m : WasmModule) (s : MachineState) : Type 0 where
   pub memories : AllZip (λ t bytes. IsMemory t.0 t.1 bytes) (filter_map memory_type m.imports) s.memories
   pub globals : AllZip (λ t v. IsValue v t) (filter_map global_type m.imports) s.globals
-
-infixl 10 ◌>>=◌
-abbrev ◌>>=◌ : {A B : Type 0} → Option A → (A → Option B) → Option B
-None >>= f = None
-Some x >>= f = f x
 
 -- the type of the nth imported function
 abbrev pub type_of_import : WasmModule → ℕ → Option FuncType

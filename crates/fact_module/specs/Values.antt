@@ -3,6 +3,7 @@ use Rattle.std.specs.Prelude.{ℤ, pos, negsuc, ℕ, ◌^◌, List, [], ◌∷�
 use Rattle.fact_types.specs.declared.interface.InterfaceType.{InterfaceType}
 use Rattle.fact_types.specs.declared.interface.InterfaceType.TheVariants.{U32 as t_u32, U64 as t_u64}
 use Rattle.fact_types.specs.Shapes.{Shape, s_plain, s_node}
+use Rattle.fact_types.specs.Steps.{◌>>=◌}
 use Rattle.fact_machine.specs.declared.types.CoreValue.{CoreValue}
 use Rattle.fact_machine.specs.declared.types.CoreValue.TheVariants.{I32, I64}
 
@@ -19,11 +20,6 @@ lift_plain _ _ = None
 abbrev pub lift : Shape → CoreValue → Option Value
 lift (s_plain t) v = lift_plain t v
 lift (s_node _ _) v = None
-
-infixl 10 ◌>>=◌
-abbrev ◌>>=◌ : {A B : Type 0} → Option A → (A → Option B) → Option B
-None >>= f = None
-Some x >>= f = f x
 
 -- the values of a flat tuple: there are as many core values as types, and each lifts
 abbrev pub lift_all : List Shape → List CoreValue → Option (List Value)

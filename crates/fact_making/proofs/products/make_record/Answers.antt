@@ -5,8 +5,8 @@ use Rattle.fact_types.specs.Fits.{RecordFits}
 use Rattle.fact_types.specs.Layout.{record_layout}
 use Rattle.fact_types.specs.Shapes.{k_record}
 use Rattle.fact_types.specs.Tables.{abi_at}
-use Rattle.fact_types.proofs.StandLaws.{record_stands}
-use Rattle.fact_making.proofs.MakingLaws.{failed, passed, field_layouts, does_not_fit, record_made}
+use Rattle.fact_types.proofs.StandLaws.{record_stands, field_layouts}
+use Rattle.fact_making.proofs.MakingLaws.{failed, passed, does_not_fit, record_made}
 use Rattle.fact_making.proofs.products.make_record.Goals as goal
 
 pub returns-then-not-record_fits : goal.returns-then-not-record_fits

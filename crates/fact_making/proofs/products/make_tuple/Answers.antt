@@ -4,8 +4,8 @@ use Rattle.fact_types.specs.Fits.{RecordFits}
 use Rattle.fact_types.specs.Layout.{record_layout}
 use Rattle.fact_types.specs.Shapes.{k_tuple}
 use Rattle.fact_types.specs.Tables.{abi_at}
-use Rattle.fact_types.proofs.StandLaws.{tuple_stands}
-use Rattle.fact_making.proofs.MakingLaws.{failed, passed, placed_layouts, does_not_fit, tuple_made}
+use Rattle.fact_types.proofs.StandLaws.{tuple_stands, placed_layouts}
+use Rattle.fact_making.proofs.MakingLaws.{failed, passed, does_not_fit, tuple_made}
 use Rattle.fact_making.proofs.products.make_tuple.Goals as goal
 
 pub returns-then-not-record_fits : goal.returns-then-not-record_fits

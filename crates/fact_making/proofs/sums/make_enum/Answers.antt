@@ -1,8 +1,8 @@
 use Rattle.std.proofs.Common.{◌≡◌, ◌<◌, ◌≤◌, ℕ, length, replicate, None, ◌∙◌, ap, arith}
 use Rattle.fact_types.specs.Layout.{enum_layout, variant_info}
 use Rattle.fact_types.specs.Shapes.{k_enum}
-use Rattle.fact_types.proofs.StandLaws.{enum_stands}
-use Rattle.fact_making.proofs.MakingLaws.{few_of, names_count, enum_info, does_not_fit, enum_made}
+use Rattle.fact_types.proofs.StandLaws.{enum_stands, names_count}
+use Rattle.fact_making.proofs.MakingLaws.{few_of, enum_info, does_not_fit, enum_made}
 use Rattle.fact_making.proofs.sums.make_enum.Goals as goal
 
 pub returns-in_default : goal.returns-in_default

@@ -1,8 +1,8 @@
 use Rattle.std.proofs.Common.{◌≡◌, ◌≤◌, length, ◌∙◌, ap, arith}
 use Rattle.fact_types.specs.Layout.{flags_layout}
 use Rattle.fact_types.specs.Shapes.{k_flags}
-use Rattle.fact_types.proofs.StandLaws.{flags_stands}
-use Rattle.fact_making.proofs.MakingLaws.{failed, passed, names_count, does_not_fit, flags_made}
+use Rattle.fact_types.proofs.StandLaws.{flags_stands, names_count}
+use Rattle.fact_making.proofs.MakingLaws.{failed, passed, does_not_fit, flags_made}
 use Rattle.fact_making.proofs.sums.make_flags.Goals as goal
 
 pub returns-then-not-flags_fits : goal.returns-then-not-flags_fits

@@ -1,7 +1,8 @@
 use Rattle.std.proofs.Common.{refl, ap, ◌∙◌, true}
 use Rattle.fact_module.specs.contracts.state.ModuleState.{the_view}
 use Rattle.fact_module.specs.Emitted.{flags, flags_import}
-use Rattle.fact_module.proofs.Exact.{exact_key, same_key}
+use Rattle.fact_types.specs.Exact.{exact_key}
+use Rattle.fact_module.proofs.Exact.{same_key}
 use Rattle.fact_module.proofs.Sections.{flags-interned, interned-at, interned-new}
 use Rattle.fact_module.proofs.StateLaws.{absent-known, has-import, has-known, whole-again, with-flags}
 use Rattle.fact_module.proofs.state.ModuleState.import_flags.Goals as goal

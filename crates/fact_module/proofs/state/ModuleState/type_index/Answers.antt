@@ -3,7 +3,7 @@ use Rattle.fact_wasm.specs.declared.types.FuncType.{FuncType}
 use Rattle.fact_wasm.specs.contracts.types.FuncTypePartialEq.TheImpl as func_eq
 use Rattle.fact_wasm.specs.contracts.types.FuncTypeEq.TheImpl.Laws.{laws-law}
 use Rattle.fact_module.specs.contracts.state.ModuleState.{the_view}
-use Rattle.fact_module.proofs.Exact.{exact_func}
+use Rattle.fact_wasm.proofs.Signatures.{exact_func}
 use Rattle.fact_module.proofs.Sections.{interned-at, interned-new}
 use Rattle.fact_module.proofs.StateLaws.{has-new, whole-again, with-type}
 use Rattle.fact_module.proofs.state.ModuleState.type_index.Goals as goal
