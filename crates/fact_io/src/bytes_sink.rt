@@ -1,6 +1,6 @@
 //! A sink in memory.
 
-ghost use Rattle.std.specs.Prelude.{◌≡◌, ◌≤◌, ◌<◌, ◌+◌, ◌-◌, ◌++◌, ◌⊎◌, ◌↔◌, [], Some, min, take, length, vec_len, vec_capacity, Contains, IfOk, OnErr, IsErr};
+ghost use Rattle.std.specs.Prelude.{◌≡◌, ◌≤◌, ◌<◌, ◌+◌, ◌-◌, ◌++◌, ◌⊎◌, ◌↔◌, [], Some, min, take, length, vec_len, vec_capacity, Contains, IfOk, OnOk, OnErr, IsErr};
 ghost use Rattle.std.specs.Io.{WritesAtMost};
 ghost use Rattle.std.specs.Io.KnownBytes.{WriteAppends};
 ghost use Rattle.fact_io.specs.Faults.{Rose, next_count};
@@ -87,6 +87,7 @@ impl Sink for BytesSink {
         ensures some { IfOk result (λ n. 0 < length piece.now → 1 ≤ n) }
         ensures bytes { WriteAppends (Some self.old.written) (Some self.new.written) result piece.now }
         ensures rose { OnErr result (Rose self.old.faults self.new.faults) }
+        ensures no_fault { OnOk result (self.new.faults ≡ self.old.faults) }
         ensures never_falls { self.old.faults ≤ self.new.faults }
 
         // Exactly the listed calls fail, and those that have bytes to write and no room for them. Each other call takes

@@ -1,6 +1,6 @@
 //! A source in memory.
 
-ghost use Rattle.std.specs.Prelude.{◌≡◌, ◌≤◌, ◌+◌, ◌↔◌, Some, min, drop, length, vec_len, Contains, IfOk, OnErr, IsErr};
+ghost use Rattle.std.specs.Prelude.{◌≡◌, ◌≤◌, ◌+◌, ◌↔◌, Some, min, drop, length, vec_len, Contains, IfOk, OnOk, OnErr, IsErr};
 ghost use Rattle.std.specs.Io.{ReadsAtMost};
 ghost use Rattle.std.specs.Io.KnownBytes.{ReadConsumes};
 ghost use Rattle.fact_io.specs.Faults.{Rose, next_count};
@@ -68,6 +68,7 @@ impl Source for BytesSource {
         ensures bound { ReadsAtMost result buf.new }
         ensures bytes { ReadConsumes (Some self.old.left) (Some self.new.left) result buf.new }
         ensures rose { OnErr result (Rose self.old.faults self.new.faults) }
+        ensures no_fault { OnOk result (self.new.faults ≡ self.old.faults) }
         ensures never_falls { self.old.faults ≤ self.new.faults }
 
         // Exactly the listed calls fail, and each other call takes all that it may.

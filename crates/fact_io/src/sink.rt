@@ -1,6 +1,6 @@
 //! A sink of bytes.
 
-ghost use Rattle.std.specs.Prelude.{List, ℕ, ◌<◌, ◌≤◌, Some, length, IfOk, OnErr, codes};
+ghost use Rattle.std.specs.Prelude.{List, ℕ, ◌≡◌, ◌<◌, ◌≤◌, Some, length, IfOk, OnOk, OnErr, codes};
 ghost use Rattle.std.specs.declared.option.Option.{Option};
 ghost use Rattle.std.specs.Io.{WritesAtMost};
 ghost use Rattle.std.specs.Io.KnownBytes.{WriteAppends};
@@ -37,5 +37,6 @@ pub trait Sink {
         ensures some { IfOk result (λ n. 0 < length piece.now → 1 ≤ n) }
         ensures bytes { WriteAppends (written self.old) (written self.new) result piece.now }
         ensures rose { OnErr result (Rose (faults self.old) (faults self.new)) }
+        ensures no_fault { OnOk result (faults self.new ≡ faults self.old) }
         ensures never_falls { faults self.old ≤ faults self.new };
 }

@@ -43,8 +43,8 @@ impl<R: Read> Source for ReaderSource<R> {
         ensures bound { ReadsAtMost result buf.new }
         ensures bytes { ReadConsumes self.old.left self.new.left result buf.new }
         ensures rose { OnErr result (Rose self.old.faults self.new.faults) }
+        ensures no_fault { OnOk result (self.new.faults ≡ self.old.faults) }
         ensures never_falls { self.old.faults ≤ self.new.faults }
-        ensures ok { OnOk result (self.new.faults ≡ self.old.faults) }
         ensures err { OnErr result (self.new.faults ≡ next_count self.old.faults) }
     {
         match self.reader.read(buf) {
@@ -91,8 +91,8 @@ impl<W: Write> Sink for WriterSink<W> {
         ensures some { IfOk result (λ n. 0 < length piece.now → 1 ≤ n) }
         ensures bytes { WriteAppends self.old.written self.new.written result piece.now }
         ensures rose { OnErr result (Rose self.old.faults self.new.faults) }
+        ensures no_fault { OnOk result (self.new.faults ≡ self.old.faults) }
         ensures never_falls { self.old.faults ≤ self.new.faults }
-        ensures ok { OnOk result (self.new.faults ≡ self.old.faults) }
         ensures err { OnErr result (self.new.faults ≡ next_count self.old.faults) }
     {
         match self.writer.write(piece) {

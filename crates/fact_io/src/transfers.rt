@@ -77,6 +77,7 @@ fn read_piece<S: Source>(
     ensures not_too_long { result ≢ Err InputError.TooLong }
     ensures fault { IsErrOf result InputError.Fault
         → Rose (S.faults source.old) (S.faults source.new) }
+    ensures no_fault { result ≢ Err InputError.Fault → S.faults source.new ≡ S.faults source.old }
     ensures never_falls { S.faults source.old ≤ S.faults source.new }
 {
     let count = source.read(buf)?;
@@ -92,10 +93,10 @@ pub fn read_all<S: Source>(alloc: Global, source: &mut S) -> Result<Vec<u8>, Inp
     ensures within { IfOk result (λ bytes. vec_len bytes ≤ INPUT_LIMIT) }
     ensures too_long { IsErrOf result InputError.TooLong
         → TakesPast (S.left source.old) (S.left source.new) INPUT_LIMIT }
-    ensures err { OnErr result
-        (TakesUpTo (S.left source.old) (S.left source.new) (INPUT_LIMIT + 1)) }
+    ensures most { TakesUpTo (S.left source.old) (S.left source.new) (INPUT_LIMIT + 1) }
     ensures fault { IsErrOf result InputError.Fault
         → Rose (S.faults source.old) (S.faults source.new) }
+    ensures no_fault { result ≢ Err InputError.Fault → S.faults source.new ≡ S.faults source.old }
     ensures never_falls { S.faults source.old ≤ S.faults source.new }
 {
     let mut buf = [0; PIECE];
@@ -114,6 +115,7 @@ pub fn write_text<K: Sink>(out: &mut K, text: &[u8]) -> Result<(), WriteFailed>
     ensures whole { OnOk result (Appends (K.written out.old) (K.written out.new) text.now) }
     ensures part { OnErr result (AppendsFront (K.written out.old) (K.written out.new) text.now) }
     ensures rose { OnErr result (Rose (K.faults out.old) (K.faults out.new)) }
+    ensures no_fault { OnOk result (K.faults out.new ≡ K.faults out.old) }
     ensures never_falls { K.faults out.old ≤ K.faults out.new }
 {
     let mut at = 0;

@@ -11,5 +11,5 @@ pub pieces-preserved : goal.pieces-preserved
 pieces-preserved g c = record {
   within = omega (arith, c.in_ok-count.ensures.bound, length-drop c.pieces.at c.args.text.now);
   appended = Appends-more _ _ _ c.args.text.now c.pieces.at c.in_ok-count.count c.pieces.invariant.appended (rw (← take_rest c.args.text.now c.pieces.at) c.in_ok-count.ensures.bytes);
-  not_fallen = omega (arith, c.pieces.invariant.not_fallen, c.in_ok-count.ensures.never_falls);
+  no_fault = omega (arith, c.pieces.invariant.no_fault, c.in_ok-count.ensures.no_fault);
 }
