@@ -3,8 +3,9 @@ use Rattle.std.proofs.Common.{◌≡◌, ◌≢◌, ℕ, zero, suc, ◌≤◌, �
 use Rattle.std.specs.Prelude.{⊤, IsSome, nat_lt}
 use Rattle.std.proofs.lemmas.Bool.{lt-ltb, le-ltb}
 use Rattle.std.specs.Io.KnownBytes.{Appends}
+use Rattle.std.proofs.KnownBytes.{Consumes-nil}
 use Rattle.serde_json.specs.Data.{Data}
-use Rattle.fact_io.specs.Transfers.{AppendsFront, TakesAll}
+use Rattle.fact_io.specs.Transfers.{AppendsFront, TakesAll, TakesPast, TakesUpTo}
 use Rattle.fact_io.specs.Faults.{Rose}
 use Rattle.fact_plan.specs.declared.plan.FusePlan.{FusePlan}
 use Rattle.fact_plan.specs.declared.fault.PlanFault.{PlanFault}
@@ -26,7 +27,7 @@ use Rattle.fact_run.specs.declared.command.CommandOptions.{CommandOptions}
 use Rattle.fact_run.specs.Command.{reading}
 use Rattle.fact_run.specs.Refusal.{refusal_line}
 use Rattle.fact_run.specs.Status.{line_of}
-use Rattle.fact_run.specs.Run.{Answers, HoldsBuilt, HoldsFault, HoldsNoJson, HoldsPlan, HoldsRefusal, HoldsUnbuilt, IsOrMemory, IsTooLong, IsUndisturbed, Read, ReadPast, TellsLine, limit}
+use Rattle.fact_run.specs.Run.{SendsPage, HoldsBuilt, HoldsFault, HoldsNoJson, HoldsPlan, HoldsRefusal, HoldsUnbuilt, IsOrMemory, IsTooLong, IsUndisturbed, Read, TellsLine, limit}
 
 -- ---- from what was read to a reply
 
@@ -74,6 +75,10 @@ replied-plan o bytes p reply.ReadFault h e = absurd e
 replied-plan o bytes p reply.TooLong h e = absurd e
 replied-plan o bytes p reply.NotJson h e = absurd e
 
+-- a source of which nothing was taken
+pub untaken : (left : Option (List ℕ)) (most : ℕ) → TakesUpTo left left most
+untaken left most = record { bytes = []; taken = Consumes-nil left; within = omega arith }
+
 -- all the bytes of a source
 pub replied : (o : CommandOptions) (left left' : Option (List ℕ)) (fault : Type 0) (bytes : List ℕ) (r : Reply) → TakesAll left left' bytes → IsReplyTo o bytes r → IsReply o left left' fault r
 replied o left left' fault bytes (reply.Page text) all h = record { bytes = bytes; all = all; is_so = h }
@@ -88,11 +93,11 @@ replied o left left' fault bytes reply.OutOfMemory all h = tt
 -- ---- from a reply to an end
 
 -- what was sent of a text
-sent-as : (o : CommandOptions) (bytes : List ℕ) (P Q : List ℕ → Type 0) → ((t : List ℕ) → P t → Q t) → Answers o bytes P → Answers o bytes Q
+sent-as : (o : CommandOptions) (bytes : List ℕ) (P Q : List ℕ → Type 0) → ((t : List ℕ) → P t → Q t) → SendsPage o bytes P → SendsPage o bytes Q
 sent-as o bytes P Q f a = record { holds = a.holds; text = a.text; prints = a.prints; sent = f a.text a.sent }
 
 -- the text that a source comes to was sent
-pub sent-of : (o : CommandOptions) (left left' : Option (List ℕ)) (text : List ℕ) (Q : List ℕ → Type 0) → Read left left' (λ bytes. Answers o bytes (λ sent. sent ≡ text)) → Q text → Read left left' (λ bytes. Answers o bytes Q)
+pub sent-of : (o : CommandOptions) (left left' : Option (List ℕ)) (text : List ℕ) (Q : List ℕ → Type 0) → Read left left' (λ bytes. SendsPage o bytes (λ sent. sent ≡ text)) → Q text → Read left left' (λ bytes. SendsPage o bytes Q)
 sent-of o left left' text Q r q = record {
   bytes = r.bytes;
   all = r.all;
@@ -164,17 +169,17 @@ all-taken bytes (Some ys) taken all = sym (all.taken ∙ ap (λ (t : List ℕ). 
 so : (bytes : List ℕ) (left' : Option (List ℕ)) (P : List ℕ → Type 0) → Read (Some bytes) left' P → P bytes
 so bytes left' P r = subst P (all-taken bytes left' r.bytes r.all) r.is_so
 
-past : (bytes : List ℕ) (left' : Option (List ℕ)) → ReadPast (Some bytes) left' → IsTooLong bytes
+past : (bytes : List ℕ) (left' : Option (List ℕ)) → TakesPast (Some bytes) left' limit → IsTooLong bytes
 past bytes None r = absurd r.taken
 past bytes (Some ys) r = omega (arith, r.past, ap length r.taken, length-append r.bytes ys)
 
 -- an end without a fault, of a run whose words are read, tells what the bytes hold
 end-of : (words : List (List ℕ)) (bytes : List ℕ) (left' : Option (List ℕ)) (read : Type 0) (old new : Option (List ℕ)) (write : Type 0) (s : Status) (line : List ℕ)
     → IsEnding words (Some bytes) left' read old new write s line → IsSome (reading words) → (read → ⊥) → IsOf s bytes ⊎ (s ≡ status.OutOfMemory)
-end-of words bytes left' read old new write status.Done line h given none = inl (so bytes left' (λ b. Answers h.0 b (λ text. Appends old new text)) h.2.0).holds
+end-of words bytes left' read old new write status.Done line h given none = inl (so bytes left' (λ b. SendsPage h.0 b (λ text. Appends old new text)) h.2.0).holds
 end-of words bytes left' read old new write status.Usage line h given none = absurd (true≢false (sym (subst IsSome h.0 given)))
 end-of words bytes left' read old new write status.ReadFault line h given none = absurd (none h.2.0)
-end-of words bytes left' read old new write status.WriteFault line h given none = inl (so bytes left' (λ b. Answers h.0 b (λ text. AppendsFront old new text)) h.2.1).holds
+end-of words bytes left' read old new write status.WriteFault line h given none = inl (so bytes left' (λ b. SendsPage h.0 b (λ text. AppendsFront old new text)) h.2.1).holds
 end-of words bytes left' read old new write status.TooLong line h given none = inl (past bytes left' h.2.0)
 end-of words bytes left' read old new write status.NotJson line h given none = inl (so bytes left' HoldsNoJson h.2.0)
 end-of words bytes left' read old new write status.BadPlan line h given none = let t = so bytes left' _ h.2.0 in inl (t.fault, t.holds)
@@ -333,12 +338,12 @@ is-end words left left' read old new write s t line h e =
 -- what was written at an end that says so
 pub printed : (words : List (List ℕ)) (left left' : Option (List ℕ)) (read : Type 0) (old new : Option (List ℕ)) (write : Type 0) (s : Status) (line : List ℕ)
     → IsEnding words left left' read old new write s line → s ≡ status.Done
-    → (o : CommandOptions) × (reading words ≡ Some o) × Read left left' (λ bytes. Answers o bytes (λ text. Appends old new text))
+    → (o : CommandOptions) × (reading words ≡ Some o) × Read left left' (λ bytes. SendsPage o bytes (λ text. Appends old new text))
 printed words left left' read old new write s line h e = let k = is-end words left left' read old new write s status.Done line h e in (k.0, k.1, k.2.0)
 
 pub printed-front : (words : List (List ℕ)) (left left' : Option (List ℕ)) (read : Type 0) (old new : Option (List ℕ)) (write : Type 0) (s : Status) (line : List ℕ)
     → IsEnding words left left' read old new write s line → s ≡ status.WriteFault
-    → (o : CommandOptions) × (reading words ≡ Some o) × Read left left' (λ bytes. Answers o bytes (λ text. AppendsFront old new text))
+    → (o : CommandOptions) × (reading words ≡ Some o) × Read left left' (λ bytes. SendsPage o bytes (λ text. AppendsFront old new text))
 printed-front words left left' read old new write s line h e = let k = is-end words left left' read old new write s status.WriteFault line h e in (k.0, k.1, k.2.1)
 
 -- a line that was written, whole or in part

@@ -1,7 +1,8 @@
+-- Cited by private clauses alone.
 -- What an inner answer and an ending say of the source and of the sink.
 use Rattle.std.specs.Prelude.{ℕ, ◌≡◌, List, Option, Some, None, string_bytes}
 use Rattle.std.specs.Io.KnownBytes.{Appends, Keeps}
-use Rattle.fact_io.specs.Transfers.{AppendsFront}
+use Rattle.fact_io.specs.Transfers.{AppendsFront, TakesPast}
 use Rattle.fact_plan.specs.declared.fault.PlanFault.{PlanFault}
 use Rattle.fact_plan.specs.declared.plan.FusePlan.{FusePlan}
 use Rattle.fact_plan.specs.Built.{IsBuilt}
@@ -16,7 +17,7 @@ use Rattle.fact_plan_types.specs.Faults.{Fault}
 use Rattle.fact_checks.specs.FirstFault.{IsFaultless, IsFirstAt}
 use Rattle.fact_run.specs.Command.{reading}
 use Rattle.fact_run.specs.Refusal.{refusal_line}
-use Rattle.fact_run.specs.Run.{Answers, HoldsFault, HoldsNoJson, HoldsRefusal, HoldsUnbuilt, Prints, Read, ReadPast}
+use Rattle.fact_run.specs.Run.{SendsPage, HoldsFault, HoldsNoJson, HoldsRefusal, HoldsUnbuilt, Prints, Read, limit}
 use Rattle.fact_run.specs.Status.{line_of}
 
 -- the line tells the fault that the bytes hold
@@ -61,7 +62,7 @@ IsReplyToPlan o p _ = ⊥
 
 -- what some bytes, no more than an input may have, come to
 abbrev pub IsReplyTo : CommandOptions → List ℕ → Reply → Type 0
-IsReplyTo o bytes (reply.Page text) = Answers o bytes (λ sent. sent ≡ string_bytes text)
+IsReplyTo o bytes (reply.Page text) = SendsPage o bytes (λ sent. sent ≡ string_bytes text)
 IsReplyTo o bytes reply.ReadFault = ⊥
 IsReplyTo o bytes reply.TooLong = ⊥
 IsReplyTo o bytes reply.NotJson = HoldsNoJson bytes
@@ -73,7 +74,7 @@ IsReplyTo o bytes reply.OutOfMemory = Unit {0}
 -- what a source comes to
 abbrev pub IsReply : CommandOptions → Option (List ℕ) → Option (List ℕ) → Type 0 → Reply → Type 0
 IsReply o left left' fault reply.ReadFault = fault
-IsReply o left left' fault reply.TooLong = ReadPast left left'
+IsReply o left left' fault reply.TooLong = TakesPast left left' limit
 IsReply o left left' fault reply.OutOfMemory = Unit {0}
 IsReply o left left' fault r = Read left left' (λ bytes. IsReplyTo o bytes r)
 
@@ -83,20 +84,20 @@ line_in s None = line_of s
 line_in s (Some line) = line
 
 -- how a run with these options ends, with the line that tells it
-abbrev pub IsEnd : CommandOptions → Option (List ℕ) → Option (List ℕ) → Type 0 → Option (List ℕ) → Option (List ℕ) → Type 0 → Status → List ℕ → Type 0
-IsEnd o left left' read old new write status.Done line = Read left left' (λ bytes. Answers o bytes (λ text. Appends old new text)) × (line ≡ line_of status.Done)
-IsEnd o left left' read old new write status.Usage line = ⊥
-IsEnd o left left' read old new write status.ReadFault line = read × Keeps old new × (line ≡ line_of status.ReadFault)
-IsEnd o left left' read old new write status.WriteFault line = write × Read left left' (λ bytes. Answers o bytes (λ text. AppendsFront old new text)) × (line ≡ line_of status.WriteFault)
-IsEnd o left left' read old new write status.TooLong line = ReadPast left left' × Keeps old new × (line ≡ line_of status.TooLong)
-IsEnd o left left' read old new write status.NotJson line = Read left left' HoldsNoJson × Keeps old new × (line ≡ line_of status.NotJson)
-IsEnd o left left' read old new write status.BadPlan line = Read left left' (λ bytes. TellsFault bytes line) × Keeps old new
-IsEnd o left left' read old new write status.Refused line = Read left left' (λ bytes. TellsRefusalIn bytes line) × Keeps old new
-IsEnd o left left' read old new write status.OutOfMemory line = Keeps old new × (line ≡ line_of status.OutOfMemory)
-IsEnd o left left' read old new write status.NotBuilt line = Read left left' HoldsUnbuilt × Keeps old new × (line ≡ line_of status.NotBuilt)
+abbrev pub IsEndUnder : CommandOptions → Option (List ℕ) → Option (List ℕ) → Type 0 → Option (List ℕ) → Option (List ℕ) → Type 0 → Status → List ℕ → Type 0
+IsEndUnder o left left' read old new write status.Done line = Read left left' (λ bytes. SendsPage o bytes (λ text. Appends old new text)) × (line ≡ line_of status.Done)
+IsEndUnder o left left' read old new write status.Usage line = ⊥
+IsEndUnder o left left' read old new write status.ReadFault line = read × Keeps old new × (line ≡ line_of status.ReadFault)
+IsEndUnder o left left' read old new write status.WriteFault line = write × Read left left' (λ bytes. SendsPage o bytes (λ text. AppendsFront old new text)) × (line ≡ line_of status.WriteFault)
+IsEndUnder o left left' read old new write status.TooLong line = TakesPast left left' limit × Keeps old new × (line ≡ line_of status.TooLong)
+IsEndUnder o left left' read old new write status.NotJson line = Read left left' HoldsNoJson × Keeps old new × (line ≡ line_of status.NotJson)
+IsEndUnder o left left' read old new write status.BadPlan line = Read left left' (λ bytes. TellsFault bytes line) × Keeps old new
+IsEndUnder o left left' read old new write status.Refused line = Read left left' (λ bytes. TellsRefusalIn bytes line) × Keeps old new
+IsEndUnder o left left' read old new write status.OutOfMemory line = Keeps old new × (line ≡ line_of status.OutOfMemory)
+IsEndUnder o left left' read old new write status.NotBuilt line = Read left left' HoldsUnbuilt × Keeps old new × (line ≡ line_of status.NotBuilt)
 
 -- how a run ends
 abbrev pub IsEnding : List (List ℕ) → Option (List ℕ) → Option (List ℕ) → Type 0 → Option (List ℕ) → Option (List ℕ) → Type 0 → Status → List ℕ → Type 0
 IsEnding words left left' read old new write status.Usage line = (reading words ≡ None) × Keeps old new × (line ≡ line_of status.Usage)
 IsEnding words left left' read old new write status.OutOfMemory line = Keeps old new × (line ≡ line_of status.OutOfMemory)
-IsEnding words left left' read old new write s line = (o : CommandOptions) × (reading words ≡ Some o) × IsEnd o left left' read old new write s line
+IsEnding words left left' read old new write s line = (o : CommandOptions) × (reading words ≡ Some o) × IsEndUnder o left left' read old new write s line

@@ -1,6 +1,6 @@
 -- What a run reads and writes.
 use Rattle.std.specs.Prelude.{ℕ, ◌≡◌, ◌≤◌, ◌<◌, List, [], ◌∷◌, ◌++◌, length, Bool, ◌||◌, if◌then◌else◌, Option, Some, None, IsSome, Ok, Err, ◌⊎◌}
-use Rattle.std.specs.Io.KnownBytes.{Appends, Consumes}
+use Rattle.std.specs.Io.KnownBytes.{Appends}
 use Rattle.hex.specs.Hex.{encode_lower}
 use Rattle.serde_json.specs.Data.{Data}
 use Rattle.fact_wasm.specs.declared.module.WasmModule.{WasmModule}
@@ -96,7 +96,7 @@ pub record Prints (o : CommandOptions) (p : FusePlan) (text : List ℕ) : Type 0
   pub is_page : text ≡ page fused.bytes fused.imports o.imports
 
 -- The bytes hold a plan that is built, and of the text that prints its module this was sent.
-pub record Answers (o : CommandOptions) (bytes : List ℕ) (Sent : List ℕ → Type 0) : Type 0 where
+pub record SendsPage (o : CommandOptions) (bytes : List ℕ) (Sent : List ℕ → Type 0) : Type 0 where
   pub holds : HoldsBuilt bytes
   pub text : List ℕ
   pub prints : Prints o holds.plan text
@@ -109,12 +109,6 @@ pub record Read (left left' : Option (List ℕ)) (P : List ℕ → Type 0) : Typ
   pub bytes : List ℕ
   pub all : TakesAll left left' bytes
   pub is_so : P bytes
-
--- More was taken than an input may have.
-pub record ReadPast (left left' : Option (List ℕ)) : Type 0 where
-  pub bytes : List ℕ
-  pub taken : Consumes left left' bytes
-  pub past : IsTooLong bytes
 
 -- A front of the line was appended, and all of it where no fault rose.
 pub record TellsLine (old new : Option (List ℕ)) (before now : ℕ) (line : List ℕ) : Type 0 where

@@ -3,17 +3,17 @@ use Rattle.std.specs.Prelude.{ℕ, List, [], codes}
 use Rattle.fact_run.specs.declared.status.Status.{Status}
 use Rattle.fact_run.specs.declared.status.Status.TheVariants as status
 
-abbrev pub number_of : Status → ℕ
-number_of status.Done = 0
-number_of status.Usage = 2
-number_of status.ReadFault = 3
-number_of status.WriteFault = 4
-number_of status.TooLong = 5
-number_of status.NotJson = 6
-number_of status.BadPlan = 7
-number_of status.Refused = 8
-number_of status.OutOfMemory = 9
-number_of status.NotBuilt = 10
+abbrev pub exit_status_of : Status → ℕ
+exit_status_of status.Done = 0
+exit_status_of status.Usage = 2
+exit_status_of status.ReadFault = 3
+exit_status_of status.WriteFault = 4
+exit_status_of status.TooLong = 5
+exit_status_of status.NotJson = 6
+exit_status_of status.BadPlan = 7
+exit_status_of status.Refused = 8
+exit_status_of status.OutOfMemory = 9
+exit_status_of status.NotBuilt = 10
 
 -- the line of an end that is told alike for every input; nothing for the others
 abbrev pub line_of : Status → List ℕ

@@ -1,7 +1,8 @@
 //! From the source to what there is to tell.
 
-ghost use Rattle.std.specs.Prelude.{◌≡◌, ◌≤◌, length, string_bytes, IfOk, MatchResult};
+ghost use Rattle.std.specs.Prelude.{◌≡◌, ◌≢◌, ◌≤◌, ◌+◌, length, string_bytes, IfOk, MatchResult};
 ghost use Rattle.fact_io.specs.Faults.{Rose};
+ghost use Rattle.fact_io.specs.Transfers.{TakesUpTo};
 ghost use Rattle.fact_plan.specs.Built.{IsBuilt};
 ghost use Rattle.fact_plan_types.specs.PlanTypes.{told};
 ghost use Rattle.fact_run.specs.declared.answer.Reply.TheVariants as reply;
@@ -144,7 +145,9 @@ fn reply_to(alloc: Global, bytes: &[u8], options: CommandOptions) -> Reply
 /// What all that the source has comes to.
 pub fn reply_of<S: Source>(alloc: Global, source: &mut S, options: CommandOptions) -> Reply
     requires { 1 ≤ options.fuel }
-    ensures { IsReply options (S.left source.old) (S.left source.new) (Rose (S.faults source.old) (S.faults source.new)) result }
+    ensures reply { IsReply options (S.left source.old) (S.left source.new) (Rose (S.faults source.old) (S.faults source.new)) result }
+    ensures most { TakesUpTo (S.left source.old) (S.left source.new) (limit + 1) }
+    ensures no_fault { result ≢ Reply.ReadFault → S.faults source.new ≡ S.faults source.old }
 {
     match read_all(alloc, source) {
         Ok(bytes) => reply_to(alloc, &bytes, options),

@@ -1,7 +1,7 @@
 //! How a run ends.
 
 ghost use Rattle.std.specs.Prelude.{◌≡◌};
-ghost use Rattle.fact_run.specs.Status.{line_of, number_of};
+ghost use Rattle.fact_run.specs.Status.{line_of, exit_status_of};
 
 /// How a run ended.
 #[derive(Clone, Copy, Debug, Drop, PartialEq, Eq)]
@@ -31,7 +31,7 @@ pub enum Status {
 impl Status {
     /// The exit status of the program.
     pub fn number(self) -> u8
-        ensures { result ≡ number_of self }
+        ensures { result ≡ exit_status_of self }
     {
         match self {
             Status::Done => 0,

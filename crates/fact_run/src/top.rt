@@ -1,9 +1,9 @@
 //! The top call.
 
-ghost use Rattle.std.specs.Prelude.{◌≡◌, ◌≢◌, ◌≤◌, IfSome, None, Some, map, option_map, string_bytes};
+ghost use Rattle.std.specs.Prelude.{◌≡◌, ◌≢◌, ◌≤◌, ◌+◌, IfSome, None, Some, map, option_map, string_bytes};
 ghost use Rattle.std.specs.Io.KnownBytes.{Appends, Keeps};
 ghost use Rattle.fact_io.specs.Faults.{Rose};
-ghost use Rattle.fact_io.specs.Transfers.{AppendsFront};
+ghost use Rattle.fact_io.specs.Transfers.{AppendsFront, TakesPast, TakesUpTo};
 ghost use Rattle.fact_plan.specs.Fault.{fault_line};
 ghost use Rattle.fact_plan.specs.declared.fault.PlanFault.{PlanFault};
 ghost use Rattle.fact_plan_types.specs.declared.error.Place.{Place};
@@ -11,8 +11,8 @@ ghost use Rattle.fact_plan_types.specs.Faults.{Fault};
 ghost use Rattle.fact_run.specs.declared.command.CommandOptions.{CommandOptions};
 ghost use Rattle.fact_run.specs.Command.{reading};
 ghost use Rattle.fact_run.specs.Refusal.{refusal_line};
-ghost use Rattle.fact_run.specs.Answer.{IsEnd, IsEnding, line_in};
-ghost use Rattle.fact_run.specs.Run.{Answers, HoldsBuilt, HoldsFault, HoldsNoJson, HoldsRefusal, HoldsUnbuilt, IsOrMemory, IsTooLong, IsUndisturbed, Read, ReadPast, TellsLine};
+ghost use Rattle.fact_run.specs.Answer.{IsEndUnder, IsEnding, line_in};
+ghost use Rattle.fact_run.specs.Run.{SendsPage, HoldsBuilt, HoldsFault, HoldsNoJson, HoldsRefusal, HoldsUnbuilt, IsOrMemory, IsTooLong, IsUndisturbed, Read, TellsLine, limit};
 ghost use Rattle.fact_run.specs.Status.{line_of};
 
 use crate::answer::{Reply, reply_of};
@@ -30,8 +30,12 @@ fn end<S: Source, K: Sink>(
     out: &mut K,
 ) -> Ending
     requires { 1 ≤ options.fuel }
-    ensures { IsEnd options (S.left source.old) (S.left source.new) (Rose (S.faults source.old) (S.faults source.new))
+    ensures end { IsEndUnder options (S.left source.old) (S.left source.new) (Rose (S.faults source.old) (S.faults source.new))
         (K.written out.old) (K.written out.new) (Rose (K.faults out.old) (K.faults out.new)) result.status (line_in result.status (option_map string_bytes result.told)) }
+    ensures most { TakesUpTo (S.left source.old) (S.left source.new) (limit + 1) }
+    ensures taken { result.status ≢ Status.Usage }
+    ensures no_read_fault { result.status ≢ Status.ReadFault → S.faults source.new ≡ S.faults source.old }
+    ensures no_write_fault { result.status ≢ Status.WriteFault → K.faults out.new ≡ K.faults out.old }
 {
     match reply_of(alloc, source, options) {
         Reply::Page(text) => match write_text(out, text.as_bytes()) {
@@ -55,8 +59,12 @@ fn ending_of<S: Source, K: Sink>(
     source: &mut S,
     out: &mut K,
 ) -> Ending
-    ensures { IsEnding (map string_bytes words.now) (S.left source.old) (S.left source.new) (Rose (S.faults source.old) (S.faults source.new))
+    ensures end { IsEnding (map string_bytes words.now) (S.left source.old) (S.left source.new) (Rose (S.faults source.old) (S.faults source.new))
         (K.written out.old) (K.written out.new) (Rose (K.faults out.old) (K.faults out.new)) result.status (line_in result.status (option_map string_bytes result.told)) }
+    ensures most { TakesUpTo (S.left source.old) (S.left source.new) (limit + 1) }
+    ensures untouched { result.status ≡ Status.Usage → source.new ≡ source.old }
+    ensures no_read_fault { result.status ≢ Status.ReadFault → S.faults source.new ≡ S.faults source.old }
+    ensures no_write_fault { result.status ≢ Status.WriteFault → K.faults out.new ≡ K.faults out.old }
 {
     match command_of(alloc, words) {
         Ok(Some(options)) => end(alloc, options, source, out),
@@ -80,7 +88,7 @@ pub fn run<S: Source, K: Sink, E: Sink>(
     // Why each end comes.
     ensures usage { result ≡ Status.Usage → reading (map string_bytes words.now) ≡ None }
     ensures read_fault { result ≡ Status.ReadFault → Rose (S.faults source.old) (S.faults source.new) }
-    ensures too_long { result ≡ Status.TooLong → ReadPast (S.left source.old) (S.left source.new) }
+    ensures too_long { result ≡ Status.TooLong → TakesPast (S.left source.old) (S.left source.new) limit }
     ensures not_json { result ≡ Status.NotJson → Read (S.left source.old) (S.left source.new) HoldsNoJson }
     ensures bad_plan { result ≡ Status.BadPlan → Read (S.left source.old) (S.left source.new) (λ bytes. (f : PlanFault)
         × HoldsFault bytes f × TellsLine (E.written err.old) (E.written err.new) (E.faults err.old) (E.faults err.new) (fault_line f)) }
@@ -89,7 +97,14 @@ pub fn run<S: Source, K: Sink, E: Sink>(
     ensures not_built { result ≡ Status.NotBuilt → Read (S.left source.old) (S.left source.new) HoldsUnbuilt }
     ensures write_fault { result ≡ Status.WriteFault → Rose (K.faults out.old) (K.faults out.new) }
     ensures done { result ≡ Status.Done → (o : CommandOptions) × (reading (map string_bytes words.now) ≡ Some o)
-        × Read (S.left source.old) (S.left source.new) (λ bytes. Answers o bytes (λ text. Appends (K.written out.old) (K.written out.new) text)) }
+        × Read (S.left source.old) (S.left source.new) (λ bytes. SendsPage o bytes (λ text. Appends (K.written out.old) (K.written out.new) text)) }
+
+    // Which calls failed, and what was taken: at every end but a read fault no read failed, at every end but a write fault no
+    // write to `out`; no command takes nothing, and no input more than one byte past the limit.
+    ensures no_read_fault { result ≢ Status.ReadFault → S.faults source.new ≡ S.faults source.old }
+    ensures no_write_fault { result ≢ Status.WriteFault → K.faults out.new ≡ K.faults out.old }
+    ensures untouched { result ≡ Status.Usage → source.new ≡ source.old }
+    ensures most { TakesUpTo (S.left source.old) (S.left source.new) (limit + 1) }
 
     // The other way round: of the words, and where these are read, the source tells its bytes and no read failed, of the bytes.
     ensures exactly_usage { reading (map string_bytes words.now) ≡ None → IsOrMemory Status.Usage result }
@@ -109,7 +124,7 @@ pub fn run<S: Source, K: Sink, E: Sink>(
 
     // What was written.
     ensures part { result ≡ Status.WriteFault → (o : CommandOptions) × (reading (map string_bytes words.now) ≡ Some o)
-        × Read (S.left source.old) (S.left source.new) (λ bytes. Answers o bytes (λ text. AppendsFront (K.written out.old) (K.written out.new) text)) }
+        × Read (S.left source.old) (S.left source.new) (λ bytes. SendsPage o bytes (λ text. AppendsFront (K.written out.old) (K.written out.new) text)) }
     ensures kept { result ≢ Status.Done → result ≢ Status.WriteFault → Keeps (K.written out.old) (K.written out.new) }
     ensures told { result ≢ Status.BadPlan → result ≢ Status.Refused
         → TellsLine (E.written err.old) (E.written err.new) (E.faults err.old) (E.faults err.new) (line_of result) }

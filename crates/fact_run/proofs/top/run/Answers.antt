@@ -3,43 +3,43 @@ use Rattle.fact_run.proofs.Ends.{exactly, printed, printed-front, usage-end, fau
 use Rattle.fact_run.proofs.top.run.Goals as goal
 
 pub returns-clause-exactly_too_long : goal.returns-clause-exactly_too_long
-returns-clause-exactly_too_long g c = exactly _ _ _ _ _ _ _ _ _ _ _ _ (long-end _) c.ending_of-ending.ensures
+returns-clause-exactly_too_long g c = exactly _ _ _ _ _ _ _ _ _ _ _ _ (long-end _) c.ending_of-ending.ensures.end
 
 pub returns-clause-exactly_not_json : goal.returns-clause-exactly_not_json
-returns-clause-exactly_not_json g c = exactly _ _ _ _ _ _ _ _ _ _ _ _ (json-end _) c.ending_of-ending.ensures
+returns-clause-exactly_not_json g c = exactly _ _ _ _ _ _ _ _ _ _ _ _ (json-end _) c.ending_of-ending.ensures.end
 
 pub returns-clause-exactly_bad_plan : goal.returns-clause-exactly_bad_plan
-returns-clause-exactly_bad_plan g c = exactly _ _ _ _ _ _ _ _ _ _ _ _ (fault-end _) c.ending_of-ending.ensures
+returns-clause-exactly_bad_plan g c = exactly _ _ _ _ _ _ _ _ _ _ _ _ (fault-end _) c.ending_of-ending.ensures.end
 
 pub returns-clause-exactly_refused : goal.returns-clause-exactly_refused
-returns-clause-exactly_refused g c = exactly _ _ _ _ _ _ _ _ _ _ _ _ (refused-end _) c.ending_of-ending.ensures
+returns-clause-exactly_refused g c = exactly _ _ _ _ _ _ _ _ _ _ _ _ (refused-end _) c.ending_of-ending.ensures.end
 
 pub returns-clause-exactly_not_built : goal.returns-clause-exactly_not_built
-returns-clause-exactly_not_built g c = exactly _ _ _ _ _ _ _ _ _ _ _ _ (unbuilt-end _) c.ending_of-ending.ensures
+returns-clause-exactly_not_built g c = exactly _ _ _ _ _ _ _ _ _ _ _ _ (unbuilt-end _) c.ending_of-ending.ensures.end
 
 pub returns-clause-bad_plan : goal.returns-clause-bad_plan
 returns-clause-bad_plan g c =
     λ e. let line = told c.write_text.result _ _ _ _ _ (rw (c.as_bytes.ensures.value, c.line.ensures) at c.write_text.ensures.whole)
     (rw (c.as_bytes.ensures.value, c.line.ensures) at c.write_text.ensures.part) c.write_text.ensures.rose in
-    told-fault _ _ _ _ _ _ _ (is-end _ _ _ _ _ _ _ _ status.BadPlan _ c.ending_of-ending.ensures e).2.0 line
+    told-fault _ _ _ _ _ _ _ (is-end _ _ _ _ _ _ _ _ status.BadPlan _ c.ending_of-ending.ensures.end e).2.0 line
 
 pub returns-clause-refused : goal.returns-clause-refused
 returns-clause-refused g c =
     λ e. let line = told c.write_text.result _ _ _ _ _ (rw (c.as_bytes.ensures.value, c.line.ensures) at c.write_text.ensures.whole)
     (rw (c.as_bytes.ensures.value, c.line.ensures) at c.write_text.ensures.part) c.write_text.ensures.rose in
-    told-refusal _ _ _ _ _ _ _ (is-end _ _ _ _ _ _ _ _ status.Refused _ c.ending_of-ending.ensures e).2.0 line
+    told-refusal _ _ _ _ _ _ _ (is-end _ _ _ _ _ _ _ _ status.Refused _ c.ending_of-ending.ensures.end e).2.0 line
 
 pub returns-clause-told : goal.returns-clause-told
 returns-clause-told g c =
-    λ other told_otherwise. rw (← plain-line _ _ _ _ _ _ _ _ _ c.ending_of-ending.ensures other told_otherwise)
+    λ other told_otherwise. rw (← plain-line _ _ _ _ _ _ _ _ _ c.ending_of-ending.ensures.end other told_otherwise)
     (told c.write_text.result _ _ _ _ _ (rw (c.as_bytes.ensures.value, c.line.ensures) at c.write_text.ensures.whole)
     (rw (c.as_bytes.ensures.value, c.line.ensures) at c.write_text.ensures.part) c.write_text.ensures.rose)
 
 pub returns-clause-exactly_usage : goal.returns-clause-exactly_usage
-returns-clause-exactly_usage g c = usage-end _ _ _ _ _ _ _ _ _ c.ending_of-ending.ensures
+returns-clause-exactly_usage g c = usage-end _ _ _ _ _ _ _ _ _ c.ending_of-ending.ensures.end
 
 pub returns-clause-done : goal.returns-clause-done
-returns-clause-done g c = printed _ _ _ _ _ _ _ _ _ c.ending_of-ending.ensures
+returns-clause-done g c = printed _ _ _ _ _ _ _ _ _ c.ending_of-ending.ensures.end
 
 pub returns-clause-part : goal.returns-clause-part
-returns-clause-part g c = printed-front _ _ _ _ _ _ _ _ _ c.ending_of-ending.ensures
+returns-clause-part g c = printed-front _ _ _ _ _ _ _ _ _ c.ending_of-ending.ensures.end
