@@ -27,7 +27,7 @@ use Rattle.fact_run.specs.declared.command.CommandOptions.{CommandOptions}
 use Rattle.fact_run.specs.Command.{reading}
 use Rattle.fact_run.specs.Refusal.{refusal_line}
 use Rattle.fact_run.specs.Status.{line_of}
-use Rattle.fact_run.specs.Run.{SendsPage, HoldsBuilt, HoldsFault, HoldsNoJson, HoldsPlan, HoldsRefusal, HoldsUnbuilt, IsOrMemory, IsTooLong, IsUndisturbed, Read, TellsLine, limit}
+use Rattle.fact_run.specs.Run.{HoldsBuilt, HoldsFault, HoldsNoJson, HoldsPlan, HoldsRefusal, HoldsUnbuilt, IsOrMemory, IsTooLong, IsUndisturbed, Read, SendsPage, TellsLine, limit}
 
 -- ---- from what was read to a reply
 

@@ -17,7 +17,7 @@ use Rattle.fact_plan_types.specs.Faults.{Fault}
 use Rattle.fact_checks.specs.FirstFault.{IsFaultless, IsFirstAt}
 use Rattle.fact_run.specs.Command.{reading}
 use Rattle.fact_run.specs.Refusal.{refusal_line}
-use Rattle.fact_run.specs.Run.{SendsPage, HoldsFault, HoldsNoJson, HoldsRefusal, HoldsUnbuilt, Prints, Read, limit}
+use Rattle.fact_run.specs.Run.{HoldsFault, HoldsNoJson, HoldsRefusal, HoldsUnbuilt, Prints, Read, SendsPage, limit}
 use Rattle.fact_run.specs.Status.{line_of}
 
 -- the line tells the fault that the bytes hold

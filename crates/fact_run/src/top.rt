@@ -12,7 +12,7 @@ ghost use Rattle.fact_run.specs.declared.command.CommandOptions.{CommandOptions}
 ghost use Rattle.fact_run.specs.Command.{reading};
 ghost use Rattle.fact_run.specs.Refusal.{refusal_line};
 ghost use Rattle.fact_run.specs.Answer.{IsEndUnder, IsEnding, line_in};
-ghost use Rattle.fact_run.specs.Run.{SendsPage, HoldsBuilt, HoldsFault, HoldsNoJson, HoldsRefusal, HoldsUnbuilt, IsOrMemory, IsTooLong, IsUndisturbed, Read, TellsLine, limit};
+ghost use Rattle.fact_run.specs.Run.{HoldsBuilt, HoldsFault, HoldsNoJson, HoldsRefusal, HoldsUnbuilt, IsOrMemory, IsTooLong, IsUndisturbed, Read, SendsPage, TellsLine, limit};
 ghost use Rattle.fact_run.specs.Status.{line_of};
 
 use crate::answer::{Reply, reply_of};
@@ -99,8 +99,8 @@ pub fn run<S: Source, K: Sink, E: Sink>(
     ensures done { result ≡ Status.Done → (o : CommandOptions) × (reading (map string_bytes words.now) ≡ Some o)
         × Read (S.left source.old) (S.left source.new) (λ bytes. SendsPage o bytes (λ text. Appends (K.written out.old) (K.written out.new) text)) }
 
-    // Which calls failed, and what was taken: at every end but a read fault no read failed, at every end but a write fault no
-    // write to `out`; no command takes nothing, and no input more than one byte past the limit.
+    // Which calls failed, and what was taken: a read failed at a read fault alone, and a write to `out` at a write fault alone;
+    // where the words are no command, nothing was taken, and never more than one byte past the limit.
     ensures no_read_fault { result ≢ Status.ReadFault → S.faults source.new ≡ S.faults source.old }
     ensures no_write_fault { result ≢ Status.WriteFault → K.faults out.new ≡ K.faults out.old }
     ensures untouched { result ≡ Status.Usage → source.new ≡ source.old }
