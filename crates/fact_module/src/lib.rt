@@ -20,8 +20,8 @@ pub use fact_plan::{
     PrimitiveValType,
 };
 pub use fact_types::{
-    CoreDef, FixedEncoding, Import, RuntimeComponentInstanceIndex, RuntimeInstanceIndex, StringEncoding,
-    TrampolineIndex, Transcode, Trap, UnsafeIntrinsic,
+    CoreDef, FixedEncoding, Import, RuntimeComponentInstanceIndex, RuntimeInstanceIndex,
+    StringEncoding, TrampolineIndex, Transcode, Trap, UnsafeIntrinsic,
 };
 pub use fusion::{Fused, fuse};
 pub use module::Module;

@@ -31,7 +31,7 @@ in_pushed (x ∷ ts) ty t (suc k) e = in_pushed ts ty t k e
 pub no_twins_pushed : (ts : List FuncType) (ty : FuncType) (i : ℕ) → HasNoTwins ts → IsOnlyPlace (ts ++ ty ∷ []) ty i → HasNoTwins (ts ++ ty ∷ [])
 no_twins_pushed ts ty i h o =
     let one : (j k : ℕ) (t : FuncType) → t ≡ ty → slice_get (ts ++ ty ∷ []) j ≡ Some t → slice_get (ts ++ ty ∷ []) k ≡ Some t → j ≡ k =
-      λ j k t e p q. o.only j (p ∙ ap Some e) ∙ sym (o.only k (q ∙ ap Some e)) in
+    λ j k t e p q. o.only j (p ∙ ap Some e) ∙ sym (o.only k (q ∙ ap Some e)) in
     record {
       apart = λ j k t p q. elim (in_pushed ts ty t j p) [
         | inr e ↦ one j k t e p q
