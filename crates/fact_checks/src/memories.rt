@@ -18,7 +18,8 @@ use crate::adapter::{Adapter, AdapterOptionsDfg};
 use crate::sides::{is_wide, params_of, params_tuple, results_of, results_tuple};
 use fact_builder::ComponentTypesBuilder;
 use fact_types::{
-    InterfaceType, MAX_FLAT_ASYNC_PARAMS, MAX_FLAT_PARAMS, MAX_FLAT_RESULTS, TypeFuncIndex,
+    InterfaceType, MAX_FLAT_ASYNC_PARAMS, MAX_FLAT_PARAMS, MAX_FLAT_RESULTS, MemoryOption,
+    TypeFuncIndex,
 };
 use fact_wasm::OutOfMemory;
 

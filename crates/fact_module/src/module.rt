@@ -24,6 +24,7 @@ use fact_builder::ComponentTypesBuilder;
 use fact_checks::{AdapterChecks, Candidate, FuseError};
 use fact_entity::{AdapterId, EntityRef};
 use fact_type_rules::FunctionTypes;
+use fact_types::Import;
 use fact_wasm::{OutOfMemory, Seq, WasmModule, encode};
 use std::alloc::Global;
 use std::marker::Model;
