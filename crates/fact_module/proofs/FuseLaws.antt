@@ -195,6 +195,9 @@ adapter-built p b one x c links plain mark a h =
 
 module _ (p : FusePlan) (b : Builder) (old : Collected) (k : ℕ) (x : PlanAdapter) (c : Candidate) (at : HasTakenTo p b old k) (there : slice_get p.adapters k ≡ Some x)
     (links : LinksAdapter p b x c.adapter.now) (name : c.name.now ≡ x.name) (mark : c.transparent ≡ x.transparent) (known : AdapterLacks p x → ⊥) (small : AdapterHas p k x too_large → ⊥) where
+  concurrency : old.tunables.concurrency_support ≡ p.tunables.concurrency
+  concurrency = ap (λ t. t.concurrency_support) at.is_for.tunables
+
   is_linked : IsLinked old.builder c links.linked
   is_linked = record {
     sides = subst (λ (d : Builder). HasSides d c.adapter.now links.linked) (sym at.is_for.builder) links.stands;
@@ -209,10 +212,10 @@ module _ (p : FusePlan) (b : Builder) (old : Collected) (k : ℕ) (x : PlanAdapt
   may-take one built none a taken =
       let h = is-linked old.builder c a taken in
       let plain = subst (IsPlainAdapter p) (get_or_from_slice_get p.adapters k x x there) (built k x (slice_get_within p.adapters k x there)) in
-      rw (at.is_for.concurrency, at.is_for.exceptions) (adapter-built p b one x c links plain mark a (subst (λ (d : Builder). IsLinked d c a) at.is_for.builder h))
+      rw (at.is_for.tunables, at.is_for.features) (adapter-built p b one x c links plain mark a (subst (λ (d : Builder). IsLinked d c a) at.is_for.builder h))
 
   none-has : IsSoundBehind old c → (f : Fault) → LinkedHas p.tunables.concurrency (adapters_before p k) links.linked f → ⊥
-  none-has sound f has = sound (adapters_before p k) links.linked at.taken is_linked f (subst (λ on. LinkedHas on (adapters_before p k) links.linked f) (sym at.is_for.concurrency) has)
+  none-has sound f has = sound (adapters_before p k) links.linked at.taken is_linked f (subst (λ on. LinkedHas on (adapters_before p k) links.linked f) (sym concurrency) has)
 
   pub taken-next : (new : Collected) → Keeps old new → HasTaken old new (taken_of c) → IsSoundBehind old c → HasTakenTo p b new (k + 1)
   taken-next new keeps has sound =
@@ -220,9 +223,8 @@ module _ (p : FusePlan) (b : Builder) (old : Collected) (k : ℕ) (x : PlanAdapt
       record {
         is_for = record {
           builder = keeps.builder ∙ at.is_for.builder;
-          concurrency = ap (λ t. t.concurrency_support) keeps.tunables ∙ at.is_for.concurrency;
-          debug = ap (λ t. t.debug_adapter_modules) keeps.tunables ∙ at.is_for.debug;
-          exceptions = ap (λ f. f.exceptions) keeps.features ∙ at.is_for.exceptions;
+          tunables = keeps.tunables ∙ at.is_for.tunables;
+          features = keeps.features ∙ at.is_for.features;
         };
         whole = has.whole;
         taken = rw (before-next p k x there links.linked links.is_adapter known small, keeps.builder, has.taken)
@@ -239,8 +241,8 @@ module _ (p : FusePlan) (b : Builder) (old : Collected) (k : ℕ) (x : PlanAdapt
   refused-next f place first here =
       let told = first (adapters_before p k) links.linked at.taken is_linked in
       first-linked p k x there links.linked links.is_adapter known small f place here
-      (subst (λ on. LinkedHas on (adapters_before p k) links.linked f) at.is_for.concurrency told.0)
-      (λ g less has. told.1 g less (subst (λ on. LinkedHas on (adapters_before p k) links.linked g) (sym at.is_for.concurrency) has))
+      (subst (λ on. LinkedHas on (adapters_before p k) links.linked f) concurrency told.0)
+      (λ g less has. told.1 g less (subst (λ on. LinkedHas on (adapters_before p k) links.linked g) (sym concurrency) has))
 
 -- two facts of an answer
 pub on-both : {T E A B C : Type 0} (r : Result T E) → (A → B → C) → OnOk r A → OnOk r B → OnOk r C
@@ -271,6 +273,7 @@ none-faulty p b c k types at end = record {
 pub all-taken : (p : FusePlan) (b : Builder) (c : Collected) (k : ℕ) → HasTakenTo p b c k → length p.adapters ≤ k → HasTakenAll p c
 all-taken p b c k at end = record {
   whole = at.whole;
-  debug = at.is_for.debug;
+  tunables = at.is_for.tunables;
+  features = at.is_for.features;
   taken = subst (λ (xs : List PlanAdapter). AreTaken c (filter_map (adapter_of p) xs)) (take_all k p.adapters end) at.taken;
 }

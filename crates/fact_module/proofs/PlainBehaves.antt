@@ -41,7 +41,7 @@ use Rattle.fact_module.specs.declared.emit.Places.{Places}
 use Rattle.fact_module.specs.Body.{gets, enter, call, leave, body, has_result, saved}
 use Rattle.fact_module.specs.Imports.{same_def, imported_function}
 use Rattle.fact_module.specs.Plain.{core_of, core_type, IsPlain, IsPlainFunction, ImportsFlags}
-use Rattle.fact_module.specs.Runs.{is_def, is_transfer, IsValue, IsHonest, TypedState, IsSet, flags_of, Carried, EndsSoon, Behaves}
+use Rattle.fact_module.specs.Runs.{is_def, is_transfer, is_trap, IsValue, IsHonest, TypedState, IsSet, flags_of, Carried, EndsSoon, Behaves}
 use Rattle.fact_types.specs.Adapters.{LinkedAdapter}
 use Rattle.fact_module.proofs.PlainRuns.{locals, world, reset, result_local, front, front_runs, guard_stops, last, leave_runs}
 use Rattle.fact_module.proofs.Settled.{Settles, Passes, at-return, no-return, first-call, settles, passes}
@@ -85,6 +85,9 @@ module _ (m : WasmModule) (is : List Import) (a : LinkedAdapter) (params results
 
   no-transfer : is_transfer (imported_function m is (func.Import h.at.callee)) ≡ false
   no-transfer = ap is_transfer h.callee_is
+
+  no-trap : is_trap (imported_function m is (func.Import h.at.callee)) ≡ false
+  no-trap = ap is_trap h.callee_is
 
   calls-trap : CallsImport m h.at.trap []
   calls-trap = record { type_at = h.trap.type_at; ty = record { params = []; results = [] }; import_is = h.trap.import_is; type_is = h.trap.type_is; typed = refl }
@@ -179,6 +182,7 @@ module _ (m : WasmModule) (is : List Import) (a : LinkedAdapter) (params results
               carried_out = rw (plain.lift.results_are, plain.lower.results_are) outs.carry;
               caller_results = rw plain.lower.results_are outs.lift;
               transfers = rw no-transfer refl;
+              no_trap = rw no-trap refl;
             }
 
         finished : Keeps m is a s args (run (answer.Returns qs s' ∷ more))
@@ -193,7 +197,7 @@ module _ (m : WasmModule) (is : List Import) (a : LinkedAdapter) (params results
             record {
               outcome = outcome (Returned qs) end;
               settles = subst (Settles (run (answer.Returns qs s' ∷ more))) returns (ends-so _ (leaves_then (to-callee _ set) left.2));
-              soon = record { over = inl (qs, refl); few_calls = omega arith };
+              soon = record { over = inl (qs, refl); few_calls = omega arith; no_trap = rw no-trap refl };
               carried = λ rs e. let same : qs ≡ rs = cc in subst (λ rs. Carried m is a s args (event (answer.Returns qs s') ∷ []) rs) same (carried (all-same results qs plain.results_are_numbers results-typed));
             }
 
@@ -201,7 +205,7 @@ module _ (m : WasmModule) (is : List Import) (a : LinkedAdapter) (params results
       kept [] set steps le fair = record {
         outcome = _;
         settles = ends-so [] (leaves_early rest tt (to-callee [] set));
-        soon = record { over = inr refl; few_calls = omega arith };
+        soon = record { over = inr refl; few_calls = omega arith; no_trap = refl };
         carried = λ rs e. cc;
       }
       kept (answer.Traps ∷ more) set steps le fair = absurd (first-call (IsHonest m is) (event answer.Traps) _ ((passes-call _ set).logged steps le) fair).1

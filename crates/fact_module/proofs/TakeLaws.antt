@@ -256,11 +256,11 @@ module _ (b : Builder) (t : Tunables) (f : WasmFeatures) where
 
 -- what it has emitted keeps its promise for those that it took
 pub promised-of : (c : Collected) (checks : Checks) (s : Emitted) → IsMade c checks s → c.imports ≡ s.imports → c.whole ≡ true
-    → (adapters : List LinkedAdapter) → AreTaken c adapters → Promised (module_of s) c.imports c.tunables.debug_adapter_modules adapters
+    → (adapters : List LinkedAdapter) → AreTaken c adapters → Promised (module_of s) c.imports c.tunables c.features adapters
 promised-of c checks s made imports whole adapters taken =
     let covers = made.covers whole adapters taken in
     rw imports (whole-promised c.tunables.concurrency_support c.features.exceptions s adapters covers.holds covers.built covers.plain
-    (AreConsistent-covered _ _ covers.checked.uses) (subst (AllPairs (λ x y. x ≢ y)) covers.checked.names covers.checked.distinct) c.tunables.debug_adapter_modules)
+    (AreConsistent-covered _ _ covers.checked.uses) (subst (AllPairs (λ x y. x ≢ y)) covers.checked.names covers.checked.distinct) c.tunables c.features)
 
 -- and is their module
 pub module-of : (c : Collected) (checks : Checks) (s : Emitted) → IsMade c checks s → c.imports ≡ s.imports → c.whole ≡ true → length (functions_of s) + length s.functions < 2 ^ 32 → IsModuleOf c (module_of s)

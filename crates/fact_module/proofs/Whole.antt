@@ -39,6 +39,8 @@ use Rattle.fact_types.specs.declared.import.Import.{Import}
 use Rattle.fact_types.specs.declared.import.Import.TheVariants as known
 use Rattle.fact_module.specs.Imports.{adapter_mentions, AreNamed, Callback, Callee, Flags, IsNamed, Mention, PostReturn, Realloc, Role, StandsFor, Storage, a_function, a_global, imported_type, imports_of, sort_of}
 use Rattle.fact_module.specs.Runs.{Behaves, flags_place, global_type, is_flags}
+use Rattle.fact_module.specs.declared.tunables.Tunables.{Tunables}
+use Rattle.fact_module.specs.declared.tunables.WasmFeatures.{WasmFeatures}
 use Rattle.fact_module.proofs.Growth.{no-zero, one-less}
 use Rattle.fact_module.proofs.Named.{function-at, function-sort}
 
@@ -250,8 +252,8 @@ module _ (concurrency exceptions : Bool) (s : Emitted) (adapters : List LinkedAd
         exports-are (suc n) rest (λ j b e. ap (slice_get adapters) (omega arith) ∙ at (suc j) b e),
       )
 
-  pub whole-promised : (debug : Bool) → Promised (module_of s) s.imports debug adapters
-  whole-promised debug = record {
+  pub whole-promised : (tunables : Tunables) (features : WasmFeatures) → Promised (module_of s) s.imports tunables features adapters
+  whole-promised tunables features = record {
     faithful = record {
       imports = record { defs = h.lists.defs; named = h.lists.named; once = h.lists.once; signatures = h.lists.signatures };
       exports = rw (h.exports, exported-are concurrency exceptions adapters built) (exports-are 0 adapters (λ j a e. ap (slice_get adapters) (omega arith) ∙ e));
@@ -262,7 +264,7 @@ module _ (concurrency exceptions : Bool) (s : Emitted) (adapters : List LinkedAd
           let one : i ≡ j = one-name concurrency exceptions adapters built distinct i j b a at here named in
           let same : k ≡ j = omega (arith, is, one) in
           let (params, results, p) = plain j a here in
-          subst (λ n. Behaves (module_of s) s.imports debug a n) (sym same) (plain-behaves (module_of s) s.imports a params results j p (function-of j a here params results p) debug);
+          subst (λ n. Behaves (module_of s) s.imports tunables.debug_adapter_modules a n) (sym same) (plain-behaves (module_of s) s.imports a params results j p (function-of j a here params results p) tunables.debug_adapter_modules);
     };
   }
 

@@ -73,7 +73,7 @@ pub record IsModuleOf (c : Collected) (m : WasmModule) : Type 0 where
   pub in_range : InRange m
   pub adapters : List LinkedAdapter
   pub taken : AreTaken c adapters
-  pub promised : Promised m c.imports c.tunables.debug_adapter_modules adapters
+  pub promised : Promised m c.imports c.tunables c.features adapters
 
 -- The bytes of that module.
 pub record Spelled (c : Collected) (bytes : List ℕ) : Type 0 where

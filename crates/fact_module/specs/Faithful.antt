@@ -14,6 +14,8 @@ use Rattle.fact_types.specs.declared.import.Import.TheVariants as known
 use Rattle.fact_types.specs.Adapters.{LinkedAdapter, is_async, is_crossing}
 use Rattle.fact_module.specs.Imports.{NamesImports, imported_function}
 use Rattle.fact_module.specs.Runs.{Behaves}
+use Rattle.fact_module.specs.declared.tunables.Tunables.{Tunables}
+use Rattle.fact_module.specs.declared.tunables.WasmFeatures.{WasmFeatures}
 
 -- ---- exports
 
@@ -67,6 +69,7 @@ pub record Faithful (m : WasmModule) (is : List Import) (debug : Bool) (adapters
   pub exports : AllZip (IsExport m is) m.exports (exported adapters)
   pub behaves : All (λ a. IsTrue (not (is_async a) && is_crossing a) → (k : ℕ) → exported_as a.name m.exports ≡ Some (func.Defined k) → Behaves m is debug a k) adapters
 
--- all that the module of these adapters promises, whose import section names the imports
-pub record Promised (m : WasmModule) (is : List Import) (debug : Bool) (adapters : List LinkedAdapter) : Type 0 where
-  pub faithful : Faithful m is debug adapters
+-- all that the module of these adapters promises that was made with these tunables and features, whose import section names
+-- the imports
+pub record Promised (m : WasmModule) (is : List Import) (tunables : Tunables) (features : WasmFeatures) (adapters : List LinkedAdapter) : Type 0 where
+  pub faithful : Faithful m is tunables.debug_adapter_modules adapters

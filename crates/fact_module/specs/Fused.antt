@@ -4,10 +4,20 @@ use Rattle.fact_wasm.specs.Spelling.{Spells}
 use Rattle.fact_plan.specs.declared.plan.FusePlan.{FusePlan}
 use Rattle.fact_checks.specs.Adapters.{adapters_of}
 use Rattle.fact_module.specs.declared.fusion.Fused.{Fused}
+use Rattle.fact_module.specs.declared.tunables.Tunables.{Tunables}
+use Rattle.fact_module.specs.declared.tunables.WasmFeatures.{WasmFeatures}
 use Rattle.fact_module.specs.Faithful.{Promised}
+
+-- what a module of a plan is made with: the plan's concurrency, debug checks and fuel
+abbrev pub tunables_of : FusePlan → Tunables
+tunables_of p = record { concurrency_support = p.tunables.concurrency; debug_adapter_modules = p.tunables.debug; fuel = p.tunables.fuel }
+
+-- and the plan's exceptions
+abbrev pub features_of : FusePlan → WasmFeatures
+features_of p = record { exceptions = p.tunables.exceptions }
 
 -- a module in range, its bytes and its imports, with all that it promises for the adapters of the plan
 pub record IsFused (f : Fused) (p : FusePlan) : Type 0 where
   pub in_range : InRange f.module
   pub spelled : Spells f.bytes f.module
-  pub promised : Promised f.module f.imports p.tunables.debug (adapters_of p)
+  pub promised : Promised f.module f.imports (tunables_of p) (features_of p) (adapters_of p)

@@ -7,13 +7,13 @@ use Rattle.fact_plan_types.specs.TypeRules.{most_entries}
 use Rattle.fact_checks.specs.Adapters.{adapters_before, adapters_of}
 use Rattle.fact_checks.specs.AdapterRules.{HasAdapterFault}
 use Rattle.fact_module.specs.Collected.{AreTaken, Collected}
+use Rattle.fact_module.specs.Fused.{features_of, tunables_of}
 
 -- It was made with what the plan says, over the types in a builder.
 pub record IsFor (p : FusePlan) (b : Builder) (c : Collected) : Type 0 where
   pub builder : c.builder ≡ b
-  pub concurrency : c.tunables.concurrency_support ≡ p.tunables.concurrency
-  pub debug : c.tunables.debug_adapter_modules ≡ p.tunables.debug
-  pub exceptions : c.features.exceptions ≡ p.tunables.exceptions
+  pub tunables : c.tunables ≡ tunables_of p
+  pub features : c.features ≡ features_of p
 
 -- It took the adapters before a place, which have no fault.
 pub record HasTakenTo (p : FusePlan) (b : Builder) (c : Collected) (k : ℕ) : Type 0 where
@@ -26,5 +26,6 @@ pub record HasTakenTo (p : FusePlan) (b : Builder) (c : Collected) (k : ℕ) : T
 -- It took all of them.
 pub record HasTakenAll (p : FusePlan) (c : Collected) : Type 0 where
   pub whole : c.whole ≡ true
-  pub debug : c.tunables.debug_adapter_modules ≡ p.tunables.debug
+  pub tunables : c.tunables ≡ tunables_of p
+  pub features : c.features ≡ features_of p
   pub taken : AreTaken c (adapters_of p)

@@ -1,6 +1,6 @@
 -- Runs of an adapter: typed, honest, and what they carry.
-use Rattle.std.specs.Prelude.{◌≡◌, ◌≢◌, ℕ, ◌+◌, ◌*◌, ◌%◌, ◌/◌, ◌<◌, ◌≤◌, ◌^◌, Bool, true, false, nat_eq, List, [], ◌∷◌, Option, Some, None, slice_get, All, filter, length, ◌⊎◌, if◌then◌else◌, IsSome, unwrap_or, suc, option_map}
-use Rattle.std.specs.List.{AllZip, flat_map, filter_map}
+use Rattle.std.specs.Prelude.{◌≡◌, ◌≢◌, ℕ, ◌+◌, ◌*◌, ◌%◌, ◌/◌, ◌<◌, ◌≤◌, ◌^◌, Bool, true, false, nat_eq, List, [], ◌∷◌, Option, Some, None, slice_get, All, filter, length, ◌⊎◌, if◌then◌else◌, IfSome, IsSome, unwrap_or, suc, option_map}
+use Rattle.std.specs.List.{AllZip, find, filter_map}
 use Rattle.fact_wasm.specs.declared.types.ValType.{ValType}
 use Rattle.fact_wasm.specs.declared.types.FuncType.{FuncType}
 use Rattle.fact_wasm.specs.declared.instr.FuncName.TheVariants as func
@@ -122,9 +122,16 @@ abbrev pub is_def : CoreDef → Option Import → Bool
 is_def d (Some (known.CoreDef e)) = same_def e d
 is_def d _ = false
 
+abbrev pub calls_def : WasmModule → List Import → CoreDef → Event → Bool
+calls_def m is d e = is_def d (imported_function m is (func.Import e.func))
+
 -- the calls of a core definition
 abbrev pub calls_of : WasmModule → List Import → CoreDef → List Event → List Event
-calls_of m is d log = filter (λ e. is_def d (imported_function m is (func.Import e.func))) log
+calls_of m is d log = filter (calls_def m is d) log
+
+-- the first call of a core definition, where it was called
+abbrev pub first_call_of : WasmModule → List Import → CoreDef → List Event → Option Event
+first_call_of m is d log = find (calls_def m is d) log
 
 abbrev pub is_transfer : Option Import → Bool
 is_transfer (Some known.ResourceTransferOwn) = true
@@ -137,20 +144,28 @@ is_transfer _ = false
 abbrev pub transfers_of : WasmModule → List Import → List Event → List Event
 transfers_of m is log = filter (λ e. is_transfer (imported_function m is (func.Import e.func))) log
 
+abbrev pub is_trap : Option Import → Bool
+is_trap (Some (known.Trap t)) = true
+is_trap _ = false
+
+-- the calls of traps
+abbrev pub traps_of : WasmModule → List Import → List Event → List Event
+traps_of m is log = filter (λ e. is_trap (imported_function m is (func.Import e.func))) log
+
 -- the values that an answer of the callee gives
 abbrev pub answered_values : LinkedAdapter → Answer → Option (List Value)
 answered_values a (Returns results after) = lift_all a.lift.results results
 answered_values a Traps = Some []
 answered_values a Throws = Some []
 
--- the values of all answers of the callee
+-- The values of the callee's results: those of its first answer. A call that follows it adds none.
 abbrev pub results_in : WasmModule → List Import → LinkedAdapter → List Event → List Value
-results_in m is a log = flat_map (λ e. unwrap_or (answered_values a e.answer) []) (calls_of m is a.callee log)
+results_in m is a log = unwrap_or (first_call_of m is a.callee log >>= (λ e. answered_values a e.answer)) []
 
 -- ---- the promise on runs
 
 -- What a run that returned these results did: the caller could be left, the callee was called once, its arguments are the
--- caller's, and its results are what the caller got.
+-- caller's, its results are what the caller got, and no trap was called.
 pub record Carried (m : WasmModule) (is : List Import) (a : LinkedAdapter) (before : MachineState) (args : List CoreValue) (log : List Event) (results : List CoreValue) : Type 0 where
   pub flag : IsSet (flags_of m is a.lower.instance before)
   pub call : Event
@@ -169,14 +184,17 @@ pub record Carried (m : WasmModule) (is : List Import) (a : LinkedAdapter) (befo
   pub carried_out : carry_all a.lift.results a.lower.results returned ≡ Some given
   pub caller_results : lift_all a.lower.results results ≡ Some given
   pub transfers : transfers_of m is log ≡ []
+  pub no_trap : traps_of m is log ≡ []
 
 abbrev pub IsOver : End → Type 0
 IsOver e = ((results : List CoreValue) × (e ≡ Returned results)) ⊎ (e ≡ Lacks)
 
--- A run that ended, by returning or for want of an answer, with no more outside calls than its values account for.
+-- A run that ended, by returning or for want of an answer, with no more outside calls than its values account for, none of
+-- them of a trap.
 pub record EndsSoon (m : WasmModule) (is : List Import) (a : LinkedAdapter) (args : List CoreValue) (o : Outcome) : Type 0 where
   pub over : IsOver o.end
   pub few_calls : length o.log ≤ 30 * (weights (unwrap_or (lift_all a.lower.params args) []) + weights (results_in m is a o.log) + 1)
+  pub no_trap : traps_of m is o.log ≡ []
 
 -- What every run of an adapter's function, on a typed state and typed arguments, does.
 pub record Behaves (m : WasmModule) (is : List Import) (debug : Bool) (a : LinkedAdapter) (f : ℕ) : Type 0 where
@@ -192,5 +210,5 @@ pub record Behaves (m : WasmModule) (is : List Import) (debug : Bool) (a : Linke
       → ((steps : ℕ) → All (IsHonest m is) (run_of m f args before answers steps).log)
       → IsSet (flags_of m is a.lower.instance before)
       → IsSome (lift_all a.lower.params args)
-      → ((steps : ℕ) → All (λ e. IsSome (answered_values a e.answer)) (calls_of m is a.callee (run_of m f args before answers steps).log))
+      → ((steps : ℕ) → IfSome (first_call_of m is a.callee (run_of m f args before answers steps).log) (λ e. IsSome (answered_values a e.answer)))
       → (steps : ℕ) × EndsSoon m is a args (run_of m f args before answers steps)

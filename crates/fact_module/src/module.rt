@@ -251,7 +251,7 @@ impl<'a> Module<'a> {
     pub(crate) fn into_parts(self) -> (WasmModule, Seq<Import>)
         requires { self.whole ≡ true }
         ensures parts { IsModuleOf self.entry result.0 × (result.1 ≡ self.entry.imports) }
-        ensures promised { (adapters : List LinkedAdapter) → AreTaken self.entry adapters → Promised result.0 self.entry.imports self.entry.tunables.debug_adapter_modules adapters }
+        ensures promised { (adapters : List LinkedAdapter) → AreTaken self.entry adapters → Promised result.0 self.entry.imports self.entry.tunables self.entry.features adapters }
     {
         let Module { state, .. } = self;
         state.into_parts()
