@@ -3,6 +3,8 @@ pub mod Adding
 pub mod Growth
 pub mod Mentioned
 pub mod Named
+pub mod Ordered
+pub mod PlainOrder
 pub mod PlainBehaves
 pub mod PlainRange
 pub mod PlainRuns

@@ -1,5 +1,5 @@
 -- The core definitions among the imports are those that were mentioned.
-use Rattle.std.proofs.Common.{◌≡◌, ◌≢◌, ◌<◌, ℕ, zero, suc, Bool, true, false, List, [], ◌∷◌, ◌++◌, Some, None, Option, Contains, refl, sym, ap, ◌∙◌, subst, length, slice_get, append-nil, get_or, inl, inr}
+use Rattle.std.proofs.Common.{◌≡◌, ◌≢◌, ◌<◌, ℕ, zero, suc, Bool, true, false, List, [], ◌∷◌, ◌++◌, Some, None, Option, Contains, refl, sym, ap, ◌∙◌, subst, length, slice_get, append-nil, get_or, ◌⊎◌, inl, inr}
 use Rattle.std.specs.Prelude.{cond}
 use Rattle.std.specs.Cmp.{first_so, second_so}
 use Rattle.std.specs.List.{cons_option, filter_map}
@@ -17,7 +17,7 @@ use Rattle.fact_types.specs.declared.outside.CoreDef.TheVariants as def
 use Rattle.fact_types.specs.declared.outside.Trap.{Trap}
 use Rattle.fact_types.specs.declared.import.Import.{Import}
 use Rattle.fact_types.specs.declared.import.Import.TheVariants as known
-use Rattle.fact_module.specs.Emitted.{Emitted, HasType, Imports}
+use Rattle.fact_module.specs.Emitted.{Emitted, HasType, Imports, with_import}
 use Rattle.fact_module.specs.Holding.{Lists}
 use Rattle.fact_module.specs.Imports.{AreNamed, IsTrap, Mention, Role, Sort, StandsFor, a_function, a_global, a_memory, def_of, imports_of, is_mentioned, is_of, same_def, same_sort, sort_of, with_mention}
 use Rattle.fact_types.specs.Exact.{exact_key}
@@ -181,6 +181,14 @@ module _ (old new : Emitted) (ms : List Mention) (r : Mention) (w : WasmImport) 
       by-cases : (b : Bool) → is_mentioned r.def ms ≡ b → b ≡ false
       by-cases true e = absurd (absent (there-as e))
       by-cases false e = refl
+
+  -- it is imported where it was not mentioned before
+  pub mentioned-step : Imports old new w (known.CoreDef r.def) → ((is_mentioned r.def ms ≡ true) × (new ≡ old)) ⊎ ((is_mentioned r.def ms ≡ false) × (new ≡ with_import old w (known.CoreDef r.def)))
+  mentioned-step (inl there) =
+      let (n, at) = get-there _ _ there.1 in
+      let (k, is) = of-a-kind (sort_of w.ty) old.section old.imports n (known.CoreDef r.def) at in
+      inl (is-mentioned old ms h r.def k is, there.0)
+  mentioned-step (inr anew) = inr (not-mentioned anew.0, anew.1)
 
   pub lists-def : Imports old new w (known.CoreDef r.def) → Lists new (with_mention ms r)
   lists-def (inl there) =

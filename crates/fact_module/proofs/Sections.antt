@@ -1,5 +1,5 @@
 -- The imports of a kind, and places among them.
-use Rattle.std.proofs.Common.{◌≡◌, ℕ, zero, suc, ◌<◌, Bool, true, false, List, [], ◌∷◌, ◌++◌, Some, Contains, refl, sym, ap, ◌∙◌, arith, length, map, slice_get, nat_eq, option_map}
+use Rattle.std.proofs.Common.{◌≡◌, ℕ, zero, suc, ◌<◌, Bool, true, false, List, [], ◌∷◌, ◌++◌, Some, Contains, refl, sym, ap, ◌∙◌, arith, length, map, slice_get, nat_eq, option_map, ◌⊎◌, inl, inr}
 use Rattle.std.proofs.lemmas.Bool.{eqb-true, eq-eqb}
 use Rattle.std.proofs.lemmas.Option.{slice_get-get_or, get_or_from_slice_get, slice_get_within}
 use Rattle.std.specs.Prelude.{cond}
@@ -35,6 +35,13 @@ get-append (y ∷ xs) ys (suc k) x e = get-append xs ys k x e
 pub get-last : {X : Type 0} (xs : List X) (x : X) → slice_get (xs ++ x ∷ []) (length xs) ≡ Some x
 get-last [] x = refl
 get-last (y ∷ xs) x = get-last xs x
+
+-- what stands in a list with one value more
+pub last-or-before : {X : Type 0} (xs : List X) (x : X) (k : ℕ) (y : X) → slice_get (xs ++ x ∷ []) k ≡ Some y → (slice_get xs k ≡ Some y) ⊎ ((k ≡ length xs) × (x ≡ y))
+last-or-before [] x zero y e = let same : x ≡ y = cc in inr (refl, same)
+last-or-before [] x (suc k) y e = cc
+last-or-before (z ∷ xs) x zero y e = inl e
+last-or-before (z ∷ xs) x (suc k) y e = elim (last-or-before xs x k y e) [ inl there ↦ inl there | inr at_last ↦ inr (ap suc at_last.0, at_last.1) ]
 
 pub get-map : {X Y : Type 0} (f : X → Y) (xs : List X) (k : ℕ) (x : X) → slice_get xs k ≡ Some x → slice_get (map f xs) k ≡ Some (f x)
 get-map f [] k x e = cc

@@ -1,6 +1,7 @@
 -- A module that takes one adapter more.
-use Rattle.std.proofs.Common.{◌≡◌, ◌≢◌, ℕ, suc, ◌+◌, ◌<◌, ◌≤◌, ◌^◌, AllPairs, Bool, true, List, [], ◌∷◌, ◌++◌, Some, refl, sym, ap, ◌∙◌, subst, arith, length, slice_get, inl, inr}
-use Rattle.std.specs.Prelude.{All, IfSome, None, Option}
+use Rattle.std.proofs.Common.{◌≡◌, ◌≢◌, ℕ, suc, ◌+◌, ◌<◌, ◌≤◌, ◌^◌, AllPairs, Bool, true, false, List, [], ◌∷◌, ◌++◌, Some, refl, sym, ap, ◌∙◌, subst, arith, length, slice_get, inl, inr}
+use Rattle.std.specs.Prelude.{All, IfSome, None, Option, cond}
+use Rattle.std.specs.Str.{bytes_eq}
 use Rattle.fact_plan_types.specs.declared.error.Place.{Place}
 use Rattle.fact_plan_types.specs.declared.error.Place.TheVariants.{Adapter as at_adapter}
 use Rattle.std.specs.List.{AllZip}
@@ -9,6 +10,10 @@ use Rattle.std.proofs.lemmas.Option.{get_or_from_slice_get}
 use Rattle.fact_entity.specs.declared.id.Id.{Id}
 use Rattle.fact_entity.specs.declared.table.TypeFuncs.{TypeFuncs}
 use Rattle.fact_wasm.specs.declared.types.FuncType.{FuncType}
+use Rattle.fact_wasm.specs.declared.instr.FuncName.{FuncName}
+use Rattle.fact_wasm.specs.declared.module.WasmExport.{WasmExport}
+use Rattle.fact_wasm.specs.declared.module.WasmModule.{WasmModule}
+use Rattle.fact_wasm.specs.Ranges.{InRange}
 use Rattle.fact_types.specs.declared.interface.InterfaceType.{InterfaceType}
 use Rattle.fact_types.specs.Functions.{HasSignature, HaveShapes}
 use Rattle.fact_types.specs.Shapes.{Shape}
@@ -29,15 +34,16 @@ use Rattle.fact_module.specs.declared.taken.TakenAdapter.{TakenAdapter}
 use Rattle.fact_module.specs.declared.tunables.Tunables.{Tunables}
 use Rattle.fact_module.specs.declared.tunables.WasmFeatures.{WasmFeatures}
 use Rattle.fact_module.specs.Built.{IsBuiltAdapter}
-use Rattle.fact_module.specs.Collected.{AreTaken, Collected, Covers, HasLinkedFault, IsMade, IsModuleOf, IsTakenAs, taken_of}
+use Rattle.fact_module.specs.Collected.{AreTaken, Collected, Covers, Extends, HasLinkedFault, IsMade, IsTakenAs, KeepsPromises, no_tree, taken_of}
 use Rattle.fact_module.specs.Emitted.{Adds, Emitted, functions_of, module_of, nothing_emitted}
+use Rattle.fact_module.specs.Exports.{exported_as}
 use Rattle.fact_module.specs.Faithful.{Promised}
 use Rattle.fact_module.specs.Holding.{AreBuilt, ArePlain}
 use Rattle.fact_module.specs.Plain.{IsPlain, core_of}
 use Rattle.fact_module.specs.Taking.{HasFault, IsFirstBehind, MayTake}
-use Rattle.fact_module.proofs.Adding.{whole-more, holds-more, holds-nothing, instance_of, last-or-before}
+use Rattle.fact_module.proofs.Adding.{exports-more, grown, whole-more, holds-more, holds-nothing, instance_of}
 use Rattle.fact_module.proofs.BuiltLaws.{plain-of}
-use Rattle.fact_module.proofs.Sections.{get-within}
+use Rattle.fact_module.proofs.Sections.{get-within, last-or-before}
 use Rattle.fact_module.proofs.Whole.{whole-promised, whole-range}
 
 -- ---- what a typed adapter names can be looked up
@@ -228,7 +234,7 @@ whole-after b s s' candidate typed whole adds =
 -- none was taken
 module _ (b : Builder) (t : Tunables) (f : WasmFeatures) where
   no_collected : Collected
-  no_collected = record { builder = b; tunables = t; features = f; taken = []; imports = []; whole = true }
+  no_collected = record { builder = b; tunables = t; features = f; taken = []; tree = no_tree; imports = []; whole = true }
 
   no_checks : Checks
   no_checks = record { builder = b; concurrency = t.concurrency_support; bound = record { memories = []; reallocs = []; uses = []; names = [] } }
@@ -243,34 +249,61 @@ module _ (b : Builder) (t : Tunables) (f : WasmFeatures) where
   }
   covers-none (a ∷ adapters) h = absurd h
 
-  pub made-first : (taken : List TakenAdapter) (imports : List Import) (whole : Bool) (checks : Checks) (s : Emitted) → taken ≡ [] → s ≡ nothing_emitted
+  pub made-first : (taken : List TakenAdapter) (tree : WasmModule) (imports : List Import) (whole : Bool) (checks : Checks) (s : Emitted) → taken ≡ [] → s ≡ nothing_emitted
       → checks ≡ record { builder = b; concurrency = t.concurrency_support; bound = record { memories = []; reallocs = []; uses = []; names = [] } }
-      → IsMade (record { builder = b; tunables = t; features = f; taken = taken; imports = imports; whole = whole }) checks s
+      → IsMade (record { builder = b; tunables = t; features = f; taken = taken; tree = tree; imports = imports; whole = whole }) checks s
   unfolding no_collected no_checks
-  made-first taken imports whole checks s none nothing first = rw (none, nothing, first) (record {
+  made-first taken tree imports whole checks s none nothing first = rw (none, nothing, first) (record {
     builder = refl;
     concurrency = refl;
     some = ([], tt);
     covers = λ _ adapters are. let h = covers-none adapters are in record { checked = h.checked; holds = h.holds; built = h.built; plain = h.plain };
   })
 
--- what it has emitted keeps its promise for those that it took
-pub promised-of : (c : Collected) (checks : Checks) (s : Emitted) → IsMade c checks s → c.imports ≡ s.imports → c.whole ≡ true
-    → (adapters : List LinkedAdapter) → AreTaken c adapters → Promised (module_of s) c.imports c.tunables c.features adapters
-promised-of c checks s made imports whole adapters taken =
+-- ---- its tree
+
+-- it keeps its promise for those that it took
+pub promised-of : (c : Collected) (checks : Checks) (s : Emitted) → IsMade c checks s → c.tree ≡ module_of s → c.imports ≡ s.imports → c.whole ≡ true
+    → (adapters : List LinkedAdapter) → AreTaken c adapters → Promised c.tree c.imports c.tunables c.features adapters
+promised-of c checks s made tree imports whole adapters taken =
     let covers = made.covers whole adapters taken in
-    rw imports (whole-promised c.tunables.concurrency_support c.features.exceptions s adapters covers.holds covers.built covers.plain
+    rw (tree, imports) (whole-promised c.tunables.concurrency_support c.features.exceptions s adapters covers.holds covers.built covers.plain
     (AreConsistent-covered _ _ covers.checked.uses) (subst (AllPairs (λ x y. x ≢ y)) covers.checked.names covers.checked.distinct) c.tunables c.features)
 
--- and is their module
-pub module-of : (c : Collected) (checks : Checks) (s : Emitted) → IsMade c checks s → c.imports ≡ s.imports → c.whole ≡ true → length (functions_of s) + length s.functions < 2 ^ 32 → IsModuleOf c (module_of s)
-module-of c checks s made imports whole numbered =
+pub keeps-promises : (c : Collected) (checks : Checks) (s : Emitted) → IsMade c checks s → c.tree ≡ module_of s → c.imports ≡ s.imports → c.whole ≡ true → length (functions_of s) + length s.functions < 2 ^ 32 → KeepsPromises c
+keeps-promises c checks s made tree imports whole numbered =
     let adapters = made.some.0 in
     let covers = made.covers whole adapters made.some.1 in
     record {
-      in_range = whole-range c.tunables.concurrency_support c.features.exceptions s adapters covers.holds covers.built covers.plain
-          (AreConsistent-covered _ _ covers.checked.uses) (subst (AllPairs (λ x y. x ≢ y)) covers.checked.names covers.checked.distinct) numbered;
+      in_range = subst InRange (sym tree) (whole-range c.tunables.concurrency_support c.features.exceptions s adapters covers.holds covers.built covers.plain
+          (AreConsistent-covered _ _ covers.checked.uses) (subst (AllPairs (λ x y. x ≢ y)) covers.checked.names covers.checked.distinct) numbered);
       adapters = adapters;
       taken = made.some.1;
-      promised = promised-of c checks s made imports whole adapters made.some.1;
+      promised = promised-of c checks s made tree imports whole;
+    }
+
+exported-on : (name : List ℕ) (es more : List WasmExport) (f : FuncName) → exported_as name es ≡ Some f → exported_as name (es ++ more) ≡ Some f
+exported-on name [] more f e = cc
+exported-on name (x ∷ es) more f e = step (bytes_eq x.name name) e (exported-on name es more f)
+  where
+    step : (b : Bool) → cond b (Some x.func) (exported_as name es) ≡ Some f → (exported_as name es ≡ Some f → exported_as name (es ++ more) ≡ Some f) → cond b (Some x.func) (exported_as name (es ++ more)) ≡ Some f
+    step true e rest = e
+    step false e rest = rest e
+
+-- with one adapter more it is extended
+pub extends-more : (b : Builder) (old new : Collected) (s s' : Emitted) (candidate : Candidate) → IsTyped b candidate.adapter.now → old.tree ≡ module_of s → old.imports ≡ s.imports → new.tree ≡ module_of s' → new.imports ≡ s'.imports
+    → ((ty : FuncType) → slice_get b.module_types candidate.adapter.now.lift_options.core_type.number ≡ Some ty
+    → Adds s s' candidate.name.now candidate.adapter.now.lift_options.instance candidate.adapter.now.lower_options.instance candidate.adapter.now.func ty) → Extends old new
+extends-more b old new s s' candidate typed tree imports tree' imports' adds =
+    let (ty, there) = get-within b.module_types candidate.adapter.now.lift_options.core_type.number typed.lift_core in
+    let add = adds ty there in
+    let g = (grown s s' _ _ _ _ ty add).0 in
+    record {
+      types = record { more = g.more_types; is = ap (λ (t : WasmModule). t.types) tree' ∙ g.types ∙ ap (λ (t : WasmModule). t.types ++ g.more_types) (sym tree) };
+      section = record { more = g.more_section; is = ap (λ (t : WasmModule). t.imports) tree' ∙ g.section ∙ ap (λ (t : WasmModule). t.imports ++ g.more_section) (sym tree) };
+      imports = record { more = g.more_imports; is = imports' ∙ g.imports ∙ ap (λ is. is ++ g.more_imports) (sym imports) };
+      functions = record { more = g.more_functions; is = ap (λ (t : WasmModule). t.funcs) tree' ∙ g.functions ∙ ap (λ (t : WasmModule). t.funcs ++ g.more_functions) (sym tree) };
+      exports = λ name f e.
+          ap (λ (t : WasmModule). exported_as name t.exports) tree' ∙ ap (exported_as name) (exports-more s s' _ _ _ _ ty add)
+          ∙ exported-on name s.exports _ f (ap (λ (t : WasmModule). exported_as name t.exports) (sym tree) ∙ e);
     }

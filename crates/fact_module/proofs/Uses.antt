@@ -14,10 +14,11 @@ use Rattle.fact_types.specs.declared.outside.CoreDef.TheVariants as def
 use Rattle.fact_uses.specs.Bindings.{AreConsistent}
 use Rattle.fact_checks.specs.declared.uses.Use.{Use}
 use Rattle.fact_checks.specs.declared.uses.Use.TheVariants as used_as
-use Rattle.fact_types.specs.Adapters.{LinkedAdapter}
+use Rattle.fact_types.specs.Adapters.{LinkedAdapter, is_async}
 use Rattle.fact_types.specs.ImportTypes.{callback_type, realloc_type}
 use Rattle.fact_checks.specs.AdapterRules.{uses_of}
 use Rattle.fact_module.specs.Built.{IsBuiltAdapter}
+use Rattle.fact_module.specs.Exports.{Whole, functions_of}
 use Rattle.fact_module.specs.Holding.{AreBuilt}
 use Rattle.fact_module.specs.Imports.{Callback, Callee, Flags, Mention, PostReturn, Realloc, Role, Sort, StandsFor, Storage, a_function, a_global, a_memory, adapter_mentions, imported_type, is_mentioned, mentions, with_mention, with_mentions}
 use Rattle.fact_module.proofs.Named.{sort_for}
@@ -93,6 +94,13 @@ module _ (concurrency exceptions : Bool) where
       ∷ record { def = def.InstanceFlags (record { table = _; number = a.lower.instance }); role = Flags a.lower.instance }
       ∷ record { def = a.callee; role = Callee a.name a.lift.core_type } ∷ []
   built-mentions a h = rw (h.lift.memory, h.lift.realloc, h.lift.callback, h.lift.post_return, h.lower.memory, h.lower.realloc, h.lower.callback) refl
+
+  pub built-sync : (a : LinkedAdapter) → IsBuiltAdapter concurrency exceptions a → is_async a ≡ false
+  built-sync a h = rw (h.lift.sync_side, h.lower.sync_side, h.lift.sync_type, h.lower.sync_type) refl
+
+  -- it has one function
+  pub one-function : (a : LinkedAdapter) → IsBuiltAdapter concurrency exceptions a → functions_of a ≡ Whole a.name a.lower.core_type ∷ []
+  one-function a h = rw (built-sync a h) refl
 
   built-uses : (a : LinkedAdapter) → IsBuiltAdapter concurrency exceptions a → uses_of a ≡ map used (adapter_mentions a)
   built-uses a h = rw (h.lift.memory, h.lift.realloc, h.lift.callback, h.lift.post_return, h.lower.memory, h.lower.realloc, h.lower.callback) refl

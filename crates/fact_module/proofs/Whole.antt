@@ -21,11 +21,12 @@ use Rattle.fact_wasm.specs.Spelling.{imported_functions, is_function}
 use Rattle.fact_types.specs.declared.outside.CoreDef.TheVariants as def
 use Rattle.fact_types.specs.declared.interface.InterfaceType.{InterfaceType}
 use Rattle.fact_uses.specs.Bindings.{AreConsistent}
-use Rattle.fact_types.specs.Adapters.{LinkedAdapter, is_async}
+use Rattle.fact_types.specs.Adapters.{LinkedAdapter}
 use Rattle.fact_checks.specs.AdapterRules.{export_names, uses_of}
 use Rattle.fact_module.specs.Built.{IsBuiltAdapter}
 use Rattle.fact_module.specs.Emitted.{Emitted, functions_of as functions_in, module_of}
-use Rattle.fact_module.specs.Faithful.{IsExport, Promised, Whole, callee_of, exported, exported_as, functions_of}
+use Rattle.fact_module.specs.Exports.{IsExport, Whole, callee_of, exported, exported_as, functions_of}
+use Rattle.fact_module.specs.Faithful.{Promised}
 use Rattle.fact_module.specs.Plain.{ImportsFlags, ImportsFunction, IsPlain, IsPlainFunction}
 use Rattle.fact_module.specs.Holding.{AreBuilt, ArePlain, Holds, numbered}
 use Rattle.fact_module.proofs.Mentioned.{lengths}
@@ -34,10 +35,11 @@ use Rattle.fact_types.specs.declared.outside.Trap.TheVariants as trap
 use Rattle.fact_module.proofs.PlainBehaves.{plain-behaves}
 use Rattle.fact_module.proofs.PlainRange.{function-ranged}
 use Rattle.fact_module.proofs.Sections.{get-map, get-within, there-get}
-use Rattle.fact_module.proofs.Uses.{built-mentions, in-mentions, stands-typed, used-alike}
+use Rattle.fact_module.proofs.Uses.{built-mentions, built-sync, in-mentions, stands-typed, used-alike}
 use Rattle.fact_types.specs.declared.import.Import.{Import}
 use Rattle.fact_types.specs.declared.import.Import.TheVariants as known
 use Rattle.fact_module.specs.Imports.{adapter_mentions, AreNamed, Callback, Callee, Flags, IsNamed, Mention, PostReturn, Realloc, Role, StandsFor, Storage, a_function, a_global, imported_type, imports_of, sort_of}
+use Rattle.fact_module.specs.Order.{AreParts}
 use Rattle.fact_module.specs.Runs.{Behaves, flags_place, global_type, is_flags}
 use Rattle.fact_module.specs.declared.tunables.Tunables.{Tunables}
 use Rattle.fact_module.specs.declared.tunables.WasmFeatures.{WasmFeatures}
@@ -164,20 +166,17 @@ count-functions ws is e = sym (length-filter is_function ws) ∙ filter-function
 -- ---- adapters that are built have one export each
 
 module _ (concurrency exceptions : Bool) where
-  built-sync : (a : LinkedAdapter) → IsBuiltAdapter concurrency exceptions a → is_async a ≡ false
-  built-sync a h = rw (h.lift.sync_side, h.lower.sync_side, h.lift.sync_type, h.lower.sync_type) refl
-
   built-exports : (adapters : List LinkedAdapter) → AreBuilt concurrency exceptions adapters → flat_map export_names adapters ≡ map (λ a. a.name) adapters
   built-exports [] h = refl
-  built-exports (a ∷ adapters) h = rw (built-sync a h.0) (ap (λ names. a.name ∷ names) (built-exports adapters h.1))
+  built-exports (a ∷ adapters) h = rw (built-sync concurrency exceptions a h.0) (ap (λ names. a.name ∷ names) (built-exports adapters h.1))
 
   functions-are : (adapters : List LinkedAdapter) → AreBuilt concurrency exceptions adapters → flat_map functions_of adapters ≡ map (λ a. Whole a.name a.lower.core_type) adapters
   functions-are [] h = refl
-  functions-are (a ∷ adapters) h = rw (built-sync a h.0) (ap (λ es. Whole a.name a.lower.core_type ∷ es) (functions-are adapters h.1))
+  functions-are (a ∷ adapters) h = rw (built-sync concurrency exceptions a h.0) (ap (λ es. Whole a.name a.lower.core_type ∷ es) (functions-are adapters h.1))
 
   callees-are : (adapters : List LinkedAdapter) → AreBuilt concurrency exceptions adapters → flat_map callee_of adapters ≡ []
   callees-are [] h = refl
-  callees-are (a ∷ adapters) h = rw (built-sync a h.0) (callees-are adapters h.1)
+  callees-are (a ∷ adapters) h = rw (built-sync concurrency exceptions a h.0) (callees-are adapters h.1)
 
   pub exported-are : (adapters : List LinkedAdapter) → AreBuilt concurrency exceptions adapters → exported adapters ≡ map (λ a. Whole a.name a.lower.core_type) adapters
   exported-are adapters h = (λ k. functions-are adapters h k ++ callees-are adapters h k) ∙ append-nil _
@@ -266,6 +265,15 @@ module _ (concurrency exceptions : Bool) (s : Emitted) (adapters : List LinkedAd
           let (params, results, p) = plain j a here in
           subst (λ n. Behaves (module_of s) s.imports tunables.debug_adapter_modules a n) (sym same) (plain-behaves (module_of s) s.imports a params results j p (function-of j a here params results p) tunables.debug_adapter_modules);
     };
+    order =
+        let parts = h.in_parts [] in
+        record {
+          parts = parts.parts;
+          are_parts = subst (λ imported. AreParts imported [] adapters parts.parts) (append-nil (functions_in s)) parts.are_parts;
+          imports = parts.imports;
+          functions = parts.functions;
+          exports = parts.exports;
+        };
   }
 
   pub whole-range : length (functions_in s) + length s.functions < 2 ^ 32 → InRange (module_of s)

@@ -1,9 +1,9 @@
 -- A module as contracts see it while adapters are added to it.
-use Rattle.std.specs.Prelude.{◌≡◌, ℕ, Bool, true, List, [], ◌∷◌, ◌++◌}
+use Rattle.std.specs.Prelude.{◌≡◌, ℕ, Bool, true, List, [], ◌∷◌, ◌++◌, Some}
 use Rattle.std.specs.List.{AllZip}
+use Rattle.fact_wasm.specs.declared.instr.FuncName.{FuncName}
 use Rattle.fact_wasm.specs.declared.module.WasmModule.{WasmModule}
 use Rattle.fact_wasm.specs.Ranges.{InRange}
-use Rattle.fact_wasm.specs.Spelling.{Spells}
 use Rattle.fact_builder.specs.Builder.{Builder}
 use Rattle.fact_plan_types.specs.Faults.{Fault}
 use Rattle.fact_checks.specs.declared.sides.Candidate.{Candidate}
@@ -17,20 +17,25 @@ use Rattle.fact_module.specs.declared.tunables.WasmFeatures.{WasmFeatures}
 use Rattle.fact_module.specs.declared.taken.TakenAdapter.{TakenAdapter}
 use Rattle.fact_module.specs.Built.{IsBuiltAdapter}
 use Rattle.fact_module.specs.Emitted.{Emitted}
+use Rattle.fact_module.specs.Exports.{exported_as}
 use Rattle.fact_module.specs.Faithful.{Promised}
 use Rattle.fact_module.specs.Holding.{AreBuilt, ArePlain, Holds}
 
 -- ---- a module
 
--- The builder of its types, what it was made with, the adapters that it took, what its imports are, and whether it is whole:
--- a want of memory leaves it in parts for good.
+-- The builder of its types, what it was made with, the adapters that it took, its tree, what its imports are, and whether it is
+-- whole: a want of memory leaves it in parts for good.
 pub record Collected : Type 0 where
   pub builder : Builder
   pub tunables : Tunables
   pub features : WasmFeatures
   pub taken : List TakenAdapter
+  pub tree : WasmModule
   pub imports : List Import
   pub whole : Bool
+
+abbrev pub no_tree : WasmModule
+no_tree = record { types = []; imports = []; funcs = []; exports = [] }
 
 -- An adapter that was taken, with all that it names looked up in a builder.
 pub record IsTakenAs (b : Builder) (t : TakenAdapter) (a : LinkedAdapter) : Type 0 where
@@ -68,18 +73,25 @@ pub record HasLinkedFault (c : Collected) (t : TakenAdapter) (f : Fault) : Type 
 abbrev pub IsBuilt : Collected → TakenAdapter → Type 0
 IsBuilt c t = (a : LinkedAdapter) → IsTakenAs c.builder t a → IsBuiltAdapter c.tunables.concurrency_support c.features.exceptions a
 
--- The module of the adapters that it took, which are these, with all that it promises.
-pub record IsModuleOf (c : Collected) (m : WasmModule) : Type 0 where
-  pub in_range : InRange m
+-- The list is the other with more behind it.
+pub record BeginsWith {A : Type 0} (list first : List A) : Type 0 where
+  pub more : List A
+  pub is : list ≡ first ++ more
+
+-- Its tree has more behind the types, imports and functions from before, and what was exported is exported as it was.
+pub record Extends (old new : Collected) : Type 0 where
+  pub types : BeginsWith new.tree.types old.tree.types
+  pub section : BeginsWith new.tree.imports old.tree.imports
+  pub imports : BeginsWith new.imports old.imports
+  pub functions : BeginsWith new.tree.funcs old.tree.funcs
+  pub exports : (name : List ℕ) (f : FuncName) → exported_as name old.tree.exports ≡ Some f → exported_as name new.tree.exports ≡ Some f
+
+-- Its tree promises all that the module of the adapters that it took does.
+pub record KeepsPromises (c : Collected) : Type 0 where
+  pub in_range : InRange c.tree
   pub adapters : List LinkedAdapter
   pub taken : AreTaken c adapters
-  pub promised : Promised m c.imports c.tunables c.features adapters
-
--- The bytes of that module.
-pub record Spelled (c : Collected) (bytes : List ℕ) : Type 0 where
-  pub «module» : WasmModule
-  pub is_module : IsModuleOf c «module»
-  pub spelled : Spells bytes «module»
+  pub promised : (them : List LinkedAdapter) → AreTaken c them → Promised c.tree c.imports c.tunables c.features them
 
 -- ---- what holds of it at all times
 

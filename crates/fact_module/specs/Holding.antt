@@ -1,17 +1,19 @@
 -- What a module that is being made holds of the adapters that it took.
-use Rattle.std.specs.Prelude.{◌≡◌, ◌≢◌, ℕ, suc, Bool, List, [], ◌∷◌, AllPairs, Some, length, map, slice_get}
-use Rattle.std.specs.List.{filter_map}
+use Rattle.std.specs.Prelude.{◌≡◌, ◌≢◌, ℕ, suc, Bool, List, [], ◌∷◌, ◌++◌, AllPairs, Some, length, map, slice_get}
+use Rattle.std.specs.List.{filter_map, flat_map}
 use Rattle.fact_wasm.specs.declared.instr.FuncName.TheVariants as func
 use Rattle.fact_wasm.specs.declared.module.WasmExport.{WasmExport}
 use Rattle.fact_types.specs.declared.interface.InterfaceType.{InterfaceType}
 use Rattle.fact_types.specs.declared.outside.Trap.TheVariants as trap
 use Rattle.fact_types.specs.Adapters.{LinkedAdapter}
+use Rattle.fact_types.specs.declared.import.Import.{Import}
 use Rattle.fact_types.specs.declared.import.Import.TheVariants as known
 use Rattle.fact_module.specs.declared.emit.Places.{Places}
 use Rattle.fact_module.specs.Body.{function_of}
 use Rattle.fact_module.specs.Built.{IsBuiltAdapter}
 use Rattle.fact_module.specs.Emitted.{Emitted, functions_of, globals_of}
 use Rattle.fact_module.specs.Imports.{AreNamed, Mention, def_of, mentions}
+use Rattle.fact_module.specs.Order.{AreParts, Part, defined_place, functions_in, items, items_in, own_places}
 use Rattle.fact_module.specs.Plain.{IsPlain}
 use Rattle.fact_module.specs.Runs.{flags_place}
 
@@ -38,9 +40,18 @@ abbrev pub numbered : ℕ → List LinkedAdapter → List WasmExport
 numbered n [] = []
 numbered n (a ∷ adapters) = record { name = a.name; func = func.Defined n } ∷ numbered (suc n) adapters
 
+-- Its imports and functions stand adapter by adapter, also where more functions are imported behind its own.
+pub record StandsInParts (s : Emitted) (more : List Import) (adapters : List LinkedAdapter) : Type 0 where
+  pub parts : List Part
+  pub are_parts : AreParts (functions_of s ++ more) [] adapters parts
+  pub imports : items 0 s.section s.imports ≡ flat_map items_in parts
+  pub functions : s.functions ≡ flat_map functions_in parts
+  pub exports : filter_map (λ e. defined_place e.func) s.exports ≡ own_places 0 parts
+
 -- It is the module of these adapters.
 pub record Holds (s : Emitted) (adapters : List LinkedAdapter) : Type 0 where
   pub lists : Lists s (mentions adapters)
+  pub in_parts : (more : List Import) → StandsInParts s more adapters
   pub exports : s.exports ≡ numbered 0 adapters
   pub count : length s.functions ≡ length adapters
   pub placed : (k : ℕ) (a : LinkedAdapter) → slice_get adapters k ≡ Some a → Placed s a k

@@ -165,11 +165,6 @@ abbrev pub def_of : Import → Option CoreDef
 def_of (known.CoreDef d) = Some d
 def_of _ = None
 
--- The core definitions among these imports are, in order, those that the adapters mention, and nothing is imported twice.
-pub record AreMentioned (adapters : List LinkedAdapter) (is : List Import) : Type 0 where
-  pub defs : filter_map def_of is ≡ map (λ r. r.def) (mentions adapters)
-  pub once : AllPairs (λ i j. i ≢ j) is
-
 -- The import section names these imports: the core definitions among them are, in order, those that the adapters mention, each
 -- import has the names and the type of what it is, nothing is imported twice, and no type stands twice.
 pub record NamesImports (m : WasmModule) (is : List Import) (adapters : List LinkedAdapter) : Type 0 where

@@ -4,12 +4,14 @@ pub mod Built
 pub mod Candidates
 pub mod Collected
 pub mod Emitted
+pub mod Exports
 pub mod Faithful
 pub mod Fused
 pub mod Fusing
 pub mod Holding
 pub mod Imported
 pub mod Imports
+pub mod Order
 pub mod Plain
 pub mod Runs
 pub mod State

@@ -2,15 +2,18 @@
 
 ghost use Rattle.std.specs.Prelude.{◌≡◌, ◌↔◌, ◌++◌, ◌∷◌, ◌<◌, ◌≤◌, [], List, true, false, Err, length, slice_get, IfErr, IfOk, IfSome, IsTrue, OnErr, OnOk};
 ghost use Rattle.fact_wasm.specs.declared.types.FuncType.{FuncType};
+ghost use Rattle.fact_wasm.specs.Ranges.{InRange};
+ghost use Rattle.fact_wasm.specs.Spelling.{Spells};
 ghost use Rattle.fact_plan_types.specs.PlanTypes.{told};
 ghost use Rattle.fact_plan_types.specs.declared.error.Place.TheVariants as place_at;
 ghost use Rattle.fact_checks.specs.Linked.{IsTyped};
 ghost use Rattle.fact_module.specs.Adapted.{IsFaultless, IsFirst, MayAdapt, OfAdapter};
-ghost use Rattle.fact_module.specs.Collected.{AreTaken, HasTaken, IsModuleOf, Keeps, Spelled, taken_of};
+ghost use Rattle.fact_module.specs.Collected.{AreTaken, Extends, HasTaken, Keeps, KeepsPromises, no_tree, taken_of};
 ghost use Rattle.fact_types.specs.Adapters.{LinkedAdapter};
 ghost use Rattle.fact_module.specs.Emitted.{Adds};
 ghost use Rattle.fact_module.specs.Faithful.{Promised};
-ghost use Rattle.fact_module.specs.Imports.{AreMentioned};
+ghost use Rattle.fact_module.specs.Imports.{NamesImports};
+ghost use Rattle.fact_module.specs.Order.{IsOrdered};
 ghost use Rattle.fact_module.specs.Taking.{IsFirstBehind, IsSoundBehind, MayTake};
 ghost use Rattle.fact_module.specs.Typed.{HasSoundTypes};
 
@@ -30,7 +33,7 @@ use std::alloc::Global;
 use std::marker::Model;
 
 /// A module to which adapters are added one after another, over the types of a builder. Contracts see it as the list of the
-/// adapters that it took, what its imports are, and what it was made with.
+/// adapters that it took, its tree, what its imports are, and what it was made with.
 #[derive(Drop)]
 pub struct Module<'a> {
     alloc: Global,
@@ -45,15 +48,18 @@ pub struct Module<'a> {
 
 impl<'a> Model for Module<'a> {
     ghost use Rattle.fact_module.specs.Collected.{Collected, IsMade};
+    ghost use Rattle.fact_module.specs.Emitted.{module_of};
     ghost use Rattle.fact_wasm.specs.contracts.instr.Instr as instr;
     ghost use Rattle.std.specs.Prelude.{◌≡◌};
     ghost use Rattle.std.specs.Coded.{codes};
 
     ghost Value = { Collected };
 
-    ghost view = { λ m. record { builder = m.builder.now; tunables = m.tunables.now; features = m.features; taken = m.taken.items; imports = m.state.imports; whole = m.state.whole } };
+    ghost coded = { Prim.hlevel (codes, instr.the_row.coded) };
 
-    ghost invariant = { λ m. IsMade (record { builder = m.builder.now; tunables = m.tunables.now; features = m.features; taken = m.taken.items; imports = m.state.imports; whole = m.state.whole }) m.checks m.state × (m.types ≡ m.builder.now) };
+    ghost view = { λ m. record { builder = m.builder.now; tunables = m.tunables.now; features = m.features; taken = m.taken.items; tree = module_of m.state; imports = m.state.imports; whole = m.state.whole } };
+
+    ghost invariant = { λ m. IsMade (record { builder = m.builder.now; tunables = m.tunables.now; features = m.features; taken = m.taken.items; tree = module_of m.state; imports = m.state.imports; whole = m.state.whole }) m.checks m.state × (m.types ≡ m.builder.now) };
 }
 
 /// Whether an error is a want of memory.
@@ -101,7 +107,7 @@ impl<'a> Module<'a> {
         features: WasmFeatures,
     ) -> Module<'a>
         requires fuel { 1 ≤ tunables.now.fuel }
-        ensures { result ≡ record { builder = types.now; tunables = tunables.now; features = features; taken = []; imports = []; whole = true } }
+        ensures { result ≡ record { builder = types.now; tunables = tunables.now; features = features; taken = []; tree = no_tree; imports = []; whole = true } }
     {
         Module {
             alloc,
@@ -135,6 +141,7 @@ impl<'a> Module<'a> {
         requires built { MayTake self.old candidate.now }
         ensures keeps { Keeps self.old self.new }
         ensures taken { OnOk result (HasTaken self.old self.new (taken_of candidate.now)) }
+        ensures extends { OnOk result (Extends self.old self.new) }
         ensures sound { OnOk result (IsSoundBehind self.old candidate.now) }
         ensures lost { result ≡ Err FuseError.OutOfMemory → self.new.whole ≡ false }
         ensures refused { IfErr result (λ e. IfSome (told e) (λ x. (self.new ≡ self.old) × IsFirstBehind self.old candidate.now x.0 × (x.1 ≡ place_at.Adapter number))) }
@@ -176,6 +183,7 @@ impl<'a> Module<'a> {
         requires built { OfAdapter component.now adapter name.now (MayAdapt self.old adapter.number) }
         ensures keeps { Keeps self.old self.new }
         ensures taken { OnOk result (OfAdapter component.now adapter name.now (HasTaken self.old self.new)) }
+        ensures extends { OnOk result (Extends self.old self.new) }
         ensures faultless { OnOk result (OfAdapter component.now adapter name.now (IsFaultless self.old adapter.number)) }
         ensures refused { IfErr result (λ e. IfSome (told e) (λ x. (self.new ≡ self.old) × OfAdapter component.now adapter name.now (λ t. IsFirst self.old adapter.number t x.0) × (x.1 ≡ place_at.Adapter adapter.number))) }
         ensures lost { result ≡ Err FuseError.OutOfMemory → self.new.whole ≡ false }
@@ -226,7 +234,8 @@ impl<'a> Module<'a> {
     /// answered it.
     pub fn build(&mut self) -> Result<WasmModule, FuseError>
         ensures unchanged { self.new ≡ self.old }
-        ensures built { IfOk result (λ m. IsModuleOf self.old m) }
+        ensures built { IfOk result (λ m. m ≡ self.old.tree) }
+        ensures promised { OnOk result (KeepsPromises self.old) }
         ensures memory { IfErr result (λ e. e ≡ FuseError.OutOfMemory) }
         ensures lost { self.old.whole ≡ false → result ≡ Err FuseError.OutOfMemory }
     {
@@ -239,7 +248,8 @@ impl<'a> Module<'a> {
     /// The bytes of the module of the adapters so far (core specification, "Binary Format"), as [`Module::build`].
     pub fn encode(&mut self) -> Result<Vec<u8>, FuseError>
         ensures unchanged { self.new ≡ self.old }
-        ensures spelled { IfOk result (λ bytes. Spelled self.old bytes.items) }
+        ensures spelled { IfOk result (λ bytes. Spells bytes.items self.old.tree) }
+        ensures promised { OnOk result (KeepsPromises self.old) }
         ensures memory { IfErr result (λ e. e ≡ FuseError.OutOfMemory) }
         ensures lost { self.old.whole ≡ false → result ≡ Err FuseError.OutOfMemory }
     {
@@ -250,7 +260,8 @@ impl<'a> Module<'a> {
     /// The module, and what its imports are.
     pub(crate) fn into_parts(self) -> (WasmModule, Seq<Import>)
         requires { self.whole ≡ true }
-        ensures parts { IsModuleOf self.entry result.0 × (result.1 ≡ self.entry.imports) }
+        ensures parts { (result.0 ≡ self.entry.tree) × (result.1 ≡ self.entry.imports) }
+        ensures in_range { InRange result.0 }
         ensures promised { (adapters : List LinkedAdapter) → AreTaken self.entry adapters → Promised result.0 self.entry.imports self.entry.tunables self.entry.features adapters }
     {
         let Module { state, .. } = self;
@@ -260,7 +271,8 @@ impl<'a> Module<'a> {
     /// What the imports so far are, in the order of the import section.
     pub fn imports(&self) -> &[Import]
         ensures imports { result.now ≡ self.now.imports }
-        ensures mentioned { self.now.whole ≡ true → (adapters : List LinkedAdapter) → AreTaken self.now adapters → AreMentioned adapters result.now }
+        ensures named { self.now.whole ≡ true → (adapters : List LinkedAdapter) → AreTaken self.now adapters → NamesImports self.now.tree result.now adapters }
+        ensures ordered { self.now.whole ≡ true → (adapters : List LinkedAdapter) → AreTaken self.now adapters → IsOrdered self.now.tree result.now adapters }
     {
         self.state.imports()
     }

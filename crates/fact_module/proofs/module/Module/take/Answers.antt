@@ -4,7 +4,7 @@ use Rattle.fact_plan_types.specs.PlanTypes.{told}
 use Rattle.fact_checks.specs.Linked.{IsTyped}
 use Rattle.fact_module.specs.Collected.{Collected, taken_of}
 use Rattle.fact_module.specs.Taking.{IsSoundBehind, MayTake}
-use Rattle.fact_module.proofs.TakeLaws.{few-values, made-more, refused-behind, sound-behind, whole-after}
+use Rattle.fact_module.proofs.TakeLaws.{extends-more, few-values, made-more, refused-behind, sound-behind, whole-after}
 use Rattle.fact_module.proofs.module.Module.take.Goals as goal
 
 pub returns-else-is_memory-clause-refused : goal.returns-else-is_memory-clause-refused
@@ -36,6 +36,11 @@ returns-in-Ok-clause-taken c =
       taken = c.in-Ok.ensures.taken ∙ ap (λ (v : Collected). v.taken ++ taken_of c.args.candidate.now ∷ []) c.self.view_is;
       whole = whole-after c.self.inside.builder.now c.self.inside.state c.emit.new.state c.args.candidate.now typed whole c.in-Ok.ensures.emitted;
     }
+
+pub returns-in-Ok-clause-extends : goal.returns-in-Ok-clause-extends
+returns-in-Ok-clause-extends c =
+    let typed = subst (λ (v : Collected). IsTyped v.builder c.args.candidate.now.adapter.now) (sym c.self.view_is) c.requires.typed in
+    rw (← c.self.view_is) (extends-more c.self.inside.builder.now _ _ c.self.inside.state c.emit.new.state c.args.candidate.now typed refl refl refl refl c.in-Ok.ensures.emitted)
 
 pub returns-in-Ok-clause-sound : goal.returns-in-Ok-clause-sound
 returns-in-Ok-clause-sound c =

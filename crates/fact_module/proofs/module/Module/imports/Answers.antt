@@ -1,0 +1,12 @@
+use Rattle.std.proofs.Common.{ap, ◌∙◌, refl, subst}
+use Rattle.fact_module.specs.Collected.{Collected}
+use Rattle.fact_module.proofs.TakeLaws.{promised-of}
+use Rattle.fact_module.proofs.module.Module.imports.Goals as goal
+
+pub returns-clause-named : goal.returns-clause-named
+returns-clause-named c =
+    rw (← c.self.view_is, c.imports.ensures) (λ whole adapters taken. (promised-of _ c.self.inside.checks c.self.inside.state c.self.invariant.0 refl refl whole adapters taken).faithful.imports)
+
+pub returns-clause-ordered : goal.returns-clause-ordered
+returns-clause-ordered c =
+    rw (← c.self.view_is, c.imports.ensures) (λ whole adapters taken. (promised-of _ c.self.inside.checks c.self.inside.state c.self.invariant.0 refl refl whole adapters taken).order)

@@ -1,0 +1,56 @@
+-- What a module of adapters exports.
+use Rattle.std.specs.Prelude.{◌≡◌, ℕ, ◌&&◌, List, [], ◌∷◌, ◌++◌, Option, Some, None, slice_get, codes, if◌then◌else◌}
+use Rattle.std.specs.Str.{bytes_eq}
+use Rattle.std.specs.List.{flat_map}
+use Rattle.fact_wasm.specs.declared.types.FuncType.{FuncType}
+use Rattle.fact_wasm.specs.declared.instr.FuncName.{FuncName}
+use Rattle.fact_wasm.specs.declared.instr.FuncName.TheVariants as func
+use Rattle.fact_wasm.specs.declared.module.WasmFunc.{WasmFunc}
+use Rattle.fact_wasm.specs.declared.module.WasmExport.{WasmExport}
+use Rattle.fact_wasm.specs.declared.module.WasmModule.{WasmModule}
+use Rattle.fact_types.specs.declared.outside.CoreDef.{CoreDef}
+use Rattle.fact_types.specs.declared.import.Import.{Import}
+use Rattle.fact_types.specs.declared.import.Import.TheVariants as known
+use Rattle.fact_types.specs.Adapters.{LinkedAdapter, is_async, is_crossing}
+use Rattle.fact_module.specs.Imports.{imported_function}
+
+-- what an export is: an adapter's function of this type, a part of an async adapter, or the callee of one
+pub data Exported : Type 0 where
+  Whole : (name : List ℕ) → (ty : FuncType) → Exported
+  Part : (name : List ℕ) → Exported
+  Callee : (name : List ℕ) → (def : CoreDef) → Exported
+
+-- the functions of an adapter that are exported, and the callee of an async one between two instances
+abbrev pub functions_of : LinkedAdapter → List Exported
+functions_of a =
+    if is_async a && is_crossing a
+    then Part (codes "[async-start]" ++ a.name) ∷ Part (codes "[async-return]" ++ a.name) ∷ Whole a.name a.lower.core_type ∷ []
+    else Whole a.name a.lower.core_type ∷ []
+
+abbrev pub callee_of : LinkedAdapter → List Exported
+callee_of a = if is_async a && is_crossing a then Callee (codes "[adapter-callee]" ++ a.name) a.callee ∷ [] else []
+
+abbrev pub exported : List LinkedAdapter → List Exported
+exported adapters = flat_map functions_of adapters ++ flat_map callee_of adapters
+
+abbrev pub type_of : WasmModule → Option WasmFunc → Option FuncType
+type_of m None = None
+type_of m (Some f) = slice_get m.types f.ty
+
+-- the type of a function that the module defines; none of another
+abbrev pub defined_type : WasmModule → FuncName → Option FuncType
+defined_type m (func.Defined k) = type_of m (slice_get m.funcs k)
+defined_type m (func.Import k) = None
+
+abbrev pub IsDefined : WasmModule → FuncName → Type 0
+IsDefined m f = (ty : FuncType) × (defined_type m f ≡ Some ty)
+
+abbrev pub IsExport : WasmModule → List Import → WasmExport → Exported → Type 0
+IsExport m is e (Whole name ty) = (e.name ≡ name) × (defined_type m e.func ≡ Some ty)
+IsExport m is e (Part name) = (e.name ≡ name) × IsDefined m e.func
+IsExport m is e (Callee name d) = (e.name ≡ name) × (imported_function m is e.func ≡ Some (known.CoreDef d))
+
+-- what is exported under a name
+abbrev pub exported_as : List ℕ → List WasmExport → Option FuncName
+exported_as name [] = None
+exported_as name (e ∷ es) = if bytes_eq e.name name then Some e.func else exported_as name es
