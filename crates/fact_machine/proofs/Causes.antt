@@ -17,7 +17,7 @@ use Rattle.fact_machine.specs.World.{World, calls, log_of, asked, answered}
 use Rattle.fact_machine.specs.Machine.{Around, Config, At, Did, Goes, Ends, Next, Begins, Finished, Breaks, on_res, throw, act, next, begin, at_rest, after, exec, start, run_of}
 use Rattle.fact_machine.specs.Causes.{answers_of, taken_after, taken_from, taken, steps_of}
 use Rattle.fact_machine.proofs.Traces.{calls-append}
-use Rattle.fact_machine.proofs.Grows.{config_world, next_world, next_keeps}
+use Rattle.fact_machine.proofs.Worlds.{config_world, next_world, next_keeps}
 use Rattle.fact_machine.proofs.Plans.{IsPlain, Leap, To, Stops, leaps, Plan, Leaps, Sets, Writes, Asks, does, world, Planned, throw_leaping, act_planned, start_planned}
 
 -- ---- the answers in the log and those that are left are always the answers given

@@ -10,9 +10,10 @@ use Rattle.fact_machine.specs.declared.types.End.{End}
 use Rattle.fact_machine.specs.declared.types.End.TheVariants.{Returned, Trapped, Thrown, Lacks, Going, Stuck}
 use Rattle.fact_machine.specs.declared.types.Outcome.{Outcome}
 use Rattle.fact_machine.specs.World.{World}
-use Rattle.fact_machine.specs.Machine.{Around, Config, At, Did, Goes, Ends, Next, Begins, Finished, Breaks, act, branch, throw, next, begin, at_rest, after, exec, start, run_of}
+use Rattle.fact_machine.specs.Machine.{Around, Config, At, Did, Goes, Ends, Next, Begins, Finished, Breaks, act, next, begin, at_rest, after, exec, start, run_of}
 use Rattle.fact_machine.specs.Trace.{Reached, reached, outcome_of, reached_at_rest, reached_after, reach, run_reach}
 use Rattle.fact_machine.specs.RunLaws.{Comes}
+use Rattle.fact_machine.specs.Exits.{Exit, Falls, Branches, Throws, Halts, leads, Leaves, IsEarly}
 
 -- ---- an outcome is what is reached, without the trace
 
@@ -143,25 +144,6 @@ comes_exec {M} {m} {c} {c'} p j = exec_is M (m + j) c ∙ ap outcome_of (p.by j)
 
 -- ---- how a stretch of code is left
 
--- at its end, by a branch to a label around it, by a throw, or with the run's end
-pub data Exit : Type 0 where
-  Falls : (w : World) (vs : List CoreValue) (ls : List (Option CoreValue)) → Exit
-  Branches : (w : World) (l : ℕ) (vs : List CoreValue) (ls : List (Option CoreValue)) → Exit
-  Throws : (w : World) (ls : List (Option CoreValue)) → Exit
-  Halts : (e : End) (w : World) → Exit
-
--- where that leads
-abbrev pub leads : Exit → List Instr → Around → Did
-leads (Falls w vs ls) rest k = Goes (At w vs ls rest k)
-leads (Branches w l vs ls) rest k = branch w l vs ls k
-leads (Throws w ls) rest k = throw w ls k
-leads (Halts e w) rest k = Ends e w
-
--- Whatever stands behind and around it, the code is left so after exactly m steps, and before that the run goes on.
-pub record Leaves (M : WasmModule) (m : ℕ) (code : List Instr) (w : World) (vs : List CoreValue) (ls : List (Option CoreValue)) (x : Exit) : Type 0 where
-  pub by : (rest : List Instr) (k : Around) (j : ℕ) → reach M (m + j) (At w vs ls (code ++ rest) k) ≡ reached_after (reach M j) (leads x rest k)
-  pub going : (rest : List Instr) (k : Around) (n : ℕ) → n < m → (reach M n (At w vs ls (code ++ rest) k)).end ≡ Going
-
 module _ {M : WasmModule} {m n : ℕ} {a b : List Instr} {w w' : World} {vs vs' : List CoreValue} {ls ls' : List (Option CoreValue)} {x : Exit} where
   then_goes : Leaves M m a w vs ls (Falls w' vs' ls') → Leaves M n b w' vs' ls' x → (rest : List Instr) (k : Around) (j : ℕ) → j < m + n → (reach M j (At w vs ls (a ++ (b ++ rest)) k)).end ≡ Going
   then_goes p q rest k j h =
@@ -186,11 +168,6 @@ module _ {M : WasmModule} {m n : ℕ} {a b : List Instr} {w w' : World} {vs vs' 
             ∙ p.by (b ++ rest) k (n + j) ∙ q.by rest k j;
         going = λ rest k j h. ap (λ c. (reach M j (At w vs ls c k)).end) (append_assoc a b rest) ∙ then_goes p q rest k j h;
       }
-
--- left before its end
-abbrev pub IsEarly : Exit → Type 0
-IsEarly (Falls w vs ls) = ⊥
-IsEarly _ = Unit {0}
 
 early_rest : (x : Exit) (a b : List Instr) (k : Around) → IsEarly x → leads x a k ≡ leads x b k
 early_rest (Falls w vs ls) a b k h = absurd h

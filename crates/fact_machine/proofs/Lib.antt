@@ -12,10 +12,13 @@ pub mod OutsideCalls
 pub mod Places
 pub mod Plans
 pub mod Pushes
+pub mod Replays
 pub mod RowLaws
 pub mod Steps
 pub mod Structure
 pub mod Traces
 pub mod Turns
+pub mod TypedTests
 pub mod Typing
 pub mod WholeRuns
+pub mod Worlds

@@ -11,8 +11,8 @@ use Rattle.fact_machine.specs.declared.types.CoreValue.TheVariants.{I32, I64, F3
 use Rattle.fact_machine.specs.World.{World, Done, Halt, Trap, read, write, written, number_of}
 use Rattle.fact_machine.specs.Numerics.{extend_s}
 use Rattle.fact_machine.specs.Machine.{Around, At, Did, Goes, or_stuck, on_res, memory_import, with_address, load, store, i32_of, i64_of, f32_of, f64_of, page_bytes, size_value}
-use Rattle.fact_machine.proofs.Laws.{Falls, leads, Leaves}
-use Rattle.fact_machine.proofs.OutsideCalls.{res_exit, res_leads}
+use Rattle.fact_machine.specs.Exits.{Falls, leads, Leaves, res_exit}
+use Rattle.fact_machine.proofs.OutsideCalls.{res_leads}
 use Rattle.fact_machine.proofs.RowLaws.{leaves_row}
 
 -- an address as the value that a memory's instructions take: an i64 where addresses have 64 bits

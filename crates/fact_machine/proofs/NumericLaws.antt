@@ -9,7 +9,7 @@ use Rattle.fact_machine.specs.World.{World}
 use Rattle.fact_machine.specs.Numerics.{iadd, isub, imul, ishl, ishr_u, ieqz, ieq, ine, ilt_u, igt_u, ige_u, wrap_32, extend_s}
 use Rattle.fact_machine.specs.Operands.{alike, pick}
 use Rattle.fact_machine.specs.Machine.{At, Goes, or_stuck}
-use Rattle.fact_machine.proofs.Laws.{Falls, Leaves}
+use Rattle.fact_machine.specs.Exits.{Falls, Leaves}
 use Rattle.fact_machine.proofs.RowLaws.{leaves_row}
 
 module _ {M : WasmModule} {w : World} {vs : List CoreValue} {ls : List (Option CoreValue)} where

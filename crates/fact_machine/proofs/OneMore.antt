@@ -13,7 +13,7 @@ use Rattle.fact_machine.specs.World.{World, log_of, asked}
 use Rattle.fact_machine.specs.Machine.{have_types, Around, Bottom, Label, Frame, Config, At, Did, Goes, Ends, Next, Begins, Finished, Breaks, leaving, on_res, throw, next_of, next, begin, at_rest, after, exec, act, start, run_of}
 use Rattle.fact_machine.specs.Causes.{answers_of}
 use Rattle.fact_machine.proofs.Plans.{IsPlain, Leap, To, Stops, leaps, Plan, Leaps, Sets, Writes, Asks, does, world, Planned, throw_leaping, act_planned, start_planned}
-use Rattle.fact_machine.proofs.Grows.{config_world, next_world}
+use Rattle.fact_machine.proofs.Worlds.{config_world, next_world}
 use Rattle.fact_machine.proofs.Causes.{Keeps, Kept, Told, answered_kept, begin_kept, step_keeps, after_told, exec_told, start_kept}
 
 -- the same world with one answer more

@@ -1,7 +1,6 @@
 -- Calls of imported functions, by what the outside answers.
-use Rattle.std.proofs.Common.{◌≡◌, ℕ, List, [], ◌∷◌, ◌++◌, Option, Some, refl, ap, ◌∙◌, true, length, reverse, slice_get}
+use Rattle.std.proofs.Common.{◌≡◌, ℕ, List, [], ◌∷◌, ◌++◌, Option, Some, refl, ap, ◌∙◌, length, reverse}
 use Rattle.std.proofs.lemmas.List.{reverse-reverse}
-use Rattle.fact_wasm.specs.declared.types.FuncType.{FuncType}
 use Rattle.fact_wasm.specs.declared.instr.FuncName.TheVariants.{Import}
 use Rattle.fact_wasm.specs.declared.instr.Instr.{Instr}
 use Rattle.fact_wasm.specs.declared.instr.Instr.TheVariants as I
@@ -13,16 +12,10 @@ use Rattle.fact_machine.specs.declared.types.Answer.TheVariants as answer
 use Rattle.fact_machine.specs.declared.types.TraceEntry.TheVariants.{Called}
 use Rattle.fact_machine.specs.declared.types.End.TheVariants.{Trapped, Lacks}
 use Rattle.fact_machine.specs.World.{World, Res, Done, Halt, Trap, Throw, Lack, asked, outside}
-use Rattle.fact_machine.specs.Machine.{Around, act, on_res, func_import, have_types, grab}
-use Rattle.fact_machine.proofs.Laws.{Exit, Falls, Throws, Halts, leads, Leaves, leaves_one, leaves_as}
+use Rattle.fact_machine.specs.Machine.{Around, act, on_res, grab}
+use Rattle.fact_machine.specs.Exits.{Exit, Falls, Throws, Halts, leads, Leaves, CallsImport, res_exit}
+use Rattle.fact_machine.proofs.Laws.{leaves_one, leaves_as}
 use Rattle.fact_machine.proofs.Structure.{grab_args}
-
--- how code is left at a primitive, by what it comes to
-abbrev pub res_exit : {A : Type 0} → Res A → List (Option CoreValue) → (A → World → Exit) → Exit
-res_exit (Done a w) ls go = go a w
-res_exit (Halt Trap w) ls go = Halts Trapped w
-res_exit (Halt Throw w) ls go = Throws w ls
-res_exit (Halt Lack w) ls go = Halts Lacks w
 
 -- so a primitive leads where that exit does
 pub res_leads : {A : Type 0} (r : Res A) (ls : List (Option CoreValue)) (go : A → World → Exit) (rest : List Instr) (k : Around)
@@ -31,14 +24,6 @@ res_leads (Done a w) ls go rest k = refl
 res_leads (Halt Trap w) ls go rest k = refl
 res_leads (Halt Throw w) ls go rest k = refl
 res_leads (Halt Lack w) ls go rest k = refl
-
--- an imported function that is there, and arguments of its types
-pub record CallsImport (M : WasmModule) (f : ℕ) (args : List CoreValue) : Type 0 where
-  pub type_at : ℕ
-  pub ty : FuncType
-  pub import_is : func_import M.imports f ≡ Some type_at
-  pub type_is : slice_get M.types type_at ≡ Some ty
-  pub typed : have_types args ty.params ≡ true
 
 -- the world after an answer: the state that it leaves, the answers behind it, and the call in the trace
 abbrev pub after_answer : ℕ → List CoreValue → Answer → MachineState → List Answer → World → World

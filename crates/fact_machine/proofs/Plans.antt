@@ -51,9 +51,17 @@ does (Asks f args vs ls code k) w = call_outside f args w vs ls code k
 abbrev pub world : MachineState → List Answer → List TraceEntry → World
 world s a t = record { state = s; answers = a; trace = t }
 
+-- a memory that is written is there
+abbrev pub IsThere : MachineState → Plan → Type 0
+IsThere s (Writes n index memory address value vs ls code k) = slice_get s.memories index ≡ Some memory
+IsThere s (Leaps l) = Unit {0}
+IsThere s (Sets n v vs ls code k) = Unit {0}
+IsThere s (Asks f args vs ls code k) = Unit {0}
+
 -- one plan serves all answers and traces
 pub record Planned (s : MachineState) (go : List Answer → List TraceEntry → Did) : Type 0 where
   pub plan : Plan
+  pub there : IsThere s plan
   pub is : (a : List Answer) (t : List TraceEntry) → go a t ≡ does plan (world s a t)
 
 -- ---- branches and throws
@@ -85,17 +93,22 @@ throw_leaping ls (Label a below to rest (c ∷ cs) k) = branch_leaping c [] ls k
 -- ---- rows
 
 leaping : (s : MachineState) (go : World → Did) → Leaping go → Planned s (λ a t. go (world s a t))
-leaping s go h = record { plan = Leaps h.leap; is = λ a t. h.is (world s a t) }
+leaping s go h = record { plan = Leaps h.leap; there = tt; is = λ a t. h.is (world s a t) }
 
 goes : (s : MachineState) (vs : List CoreValue) (ls : List (Option CoreValue)) (code : List Instr) (k : Around) → Planned s (λ a t. Goes (At (world s a t) vs ls code k))
-goes s vs ls code k = record { plan = Leaps (To vs ls code k); is = λ a t. refl }
+goes s vs ls code k = record { plan = Leaps (To vs ls code k); there = tt; is = λ a t. refl }
 
 stuck : (s : MachineState) → Planned s (λ a t. Ends Stuck (world s a t))
-stuck s = record { plan = Leaps (Stops Stuck tt); is = λ a t. refl }
+stuck s = record { plan = Leaps (Stops Stuck tt); there = tt; is = λ a t. refl }
 
 or_planned : {A : Type 0} → (s : MachineState) (o : Option A) (go : A → List Answer → List TraceEntry → Did) → ((x : A) → Planned s (go x)) → Planned s (λ a t. or_stuck (world s a t) o (λ x. go x a t))
 or_planned s None go h = stuck s
 or_planned s (Some x) go h = h x
+
+-- the same, where it is known what the option gave
+or_there : {A : Type 0} → (s : MachineState) (o : Option A) (go : A → List Answer → List TraceEntry → Did) → ((x : A) → o ≡ Some x → Planned s (go x)) → Planned s (λ a t. or_stuck (world s a t) o (λ x. go x a t))
+or_there s None go h = stuck s
+or_there s (Some x) go h = h x refl
 
 check_planned : (s : MachineState) (b : Bool) (go : List Answer → List TraceEntry → Did) → Planned s go → Planned s (λ a t. check (world s a t) b (go a t))
 check_planned s true go h = h
@@ -129,7 +142,7 @@ address_planned s false vs go h = i32_planned s vs go h
 tested_planned : {A : Type 0} → (s : MachineState) (b : Bool) (x : A) (after : World → World) (ls : List (Option CoreValue)) (k : Around) (go : A → World → Did)
     → Planned s (λ a t. go x (after (world s a t))) → Planned s (λ a t. on_res (if b then Done x (after (world s a t)) else Halt Trap (world s a t)) ls k go)
 tested_planned s true x after ls k go h = h
-tested_planned s false x after ls k go h = record { plan = Leaps (Stops Trapped tt); is = λ a t. refl }
+tested_planned s false x after ls k go h = record { plan = Leaps (Stops Trapped tt); there = tt; is = λ a t. refl }
 
 when_planned : (s : MachineState) (n : ℕ) (on off : List Answer → List TraceEntry → Did) → Planned s on → Planned s off → Planned s (λ a t. when n (on a t) (off a t))
 when_planned s zero on off h g = g
@@ -149,7 +162,7 @@ inside_planned M n s vs ls rest k =
 import_planned : (M : WasmModule) (n : ℕ) (s : MachineState) (vs : List CoreValue) (ls : List (Option CoreValue)) (rest : List Instr) (k : Around) → Planned s (λ a t. call_import M n (world s a t) vs ls rest k)
 import_planned M n s vs ls rest k =
     or_planned s (func_import M.imports n) _ (λ ty. or_planned s (slice_get M.types ty) _ (λ t. or_planned s (grab (length t.params) vs) _ (λ p. check_planned s (have_types (reverse p.0) t.params) _
-    (record { plan = Asks n (reverse p.0) p.1 ls rest k; is = λ a t. refl }))))
+    (record { plan = Asks n (reverse p.0) p.1 ls rest k; there = tt; is = λ a t. refl }))))
 
 block_planned : (M : WasmModule) (bt : BlockType) (body : List Instr) (s : MachineState) (vs : List CoreValue) (ls : List (Option CoreValue)) (rest : List Instr) (k : Around) → Planned s (λ a t. block M bt body (world s a t) vs ls rest k)
 block_planned M bt body s vs ls rest k = enter_planned s M.types bt vs _ (λ m n top below. goes s _ _ _ _)
@@ -161,9 +174,9 @@ load_planned M n value m s vs ls rest k =
 
 store_planned : (M : WasmModule) (n : ℕ) (number : CoreValue → Option ℕ) (m : MemArg) (s : MachineState) (vs : List CoreValue) (ls : List (Option CoreValue)) (rest : List Instr) (k : Around) → Planned s (λ a t. store M n number m (world s a t) vs ls rest k)
 store_planned M n number m s vs ls rest k =
-    top_planned s vs _ (λ v us. or_planned s (number v) _ (λ value. or_planned s (memory_import M.imports m.memory_index) _ (λ t. address_planned s t.0 us _ (λ base us'. or_planned s (slice_get s.memories m.memory_index) _ (λ bytes.
+    top_planned s vs _ (λ v us. or_planned s (number v) _ (λ value. or_planned s (memory_import M.imports m.memory_index) _ (λ t. address_planned s t.0 us _ (λ base us'. or_there s (slice_get s.memories m.memory_index) _ (λ bytes there.
     tested_planned s (nat_le (base + m.offset + n) (length bytes)) tt (written n m.memory_index bytes (base + m.offset) value) ls k (λ done w. Goes (At w us' ls rest k))
-    (record { plan = Writes n m.memory_index bytes (base + m.offset) value us' ls rest k; is = λ a t. refl }))))))
+    (record { plan = Writes n m.memory_index bytes (base + m.offset) value us' ls rest k; there = there; is = λ a t. refl }))))))
 
 ref_planned : (M : WasmModule) (f : FuncName) (s : MachineState) (vs : List CoreValue) (ls : List (Option CoreValue)) (rest : List Instr) (k : Around) → Planned s (λ a t. ref_func M f (world s a t) vs ls rest k)
 ref_planned M (Import n) s vs ls rest k = or_planned s (func_import M.imports n) _ (λ ty. goes s _ _ _ _)
@@ -186,7 +199,7 @@ act_planned M (instr.LocalSet n) s vs ls rest k = top_planned s vs _ (λ v us. l
 act_planned M (instr.LocalTee n) s vs ls rest k = top_planned s vs _ (λ v us. local_planned s n v ls _ (λ l. goes s vs l rest k))
 act_planned M (instr.GlobalGet n) s vs ls rest k = or_planned s (slice_get s.globals n) _ (λ v. goes s _ _ _ _)
 act_planned M (instr.GlobalSet n) s vs ls rest k =
-    top_planned s vs _ (λ v us. or_planned s (slice_get s.globals n) _ (λ old. check_planned s (has_type v (type_of old)) _ (record { plan = Sets n v us ls rest k; is = λ a t. refl })))
+    top_planned s vs _ (λ v us. or_planned s (slice_get s.globals n) _ (λ old. check_planned s (has_type v (type_of old)) _ (record { plan = Sets n v us ls rest k; there = tt; is = λ a t. refl })))
 act_planned M (instr.I32Load m) s vs ls rest k = load_planned M 4 _ m s vs ls rest k
 act_planned M (instr.I64Load m) s vs ls rest k = load_planned M 8 _ m s vs ls rest k
 act_planned M (instr.F32Load m) s vs ls rest k = load_planned M 4 _ m s vs ls rest k

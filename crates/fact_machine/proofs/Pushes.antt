@@ -7,7 +7,8 @@ use Rattle.fact_wasm.specs.declared.module.WasmModule.{WasmModule}
 use Rattle.fact_machine.specs.declared.types.CoreValue.{CoreValue}
 use Rattle.fact_machine.specs.World.{World}
 use Rattle.fact_machine.specs.Machine.{some_of}
-use Rattle.fact_machine.proofs.Laws.{Falls, Leaves, leaves_none, leaves_next, leaves_as}
+use Rattle.fact_machine.specs.Exits.{Falls, Leaves}
+use Rattle.fact_machine.proofs.Laws.{leaves_none, leaves_next, leaves_as}
 use Rattle.fact_machine.proofs.RowLaws.{leaves_local_get}
 
 -- local.get of n locals from i on

@@ -12,7 +12,8 @@ use Rattle.fact_machine.specs.declared.types.CoreValue.TheVariants.{I32, Func}
 use Rattle.fact_machine.specs.declared.types.End.TheVariants.{Trapped}
 use Rattle.fact_machine.specs.World.{World, set_global}
 use Rattle.fact_machine.specs.Machine.{Around, At, Did, Goes, act, or_stuck, check, may_follow, has_type, type_of, set_local, label_at, func_import}
-use Rattle.fact_machine.proofs.Laws.{Exit, Falls, Branches, Halts, leads, Leaves, leaves_one}
+use Rattle.fact_machine.specs.Exits.{Exit, Falls, Branches, Halts, leads, Leaves}
+use Rattle.fact_machine.proofs.Laws.{leaves_one}
 
 assigned : (w : World) (ls : List (Option CoreValue)) (n : ℕ) (v : CoreValue) (old : Option CoreValue) (go : List (Option CoreValue) → Did)
     → slice_get ls n ≡ Some old → may_follow old v ≡ true → set_local w n v ls go ≡ go (slice_set ls n (Some v))

@@ -1,5 +1,5 @@
 -- Blocks, branches and calls.
-use Rattle.std.proofs.Common.{◌≡◌, ◌≢◌, ℕ, zero, suc, ◌+◌, ◌-◌, ◌≤◌, ◌<◌, ◌⊎◌, inl, inr, List, [], ◌∷◌, ◌++◌, Option, Some, None, refl, ap, ◌∙◌, arith, append-nil, Bool, true, false, ◌&&◌, length, map, reverse, slice_get}
+use Rattle.std.proofs.Common.{◌≡◌, ◌≢◌, ℕ, zero, suc, ◌+◌, ◌-◌, ◌≤◌, ◌<◌, ◌⊎◌, inl, inr, List, [], ◌∷◌, ◌++◌, Option, Some, None, refl, ap, ◌∙◌, arith, append-nil, Bool, true, false, ◌&&◌, length, reverse}
 use Rattle.std.proofs.lemmas.Bool.{cases_lt}
 use Rattle.std.proofs.lemmas.List.{reverse-reverse, length-reverse}
 use Rattle.fact_wasm.specs.declared.types.ValType.{ValType}
@@ -13,11 +13,12 @@ use Rattle.fact_wasm.specs.declared.module.WasmFunc.{WasmFunc}
 use Rattle.fact_wasm.specs.declared.module.WasmModule.{WasmModule}
 use Rattle.fact_machine.specs.declared.types.CoreValue.{CoreValue}
 use Rattle.fact_machine.specs.declared.types.CoreValue.TheVariants.{I32}
-use Rattle.fact_machine.specs.declared.types.End.TheVariants.{Going, Stuck}
+use Rattle.fact_machine.specs.declared.types.End.TheVariants.{Going}
 use Rattle.fact_machine.specs.World.{World}
-use Rattle.fact_machine.specs.Machine.{Around, Label, Frame, At, Did, Goes, act, onto, grab, or_stuck, block_arity, have_types, has_type, some_of, locals_of, call_inside, enter, or_empty, throw, leaving, next_of}
+use Rattle.fact_machine.specs.Machine.{Around, Label, Frame, At, Did, Goes, act, onto, grab, or_stuck, have_types, has_type, call_inside, enter, or_empty, throw, leaving, next_of}
 use Rattle.fact_machine.specs.Trace.{Reached, reach, reached_after}
-use Rattle.fact_machine.proofs.Laws.{Exit, Falls, Branches, Throws, Halts, leads, Leaves, same_next, reach_broken, leaves_whole, leaves_whole_going, leaves_as, leaves_early, leaves_steps}
+use Rattle.fact_machine.specs.Exits.{Exit, Falls, Branches, Throws, Halts, leads, Leaves, Enters, or_halts, block_exit, catch_exit, try_exit, IsOut, nest, Calls, entry_locals, results_exit, call_exit}
+use Rattle.fact_machine.proofs.Laws.{same_next, reach_broken, leaves_whole, leaves_whole_going, leaves_as, leaves_early, leaves_steps}
 
 -- ---- into code that stands in other code
 
@@ -39,19 +40,6 @@ module _ {M : WasmModule} {i : Instr} {w : World} {vs : List CoreValue} {ls : Li
 
 -- ---- blocks
 
--- what an option gives, or a stuck end
-abbrev pub or_halts : {A : Type 0} → World → Option A → (A → Exit) → Exit
-or_halts w None go = Halts Stuck w
-or_halts w (Some a) go = go a
-
--- how a block is left, by how its body is
-abbrev pub block_exit : ℕ → List CoreValue → Exit → Exit
-block_exit n below (Falls w vs ls) = Falls w (vs ++ below) ls
-block_exit n below (Branches w zero vs ls) = or_halts w (grab n vs) (λ p. Falls w (p.0 ++ below) ls)
-block_exit n below (Branches w (suc l) vs ls) = Branches w l vs ls
-block_exit n below (Throws w ls) = Throws w ls
-block_exit n below (Halts e w) = Halts e w
-
 halts_same : (w : World) (o : Option (List CoreValue × List CoreValue)) (below : List CoreValue) (ls : List (Option CoreValue)) (rest : List Instr) (k : Around)
     → or_stuck w o (λ p. Goes (At w (p.0 ++ below) ls rest k)) ≡ leads (or_halts w o (λ p. Falls w (p.0 ++ below) ls)) rest k
 halts_same w None below ls rest k = refl
@@ -64,11 +52,6 @@ under_block M n below (Branches w zero vs ls) rest k j = ap (reached_after (reac
 under_block M n below (Branches w (suc l) vs ls) rest k j = refl
 under_block M n below (Throws w ls) rest k j = refl
 under_block M n below (Halts e w) rest k j = refl
-
--- a block of m parameters and n results, and a stack with its operands
-pub record Enters (M : WasmModule) (bt : BlockType) (vs : List CoreValue) (m n : ℕ) (top below : List CoreValue) : Type 0 where
-  pub arity : block_arity M.types bt ≡ Some (m, n)
-  pub cut : grab m vs ≡ Some (top, below)
 
 -- a block that takes and gives nothing
 pub enters_empty : {M : WasmModule} {vs : List CoreValue} → Enters M Empty vs 0 0 [] vs
@@ -135,16 +118,6 @@ module _ (body : List Instr) (other : Option (List Instr)) {M : WasmModule} {bt 
         going = λ rest k j lt. within_going (in_else h rest k) p j lt;
       }
 
--- a throw at a block with these handlers
-abbrev pub catch_exit : List ℕ → World → List (Option CoreValue) → Exit
-catch_exit [] w ls = Throws w ls
-catch_exit (l ∷ more) w ls = Branches w l [] ls
-
--- how a block with handlers is left, by how its body is
-abbrev pub try_exit : ℕ → List ℕ → List CoreValue → Exit → Exit
-try_exit n catches below (Throws w ls) = catch_exit catches w ls
-try_exit n catches below x = block_exit n below x
-
 catch_same : (catches : List ℕ) (n : ℕ) (w : World) (below : List CoreValue) (ls : List (Option CoreValue)) (rest : List Instr) (k : Around)
     → throw w ls (Label n below rest rest catches k) ≡ leads (catch_exit catches w ls) rest k
 catch_same [] n w below ls rest k = refl
@@ -181,11 +154,6 @@ module _ {M : WasmModule} {bt : BlockType} {body : List Instr} {w : World} {vs :
         ap (λ o. act M o w vs ls rest k) (I.outs-Loop bt body)
         ∙ enter_is M bt w vs m n top below (λ m n top below. Goes (At w top ls body (Label m below (I.Loop bt body ∷ rest) rest [] k))) h;
   }
-
--- not by a branch to the innermost label
-abbrev pub IsOut : Exit → Type 0
-IsOut (Branches w zero vs ls) = ⊥
-IsOut _ = Unit {0}
 
 under_loop : (M : WasmModule) (m n : ℕ) (below : List CoreValue) (x : Exit) (to rest : List Instr) (k : Around) (j : ℕ) → IsOut x
     → reached_after (reach M j) (leads x [] (Label m below to rest [] k)) ≡ reached_after (reach M j) (leads (block_exit n below x) rest k)
@@ -232,11 +200,6 @@ module _ {M : WasmModule} {bt : BlockType} {body : List Instr} {w : World} {vs :
 
 -- ---- nested blocks
 
--- code in empty blocks, each with the code behind it, the innermost first
-abbrev pub nest : List (List Instr) → List Instr → List Instr
-nest [] code = code
-nest (behind ∷ more) code = nest more (I.Block Empty code ∷ behind)
-
 -- a branch out of nested blocks leaves them all, and what stands behind each is not run
 pub leaves_nest : (blocks : List (List Instr)) {M : WasmModule} {t : ℕ} {code : List Instr} {w w' : World} {l : ℕ} {us : List CoreValue} {ls ls' : List (Option CoreValue)}
     → Leaves M t code w [] ls (Branches w' (length blocks + l) us ls') → Leaves M (length blocks + t) (nest blocks code) w [] ls (Branches w' l us ls')
@@ -277,16 +240,6 @@ grab_args args vs ts h = rw (← have_types_length args ts h, ← length-reverse
 
 -- ---- calls of the module's own functions
 
--- a function that is there, and arguments of its types
-pub record Calls (M : WasmModule) (f : ℕ) (args : List CoreValue) (func : WasmFunc) (ty : FuncType) : Type 0 where
-  pub func_is : slice_get M.funcs f ≡ Some func
-  pub type_is : slice_get M.types func.ty ≡ Some ty
-  pub typed : have_types args ty.params ≡ true
-
--- the locals of a function at its start
-abbrev pub entry_locals : WasmFunc → List CoreValue → List (Option CoreValue)
-entry_locals func args = map some_of args ++ locals_of func.locals
-
 -- such a call goes on with the function's body
 pub call_inside_is : (M : WasmModule) (f : ℕ) (w : World) (args vs : List CoreValue) (ls : List (Option CoreValue)) (rest : List Instr) (k : Around) (func : WasmFunc) (ty : FuncType)
     → Calls M f args func ty
@@ -294,19 +247,6 @@ pub call_inside_is : (M : WasmModule) (f : ℕ) (w : World) (args vs : List Core
 call_inside_is M f w args vs ls rest k func ty h =
     let cut : grab (length ty.params) (reverse args ++ vs) ≡ Some (reverse args, vs) = grab_args args vs ty.params h.typed in
     rw (h.func_is, h.type_is, cut, reverse-reverse args, h.typed) refl
-
--- how a call is left whose body ends: with results of its types, or stuck
-abbrev pub results_exit : Bool → World → Exit → Exit
-results_exit true w x = x
-results_exit false w x = Halts Stuck w
-
--- how a call is left, by how the function's body is
-abbrev pub call_exit : List ValType → List CoreValue → List (Option CoreValue) → Exit → Exit
-call_exit results below outer (Falls w vs ls) = results_exit (have_types (reverse vs) results) w (Falls w (vs ++ below) outer)
-call_exit results below outer (Branches w zero vs ls) = or_halts w (grab (length results) vs) (λ p. results_exit (have_types (reverse p.0) results) w (Falls w (p.0 ++ below) outer))
-call_exit results below outer (Branches w (suc l) vs ls) = Halts Stuck w
-call_exit results below outer (Throws w ls) = Throws w outer
-call_exit results below outer (Halts e w) = Halts e w
 
 frame_ends : (M : WasmModule) (j : ℕ) (w : World) (us : List CoreValue) (results : List ValType) (below : List CoreValue) (ls outer : List (Option CoreValue)) (rest : List Instr) (k : Around) (b : Bool)
     → have_types (reverse us) results ≡ b → reach M j (At w us ls [] (Frame results outer below rest k)) ≡ reached_after (reach M j) (leads (results_exit b w (Falls w (us ++ below) outer)) rest k)

@@ -7,8 +7,9 @@ use Rattle.fact_wasm.specs.declared.module.WasmModule.{WasmModule}
 use Rattle.fact_machine.specs.declared.types.CoreValue.{CoreValue}
 use Rattle.fact_machine.specs.World.{World}
 use Rattle.fact_machine.specs.Machine.{grab, block_arity}
-use Rattle.fact_machine.proofs.Laws.{Exit, Branches, Leaves, leaves_steps}
-use Rattle.fact_machine.proofs.Structure.{Enters, IsOut, block_exit, grab_all, leaves_loop, leaves_loop_again}
+use Rattle.fact_machine.specs.Exits.{Exit, Branches, Leaves, Enters, IsOut, block_exit}
+use Rattle.fact_machine.proofs.Laws.{leaves_steps}
+use Rattle.fact_machine.proofs.Structure.{grab_all, leaves_loop, leaves_loop_again}
 
 -- the steps of n turns, where each body takes so many, and beginning the loop takes one each time
 abbrev pub turns : (ℕ → ℕ) → ℕ → ℕ

@@ -8,34 +8,14 @@ use Rattle.fact_wasm.specs.declared.module.WasmModule.{WasmModule}
 use Rattle.fact_machine.specs.declared.types.CoreValue.{CoreValue}
 use Rattle.fact_machine.specs.declared.types.MachineState.{MachineState}
 use Rattle.fact_machine.specs.declared.types.Answer.{Answer}
-use Rattle.fact_machine.specs.declared.types.End.TheVariants.{Returned, Thrown, Going, Stuck}
+use Rattle.fact_machine.specs.declared.types.End.TheVariants.{Returned, Going, Stuck}
 use Rattle.fact_machine.specs.declared.types.Outcome.{Outcome}
 use Rattle.fact_machine.specs.World.{World}
 use Rattle.fact_machine.specs.Machine.{Around, Bottom, Label, Frame, At, Goes, Finished, leaving, next_of, have_types, grab, or_stuck, check, call_inside, after, exec, takes, start, run_of}
 use Rattle.fact_machine.specs.Trace.{Reached, reached, reached_after, reach, run_reach, trace_of, outcome_of}
-use Rattle.fact_machine.proofs.Laws.{Exit, Falls, Branches, Throws, Halts, leads, Leaves, IsOver, over_of, run_is, stays, one_end, reach_finished, reach_broken, same_next, leaves_whole, leaves_whole_going}
-use Rattle.fact_machine.proofs.Structure.{Calls, entry_locals, call_inside_is}
-
--- the world of a run at its start
-abbrev pub first_world : MachineState → List Answer → World
-first_world state answers = record { state = state; answers = answers; trace = [] }
-
--- the end of a body that ends in values
-abbrev pub returned : Bool → World → List CoreValue → Reached
-returned true w vs = reached (Returned (reverse vs)) w
-returned false w vs = reached Stuck w
-
-abbrev pub top_returned : List ValType → World → Option (List CoreValue × List CoreValue) → Reached
-top_returned results w None = reached Stuck w
-top_returned results w (Some p) = returned (have_types (reverse p.0) results) w p.0
-
--- how a run of a function with results of these types ends, by how its body is left
-abbrev pub run_exit : List ValType → Exit → Reached
-run_exit results (Falls w vs ls) = returned (have_types (reverse vs) results) w vs
-run_exit results (Branches w zero vs ls) = top_returned results w (grab (length results) vs)
-run_exit results (Branches w (suc l) vs ls) = reached Stuck w
-run_exit results (Throws w ls) = reached Thrown w
-run_exit results (Halts e w) = reached e w
+use Rattle.fact_machine.specs.Exits.{Exit, Falls, Branches, Throws, Halts, leads, Leaves, Calls, entry_locals, first_world, returned, top_returned, run_exit}
+use Rattle.fact_machine.proofs.Laws.{IsOver, over_of, run_is, stays, one_end, reach_finished, reach_broken, same_next, leaves_whole, leaves_whole_going}
+use Rattle.fact_machine.proofs.Structure.{call_inside_is}
 
 -- a body that ends in its results returns them
 pub run_returns : (results : List ValType) (w : World) (vs : List CoreValue) (ls : List (Option CoreValue)) → have_types (reverse vs) results ≡ true → run_exit results (Falls w vs ls) ≡ reached (Returned (reverse vs)) w

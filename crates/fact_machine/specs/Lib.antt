@@ -1,10 +1,15 @@
 pub mod Causes
 pub mod Cut
+pub mod ExitLaws
+pub mod Exits
 pub mod Machine
 pub mod MemoryLaws
 pub mod Numerics
 pub mod Operands
+pub mod Replay
 pub mod RunLaws
 pub mod Running
 pub mod Trace
+pub mod Typed
+pub mod TypedLaws
 pub mod World

@@ -30,18 +30,19 @@ use Rattle.fact_machine.specs.declared.types.TraceEntry.TheVariants as entry
 use Rattle.fact_machine.specs.World.{World, calls, outside}
 use Rattle.fact_machine.specs.Machine.{outcome, run_of, some_of, locals_of}
 use Rattle.fact_machine.specs.Trace.{outcome_of}
-use Rattle.fact_machine.proofs.Laws.{Exit, Falls, IsEarly, Leaves, IsOver as Over, leaves_then, leaves_next, leaves_early}
-use Rattle.fact_machine.proofs.Structure.{Calls, have_types_length, block_exit, enters_empty, leaves_block}
-use Rattle.fact_machine.proofs.WholeRuns.{first_world, run_exit, run_returns}
+use Rattle.fact_machine.specs.Exits.{Exit, Falls, IsEarly, Leaves, Calls, block_exit, first_world, run_exit, CallsImport, res_exit, exit_world}
+use Rattle.fact_machine.specs.Typed.{IsValue, TypedState}
+use Rattle.fact_machine.proofs.Laws.{IsOver as Over, leaves_then, leaves_next, leaves_early}
+use Rattle.fact_machine.proofs.Structure.{have_types_length, enters_empty, leaves_block}
+use Rattle.fact_machine.proofs.WholeRuns.{run_returns}
 use Rattle.fact_machine.proofs.RowLaws.{leaves_unreachable}
-use Rattle.fact_machine.proofs.OutsideCalls.{CallsImport, res_exit, leaves_import, leaves_import_lacks, leaves_import_returns, leaves_import_traps, leaves_import_throws}
-use Rattle.fact_machine.proofs.Grows.{exit_world}
+use Rattle.fact_machine.proofs.OutsideCalls.{leaves_import, leaves_import_lacks, leaves_import_returns, leaves_import_traps, leaves_import_throws}
 use Rattle.fact_types.specs.declared.import.Import.{Import}
 use Rattle.fact_module.specs.declared.emit.Places.{Places}
 use Rattle.fact_module.specs.Body.{gets, enter, call, leave, body, has_result, saved}
 use Rattle.fact_module.specs.Imports.{same_def, imported_function}
 use Rattle.fact_module.specs.Plain.{core_of, core_type, IsPlain, IsPlainFunction, ImportsFlags}
-use Rattle.fact_module.specs.Runs.{is_def, is_transfer, is_trap, IsValue, IsHonest, TypedState, IsSet, flags_of, Carried, EndsSoon, Behaves}
+use Rattle.fact_module.specs.Runs.{is_def, is_transfer, is_trap, IsHonest, IsSet, flags_of, Carried, EndsSoon, Behaves}
 use Rattle.fact_types.specs.Adapters.{LinkedAdapter}
 use Rattle.fact_module.proofs.PlainRuns.{locals, world, reset, result_local, front, front_runs, guard_stops, last, leave_runs}
 use Rattle.fact_module.proofs.Settled.{Settles, Passes, at-return, no-return, first-call, settles, passes}

@@ -17,13 +17,14 @@ use Rattle.fact_machine.specs.declared.types.TraceEntry.{TraceEntry}
 use Rattle.fact_machine.specs.declared.types.TraceEntry.TheVariants as entry
 use Rattle.fact_machine.specs.World.{World}
 use Rattle.fact_machine.specs.Machine.{some_of, zero_of, may_follow, has_type}
-use Rattle.fact_machine.proofs.Laws.{Exit, Falls, Leaves, leaves_then, leaves_next, leaves_early, leaves_as}
+use Rattle.fact_machine.specs.Exits.{Exit, Falls, Leaves}
+use Rattle.fact_machine.specs.Typed.{IsValue}
+use Rattle.fact_machine.proofs.Laws.{leaves_then, leaves_next, leaves_early, leaves_as}
 use Rattle.fact_machine.proofs.Structure.{enters_empty, leaves_block_target}
 use Rattle.fact_machine.proofs.RowLaws.{leaves_i32_const, leaves_local_get, leaves_local_set, leaves_local_tee, leaves_global_get, leaves_global_set, leaves_br_if_zero, leaves_br_if_taken}
 use Rattle.fact_machine.proofs.Pushes as pushes
 use Rattle.fact_module.specs.declared.emit.Places.{Places}
 use Rattle.fact_module.specs.Body.{guard, gets, enter, call, leave, has_result}
-use Rattle.fact_module.specs.Runs.{IsValue}
 
 -- ---- lists
 

@@ -10,8 +10,8 @@ use Rattle.fact_types.specs.Shapes.{s_plain}
 use Rattle.fact_machine.specs.declared.types.CoreValue.{CoreValue}
 use Rattle.fact_machine.specs.declared.types.CoreValue.TheVariants.{I32, I64}
 use Rattle.fact_machine.specs.Machine.{have_types}
+use Rattle.fact_machine.specs.Typed.{IsValue}
 use Rattle.fact_module.specs.Plain.{IsNumber, AreNumbers, core_of}
-use Rattle.fact_module.specs.Runs.{IsValue}
 use Rattle.fact_module.specs.Values.{Value, Int, lift_plain, lift_all, carry_plain, carry_all}
 
 -- ---- the numbers in core values

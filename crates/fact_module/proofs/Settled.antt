@@ -16,10 +16,10 @@ use Rattle.fact_machine.specs.declared.types.Outcome.{Outcome}
 use Rattle.fact_machine.specs.World.{World, calls}
 use Rattle.fact_machine.specs.Machine.{run_of, some_of, locals_of}
 use Rattle.fact_machine.specs.Trace.{Reached, Grows, outcome_of}
-use Rattle.fact_machine.proofs.Laws.{Exit, Leaves, IsOver, run_is}
-use Rattle.fact_machine.proofs.Structure.{Calls}
-use Rattle.fact_machine.proofs.WholeRuns.{first_world, run_exit, outermost, run_begins, run_outcome, run_over}
-use Rattle.fact_machine.proofs.Grows.{exit_world, grows_from, run_log, run_log_more, leaves_world}
+use Rattle.fact_machine.specs.Exits.{Exit, Leaves, Calls, first_world, run_exit, exit_world}
+use Rattle.fact_machine.proofs.Laws.{IsOver, run_is}
+use Rattle.fact_machine.proofs.WholeRuns.{outermost, run_begins, run_outcome, run_over}
+use Rattle.fact_machine.proofs.Grows.{grows_from, run_log, run_log_more, leaves_world}
 
 -- From a step on a run is this outcome, and it is not over before.
 pub record Settles (run : ℕ → Outcome) (o : Outcome) : Type 0 where

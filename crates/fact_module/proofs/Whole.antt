@@ -21,6 +21,7 @@ use Rattle.fact_wasm.specs.Spelling.{imported_functions, is_function}
 use Rattle.fact_types.specs.declared.outside.CoreDef.TheVariants as def
 use Rattle.fact_types.specs.declared.interface.InterfaceType.{InterfaceType}
 use Rattle.fact_uses.specs.Bindings.{AreConsistent}
+use Rattle.fact_machine.specs.Typed.{global_type}
 use Rattle.fact_types.specs.Adapters.{LinkedAdapter}
 use Rattle.fact_checks.specs.AdapterRules.{export_names, uses_of}
 use Rattle.fact_module.specs.Built.{IsBuiltAdapter}
@@ -40,7 +41,7 @@ use Rattle.fact_types.specs.declared.import.Import.{Import}
 use Rattle.fact_types.specs.declared.import.Import.TheVariants as known
 use Rattle.fact_module.specs.Imports.{adapter_mentions, AreNamed, Callback, Callee, Flags, IsNamed, Mention, PostReturn, Realloc, Role, StandsFor, Storage, a_function, a_global, imported_type, imports_of, sort_of}
 use Rattle.fact_module.specs.Order.{AreParts}
-use Rattle.fact_module.specs.Runs.{Behaves, flags_place, global_type, is_flags}
+use Rattle.fact_module.specs.Runs.{Behaves, flags_place, is_flags}
 use Rattle.fact_module.specs.declared.tunables.Tunables.{Tunables}
 use Rattle.fact_module.specs.declared.tunables.WasmFeatures.{WasmFeatures}
 use Rattle.fact_module.proofs.Growth.{no-zero, one-less}

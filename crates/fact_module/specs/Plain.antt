@@ -10,13 +10,14 @@ use Rattle.fact_types.specs.declared.interface.InterfaceType.{InterfaceType}
 use Rattle.fact_types.specs.declared.interface.InterfaceType.TheVariants.{U32 as t_u32, U64 as t_u64}
 use Rattle.fact_types.specs.Shapes.{s_plain}
 use Rattle.fact_machine.specs.Machine.{func_import}
+use Rattle.fact_machine.specs.Typed.{global_type}
 use Rattle.fact_types.specs.Adapters.{LinkedAdapter, Side}
 use Rattle.fact_types.specs.declared.import.Import.{Import}
 use Rattle.fact_types.specs.declared.import.Import.TheVariants as known
 use Rattle.fact_module.specs.declared.emit.Places.{Places}
 use Rattle.fact_module.specs.Body.{function_of}
 use Rattle.fact_module.specs.Imports.{a_global, imported_function, imports_of}
-use Rattle.fact_module.specs.Runs.{flags_place, global_type}
+use Rattle.fact_module.specs.Runs.{flags_place}
 
 -- ---- adapters
 

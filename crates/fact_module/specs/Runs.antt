@@ -19,63 +19,14 @@ use Rattle.fact_machine.specs.declared.types.Event.{Event}
 use Rattle.fact_machine.specs.declared.types.Outcome.{Outcome}
 use Rattle.fact_machine.specs.declared.types.End.{End}
 use Rattle.fact_machine.specs.declared.types.End.TheVariants.{Returned, Lacks}
-use Rattle.fact_machine.specs.Machine.{has_type, func_import, page_bytes, run_of}
+use Rattle.fact_machine.specs.Machine.{run_of}
+use Rattle.fact_machine.specs.Typed.{IsValue, TypedState, TypedAnswer}
 use Rattle.fact_types.specs.declared.import.Import.{Import}
 use Rattle.fact_types.specs.declared.import.Import.TheVariants as known
 use Rattle.fact_types.specs.Adapters.{LinkedAdapter}
 use Rattle.fact_module.specs.Imports.{a_global, same_def, imported_function, imports_of}
 use Rattle.fact_module.specs.Values.{Value, lift_all, carry_all, weights}
 
--- ---- typed runs
-
--- the bits of a value are as many as its type has
-abbrev pub IsBits : CoreValue → Type 0
-IsBits (I32 n) = n < 2 ^ 32
-IsBits (I64 n) = n < 2 ^ 64
-IsBits (F32 n) = n < 2 ^ 32
-IsBits (F64 n) = n < 2 ^ 64
-IsBits (Func f) = Unit {0}
-
--- a value of a core type
-abbrev pub IsValue : CoreValue → ValType → Type 0
-IsValue v t = (has_type v t ≡ true) × IsBits v
-
--- a memory of 64 bits has fewer than 2 ^ 64 bytes, one of 32 at most 2 ^ 32 bytes and fewer than 2 ^ 32 pages
-abbrev pub FitsWidth : Bool → (bytes pages : ℕ) → Type 0
-FitsWidth true bytes pages = bytes < 2 ^ 64
-FitsWidth false bytes pages = (bytes ≤ 2 ^ 32) × (pages < 2 ^ 32)
-
--- the bytes of a memory, a whole number of pages
-pub record IsMemory (wide : Bool) (page : Option ℕ) (bytes : List ℕ) : Type 0 where
-  pub are_bytes : All (λ b. b < 256) bytes
-  pub whole : length bytes % page_bytes page ≡ 0
-  pub fits : FitsWidth wide (length bytes) (length bytes / page_bytes page)
-
-abbrev pub memory_type : WasmImport → Option (Bool × Option ℕ)
-memory_type w = elim w.ty [ import.Func t ↦ None | import.Memory least wide page ↦ Some (wide, page) | import.Global t mutable ↦ None ]
-
-abbrev pub global_type : WasmImport → Option ValType
-global_type w = elim w.ty [ import.Func t ↦ None | import.Memory least wide page ↦ None | import.Global t mutable ↦ Some t ]
-
--- one memory for each memory import, and one value for each global import
-pub record TypedState (m : WasmModule) (s : MachineState) : Type 0 where
-  pub memories : AllZip (λ t bytes. IsMemory t.0 t.1 bytes) (filter_map memory_type m.imports) s.memories
-  pub globals : AllZip (λ t v. IsValue v t) (filter_map global_type m.imports) s.globals
-
--- the type of the nth imported function
-abbrev pub type_of_import : WasmModule → ℕ → Option FuncType
-type_of_import m n = func_import m.imports n >>= slice_get m.types
-
-abbrev pub AreResults : Option FuncType → List CoreValue → Type 0
-AreResults None vs = ⊥
-AreResults (Some t) vs = AllZip (λ v t. IsValue v t) vs t.results
-
--- an answer that traps, throws, or returns results of the import's type with a state in which no memory is shorter
-abbrev pub TypedAnswer : WasmModule → ℕ → MachineState → Answer → Type 0
-TypedAnswer m f before (Returns results after) =
-    AreResults (type_of_import m f) results × TypedState m after × AllZip (λ old new. length old ≤ length new) before.memories after.memories
-TypedAnswer m f before Traps = Unit {0}
-TypedAnswer m f before Throws = Unit {0}
 
 -- ---- honest runs
 
