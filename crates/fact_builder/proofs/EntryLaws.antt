@@ -1,7 +1,7 @@
 -- At the index that a call answers stands the type that was asked for: entries that are equal by `==` are the same.
-use Rattle.std.specs.Prelude.{◌≡◌, ℕ, List, [], Option, Bool, true, false, refl, nat_eq, slice_get, Some}
+use Rattle.std.specs.Prelude.{◌≡◌, ℕ, List, [], Option, Bool, true, nat_eq, slice_get, Some}
 use Rattle.std.proofs.Common.{◌∙◌, ap, sym}
-use Rattle.std.proofs.lemmas.Bool.{eqb-true, true≢false}
+use Rattle.std.proofs.lemmas.Bool.{eqb-true}
 use Rattle.std.specs.Bool.{beq}
 use Rattle.std.specs.Cmp.{first_so, second_so}
 use Rattle.std.specs.Cmp.Lexicographic.{pointwise}
@@ -22,7 +22,6 @@ use Rattle.fact_types.specs.declared.kinds.TypeFutureTable.{TypeFutureTable}
 use Rattle.fact_types.specs.declared.kinds.TypeStream.{TypeStream}
 use Rattle.fact_types.specs.declared.kinds.TypeStreamTable.{TypeStreamTable}
 use Rattle.fact_types.specs.declared.kinds.TypeErrorContextTable.{TypeErrorContextTable}
-use Rattle.fact_types.specs.declared.abi.CanonicalAbiInfo.{CanonicalAbiInfo}
 use Rattle.fact_types.specs.Equality.{variant_eq, flags_eq, enum_eq}
 use Rattle.fact_types.specs.Ordered.{VariantType, FlagsType, EnumType}
 use Rattle.fact_types.specs.Exact.{exact_bool, exact_text, exact_abi, exact_type, exact_option, exact_list, exact_variant, exact_flags, exact_enum}

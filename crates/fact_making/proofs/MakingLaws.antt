@@ -23,7 +23,6 @@ use Rattle.fact_entity.specs.declared.table.TypeVariants.{TypeVariants}
 use Rattle.fact_types.specs.declared.abi.CanonicalAbiInfo.{CanonicalAbiInfo}
 use Rattle.fact_types.specs.declared.interface.InterfaceType.{InterfaceType}
 use Rattle.fact_types.specs.declared.interface.InterfaceType.TheVariants.{Record as t_record, Variant as t_variant, List as t_list, Tuple as t_tuple, Map as t_map, Flags as t_flags, Enum as t_enum, Option as t_option, Result as t_result, FixedLengthList as t_fixed_length_list}
-use Rattle.fact_types.specs.declared.kinds.RecordField.{RecordField}
 use Rattle.fact_types.specs.declared.kinds.TypeFixedLengthList.{TypeFixedLengthList}
 use Rattle.fact_types.specs.declared.kinds.TypeList.{TypeList}
 use Rattle.fact_types.specs.declared.kinds.TypeMap.{TypeMap}
@@ -42,7 +41,7 @@ use Rattle.fact_types.specs.Layout.{extent, extents, aligned, payloads, payload_
 use Rattle.fact_types.specs.Ordered.{VariantType, FlagsType, EnumType}
 use Rattle.fact_types.specs.Shapes.{Kind, k_record, k_variant, k_list, k_tuple, k_map, k_flags, k_enum, k_option, k_result, k_fixed, k_future, k_stream, Members, no_members, bare, typed, layout_by, layouts_of, repeated_layout, IsWithin}
 use Rattle.fact_types.specs.Sound.{IsSoundLayout}
-use Rattle.fact_types.specs.Tables.{Tables, Node, placed, node_of, record_node, variant_node, tuple_node, flags_node, enum_node, option_node, result_node, list_node, map_node, fixed_length_list_node, IsLive, IsLiveMember, HasMembers, IsSound, entries, abi_at}
+use Rattle.fact_types.specs.Tables.{Tables, Node, node_of, record_node, variant_node, tuple_node, flags_node, enum_node, option_node, result_node, list_node, map_node, fixed_length_list_node, IsLive, IsLiveMember, HasMembers, IsSound, entries, abi_at}
 use Rattle.fact_types.proofs.AlignLaws.{aligned_bounds, aligned_multiple, power_pos}
 use Rattle.fact_types.proofs.FieldLaws.{walk_start, walk_on, walk_fits}
 use Rattle.fact_types.proofs.PayloadLaws.{enum_is_scalar}

@@ -1,5 +1,5 @@
 -- Core items are equal by `==` where they are the same.
-use Rattle.std.proofs.Common.{◌≡◌, List, [], ◌∷◌, ◌++◌, true, Contains, Some, None, sym, ap, subst, ◌∙◌}
+use Rattle.std.proofs.Common.{◌≡◌, List, [], ◌∷◌, ◌++◌, Contains, Some, None, sym, ap, subst, ◌∙◌}
 use Rattle.std.proofs.lemmas.Map.Views.{hash_map_get_iff}
 use Rattle.indexmap.specs.IndexMap.{IndexMap, IsUnique, get, insert_entry}
 use Rattle.indexmap.proofs.CallerLemmas.{insert_entry-new}
