@@ -1,183 +1,126 @@
 //! Flat types, as the canonical ABI gives them.
 
-use crate::entries::{
-    add_enum, add_fixed, add_flags, add_future_table, add_list, add_map, add_option, add_record,
-    add_result, add_stream_table, add_variant,
-};
-use crate::handles::add_resource;
 use crate::live::{are_live, is_live};
+use crate::words::type_of;
 use fact_builder::ComponentTypesBuilder;
-use fact_entity::{EntityRef, PushError, RuntimeComponentInstanceIndex};
-use fact_types::{FlatType, InterfaceType, RecordField, TypeErrorContextTable};
-use fact_wasm::{Seq, Text, ValType};
-use std::alloc::Global;
+use fact_entity::PushError;
+use fact_types::{FlatType, FlatTypes, InterfaceType};
+use fact_wasm::ValType;
+use std::alloc::{AllocError, Global};
 use std::process::Abort;
+use std::test::Fail;
 
-const I32: FlatType = FlatType::I32;
+/// A type, and the flat types that stand for it in memories of 32 bits and of 64 bits, of which there are 16 at most.
+const ROWS: &str = "
+string = [I32, I32] [I64, I64]
+u16 list = [I32, I32] [I64, I64]
+u8 u64 map = [I32, I32] [I64, I64]
+f32 f64 variant:a,b = [I32, I64] [I32, I64]
+u32 option = [I32, I32] [I32, I32]
+u64 f32 result = [I32, I64] [I32, I64]
+u16 fixed:3 = [I32, I32, I32] [I32, I32, I32]
+enum:red,green,blue = [I32] [I32]
+flags:a,b,c = [I32] [I32]
+own = [I32] [I32]
+borrow = [I32] [I32]
+u64 future = [I32] [I32]
+u64 stream = [I32] [I32]
+error-context = [I32] [I32]
+u32 u32 u32 u32 u32 u32 u32 u32 u32 u32 u32 u32 u32 u32 u32 u32 record:a,b,c,d,e,f,g,h,i,j,k,l,m,n,o,p = [I32, I32, I32, I32, I32, I32, I32, I32, I32, I32, I32, I32, I32, I32, I32, I32] [I32, I32, I32, I32, I32, I32, I32, I32, I32, I32, I32, I32, I32, I32, I32, I32]
+u32 u32 u32 u32 u32 u32 u32 u32 u32 u32 u32 u32 u32 u32 u32 u32 u32 record:a,b,c,d,e,f,g,h,i,j,k,l,m,n,o,p,q = none
+";
 
-const I64: FlatType = FlatType::I64;
+/// The core types of flat types.
+fn core_types(alloc: Global, flat: &[FlatType]) -> Result<Vec<ValType>, AllocError> {
+    flat.iter().map(|ty| ValType::from(*ty)).collect(alloc)
+}
 
-/// Whether these flat types stand for a type in 32-bit and in 64-bit memories.
-fn is_flat(
+/// Flat types in both kinds of memories, as a row tells them.
+fn both_told(alloc: Global, flat: &FlatTypes<'_>) -> Result<String, AllocError> {
+    let memory32 = core_types(alloc, flat.memory32)?;
+    let memory64 = core_types(alloc, flat.memory64)?;
+    format!(in alloc; "{memory32:?} {memory64:?}")
+}
+
+/// The flat types of a type, as a row tells them.
+fn told(
     rt: &impl Abort,
+    alloc: Global,
     builder: &ComponentTypesBuilder,
-    ty: InterfaceType,
-    memory32: &[FlatType],
-    memory64: &[FlatType],
-) -> bool {
-    assert!(rt; is_live(builder, &ty));
-    match builder.flat_types(&ty) {
-        Some(flat) => flat.memory32 == memory32 && flat.memory64 == memory64,
-        None => false,
+    ty: &InterfaceType,
+) -> Result<String, PushError> {
+    assert!(rt; is_live(builder, ty));
+    match builder.flat_types(ty) {
+        Some(flat) => Ok(both_told(alloc, &flat)?),
+        None => Ok(String::from_str(alloc, "none")?),
     }
 }
 
-/// Says which flat types stand for types with pointers in them.
-fn pointers_are_flat(
-    rt: &impl Abort,
-    builder: &mut ComponentTypesBuilder,
-) -> Result<(), PushError> {
-    let rows = [
-        InterfaceType::String,
-        InterfaceType::List(add_list(rt, builder, InterfaceType::U16)?),
-        InterfaceType::Map(add_map(rt, builder, InterfaceType::U8, InterfaceType::U64)?),
-    ];
-    for (row, ty) in rows.iter().enumerate() {
-        assert!(rt;
-            is_flat(rt, builder, *ty, &[I32, I32], &[I64, I64]),
-            "row {row}"
-        );
-    }
-    Ok(())
-}
-
-/// Says which flat types stand for types of members.
-fn members_are_flat(
+/// Each row tells the flat types of its type.
+fn say_rows(
     rt: &impl Abort,
     alloc: Global,
     builder: &mut ComponentTypesBuilder,
-) -> Result<(), PushError> {
-    let floats = [("a", InterfaceType::Float32), ("b", InterfaceType::Float64)];
-    let variant = add_variant(rt, alloc, builder, &floats)?;
-    let option = add_option(rt, builder, InterfaceType::U32)?;
-    let result = add_result(
-        rt,
-        builder,
-        Some(InterfaceType::U64),
-        Some(InterfaceType::Float32),
-    )?;
-    let fixed = add_fixed(rt, builder, InterfaceType::U16, 3)?;
-    let names = add_enum(rt, alloc, builder, ["red", "green", "blue"])?;
-    let flags = add_flags(rt, alloc, builder, ["a", "b", "c"])?;
-    let one: &[FlatType] = &[I32];
-    let rows: [(InterfaceType, &[FlatType]); 6] = [
-        (InterfaceType::Variant(variant), &[I32, I64]),
-        (InterfaceType::Option(option), &[I32, I32]),
-        (InterfaceType::Result(result), &[I32, I64]),
-        (InterfaceType::FixedLengthList(fixed), &[I32, I32, I32]),
-        (InterfaceType::Enum(names), one),
-        (InterfaceType::Flags(flags), one),
-    ];
-    for (row, (ty, types)) in rows.iter().enumerate() {
-        assert!(rt; is_flat(rt, builder, *ty, types, types), "row {row}");
+) -> Result<(), Fail> {
+    for row in ROWS.trim().lines() {
+        let (words, answer) = row.split_once(" = ").ok_or("no answer")?;
+        let ty = type_of(rt, alloc, builder, words)?;
+        let told = told(rt, alloc, builder, &ty)?;
+        assert_eq!(rt; told.as_str(), answer, "{row}");
     }
     Ok(())
 }
 
-/// Says that one number of four bytes stands for a handle.
-fn handles_are_flat(rt: &impl Abort, builder: &mut ComponentTypesBuilder) -> Result<(), PushError> {
-    let instance = RuntimeComponentInstanceIndex::from_u32(0);
-    let [own, borrow] = add_resource(builder)?;
-    let errors = builder.add_error_context_table_type(TypeErrorContextTable { instance })?;
-    let rows = [
-        own,
-        borrow,
-        InterfaceType::Future(add_future_table(rt, builder, InterfaceType::U64, instance)?),
-        InterfaceType::Stream(add_stream_table(rt, builder, InterfaceType::U64, instance)?),
-        InterfaceType::ErrorContext(errors),
-    ];
-    for (row, ty) in rows.iter().enumerate() {
-        assert!(rt; is_flat(rt, builder, *ty, &[I32], &[I32]), "row {row}");
-    }
-    Ok(())
-}
-
-/// Fields of so many numbers of four bytes.
-fn numbers(alloc: Global, count: u32) -> Result<Seq<RecordField>, PushError> {
-    let mut fields = Seq::new(alloc);
-    for number in 0..count {
-        let name = Text::from_string(format!(in alloc; "{number}")?);
-        let ty = InterfaceType::U32;
-        fields.push(RecordField { name, ty })?;
-    }
-    Ok(fields)
-}
-
-/// Says that 16 flat types stand for a type at most.
-fn many_are_not_flat(
+/// The core types that stand for a text and a number of eight bytes, if they are allowed so many.
+fn flattened(
     rt: &impl Abort,
     alloc: Global,
-    builder: &mut ComponentTypesBuilder,
-) -> Result<(), PushError> {
-    let sixteen = add_record(rt, alloc, builder, numbers(alloc, 16)?)?;
-    let seventeen = add_record(rt, alloc, builder, numbers(alloc, 17)?)?;
-    assert!(rt;
-        is_flat(
-            rt,
-            builder,
-            InterfaceType::Record(sixteen),
-            &[I32; 16],
-            &[I32; 16]
-        )
-    );
-    assert!(rt; is_live(builder, &InterfaceType::Record(seventeen)));
-    assert!(rt;
-        builder
-            .flat_types(&InterfaceType::Record(seventeen))
-            .is_none()
-    );
-    Ok(())
-}
-
-/// Whether these core types stand for a text and a number of eight bytes, if they are allowed so many.
-fn are_flat(
-    rt: &impl Abort,
     builder: &ComponentTypesBuilder,
     memory64: bool,
     max: usize,
-    core: &[ValType],
-) -> Result<bool, PushError> {
+) -> Result<String, PushError> {
     let types = [InterfaceType::String, InterfaceType::U64];
     assert!(rt; are_live(builder, &types));
-    let values = builder.flatten_types(memory64, max, &types)?;
-    Ok(match &values {
-        Some(values) => values.as_slice() == core,
-        None => core.is_empty(),
-    })
+    match builder.flatten_types(memory64, max, &types)? {
+        Some(values) => Ok(format!(in alloc; "{:?}", values.as_slice())?),
+        None => Ok(String::from_str(alloc, "none")?),
+    }
 }
 
 /// Says which core types stand for them up to a limit.
-fn say_limits(rt: &impl Abort, builder: &ComponentTypesBuilder) -> Result<(), PushError> {
-    let (short, long) = (ValType::I32, ValType::I64);
-    let rows: [(bool, usize, &[ValType]); 4] = [
-        (false, 3, &[short, short, long]),
-        (false, 2, &[]),
-        (true, 3, &[long, long, long]),
-        (true, 2, &[]),
+fn say_limits(
+    rt: &impl Abort,
+    alloc: Global,
+    builder: &ComponentTypesBuilder,
+) -> Result<(), PushError> {
+    let rows = [
+        (false, 3, "[I32, I32, I64]"),
+        (false, 2, "none"),
+        (true, 3, "[I64, I64, I64]"),
+        (true, 2, "none"),
     ];
     for (memory64, max, core) in rows {
-        assert!(rt; are_flat(rt, builder, memory64, max, core)?);
+        let told = flattened(rt, alloc, builder, memory64, max)?;
+        assert_eq!(rt; told.as_str(), core);
     }
+    Ok(())
+}
+
+/// All of these.
+fn say_flat(
+    rt: &impl Abort,
+    alloc: Global,
+    builder: &mut ComponentTypesBuilder,
+) -> Result<(), Fail> {
+    say_rows(rt, alloc, builder)?;
+    say_limits(rt, alloc, builder)?;
     Ok(())
 }
 
 #[test]
-fn types_are_flat(rt: HostRuntime) -> Result<(), PushError> {
+fn types_are_flat(rt: HostRuntime) -> Result<(), Fail> {
     let mut builder = ComponentTypesBuilder::new(rt.alloc(), 7);
-    pointers_are_flat(&rt, &mut builder)?;
-    members_are_flat(&rt, rt.alloc(), &mut builder)?;
-    handles_are_flat(&rt, &mut builder)?;
-    many_are_not_flat(&rt, rt.alloc(), &mut builder)?;
-    say_limits(&rt, &builder)?;
-    Ok(())
+    let said = say_flat(&rt, rt.alloc(), &mut builder);
+    drop(builder);
+    said
 }

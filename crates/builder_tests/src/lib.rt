@@ -1,17 +1,22 @@
-//! Tests of the builder of component types.
+//! Tests of the builder of component types: of types made of their members, of their indices and facts, of their flat types and
+//! signatures, and of their agreement.
 #![tactic(auto)]
 
 #[cfg(test)]
-mod added;
+mod agreement;
 #[cfg(test)]
-mod entries;
+mod facts;
 #[cfg(test)]
 mod flat;
 #[cfg(test)]
-mod handles;
+mod indices;
 #[cfg(test)]
 mod live;
 #[cfg(test)]
-mod members;
+mod making;
+#[cfg(test)]
+mod parts;
 #[cfg(test)]
 mod signatures;
+#[cfg(test)]
+mod words;

@@ -2,8 +2,6 @@
 #![tactic(auto)]
 
 #[cfg(test)]
-mod decoded;
-#[cfg(test)]
 mod ends;
 #[cfg(test)]
 mod entry_faults;

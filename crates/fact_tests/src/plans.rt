@@ -21,25 +21,6 @@ pub const EMPTY: &str =
 /// The module of every plan without adapters, printed.
 pub const EMPTY_PAGE: &str = "0061736d010000000101000201000301000701000a0100\n";
 
-/// Parts of the worked plan that others replace.
-pub const PARAMS: &str = "[[\"x\",\"u32\"]],\"results\":[]";
-
-pub const CORE: &str = "[\"i32\"],\"results\":[]";
-
-/// Sixteen parameters of both words, and their core types.
-pub const SIXTEEN: &str =
-    "[[\"a\",\"u32\"],[\"b\",\"u64\"],[\"c\",\"u32\"],[\"d\",\"u64\"],[\"e\",\"u32\"],[\"f\",\"u64\"],[\"g\",\"u32\"],[\"h\",\"u64\"],[\"i\",\"u32\"],[\"j\",\"u64\"],[\"k\",\"u32\"],[\"l\",\"u64\"],[\"m\",\"u32\"],[\"n\",\"u64\"],[\"o\",\"u32\"],[\"p\",\"u64\"]],\"results\":[]";
-
-pub const SIXTEEN_CORE: &str =
-    "[\"i32\",\"i64\",\"i32\",\"i64\",\"i32\",\"i64\",\"i32\",\"i64\",\"i32\",\"i64\",\"i32\",\"i64\",\"i32\",\"i64\",\"i32\",\"i64\"],\"results\":[]";
-
-/// One parameter more.
-pub const SEVENTEEN: &str =
-    "[[\"a\",\"u32\"],[\"b\",\"u64\"],[\"c\",\"u32\"],[\"d\",\"u64\"],[\"e\",\"u32\"],[\"f\",\"u64\"],[\"g\",\"u32\"],[\"h\",\"u64\"],[\"i\",\"u32\"],[\"j\",\"u64\"],[\"k\",\"u32\"],[\"l\",\"u64\"],[\"m\",\"u32\"],[\"n\",\"u64\"],[\"o\",\"u32\"],[\"p\",\"u64\"],[\"q\",\"u32\"]],\"results\":[]";
-
-pub const SEVENTEEN_CORE: &str =
-    "[\"i32\",\"i64\",\"i32\",\"i64\",\"i32\",\"i64\",\"i32\",\"i64\",\"i32\",\"i64\",\"i32\",\"i64\",\"i32\",\"i64\",\"i32\",\"i64\",\"i32\"],\"results\":[]";
-
 /// What [`replaced`] gives where the old part is not there.
 pub const NO_PART: &str = "no such part";
 
@@ -51,11 +32,33 @@ pub fn replaced(alloc: Global, text: &str, old: &str, new: &str) -> Result<Strin
     }
 }
 
-/// The worked plan with a new part in the first place of each old one.
-pub fn edited(alloc: Global, edits: &[(&str, &str)]) -> Result<String, AllocError> {
-    let mut text = String::from_str(alloc, PLAN)?;
-    for (old, new) in edits {
-        text = replaced(alloc, text.as_str(), old, new)?;
+/// A plan with some edits, parted by `|`: each is a part, `=>` and what stands in its place.
+pub fn edited(alloc: Global, plan: &str, edits: &str) -> Result<String, AllocError> {
+    let mut text = String::from_str(alloc, plan)?;
+    for edit in edits.split('|') {
+        let (old, new) = edit.split_once("=>").unwrap_or((edit, NO_PART));
+        text = replaced(alloc, text.as_str(), old.trim(), new.trim())?;
+    }
+    Ok(text)
+}
+
+/// Adds a piece, in which `%` stands for a number and `&` for the next one.
+pub fn add_piece(text: &mut String, piece: &str, number: u32) -> Result<(), AllocError> {
+    for letter in piece.chars() {
+        match letter {
+            '%' => write!(text, "{number}")?,
+            '&' => write!(text, "{}", number.wrapping_add(1))?,
+            _ => text.push(letter)?,
+        }
+    }
+    Ok(())
+}
+
+/// Such pieces, one for each number.
+pub fn series(alloc: Global, piece: &str, first: u32, end: u32) -> Result<String, AllocError> {
+    let mut text = String::new(alloc);
+    for number in first..end {
+        add_piece(&mut text, piece, number)?;
     }
     Ok(text)
 }

@@ -1,15 +1,13 @@
 //! Plans with a fault, or with two of which one comes first, and the lines that tell them; and their neighbours, which have
 //! none.
 
-use crate::ends::{plain, run_on};
-use crate::plans::{NO_PART, PLAN, replaced};
-use std::alloc::{AllocError, Global};
-use std::process::Abort;
+use crate::ends::{ends_so, plain, rows_hold};
+use crate::plans::{PLAN, replaced, series};
+use std::alloc::Global;
 use std::test::Fail;
 
 // In the tables below, a row is the first fault of a plan, and the edits that make this plan of the one that the table
-// speaks of: each a part and what stands in its place. `sound` stands for no fault, in a plan that is not built so far, and
-// `built` for no fault in one that is.
+// speaks of: each a part and what stands in its place. `sound` stands for no fault, in a plan that is not built so far.
 
 /// One adapter whose lower side is async.
 const AWAITED: &str =
@@ -374,7 +372,6 @@ sound: {"params":["i32"],"results":[]} => {"params":["i32"],"results":[]},{"para
 BadOptions at adapter 0: {"params":["i32"],"results":[]} => {"params":["i32"],"results":[]},{"params":["i32"],"results":["i32"]} | "instance":0,"core_type":0 => "instance":0,"core_type":1,"async":true
 ImportConflict at adapter 0: ["x","u32"] => | ["i32"] => [] | "instance":1 => "instance":1,"post_return":0
 sound: ["x","u32"] => | ["i32"] => [] | {"export":[0,"run"]} => {"export":[0,"run"]},{"trampoline":0} | "instance":1 => "instance":1,"post_return":1
-built: "f0" => "f1"
 "#;
 
 /// Instances up to 2,147,483,647 and past it.
@@ -383,7 +380,6 @@ TooLarge at adapter 0: "instances":2 => "instances":2147483649 | "instance":1 =>
 TooLarge at adapter 0: "instances":2 => "instances":4294967295 | "instance":0 => "instance":4294967294
 UnknownIndex at adapter 0: "instances":2 => "instances":2147483648 | "instance":1 => "instance":2147483648
 TooLarge at adapter 0: "instances":2 => "instances":4294967295 | "instance":0 => "instance":2147483648,"post_return":0
-built: "instances":2 => "instances":2147483648 | "instance":1 => "instance":2147483647 | "instance":0 => "instance":2147483646
 "#;
 
 /// Adapters with both sides in one instance.
@@ -456,181 +452,83 @@ BadType at function 1: 536870912 => 536870911
 UnknownIndex at adapter 0: 536870912 => 536870911 | ["x","u8"],["x" => ["x","u8"],["y"
 "#;
 
-/// Lists of types in which `..` stands for so many pieces, in each of which `%` stands for its number; and what comes first
-/// of a plan with these types.
-const SERIES: &[(&str, &str, u32, &str)] = &[
-    (r#"[{"flags":["a"..]}]"#, r#","n%""#, 31, "sound"),
-    (
-        r#"[{"flags":["a"..]}]"#,
-        r#","n%""#,
-        32,
-        "BadType at type 0",
-    ),
-    (r#"[{"enum":["a"..]}]"#, r#","n%""#, 4096, "sound"),
-    (
-        r#"[{"variant":[["a",null]..]}]"#,
-        r#",["n%",null]"#,
-        4095,
-        "sound",
-    ),
-    (
-        r#"[{"variant":[["a",null]..]}]"#,
-        r#",["n%",null]"#,
-        4096,
-        "TooLarge at type 0",
-    ),
-    (
-        r#"[{"variant":[["n7",null]..]}]"#,
-        r#",["n%",null]"#,
-        4096,
-        "BadType at type 0",
-    ),
-    (
-        r#"[{"variant":[["a",0]..]}]"#,
-        r#",["n%",null]"#,
-        4096,
-        "UnknownIndex at type 0",
-    ),
-    (r#"[{"list":"u8"}..]"#, r#",{"list":%}"#, 98, "sound"),
-    (
-        r#"[{"list":"u8"}..]"#,
-        r#",{"list":%}"#,
-        99,
-        "TooLarge at type 99",
-    ),
-    (
-        r#"[{"option":"string"}..]"#,
-        r#",{"tuple":["u8",%]}"#,
-        120,
-        "TooLarge at type 99",
-    ),
-    (r#"[{"flags":["a"]}..]"#, r#",{"option":%}"#, 99, "sound"),
-    (
-        r#"[{"flags":["a"]}..]"#,
-        r#",{"option":%}"#,
-        100,
-        "TooLarge at type 100",
-    ),
-    (
-        r#"[{"error-context":1}..]"#,
-        r#",{"future":[%,0]}"#,
-        99,
-        "sound",
-    ),
-    (
-        r#"[{"future":[null,0]}..]"#,
-        r#",{"future":[%,0]}"#,
-        100,
-        "TooLarge at type 100",
-    ),
-    (
-        r#"[{"own":0}..]"#,
-        r#",{"stream":[%,1]}"#,
-        100,
-        "TooLarge at type 100",
-    ),
-    (
-        r#"[{"list":"u8"}..,{"enum":["b","b"]}]"#,
-        r#",{"list":%}"#,
-        98,
-        "BadType at type 99",
-    ),
-];
-
-/// Checks how a run over a plan ends: what comes first of it, or `sound`, or `built`.
-fn ends_so(rt: &impl Abort, alloc: Global, plan: &str, first: &str) -> Result<(), Fail> {
-    assert!(rt; plan != NO_PART);
-    let refused = format!(in alloc; "refused: {first}\n")?;
-    let (number, line) = match first {
-        "sound" => (10, "not built\n"),
-        "built" => (0, ""),
-        _ => (8, refused.as_str()),
-    };
-    let seen = run_on(alloc, &plain(plan))?;
-    assert_eq!(rt; seen.status.number(), number);
-    assert_eq!(rt; seen.err.written(), line.as_bytes());
-    Ok(())
-}
-
-/// A plan with some edits.
-fn edited(alloc: Global, plan: &str, edits: &str) -> Result<String, AllocError> {
-    let mut text = String::from_str(alloc, plan)?;
-    for edit in edits.split('|') {
-        let (old, new) = edit.split_once("=>").unwrap_or((edit, NO_PART));
-        text = replaced(alloc, text.as_str(), old.trim(), new.trim())?;
-    }
-    Ok(text)
-}
-
-/// Each row of a table holds.
-fn rows_hold(rt: &impl Abort, alloc: Global, plan: &str, rows: &str) -> Result<(), Fail> {
-    for row in rows.trim().lines() {
-        let (first, edits) = row.split_once(": ").ok_or("no edits")?;
-        let text = edited(alloc, plan, edits)?;
-        ends_so(rt, alloc, text.as_str(), first)?;
-    }
-    Ok(())
-}
+/// Lists of types in which `..` stands for pieces, in each of which `%` stands for its number: what comes first of a plan with
+/// these types, the list, a piece, and how many there are.
+const SERIES: &str = r#"
+sound: [{"flags":["a"..]}] | ,"n%" | 31
+BadType at type 0: [{"flags":["a"..]}] | ,"n%" | 32
+sound: [{"enum":["a"..]}] | ,"n%" | 4096
+sound: [{"variant":[["a",null]..]}] | ,["n%",null] | 4095
+TooLarge at type 0: [{"variant":[["a",null]..]}] | ,["n%",null] | 4096
+BadType at type 0: [{"variant":[["n7",null]..]}] | ,["n%",null] | 4096
+UnknownIndex at type 0: [{"variant":[["a",0]..]}] | ,["n%",null] | 4096
+sound: [{"list":"u8"}..] | ,{"list":%} | 98
+TooLarge at type 99: [{"list":"u8"}..] | ,{"list":%} | 99
+TooLarge at type 99: [{"option":"string"}..] | ,{"tuple":["u8",%]} | 120
+sound: [{"flags":["a"]}..] | ,{"option":%} | 99
+TooLarge at type 100: [{"flags":["a"]}..] | ,{"option":%} | 100
+sound: [{"error-context":1}..] | ,{"future":[%,0]} | 99
+TooLarge at type 100: [{"future":[null,0]}..] | ,{"future":[%,0]} | 100
+TooLarge at type 100: [{"own":0}..] | ,{"stream":[%,1]} | 100
+BadType at type 99: [{"list":"u8"}..,{"enum":["b","b"]}] | ,{"list":%} | 98
+"#;
 
 #[test]
 fn faults_of_types_are_told(rt: HostRuntime) -> Result<(), Fail> {
-    rows_hold(&rt, rt.alloc(), AWAITED, UNKNOWN_TYPES)?;
-    rows_hold(&rt, rt.alloc(), AWAITED, BAD_TYPES)?;
-    rows_hold(&rt, rt.alloc(), AWAITED, LARGE_TYPES)?;
-    rows_hold(&rt, rt.alloc(), AWAITED, WIDE_TYPES)?;
-    rows_hold(&rt, rt.alloc(), AWAITED, TYPES_IN_ORDER)
+    rows_hold(&rt, rt.alloc(), "refused", AWAITED, UNKNOWN_TYPES)?;
+    rows_hold(&rt, rt.alloc(), "refused", AWAITED, BAD_TYPES)?;
+    rows_hold(&rt, rt.alloc(), "refused", AWAITED, LARGE_TYPES)?;
+    rows_hold(&rt, rt.alloc(), "refused", AWAITED, WIDE_TYPES)?;
+    rows_hold(&rt, rt.alloc(), "refused", AWAITED, TYPES_IN_ORDER)
 }
 
 #[test]
 fn faults_of_functions_are_told(rt: HostRuntime) -> Result<(), Fail> {
-    rows_hold(&rt, rt.alloc(), TYPED, FUNCS)?;
-    rows_hold(&rt, rt.alloc(), PAIRED, PAIRS)
+    rows_hold(&rt, rt.alloc(), "refused", TYPED, FUNCS)?;
+    rows_hold(&rt, rt.alloc(), "refused", PAIRED, PAIRS)
 }
 
 #[test]
 fn faults_of_adapters_are_told(rt: HostRuntime) -> Result<(), Fail> {
-    rows_hold(&rt, rt.alloc(), MANY, LACKING)?;
-    rows_hold(&rt, rt.alloc(), MANY, OPTIONS)?;
-    rows_hold(&rt, rt.alloc(), MANY, MISMATCHES)?;
-    rows_hold(&rt, rt.alloc(), MANY, MEMORIES)?;
-    rows_hold(&rt, rt.alloc(), MANY, SIGNATURES)?;
-    rows_hold(&rt, rt.alloc(), MANY, CONFLICTS)?;
-    rows_hold(&rt, rt.alloc(), MANY, NAMES)?;
-    rows_hold(&rt, rt.alloc(), MANY, ADAPTERS_IN_ORDER)
+    rows_hold(&rt, rt.alloc(), "refused", MANY, LACKING)?;
+    rows_hold(&rt, rt.alloc(), "refused", MANY, OPTIONS)?;
+    rows_hold(&rt, rt.alloc(), "refused", MANY, MISMATCHES)?;
+    rows_hold(&rt, rt.alloc(), "refused", MANY, MEMORIES)?;
+    rows_hold(&rt, rt.alloc(), "refused", MANY, SIGNATURES)?;
+    rows_hold(&rt, rt.alloc(), "refused", MANY, CONFLICTS)?;
+    rows_hold(&rt, rt.alloc(), "refused", MANY, NAMES)?;
+    rows_hold(&rt, rt.alloc(), "refused", MANY, ADAPTERS_IN_ORDER)
 }
 
 #[test]
 fn faults_of_variations_are_told(rt: HostRuntime) -> Result<(), Fail> {
-    rows_hold(&rt, rt.alloc(), PLAN, VARIATIONS)?;
-    rows_hold(&rt, rt.alloc(), PLAN, INSTANCES)?;
-    rows_hold(&rt, rt.alloc(), PLAN, ONE_INSTANCE)
+    rows_hold(&rt, rt.alloc(), "refused", PLAN, VARIATIONS)?;
+    rows_hold(&rt, rt.alloc(), "refused", PLAN, INSTANCES)?;
+    rows_hold(&rt, rt.alloc(), "refused", PLAN, ONE_INSTANCE)
 }
 
 #[test]
 fn faults_of_needs_are_told(rt: HostRuntime) -> Result<(), Fail> {
-    rows_hold(&rt, rt.alloc(), POINTED, POINTERS)?;
-    rows_hold(&rt, rt.alloc(), AWAITED, ASYNC)?;
-    rows_hold(&rt, rt.alloc(), REVERSED, REVERSALS)
+    rows_hold(&rt, rt.alloc(), "refused", POINTED, POINTERS)?;
+    rows_hold(&rt, rt.alloc(), "refused", AWAITED, ASYNC)?;
+    rows_hold(&rt, rt.alloc(), "refused", REVERSED, REVERSALS)
 }
 
-/// So many pieces.
-fn pieces(alloc: Global, piece: &str, count: u32) -> Result<String, AllocError> {
-    let (before, behind) = piece.split_once("%").unwrap_or((piece, ""));
-    let mut text = String::new(alloc);
-    for number in 0..count {
-        text.push_str(format!(in alloc; "{before}{number}{behind}")?.as_str())?;
-    }
-    Ok(text)
+/// Whether a row of such a list holds.
+fn series_holds(alloc: Global, row: &str) -> Result<bool, Fail> {
+    let (end, row) = row.split_once(": ").ok_or("no list")?;
+    let (list, row) = row.split_once(" | ").ok_or("no piece")?;
+    let (piece, count) = row.split_once(" | ").ok_or("no number")?;
+    let pieces = series(alloc, piece, 0, count.parse::<u32>()?)?;
+    let types = replaced(alloc, list, "..", pieces.as_str())?;
+    let text = replaced(alloc, AWAITED, "[]", types.as_str())?;
+    Ok(ends_so(alloc, &plain(text.as_str()), "refused", end)?)
 }
 
 #[test]
 fn long_lists_have_limits(rt: HostRuntime) -> Result<(), Fail> {
-    let alloc = rt.alloc();
-    for (types, piece, count, first) in SERIES {
-        let all = pieces(alloc, piece, *count)?;
-        let types = replaced(alloc, types, "..", all.as_str())?;
-        let text = replaced(alloc, AWAITED, "[]", types.as_str())?;
-        ends_so(&rt, alloc, text.as_str(), first)?;
+    for row in SERIES.trim().lines() {
+        assert!(rt; series_holds(rt.alloc(), row)?, "{row}");
     }
     Ok(())
 }

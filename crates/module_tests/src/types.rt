@@ -38,7 +38,18 @@ const U32: Nested = (Kind::Plain(InterfaceType::U32), 0);
 fn is_live(builder: &Builder, ty: &InterfaceType) -> bool
     ensures { IsTrue result → IsLive builder.now.tables ty.now }
 {
-    builder.component_types().is_live(*ty)
+    let types = builder.component_types();
+    match *ty {
+        InterfaceType::Bool | InterfaceType::U32 | InterfaceType::U64 | InterfaceType::String =>
+            true,
+        InterfaceType::Record(i) => types.get(i).is_some(),
+        InterfaceType::Variant(i) => types.get(i).is_some(),
+        InterfaceType::Enum(i) => types.get(i).is_some(),
+        InterfaceType::Flags(i) => types.get(i).is_some(),
+        InterfaceType::Option(i) => types.get(i).is_some(),
+        InterfaceType::Own(i) => types.get(i).is_some(),
+        _ => false,
+    }
 }
 
 fn are_live(builder: &Builder, types: &[InterfaceType]) -> bool
@@ -169,7 +180,7 @@ pub fn add_func(
     Ok(index.as_u32())
 }
 
-/// Functions, which are named by their places: the parameters, and the results.
+/// Six functions, which are named by their places: the parameters, and the results.
 const FUNCS: &[(&[Nested], &[Nested])] = &[
     (&[U32], &[]),
     (&[(Kind::Plain(InterfaceType::U64), 0)], &[U32]),
@@ -179,16 +190,11 @@ const FUNCS: &[(&[Nested], &[Nested])] = &[
     (&[(Kind::Variant(4097), 0)], &[]),
 ];
 
-/// The parameters and results of core types.
+/// The parameters and results of two core types.
 const CORE_TYPES: &[(&[ValType], &[ValType])] = &[
     (&[ValType::I32], &[]),
     (&[ValType::I64], &[ValType::I32]),
 ];
-
-/// Places that name nothing.
-pub const NO_FUNC: u32 = 6;
-
-pub const NO_CORE_TYPE: u32 = 2;
 
 /// Adds the functions and the core types.
 pub fn fill(rt: &impl Abort, alloc: Global, builder: &mut Builder) -> Result<(), PushError> {

@@ -8,10 +8,6 @@ mod externs;
 #[cfg(test)]
 mod layouts;
 #[cfg(test)]
-mod live;
-#[cfg(test)]
-mod nested;
-#[cfg(test)]
 mod tables;
 #[cfg(test)]
 mod traits;

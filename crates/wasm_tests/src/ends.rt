@@ -8,9 +8,11 @@ use crate::by_hand::{
 use crate::engine_controls::{CONTROLS, CONTROLS_ROWS, TURNS, TURNS_ROWS};
 use crate::engine_memories::{NARROW, NARROW_ROWS, SEVERAL, SEVERAL_ROWS, WIDE, WIDE_ROWS};
 use crate::engine_numbers::{NUMBERS, NUMBERS_ROWS};
-use crate::rows::{Outside, module_of, rows_hold, run_call, state_of, suite_holds};
-use fact_machine::CoreValue;
-use fact_wasm::Seq;
+use crate::rows::{Outside, rows_hold, run_call, state_of, suite_holds};
+use fact_machine::{CoreValue, MachineState};
+use fact_wasm::{Seq, WasmModule, decode};
+use std::alloc::Global;
+use std::process::Abort;
 use std::test::Fail;
 
 /// More steps than any row takes.
@@ -36,6 +38,12 @@ const THREE: Outside = Outside {
 const COUNT: Outside = Outside {
     memories: &[],
     globals: &[CoreValue::I32(3), CoreValue::I64(5)],
+};
+
+/// Neither memories nor globals.
+const NOTHING: Outside = Outside {
+    memories: &[],
+    globals: &[],
 };
 
 /// Two memories and a counter.
@@ -98,35 +106,77 @@ fn memories_end_by_the_rules(rt: HostRuntime) -> Result<(), Fail> {
     suite_holds(&rt, rt.alloc(), UNCHECKED, &BOTH, UNCHECKED_ROWS, STEPS)
 }
 
+/// Takes the last function and the imports off a module.
+fn shorten(alloc: Global, module: &mut WasmModule) {
+    let last = module.funcs.pop();
+    drop(last);
+    module.imports = Seq::new(alloc);
+}
+
 #[test]
 fn missing_functions_are_stuck(rt: HostRuntime) -> Result<(), Fail> {
     let alloc = rt.alloc();
-    let mut module = module_of(&rt, alloc, UNCHECKED)?;
-    let _last = module.funcs.pop();
-    module.imports = Seq::new(alloc);
-    let state = state_of(alloc, &[], &[])?;
-    rows_hold(&rt, alloc, &module, state, UNCHECKED_SHORTENED, STEPS)
+    let bytes = hex::decode(alloc, UNCHECKED)?;
+    let mut module = decode(alloc, bytes.as_slice())?;
+    shorten(alloc, &mut module);
+    let said = rows_hold(&rt, alloc, &module, &NOTHING, UNCHECKED_SHORTENED, STEPS);
+    drop(module);
+    said
+}
+
+/// Says what the outside sees of two calls.
+fn say_log(
+    rt: &impl Abort,
+    alloc: Global,
+    module: &WasmModule,
+    state: &MachineState,
+) -> Result<(), Fail> {
+    let call = "given twice(i32:5) i32:6 i32:7";
+    let outcome = run_call(alloc, module, state, call, STEPS)?;
+    let log = format!(in alloc; "{:?}", outcome.log);
+    drop(outcome);
+    assert_eq!(rt; log?.as_str(), CATCHES_LOG);
+    Ok(())
+}
+
+/// As [`say_log`], from a count of 8.
+fn say_log_of(rt: &impl Abort, alloc: Global, module: &WasmModule) -> Result<(), Fail> {
+    let state = state_of(alloc, &[], &[CoreValue::I32(8)])?;
+    let said = say_log(rt, alloc, module, &state);
+    drop(state);
+    said
 }
 
 #[test]
 fn outside_calls_are_logged(rt: HostRuntime) -> Result<(), Fail> {
     let alloc = rt.alloc();
-    let module = module_of(&rt, alloc, CATCHES)?;
-    let state = state_of(alloc, &[], &[CoreValue::I32(8)])?;
-    let call = "given twice(i32:5) i32:6 i32:7";
-    let outcome = run_call(alloc, &module, &state, call, STEPS)?;
-    assert_eq!(rt;
-        format!(in alloc; "{:?}", outcome.log)?.as_str(),
-        CATCHES_LOG
-    );
-    Ok(())
+    let bytes = hex::decode(alloc, CATCHES)?;
+    let module = decode(alloc, bytes.as_slice())?;
+    let said = say_log_of(&rt, alloc, &module);
+    drop(module);
+    said
+}
+
+/// Runs the rows of a module on its copy.
+fn copy_holds(
+    rt: &impl Abort,
+    alloc: Global,
+    module: &WasmModule,
+    outside: &Outside,
+    rows: &str,
+) -> Result<(), Fail> {
+    let copy = module.try_clone()?;
+    let said = rows_hold(rt, alloc, &copy, outside, rows, STEPS);
+    drop(copy);
+    said
 }
 
 #[test]
-fn states_are_copied(rt: HostRuntime) -> Result<(), Fail> {
-    let state = state_of(rt.alloc(), THREE.memories, COUNT.globals)?;
-    let copy = state.try_clone()?;
-    assert!(rt; copy.memories == state.memories);
-    assert_eq!(rt; copy.globals.as_slice(), COUNT.globals);
-    Ok(())
+fn copies_end_as_what_they_are_copies_of(rt: HostRuntime) -> Result<(), Fail> {
+    let alloc = rt.alloc();
+    let bytes = hex::decode(alloc, CONTROLS)?;
+    let module = decode(alloc, bytes.as_slice())?;
+    let said = copy_holds(&rt, alloc, &module, &COUNT, CONTROLS_ROWS);
+    drop(module);
+    said
 }

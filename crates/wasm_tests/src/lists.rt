@@ -1,6 +1,8 @@
 //! The calls of lists, texts and types that allocate.
 
 use fact_wasm::{CoreTypes, Seq, Text, ValType};
+use std::alloc::{AllocError, Global};
+use std::process::Abort;
 use std::test::Fail;
 
 #[test]
@@ -37,12 +39,40 @@ const SIGNATURES: [(&[ValType], &[ValType], u32); 6] = [
     (&[ValType::I32], &[], 0),
 ];
 
-#[test]
-fn core_types_hold_each_signature_once(rt: HostRuntime) -> Result<(), Fail> {
-    let mut types = CoreTypes::new(rt.alloc());
+/// Each signature has one place.
+fn say_places(rt: &impl Abort, types: &mut CoreTypes) -> Result<(), AllocError> {
     for (params, results, place) in SIGNATURES {
         assert_eq!(rt; types.function(params, results)?, place);
     }
     assert_eq!(rt; types.types().len(), 3);
     Ok(())
+}
+
+/// Each of 300 signatures has the place of its number: of up to 19 parameters, and of up to 14 results.
+fn say_many_places(rt: &impl Abort, types: &mut CoreTypes) -> Result<(), AllocError> {
+    let (params, results) = ([ValType::I32; 20], [ValType::I64; 15]);
+    for number in 0..300usize {
+        let place = types.function(&params[..number % 20], &results[..number / 20])?;
+        assert_eq!(rt; place as usize, number);
+    }
+    Ok(())
+}
+
+/// All of these.
+fn say_signatures(rt: &impl Abort, alloc: Global, types: &mut CoreTypes) -> Result<(), AllocError> {
+    say_many_places(rt, types)?;
+    say_many_places(rt, types)?;
+    assert_eq!(rt; types.types().len(), 300);
+    let mut few = CoreTypes::new(alloc);
+    let said = say_places(rt, &mut few);
+    drop(few);
+    said
+}
+
+#[test]
+fn core_types_hold_each_signature_once(rt: HostRuntime) -> Result<(), AllocError> {
+    let mut types = CoreTypes::new(rt.alloc());
+    let said = say_signatures(&rt, rt.alloc(), &mut types);
+    drop(types);
+    said
 }

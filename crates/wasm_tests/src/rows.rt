@@ -1,30 +1,37 @@
 //! Rows of calls and their ends, written as text.
 
 use fact_machine::{Answer, CoreValue, End, Machine, MachineState, Outcome};
-use fact_wasm::{FuncName, Seq, WasmModule, decode, encode};
+use fact_wasm::{DecodeError, FuncName, Seq, WasmModule, decode, encode};
 use std::alloc::{AllocError, Global};
 use std::process::Abort;
 use std::test::Fail;
 
-/// The module of bytes, which are the module's own.
-pub fn decoded(
-    rt: &impl Abort,
-    alloc: Global,
-    bytes: &[u8],
-    what: &str,
-) -> Result<WasmModule, Fail> {
-    let read = decode(alloc, bytes);
-    assert!(rt; read.is_ok(), "{what}");
-    let module = read?;
-    assert!(rt; module.in_range(), "{what}");
-    assert_eq!(rt; encode(alloc, &module)?.as_slice(), bytes, "{what}");
-    Ok(module)
+/// What [`verdict`] says of bytes that spell a module.
+pub const MODULE: &str = "a module";
+
+/// What it says of bytes that spell none.
+pub const REFUSED: &str = "no module";
+
+/// Whether a module is in range and is spelled by the bytes.
+pub fn is_spelled(alloc: Global, module: &WasmModule, bytes: &[u8]) -> Result<bool, AllocError> {
+    if !module.in_range() {
+        return Ok(false);
+    }
+    let spelled = encode(alloc, module)?;
+    Ok(spelled.as_slice() == bytes)
 }
 
-/// The module that hexadecimal digits spell.
-pub fn module_of(rt: &impl Abort, alloc: Global, digits: &str) -> Result<WasmModule, Fail> {
-    let bytes = hex::decode(alloc, digits)?;
-    decoded(rt, alloc, bytes.as_slice(), digits)
+/// Whether the bytes spell a module, and that module is spelled by them.
+pub fn verdict(alloc: Global, bytes: &[u8]) -> Result<&'static str, DecodeError> {
+    match decode(alloc, bytes) {
+        Ok(module) => {
+            let spelled = is_spelled(alloc, &module, bytes);
+            drop(module);
+            Ok(if spelled? { MODULE } else { "other bytes" })
+        }
+        Err(DecodeError::NotInGrammar) => Ok(REFUSED),
+        Err(error) => Err(error),
+    }
 }
 
 /// A memory of so many zeros and then these bytes.
@@ -151,6 +158,22 @@ fn number_of(module: &WasmModule, name: &str) -> Option<u32> {
     None
 }
 
+/// Runs a function with arguments and answers in words, for at most so many steps.
+fn run_with(
+    alloc: Global,
+    module: &WasmModule,
+    func: u32,
+    args: &[CoreValue],
+    state: &MachineState,
+    answers: &str,
+    steps: u64,
+) -> Result<Outcome, Fail> {
+    let answers = answers_of(alloc, answers, state)?;
+    let outcome = Machine::run(alloc, module, func, args, state, answers.as_slice(), steps);
+    drop(answers);
+    Ok(outcome?)
+}
+
 /// Runs a call, written as `NAME(ARGUMENTS) ANSWERS`, for at most so many steps.
 pub fn run_call(
     alloc: Global,
@@ -163,34 +186,43 @@ pub fn run_call(
     let (args, answers) = rest.split_once(")").ok_or("no end of arguments")?;
     let func = number_of(module, name).ok_or("no such function")?;
     let args = values_of(alloc, args)?;
-    let answers = answers_of(alloc, answers, state)?;
-    Ok(Machine::run(
-        alloc,
-        module,
-        func,
-        args.as_slice(),
-        state,
-        answers.as_slice(),
-        steps,
-    )?)
+    run_with(alloc, module, func, args.as_slice(), state, answers, steps)
 }
 
-/// Runs rows, each a call, `=` and its end, from this state on. Each begins where the one before it ended.
-pub fn rows_hold(
+/// Whether an end is the one in words.
+fn is_end(alloc: Global, end: &End, words: &str) -> Result<bool, AllocError> {
+    let text = end_text(alloc, end)?;
+    Ok(text.as_str() == words)
+}
+
+/// Whether a row holds, which is a call, `=` and its end. The state becomes the one that the run left.
+fn row_holds(
+    alloc: Global,
+    module: &WasmModule,
+    state: &mut MachineState,
+    row: &str,
+    steps: u64,
+) -> Result<bool, Fail> {
+    let (call, end) = row.split_once("=").ok_or("no end")?;
+    let outcome = run_call(alloc, module, state, call, steps)?;
+    let holds = is_end(alloc, &outcome.end, end.trim());
+    let left = outcome.state.try_clone();
+    drop(outcome);
+    *state = left?;
+    Ok(holds?)
+}
+
+/// Runs rows from this state on. Each begins where the one before it ended.
+fn rows_hold_from(
     rt: &impl Abort,
     alloc: Global,
     module: &WasmModule,
-    state: MachineState,
+    state: &mut MachineState,
     rows: &str,
     steps: u64,
 ) -> Result<(), Fail> {
-    let mut state = state;
     for row in rows.trim().lines() {
-        let (call, end) = row.split_once("=").ok_or("no end")?;
-        let outcome = run_call(alloc, module, &state, call, steps)?;
-        let ended = end_text(alloc, &outcome.end)?;
-        assert_eq!(rt; ended.as_str(), end.trim(), "{row}");
-        state = outcome.state.try_clone()?;
+        assert!(rt; row_holds(alloc, module, state, row, steps)?, "{row}");
     }
     Ok(())
 }
@@ -202,6 +234,21 @@ pub struct Outside<'a> {
     pub globals: &'a [CoreValue],
 }
 
+/// Runs the rows of a module.
+pub fn rows_hold(
+    rt: &impl Abort,
+    alloc: Global,
+    module: &WasmModule,
+    outside: &Outside,
+    rows: &str,
+    steps: u64,
+) -> Result<(), Fail> {
+    let mut state = state_of(alloc, outside.memories, outside.globals)?;
+    let said = rows_hold_from(rt, alloc, module, &mut state, rows, steps);
+    drop(state);
+    said
+}
+
 /// Runs the rows of a module, given by its digits.
 pub fn suite_holds(
     rt: &impl Abort,
@@ -211,7 +258,10 @@ pub fn suite_holds(
     rows: &str,
     steps: u64,
 ) -> Result<(), Fail> {
-    let module = module_of(rt, alloc, digits)?;
-    let state = state_of(alloc, outside.memories, outside.globals)?;
-    rows_hold(rt, alloc, &module, state, rows, steps)
+    let bytes = hex::decode(alloc, digits)?;
+    assert!(rt; verdict(alloc, bytes.as_slice())? == MODULE);
+    let module = decode(alloc, bytes.as_slice())?;
+    let said = rows_hold(rt, alloc, &module, outside, rows, steps);
+    drop(module);
+    said
 }

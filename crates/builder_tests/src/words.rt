@@ -200,20 +200,42 @@ fn next_of(
     Ok(Some(ty))
 }
 
-/// The type of several words.
+/// What several words make.
+fn made_of(
+    rt: &impl Abort,
+    alloc: Global,
+    builder: &mut ComponentTypesBuilder,
+    words: &str,
+) -> Result<Vec<Option<InterfaceType>>, PushError> {
+    let mut made = Vec::new(alloc);
+    for word in words.split_whitespace() {
+        let next = next_of(rt, alloc, builder, &mut made, word)?;
+        made.push(next)?;
+    }
+    Ok(made)
+}
+
+/// The types of several words.
+pub fn types_of(
+    rt: &impl Abort,
+    alloc: Global,
+    builder: &mut ComponentTypesBuilder,
+    words: &str,
+) -> Result<Vec<InterfaceType>, PushError> {
+    let made = made_of(rt, alloc, builder, words)?;
+    present(rt, alloc, made.as_slice())
+}
+
+/// The one type of several words.
 pub fn type_of(
     rt: &impl Abort,
     alloc: Global,
     builder: &mut ComponentTypesBuilder,
     words: &str,
 ) -> Result<InterfaceType, PushError> {
-    let mut made = Vec::new(alloc);
-    for word in words.split_whitespace() {
-        let next = next_of(rt, alloc, builder, &mut made, word)?;
-        made.push(next)?;
-    }
-    assert_eq!(rt; made.len(), 1);
-    Ok(made.pop().flatten().expect(rt, "one type"))
+    let types = types_of(rt, alloc, builder, words)?;
+    assert_eq!(rt; types.len(), 1);
+    Ok(types[0])
 }
 
 /// Words, and behind them others so many times.

@@ -5,7 +5,7 @@ use crate::words::type_of;
 use fact_builder::ComponentTypesBuilder;
 use fact_entity::PushError;
 use fact_making::{make_enum, make_flags};
-use fact_types::{InterfaceType, Lookup, TypeMap, VariantInfo};
+use fact_types::{ComponentTypes, InterfaceType, Lookup, TypeMap, VariantInfo};
 use fact_wasm::Text;
 use indexmap::IndexSet;
 use std::alloc::Global;
@@ -84,6 +84,13 @@ u8 u8 fixed:4294967294 map = map 8 4 16 8
 u8 u8 fixed:4294967295 map = too large
 string u8 fixed:4294967280 map = too large
 u8 fixed:4294967295 list = list 8 4 16 8
+u8 u64 u16 list record:a,b,c = record 24 8 32 8
+- u8 u64 u16 list record:a,b,c variant:none_of_it,all_of_it = variant 32 8 40 8
+string u16 option result = result 12 4 24 8
+u16 option string u16 option result tuple:2 = tuple 16 4 32 8
+u16 option string u16 option result tuple:2 fixed:3 = fixed 48 4 96 8
+u16 option fixed:8 = fixed 32 2 32 2
+u32 u8 u64 u16 list record:a,b,c map = map 8 4 16 8
 ";
 
 /// The kind of a type that was made.
@@ -223,6 +230,49 @@ fn say_insides(
     Ok(())
 }
 
+/// A field of a record, the flat types before it, and its places in memories of 32 bits and of 64 bits.
+const FIELDS: [(&str, &str); 4] = [
+    ("a", "Some(0) 0 0"),
+    ("b", "Some(1) 8 8"),
+    ("c", "Some(2) 16 16"),
+    ("d", "none"),
+];
+
+/// Where a field of a record stands, as a row tells it.
+fn place_told(
+    alloc: Global,
+    types: &ComponentTypes,
+    record: InterfaceType,
+    name: &Text,
+) -> Result<String, PushError> {
+    let place = match record {
+        InterfaceType::Record(i) if types.get(i).is_some() => types.find_field(i, name),
+        _ => None,
+    };
+    match place {
+        Some(field) => Ok(format!(in alloc;
+            "{:?} {} {}",
+            field.flat_place, field.place32, field.place64
+        )?),
+        None => Ok(String::from_str(alloc, "none")?),
+    }
+}
+
+/// Each row tells where its field stands.
+fn say_fields(
+    rt: &impl Abort,
+    alloc: Global,
+    builder: &mut ComponentTypesBuilder,
+) -> Result<(), PushError> {
+    let record = type_of(rt, alloc, builder, "u8 u64 u16 list record:a,b,c")?;
+    for (name, place) in FIELDS {
+        let name = Text::from_str(alloc, name)?;
+        let told = place_told(alloc, builder.component_types(), record, &name)?;
+        assert_eq!(rt; told.as_str(), place);
+    }
+    Ok(())
+}
+
 /// How many names, and what comes of making an enum of them, and flags of them.
 const LONG: &[(u32, &str, &str)] = &[
     (32, "enum 1 1 1 1", "flags 4 4 4 4"),
@@ -278,6 +328,7 @@ fn say_what_is_made(
 ) -> Result<(), Fail> {
     say_rows(rt, alloc, builder)?;
     say_insides(rt, alloc, builder)?;
+    say_fields(rt, alloc, builder)?;
     say_long(rt, alloc, builder)?;
     Ok(())
 }

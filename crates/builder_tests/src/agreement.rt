@@ -1,7 +1,9 @@
 //! Which types agree, by the rules of a source type and a destination type.
 
+ghost use Rattle.fact_types.specs.Tables.{IsLive};
+
 use crate::live::{are_live, is_live};
-use crate::words::{repeated, type_of};
+use crate::words::{repeated, type_of, types_of};
 use fact_agreement::Agreement;
 use fact_builder::ComponentTypesBuilder;
 use fact_entity::PushError;
@@ -122,6 +124,23 @@ u8 record:a tuple:1 / u8 record:b tuple:1 = no
 ";
 
 /// Whether a type agrees with another, asked twice, and in lists.
+fn asked(
+    rt: &impl Abort,
+    agreement: &mut Agreement<'_>,
+    from: InterfaceType,
+    to: InterfaceType,
+) -> Result<bool, PushError>
+    requires from_live { IsLive agreement.old from }
+    requires to_live { IsLive agreement.old to }
+{
+    let answer = agreement.agrees(&from, &to)?;
+    assert_eq!(rt; agreement.agrees(&from, &to)?, answer);
+    assert_eq!(rt; agreement.agree_all(&[from], &[to])?, answer);
+    assert!(rt; !agreement.agree_all(&[from], &[])?);
+    Ok(answer)
+}
+
+/// As [`asked`], over what the builder holds.
 fn agreed(
     rt: &impl Abort,
     alloc: Global,
@@ -131,11 +150,9 @@ fn agreed(
 ) -> Result<bool, PushError> {
     assert!(rt; is_live(builder, &from) && is_live(builder, &to));
     let mut agreement = Agreement::new(alloc, builder.component_types());
-    let answer = agreement.agrees(&from, &to)?;
-    assert_eq!(rt; agreement.agrees(&from, &to)?, answer);
-    assert_eq!(rt; agreement.agree_all(&[from], &[to])?, answer);
-    assert!(rt; !agreement.agree_all(&[from], &[])?);
-    Ok(answer)
+    let answer = asked(rt, &mut agreement, from, to);
+    drop(agreement);
+    answer
 }
 
 /// Whether a type in words agrees with another.
@@ -167,46 +184,50 @@ fn say_rows(
 }
 
 /// Lists of types, and whether they agree.
-const LISTS: &[(&[InterfaceType], &[InterfaceType], bool)] = &[
-    (&[], &[], true),
-    (&[], &[InterfaceType::U8], false),
-    (
-        &[InterfaceType::U8, InterfaceType::S8],
-        &[InterfaceType::U8, InterfaceType::S8],
-        true,
-    ),
-    (
-        &[InterfaceType::U8, InterfaceType::S8],
-        &[InterfaceType::S8, InterfaceType::U8],
-        false,
-    ),
-    (
-        &[InterfaceType::U8, InterfaceType::S8],
-        &[InterfaceType::U8, InterfaceType::U8],
-        false,
-    ),
-    (
-        &[InterfaceType::U8, InterfaceType::S8],
-        &[InterfaceType::U8],
-        false,
-    ),
-    (
-        &[InterfaceType::U8],
-        &[InterfaceType::U8, InterfaceType::S8],
-        false,
-    ),
-];
+const LISTS: &str = "
+/ = yes
+/ u8 = no
+u8 s8 / u8 s8 = yes
+u8 s8 / s8 u8 = no
+u8 s8 / u8 u8 = no
+u8 s8 / u8 = no
+u8 / u8 s8 = no
+";
 
-/// Lists agree by place.
-fn say_lists(
+/// Whether types agree with others by place.
+fn all_agree(
     rt: &impl Abort,
     alloc: Global,
     builder: &ComponentTypesBuilder,
-) -> Result<(), PushError> {
-    for (row, (from, to, agree)) in LISTS.iter().enumerate() {
-        assert!(rt; are_live(builder, from) && are_live(builder, to));
-        let mut agreement = Agreement::new(alloc, builder.component_types());
-        assert_eq!(rt; agreement.agree_all(from, to)?, *agree, "row {row}");
+    from: &[InterfaceType],
+    to: &[InterfaceType],
+) -> Result<bool, PushError> {
+    assert!(rt; are_live(builder, from) && are_live(builder, to));
+    let mut agreement = Agreement::new(alloc, builder.component_types());
+    let answer = agreement.agree_all(from, to);
+    drop(agreement);
+    Ok(answer?)
+}
+
+/// Each row tells whether its lists agree.
+fn say_lists(
+    rt: &impl Abort,
+    alloc: Global,
+    builder: &mut ComponentTypesBuilder,
+) -> Result<(), Fail> {
+    for row in LISTS.trim().lines() {
+        let (types, answer) = row.split_once("= ").ok_or("no answer")?;
+        let (from, to) = types.split_once("/").ok_or("no destination")?;
+        let source = types_of(rt, alloc, builder, from)?;
+        let destination = types_of(rt, alloc, builder, to)?;
+        let agree = all_agree(
+            rt,
+            alloc,
+            builder,
+            source.as_slice(),
+            destination.as_slice(),
+        )?;
+        assert_eq!(rt; if agree { "yes" } else { "no" }, answer, "{row}");
     }
     Ok(())
 }
