@@ -27,7 +27,6 @@ use Rattle.fact_types.specs.Adapters.{LinkedAdapter}
 use Rattle.fact_module.specs.Imports.{a_global, same_def, imported_function, imports_of}
 use Rattle.fact_module.specs.Values.{Value, lift_all, carry_all, weights}
 
-
 -- ---- honest runs
 
 -- What an imported function does to the memories. The callee may do anything; traps, transfers, context slots, entering and
