@@ -15,7 +15,7 @@ use Rattle.fact_plan_types.specs.TypeRules.{param_shapes, result_shapes}
 use Rattle.fact_plan_types.specs.declared.plan_types.PlanTypes.{PlanTypes}
 use Rattle.fact_checks.specs.AdapterRules.{SideLacks}
 use Rattle.fact_types.specs.Adapters.{LinkedAdapter}
-use Rattle.fact_checks.specs.Adapters.{def_of, memory_of}
+use Rattle.fact_checks.specs.Adapters.{named_def, named_memory}
 use Rattle.fact_checks.specs.Linked.{HasSides, IsTyped}
 use Rattle.fact_checks.specs.Links.{LinksAdapter, LinksSide}
 use Rattle.fact_checks.specs.declared.adapter.Adapter.{Adapter}
@@ -52,7 +52,7 @@ func-there p t s h there =
 -- options that are copied from a side
 pub side-links : (p : FusePlan) (t : PlanTypes) (s : PlanSide) (ty : Id TypeFuncs) (o : AdapterOptionsDfg) → AreTypesOf p t
     → slice_get t.funcs s.ty ≡ Some ty → slice_get t.core_types s.core_type ≡ Some o.core_type
-    → memory_of p s.memory ≡ Some o.memory → def_of p s.realloc ≡ Some o.realloc → def_of p s.callback ≡ Some o.callback → def_of p s.post_return ≡ Some o.post_return
+    → named_memory p s.memory ≡ Some o.memory → named_def p s.realloc ≡ Some o.realloc → named_def p s.callback ≡ Some o.callback → named_def p s.post_return ≡ Some o.post_return
     → o.instance.number ≡ s.instance → o.string_encoding ≡ s.encoding → o.async_ ≡ s.async_
     → LinksSide p t.builder s ty o
 side-links p t s ty o h at_func at_core memory realloc callback post_return instance encoding async_side =

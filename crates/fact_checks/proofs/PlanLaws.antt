@@ -18,7 +18,7 @@ use Rattle.fact_uses.proofs.BindingLaws.{Covers-nothing}
 use Rattle.fact_checks.specs.AdapterRules.{AdapterHas, AdapterLacks, HasAdapterFault, LinkedHas}
 use Rattle.fact_types.specs.Adapters.{LinkedAdapter}
 use Rattle.fact_checks.specs.Adapters.{adapter_of, adapters_before}
-use Rattle.fact_checks.specs.Checked.{AreChecked, Checks, IsFirstOf, IsSound}
+use Rattle.fact_checks.specs.Checked.{AreChecked, Checks, IsFirstOf, IsSoundNext}
 use Rattle.fact_checks.specs.FirstFault.{IsFirstAt}
 use Rattle.fact_checks.specs.Linked.{HasSides, IsLinked}
 use Rattle.fact_checks.specs.Links.{IsAt, IsFirstHere, LinksAdapter}
@@ -107,7 +107,7 @@ module _ (p : FusePlan) (b : Builder) (old : Checks) (k : ℕ) (x : PlanAdapter)
   abbrev HasUnder : Bool → Fault → Type 0
   HasUnder concurrency f = LinkedHas concurrency (adapters_before p k) links.linked f
 
-  pub sound-next : (new : Checks) → new.builder ≡ old.builder → new.concurrency ≡ old.concurrency → IsSound old new candidate → IsAt p b new (k + 1)
+  pub sound-next : (new : Checks) → new.builder ≡ old.builder → new.concurrency ≡ old.concurrency → IsSoundNext old new candidate → IsAt p b new (k + 1)
   sound-next new builder concurrency sound =
       let h = sound (adapters_before p k) links.linked at.checked is_linked in
       at-next p k x there links.linked links.is_adapter known small b old new at builder concurrency (λ f has. h.0 f (subst (λ on. HasUnder on f) (sym at.concurrency) has)) h.1

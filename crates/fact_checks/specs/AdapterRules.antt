@@ -28,8 +28,8 @@ use Rattle.fact_checks.specs.Adapters.{adapter_of, adapters_before}
 -- ---- what an adapter of a plan names
 
 -- a number that is past a list of so many
-abbrev pub IsPast : ℕ → Option ℕ → Type 0
-IsPast count n = IsSomeAnd n (λ k. count ≤ k)
+abbrev pub IsPastList : ℕ → Option ℕ → Type 0
+IsPastList count n = IsSomeAnd n (λ k. count ≤ k)
 
 abbrev pub memory_def : Option PlanMemory → Option ℕ
 memory_def None = None
@@ -39,8 +39,8 @@ memory_def (Some m) = Some m.def
 abbrev pub SideLacks : FusePlan → PlanSide → Type 0
 SideLacks p s =
     (length p.funcs ≤ s.ty) ⊎ ((length p.core_types ≤ s.core_type) ⊎ ((p.instances ≤ s.instance)
-    ⊎ (IsPast (length p.core_defs) (memory_def s.memory) ⊎ (IsPast (length p.core_defs) s.realloc
-    ⊎ (IsPast (length p.core_defs) s.callback ⊎ IsPast (length p.core_defs) s.post_return)))))
+    ⊎ (IsPastList (length p.core_defs) (memory_def s.memory) ⊎ (IsPastList (length p.core_defs) s.realloc
+    ⊎ (IsPastList (length p.core_defs) s.callback ⊎ IsPastList (length p.core_defs) s.post_return)))))
 
 abbrev pub AdapterLacks : FusePlan → PlanAdapter → Type 0
 AdapterLacks p a = (length p.core_defs ≤ a.func) ⊎ (SideLacks p a.lift ⊎ SideLacks p a.lower)

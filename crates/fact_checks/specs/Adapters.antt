@@ -12,22 +12,22 @@ use Rattle.fact_plan_types.specs.TypeRules.{param_shapes, result_shapes}
 use Rattle.fact_types.specs.declared.outside.MemoryOption.{MemoryOption}
 
 -- the definition that an option names, where it names one: none where the plan lacks it
-abbrev pub def_of : FusePlan → Option ℕ → Option (Option CoreDef)
-def_of p None = Some None
-def_of p (Some k) = slice_get p.core_defs k >>= (λ d. Some (Some d))
+abbrev pub named_def : FusePlan → Option ℕ → Option (Option CoreDef)
+named_def p None = Some None
+named_def p (Some k) = slice_get p.core_defs k >>= (λ d. Some (Some d))
 
-abbrev pub memory_of : FusePlan → Option PlanMemory → Option (Option MemoryOption)
-memory_of p None = Some None
-memory_of p (Some m) = slice_get p.core_defs m.def >>= (λ d. Some (Some (record { def = d; memory64 = m.memory64; shared = m.shared; page_size_log2 = m.page_size_log2 })))
+abbrev pub named_memory : FusePlan → Option PlanMemory → Option (Option MemoryOption)
+named_memory p None = Some None
+named_memory p (Some m) = slice_get p.core_defs m.def >>= (λ d. Some (Some (record { def = d; memory64 = m.memory64; shared = m.shared; page_size_log2 = m.page_size_log2 })))
 
 abbrev pub side_of : FusePlan → PlanSide → Option Side
 side_of p s = do
   func ← slice_get p.funcs s.ty
   core_type ← slice_get p.core_types s.core_type
-  memory ← memory_of p s.memory
-  realloc ← def_of p s.realloc
-  callback ← def_of p s.callback
-  post_return ← def_of p s.post_return
+  memory ← named_memory p s.memory
+  realloc ← named_def p s.realloc
+  callback ← named_def p s.callback
+  post_return ← named_def p s.post_return
   Some (record {
     instance = s.instance;
     params = param_shapes p func;

@@ -41,8 +41,8 @@ pub record Checks : Type 0 where
 abbrev pub AreChecked : Checks → List LinkedAdapter → Type 0
 AreChecked c before = AreBound c.bound before
 
-abbrev pub IsSound : (old new : Checks) → Candidate → Type 0
-IsSound old new candidate = IsSoundOver old.builder old.concurrency old.bound new.bound candidate
+abbrev pub IsSoundNext : (old new : Checks) → Candidate → Type 0
+IsSoundNext old new candidate = IsSoundOver old.builder old.concurrency old.bound new.bound candidate
 
 abbrev pub IsFirstOf : Checks → Candidate → Fault → Type 0
 IsFirstOf c candidate f = IsFirstOver c.builder c.concurrency c.bound candidate f

@@ -14,6 +14,6 @@ IsFirstAt p f (Func k) = IsFirstOfTypes p f (Func k)
 IsFirstAt p f (Adapter k) = AreFaultless p × IsFirstFault (HasAdapterFault p) k f
 
 -- The plan has no fault.
-pub record IsFaultless (p : FusePlan) : Type 0 where
+pub record IsFaultlessPlan (p : FusePlan) : Type 0 where
   pub types : AreFaultless p
   pub adapters : HaveNoFault (HasAdapterFault p)

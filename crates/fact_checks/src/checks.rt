@@ -4,7 +4,7 @@ ghost use Rattle.std.specs.Prelude.{◌≡◌, [], IfErr, IfSome, OnErr, OnOk};
 ghost use Rattle.fact_plan_types.specs.PlanTypes.{told};
 ghost use Rattle.fact_plan_types.specs.declared.error.Place.TheVariants as place_at;
 ghost use Rattle.fact_uses.specs.Fronts.{IsFront};
-ghost use Rattle.fact_checks.specs.Checked.{IsFaultlessBehind, IsFirstOf, IsFirstOver, IsSound, IsSoundOver};
+ghost use Rattle.fact_checks.specs.Checked.{IsFaultlessBehind, IsFirstOf, IsFirstOver, IsSoundNext, IsSoundOver};
 ghost use Rattle.fact_checks.specs.Linked.{IsTyped};
 
 use crate::bound::{Bound, has_bad_memory, has_duplicate_name, has_import_conflict};
@@ -119,7 +119,7 @@ impl<'a> AdapterChecks<'a> {
         requires { IsTyped self.old.builder candidate.now.adapter.now }
         ensures builder { self.new.builder ≡ self.old.builder }
         ensures concurrency { self.new.concurrency ≡ self.old.concurrency }
-        ensures sound { OnOk result (IsSound self.old self.new candidate.now) }
+        ensures sound { OnOk result (IsSoundNext self.old self.new candidate.now) }
         ensures refused { IfErr result (λ e. IfSome (told e) (λ x. IsFirstOf self.old candidate.now x.0 × (x.1 ≡ place_at.Adapter number))) }
         ensures unchanged { OnErr result (self.new ≡ self.old) }
     {

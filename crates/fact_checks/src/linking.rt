@@ -4,8 +4,8 @@ ghost use Rattle.std.specs.Prelude.{◌≡◌, ◌↔◌, ◌≤◌, ◌<◌, If
 ghost use Rattle.fact_entity.specs.declared.id.Id.{Id};
 ghost use Rattle.fact_entity.specs.declared.table.TypeFuncs.{TypeFuncs};
 ghost use Rattle.fact_plan_types.specs.PlanTypes.{AreTypesOf};
-ghost use Rattle.fact_checks.specs.Adapters.{def_of as def_named, memory_of as memory_named};
-ghost use Rattle.fact_checks.specs.AdapterRules.{AdapterLacks, IsPast, SideLacks, memory_def as memory_number};
+ghost use Rattle.fact_checks.specs.Adapters.{named_def as def_named, named_memory as memory_named};
+ghost use Rattle.fact_checks.specs.AdapterRules.{AdapterLacks, IsPastList, SideLacks, memory_def as memory_number};
 ghost use Rattle.fact_checks.specs.Links.{LinksAdapter, LinksSide};
 
 use crate::adapter::{Adapter, AdapterOptionsDfg};
@@ -24,7 +24,7 @@ fn lacks_def(plan: &FusePlan, def: u32) -> bool
 
 /// Whether a plan lacks the core definition that an option names.
 fn lacks_any(plan: &FusePlan, def: Option<u32>) -> bool
-    ensures { IsTrue result ↔ IsPast (length plan.now.core_defs) def }
+    ensures { IsTrue result ↔ IsPastList (length plan.now.core_defs) def }
 {
     match def {
         Some(def) => lacks_def(plan, def),
@@ -66,7 +66,7 @@ pub(crate) fn adapter_lacks(plan: &FusePlan, adapter: &PlanAdapter) -> bool
 
 /// The core definition that an option names.
 fn def_of(plan: &FusePlan, def: Option<u32>) -> Result<Option<CoreDef>, OutOfMemory>
-    requires { IsPast (length plan.now.core_defs) def → ⊥ }
+    requires { IsPastList (length plan.now.core_defs) def → ⊥ }
     ensures { IfOk result (λ found. def_named plan.now def ≡ Some found) }
 {
     match def {
@@ -83,7 +83,7 @@ fn memory_of(
     plan: &FusePlan,
     memory: Option<PlanMemory>,
 ) -> Result<Option<MemoryOption>, OutOfMemory>
-    requires { IsPast (length plan.now.core_defs) (memory_number memory) → ⊥ }
+    requires { IsPastList (length plan.now.core_defs) (memory_number memory) → ⊥ }
     ensures { IfOk result (λ found. memory_named plan.now memory ≡ Some found) }
 {
     match memory {

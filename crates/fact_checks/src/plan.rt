@@ -9,7 +9,7 @@ ghost use Rattle.fact_plan_types.specs.TypeRules.{most_entries};
 ghost use Rattle.fact_plan_types.specs.Faults.{too_large};
 ghost use Rattle.fact_checks.specs.AdapterRules.{AdapterHas, AdapterLacks, most_instance};
 ghost use Rattle.fact_checks.specs.Links.{IsAt, IsFirstHere, LinksAdapter};
-ghost use Rattle.fact_checks.specs.FirstFault.{IsFaultless, IsFirstAt};
+ghost use Rattle.fact_checks.specs.FirstFault.{IsFaultlessPlan, IsFirstAt};
 
 use crate::adapter::Adapter;
 use crate::checks::AdapterChecks;
@@ -87,7 +87,7 @@ fn check_adapter(
 fn check_adapters(alloc: Global, plan: &FusePlan, types: &PlanTypes) -> Result<(), FuseError>
     requires types { AreTypesOf plan.now types.now }
     requires faultless { AreFaultless plan.now }
-    ensures faultless { OnOk result (IsFaultless plan.now) }
+    ensures faultless { OnOk result (IsFaultlessPlan plan.now) }
     ensures refused { IfErr result (λ e. IfSome (told e) (λ x. IsFirstAt plan.now x.0 x.1)) }
 {
     let mut checks = AdapterChecks::new(alloc, &types.builder, plan.tunables.concurrency);
@@ -100,7 +100,7 @@ fn check_adapters(alloc: Global, plan: &FusePlan, types: &PlanTypes) -> Result<(
 /// Tells the first fault of a plan, with its place: types come before functions, these before adapters, each list from its
 /// front, and at an entry the kinds of faults in the order of [`FuseError`].
 pub fn check_plan(alloc: Global, plan: &FusePlan) -> Result<(), FuseError>
-    ensures faultless { OnOk result (IsFaultless plan.now) }
+    ensures faultless { OnOk result (IsFaultlessPlan plan.now) }
     ensures refused { IfErr result (λ e. IfSome (told e) (λ x. IsFirstAt plan.now x.0 x.1)) }
 {
     let types = PlanTypes::new(alloc, plan)?;
@@ -112,5 +112,5 @@ pub fn check_plan(alloc: Global, plan: &FusePlan) -> Result<(), FuseError>
 /// A plan has at most one first fault, and one without faults has none. This function carries the law and does nothing.
 pub fn one_first_fault()
     ensures one { (plan : FusePlan) (f g : Fault) (x y : Place) → IsFirstAt plan f x → IsFirstAt plan g y → (f ≡ g) × (x ≡ y) }
-    ensures none { (plan : FusePlan) (f : Fault) (x : Place) → IsFaultless plan → IsFirstAt plan f x → ⊥ }
+    ensures none { (plan : FusePlan) (f : Fault) (x : Place) → IsFaultlessPlan plan → IsFirstAt plan f x → ⊥ }
 {}

@@ -15,7 +15,7 @@ use fact_wasm::{FuncName, FuncType, ImportType, Seq, WasmImport, WasmModule};
 use std::alloc::Global;
 
 /// The type index of the nth imported function.
-fn import_type(imports: &[WasmImport], n: u32) -> Option<u32>
+fn imported_type_index(imports: &[WasmImport], n: u32) -> Option<u32>
     ensures { result ≡ func_import imports.now n }
 {
     let mut before = n;
@@ -82,7 +82,7 @@ fn call_typed(run: &mut Running, alloc: Global, n: u32, ty: &FuncType) -> Step
 fn call_import(run: &mut Running, alloc: Global, module: &WasmModule, n: u32) -> Step
     ensures { IfOk result (λ end. did_of end run.new ≡ at run.old (imported «module».now n)) }
 {
-    let Some(ty) = import_type(module.imports.as_slice(), n) else {
+    let Some(ty) = imported_type_index(module.imports.as_slice(), n) else {
         return Ok(Some(End::Stuck));
     };
     let Some(ty) = module.types.get(ty as usize) else {
@@ -111,7 +111,7 @@ pub fn ref_func(run: &mut Running, module: &WasmModule, func: FuncName) -> Step
     ensures { IfOk result (λ end. did_of end run.new ≡ at run.old (ref_func_of «module».now func)) }
 {
     let is_there = match func {
-        FuncName::Import(n) => import_type(module.imports.as_slice(), n).is_some(),
+        FuncName::Import(n) => imported_type_index(module.imports.as_slice(), n).is_some(),
         FuncName::Defined(n) => module.funcs.get(n as usize).is_some(),
     };
     if !is_there {

@@ -34,7 +34,7 @@ use Rattle.fact_checks.specs.Links.{LinksAdapter}
 use Rattle.fact_checks.specs.declared.sides.Candidate.{Candidate}
 use Rattle.fact_checks.specs.Adapters.{adapters_before}
 use Rattle.fact_checks.specs.AdapterRules.{AdapterHas, AdapterLacks, HasAdapterFault, LinkedHas}
-use Rattle.fact_checks.specs.FirstFault.{IsFaultless, IsFirstAt}
+use Rattle.fact_checks.specs.FirstFault.{IsFaultlessPlan, IsFirstAt}
 use Rattle.fact_plan_types.specs.PlanTypes.{AreFaultless}
 use Rattle.fact_checks.specs.Linked.{IsTyped}
 use Rattle.fact_checks.specs.Links.{IsFirstHere}
@@ -45,7 +45,7 @@ use Rattle.fact_plan_types.specs.declared.error.Place.{Place}
 use Rattle.fact_plan_types.specs.declared.error.Place.TheVariants.{Adapter as at_adapter}
 use Rattle.fact_checks.proofs.LinkLaws.{sides-typed, some_and}
 use Rattle.fact_checks.proofs.PlanLaws.{before-next, first-linked, none-here}
-use Rattle.fact_module.specs.Collected.{AreTaken, Collected, HasTaken, IsTakenAs, Keeps, taken_of}
+use Rattle.fact_module.specs.Collected.{AreTaken, Collected, HasTaken, IsTakenAs, KeepsSettings, taken_of}
 use Rattle.fact_module.specs.Taking.{IsFirstBehind, IsSoundBehind, MayTake}
 use Rattle.fact_module.specs.Fusing.{HasTakenAll, HasTakenTo, IsFor}
 use Rattle.fact_module.proofs.TakeLaws.{is-linked, is-taken, zip-push}
@@ -217,7 +217,7 @@ module _ (p : FusePlan) (b : Builder) (old : Collected) (k : ℕ) (x : PlanAdapt
   none-has : IsSoundBehind old c → (f : Fault) → LinkedHas p.tunables.concurrency (adapters_before p k) links.linked f → ⊥
   none-has sound f has = sound (adapters_before p k) links.linked at.taken is_linked f (subst (λ on. LinkedHas on (adapters_before p k) links.linked f) (sym concurrency) has)
 
-  pub taken-next : (new : Collected) → Keeps old new → HasTaken old new (taken_of c) → IsSoundBehind old c → HasTakenTo p b new (k + 1)
+  pub taken-next : (new : Collected) → KeepsSettings old new → HasTaken old new (taken_of c) → IsSoundBehind old c → HasTakenTo p b new (k + 1)
   taken-next new keeps has sound =
       let near : most_entries ≤ k → ⊥ = λ far. small (inl far) in
       record {
@@ -261,7 +261,7 @@ first-taken p b c k f place types at first =
     subst (IsFirstAt p f) (sym first.is_here) (types, record { has = first.has; no_rule_before = first.no_rule_before; no_entry_before = λ j g below h. at.sound j g below h })
 
 -- no place is left
-pub none-faulty : (p : FusePlan) (b : Builder) (c : Collected) (k : ℕ) → AreFaultless p → HasTakenTo p b c k → length p.adapters ≤ k → IsFaultless p
+pub none-faulty : (p : FusePlan) (b : Builder) (c : Collected) (k : ℕ) → AreFaultless p → HasTakenTo p b c k → length p.adapters ≤ k → IsFaultlessPlan p
 none-faulty p b c k types at end = record {
   types = types;
   adapters = λ j f h.

@@ -20,7 +20,7 @@ use Rattle.fact_checks.specs.Checked.{Checks, IsFaultlessBehind, IsFirstOf}
 use Rattle.fact_checks.specs.Linked.{IsLinked}
 use Rattle.fact_module.specs.declared.dfg.ComponentDfg.{ComponentDfg}
 use Rattle.fact_module.specs.declared.taken.TakenAdapter.{TakenAdapter}
-use Rattle.fact_module.specs.Adapted.{HasFault, IsFaultless, IsFirst, MayAdapt, OfAdapter, TypesHave, is_marked}
+use Rattle.fact_module.specs.Adapted.{HasFaultFor, IsFaultlessFor, IsFirst, MayAdapt, OfAdapter, TypesHave, is_marked}
 use Rattle.fact_module.specs.Built.{IsBuiltAdapter}
 use Rattle.fact_module.specs.Collected.{AreTaken, Collected, IsMade, taken_of}
 use Rattle.fact_module.specs.Emitted.{Emitted}
@@ -51,7 +51,7 @@ linked-high on before a duplicate_name h = omega arith
 pub types-first : (c : Collected) (k : ℕ) (t : TakenAdapter) (f : Fault) → TypesHaveFirst c.builder k t.adapter f → IsFirst c k t f
 types-first c k t f first = record { has = inl first.has; none_before = none }
   where
-    none : (g : Fault) → rank g < rank f → HasFault c k t g → ⊥
+    none : (g : Fault) → rank g < rank f → HasFaultFor c k t g → ⊥
     none g less (inl h) = first.none_before g less h
     none g less (inr h) =
         let low = types-low c.builder k t.adapter f first.has in
@@ -74,23 +74,23 @@ module _ (c : Collected) (k : ℕ) (candidate : Candidate) (types : HasSoundType
     none_before = none;
   }
     where
-      none : (g : Fault) → rank g < rank f → HasFault c k (taken_of candidate) g → ⊥
+      none : (g : Fault) → rank g < rank f → HasFaultFor c k (taken_of candidate) g → ⊥
       none g less (inl h) = types.sound g h
       none g less (inr h) = (first h.before h.linked h.taken (is-linked c.builder candidate h.linked h.is_linked)).1 g less h.has
 
-  pub sound-faultless : IsSoundBehind c candidate → IsFaultless c k (taken_of candidate)
+  pub sound-faultless : IsSoundBehind c candidate → IsFaultlessFor c k (taken_of candidate)
   sound-faultless behind f (inl h) = types.sound f h
   sound-faultless behind f (inr h) = behind h.before h.linked h.taken (is-linked c.builder candidate h.linked h.is_linked) f h.has
 
   pub adapt-take : c.whole ≡ true → MayAdapt c k (taken_of candidate) → MayTake c candidate
   adapt-take whole may none = may whole faultless
     where
-      faultless : IsFaultless c k (taken_of candidate)
+      faultless : IsFaultlessFor c k (taken_of candidate)
       faultless f (inl h) = types.sound f h
       faultless f (inr h) = none f h
 
   -- an adapter without a fault may be taken where it is built
-  pub built-adapt : (built : Bool) → c.whole ≡ true → IsFaultless c k (taken_of candidate)
+  pub built-adapt : (built : Bool) → c.whole ≡ true → IsFaultlessFor c k (taken_of candidate)
       → ((a : LinkedAdapter) → IsLinked c.builder candidate a → (IsTrue built ↔ IsBuiltAdapter c.tunables.concurrency_support c.features.exceptions a))
       → (IsTrue built ↔ MayAdapt c k (taken_of candidate))
   built-adapt built whole faultless exact = (
@@ -180,7 +180,7 @@ module _ (now old : Collected) (component : ComponentDfg) (id : Id Adapters) (na
   pub refused-may : (e : FuseError) → (e ≡ error.OutOfMemory → ⊥) → IfSome (told e) (λ x. IsFirst now k (taken_of candidate) x.0 × (x.1 ≡ at_adapter k)) → (IsTrue true ↔ OfAdapter component id name (MayAdapt old id.number))
   refused-may e fault h = let (x, first) = told-some e fault _ h in (λ _. may-old (refused-adapt now k (taken_of candidate) x.0 first.0), λ _. refl)
 
-  pub built-may : (built : Bool) → id.number < length component.adapters → now.whole ≡ true → HasSoundTypes now.builder k candidate.adapter.now → IsFaultless now k (taken_of candidate) → (later : Collected) → later ≡ now
+  pub built-may : (built : Bool) → id.number < length component.adapters → now.whole ≡ true → HasSoundTypes now.builder k candidate.adapter.now → IsFaultlessFor now k (taken_of candidate) → (later : Collected) → later ≡ now
       → ((a : LinkedAdapter) → IsLinked later.builder candidate a → (IsTrue built ↔ IsBuiltAdapter later.tunables.concurrency_support later.features.exceptions a))
       → (IsTrue built ↔ OfAdapter component id name (MayAdapt old id.number))
   built-may built live whole types faultless later stays exact =

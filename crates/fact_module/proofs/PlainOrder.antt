@@ -17,7 +17,7 @@ use Rattle.fact_types.specs.declared.import.Import.{Import}
 use Rattle.fact_types.specs.declared.import.Import.TheVariants as known
 use Rattle.fact_module.specs.declared.emit.Places.{Places}
 use Rattle.fact_module.specs.Body.{body, call, enter, function_of, gets, guard, has_result, leave}
-use Rattle.fact_module.specs.Exports.{functions_of}
+use Rattle.fact_module.specs.Exports.{exported_functions_of}
 use Rattle.fact_module.specs.Imports.{Mention, adapter_mentions, with_mentions}
 use Rattle.fact_module.specs.Order.{AreWritten, IsPart, NoneWaits, Part, asked, defined_place, functions_in, name_at, names, others_among, others_named, prepare_calls_last, with_numbers}
 
@@ -75,7 +75,7 @@ needs-trap imported at number ty trap callee traps calls = ap (λ fs. prepare_ca
 -- ---- its part
 
 pub is-part : (imported : List Import) (before : List Part) (a : LinkedAdapter) (at : Places) (number : ℕ) (ty : FuncType) (defs : List Mention) (others : List ℕ)
-    → length (functions_of a) ≡ 1
+    → length (exported_functions_of a) ≡ 1
     → with_mentions (flat_map (λ q. q.defs) before) (adapter_mentions a) ≡ flat_map (λ q. q.defs) before ++ defs
     → others_named imported (function_of at number ty) ≡ at.trap ∷ []
     → with_numbers (flat_map (λ q. q.others) before) (at.trap ∷ []) ≡ flat_map (λ q. q.others) before ++ others

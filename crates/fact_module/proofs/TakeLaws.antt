@@ -17,7 +17,7 @@ use Rattle.fact_wasm.specs.Ranges.{InRange}
 use Rattle.fact_types.specs.declared.interface.InterfaceType.{InterfaceType}
 use Rattle.fact_types.specs.Functions.{HasSignature, HaveShapes}
 use Rattle.fact_types.specs.Shapes.{Shape}
-use Rattle.fact_types.specs.Tables.{IsLive, IsSound as IsSoundTables, Tables, of_functions}
+use Rattle.fact_types.specs.Tables.{IsLive, IsSoundNext as IsSoundTables, Tables, of_functions}
 use Rattle.fact_builder.specs.Builder.{Builder}
 use Rattle.fact_builder.proofs.HandleLaws.{tuple_live}
 use Rattle.fact_uses.proofs.BindingLaws.{AreConsistent-covered, Covers-nothing}
@@ -27,7 +27,7 @@ use Rattle.fact_checks.specs.declared.adapter.AdapterOptionsDfg.{AdapterOptionsD
 use Rattle.fact_checks.specs.declared.sides.Candidate.{Candidate}
 use Rattle.fact_types.specs.Adapters.{LinkedAdapter, Side}
 use Rattle.fact_checks.specs.AdapterRules.{LinkedHas}
-use Rattle.fact_checks.specs.Checked.{AreBound, Checks, IsFirstOf, IsSound}
+use Rattle.fact_checks.specs.Checked.{AreBound, Checks, IsFirstOf, IsSoundNext}
 use Rattle.fact_checks.specs.Linked.{HasSides, IsLinked, IsSideOf, IsTyped}
 use Rattle.fact_types.specs.declared.import.Import.{Import}
 use Rattle.fact_module.specs.declared.taken.TakenAdapter.{TakenAdapter}
@@ -40,7 +40,7 @@ use Rattle.fact_module.specs.Exports.{exported_as}
 use Rattle.fact_module.specs.Faithful.{Promised}
 use Rattle.fact_module.specs.Holding.{AreBuilt, ArePlain}
 use Rattle.fact_module.specs.Plain.{IsPlain, core_of}
-use Rattle.fact_module.specs.Taking.{HasFault, IsFirstBehind, MayTake}
+use Rattle.fact_module.specs.Taking.{HasFaultBehind, IsFirstBehind, MayTake}
 use Rattle.fact_module.proofs.Adding.{exports-more, grown, whole-more, holds-more, holds-nothing, instance_of}
 use Rattle.fact_module.proofs.BuiltLaws.{plain-of}
 use Rattle.fact_module.proofs.Sections.{get-within, last-or-before}
@@ -140,7 +140,7 @@ plain-push adapters a h p k b e = elim (last-or-before adapters a k b e) [ inl t
 -- ---- one adapter more
 
 module _ (old : Collected) (checks checks' : Checks) (s s' : Emitted) (candidate : Candidate) (made : IsMade old checks s) (whole : old.whole ≡ true) (sound : IsSoundTables old.builder.tables)
-    (typed : IsTyped old.builder candidate.adapter.now) (may : MayTake old candidate) (checked : IsSound checks checks' candidate) where
+    (typed : IsTyped old.builder candidate.adapter.now) (may : MayTake old candidate) (checked : IsSoundNext checks checks' candidate) where
   linked : LinkedAdapter
   linked = (linked-of old.builder sound candidate typed).0
 
@@ -151,7 +151,7 @@ module _ (old : Collected) (checks checks' : Checks) (s s' : Emitted) (candidate
   under a h = subst (λ (b : Builder). IsLinked b candidate a) (sym made.builder) h
 
   -- behind those that were taken it has no fault, and is bound
-  pub sound-behind : (before : List LinkedAdapter) (a : LinkedAdapter) → AreTaken old before → IsLinked old.builder candidate a → (f : Fault) → HasFault old before a f → ⊥
+  pub sound-behind : (before : List LinkedAdapter) (a : LinkedAdapter) → AreTaken old before → IsLinked old.builder candidate a → (f : Fault) → HasFaultBehind old before a f → ⊥
   sound-behind before a taken h f has =
       (checked before a (made.covers whole before taken).checked (under a h)).0 f (subst (λ on. LinkedHas on before a f) (sym made.concurrency) has)
 

@@ -18,7 +18,7 @@ use Rattle.fact_types.specs.Adapters.{LinkedAdapter, is_async}
 use Rattle.fact_types.specs.ImportTypes.{callback_type, realloc_type}
 use Rattle.fact_checks.specs.AdapterRules.{uses_of}
 use Rattle.fact_module.specs.Built.{IsBuiltAdapter}
-use Rattle.fact_module.specs.Exports.{Whole, functions_of}
+use Rattle.fact_module.specs.Exports.{Whole, exported_functions_of}
 use Rattle.fact_module.specs.Holding.{AreBuilt}
 use Rattle.fact_module.specs.Imports.{Callback, Callee, Flags, Mention, PostReturn, Realloc, Role, Sort, StandsFor, Storage, a_function, a_global, a_memory, adapter_mentions, imported_type, is_mentioned, mentions, with_mention, with_mentions}
 use Rattle.fact_module.proofs.Named.{sort_for}
@@ -99,7 +99,7 @@ module _ (concurrency exceptions : Bool) where
   built-sync a h = rw (h.lift.sync_side, h.lower.sync_side, h.lift.sync_type, h.lower.sync_type) refl
 
   -- it has one function
-  pub one-function : (a : LinkedAdapter) → IsBuiltAdapter concurrency exceptions a → functions_of a ≡ Whole a.name a.lower.core_type ∷ []
+  pub one-function : (a : LinkedAdapter) → IsBuiltAdapter concurrency exceptions a → exported_functions_of a ≡ Whole a.name a.lower.core_type ∷ []
   one-function a h = rw (built-sync a h) refl
 
   built-uses : (a : LinkedAdapter) → IsBuiltAdapter concurrency exceptions a → uses_of a ≡ map used (adapter_mentions a)

@@ -25,8 +25,8 @@ use Rattle.fact_machine.specs.Typed.{global_type}
 use Rattle.fact_types.specs.Adapters.{LinkedAdapter}
 use Rattle.fact_checks.specs.AdapterRules.{export_names, uses_of}
 use Rattle.fact_module.specs.Built.{IsBuiltAdapter}
-use Rattle.fact_module.specs.Emitted.{Emitted, functions_of as functions_in, module_of}
-use Rattle.fact_module.specs.Exports.{IsExport, Whole, callee_of, exported, exported_as, functions_of}
+use Rattle.fact_module.specs.Emitted.{Emitted, exported_functions_of as functions_in, module_of}
+use Rattle.fact_module.specs.Exports.{IsExport, Whole, callee_of, exported, exported_as, exported_functions_of}
 use Rattle.fact_module.specs.Faithful.{Promised}
 use Rattle.fact_module.specs.Plain.{ImportsFlags, ImportsFunction, IsPlain, IsPlainFunction}
 use Rattle.fact_module.specs.Holding.{AreBuilt, ArePlain, Holds, numbered}
@@ -171,7 +171,7 @@ module _ (concurrency exceptions : Bool) where
   built-exports [] h = refl
   built-exports (a ∷ adapters) h = rw (built-sync concurrency exceptions a h.0) (ap (λ names. a.name ∷ names) (built-exports adapters h.1))
 
-  functions-are : (adapters : List LinkedAdapter) → AreBuilt concurrency exceptions adapters → flat_map functions_of adapters ≡ map (λ a. Whole a.name a.lower.core_type) adapters
+  functions-are : (adapters : List LinkedAdapter) → AreBuilt concurrency exceptions adapters → flat_map exported_functions_of adapters ≡ map (λ a. Whole a.name a.lower.core_type) adapters
   functions-are [] h = refl
   functions-are (a ∷ adapters) h = rw (built-sync concurrency exceptions a h.0) (ap (λ es. Whole a.name a.lower.core_type ∷ es) (functions-are adapters h.1))
 

@@ -15,7 +15,7 @@ use Rattle.fact_checks.specs.AdapterRules.{most_instance}
 use Rattle.fact_checks.specs.Linked.{IsTyped}
 use Rattle.fact_module.specs.declared.dfg.ComponentDfg.{ComponentDfg}
 use Rattle.fact_module.specs.declared.taken.TakenAdapter.{TakenAdapter}
-use Rattle.fact_module.specs.Collected.{Collected, HasLinkedFault, IsBuilt}
+use Rattle.fact_module.specs.Collected.{Collected, HasLinkedFault, IsBuiltFor}
 
 -- ---- the adapters of a component
 
@@ -57,20 +57,20 @@ TypesHave b k a _ = ⊥
 
 -- ---- faults behind the adapters that a module took
 
-abbrev pub HasFault : Collected → ℕ → TakenAdapter → Fault → Type 0
-HasFault c k t f = TypesHave c.builder k t.adapter f ⊎ HasLinkedFault c t f
+abbrev pub HasFaultFor : Collected → ℕ → TakenAdapter → Fault → Type 0
+HasFaultFor c k t f = TypesHave c.builder k t.adapter f ⊎ HasLinkedFault c t f
 
 -- It has none.
-abbrev pub IsFaultless : Collected → ℕ → TakenAdapter → Type 0
-IsFaultless c k t = (f : Fault) → HasFault c k t f → ⊥
+abbrev pub IsFaultlessFor : Collected → ℕ → TakenAdapter → Type 0
+IsFaultlessFor c k t = (f : Fault) → HasFaultFor c k t f → ⊥
 
 -- It has this one, and none that is looked for before it.
 pub record IsFirst (c : Collected) (k : ℕ) (t : TakenAdapter) (f : Fault) : Type 0 where
-  pub has : HasFault c k t f
-  pub none_before : (g : Fault) → rank g < rank f → HasFault c k t g → ⊥
+  pub has : HasFaultFor c k t f
+  pub none_before : (g : Fault) → rank g < rank f → HasFaultFor c k t g → ⊥
 
 -- ---- what is built
 
 -- While the module is whole, the adapter is built, where it has no fault.
 abbrev pub MayAdapt : Collected → ℕ → TakenAdapter → Type 0
-MayAdapt c k t = c.whole ≡ true → IsFaultless c k t → IsBuilt c t
+MayAdapt c k t = c.whole ≡ true → IsFaultlessFor c k t → IsBuiltFor c t

@@ -51,7 +51,7 @@ abbrev pub taken_of : Candidate → TakenAdapter
 taken_of c = record { name = c.name.now; transparent = c.transparent; adapter = c.adapter.now }
 
 -- What it was made with stays.
-pub record Keeps (old new : Collected) : Type 0 where
+pub record KeepsSettings (old new : Collected) : Type 0 where
   pub builder : new.builder ≡ old.builder
   pub tunables : new.tunables ≡ old.tunables
   pub features : new.features ≡ old.features
@@ -70,8 +70,8 @@ pub record HasLinkedFault (c : Collected) (t : TakenAdapter) (f : Fault) : Type 
   pub has : LinkedHas c.tunables.concurrency_support before linked f
 
 -- An adapter is built.
-abbrev pub IsBuilt : Collected → TakenAdapter → Type 0
-IsBuilt c t = (a : LinkedAdapter) → IsTakenAs c.builder t a → IsBuiltAdapter c.tunables.concurrency_support c.features.exceptions a
+abbrev pub IsBuiltFor : Collected → TakenAdapter → Type 0
+IsBuiltFor c t = (a : LinkedAdapter) → IsTakenAs c.builder t a → IsBuiltAdapter c.tunables.concurrency_support c.features.exceptions a
 
 -- The list is the other with more behind it.
 pub record BeginsWith {A : Type 0} (list first : List A) : Type 0 where

@@ -21,8 +21,8 @@ pub data Exported : Type 0 where
   Callee : (name : List ℕ) → (def : CoreDef) → Exported
 
 -- the functions of an adapter that are exported, and the callee of an async one between two instances
-abbrev pub functions_of : LinkedAdapter → List Exported
-functions_of a =
+abbrev pub exported_functions_of : LinkedAdapter → List Exported
+exported_functions_of a =
     if is_async a && is_crossing a
     then Part (codes "[async-start]" ++ a.name) ∷ Part (codes "[async-return]" ++ a.name) ∷ Whole a.name a.lower.core_type ∷ []
     else Whole a.name a.lower.core_type ∷ []
@@ -31,7 +31,7 @@ abbrev pub callee_of : LinkedAdapter → List Exported
 callee_of a = if is_async a && is_crossing a then Callee (codes "[adapter-callee]" ++ a.name) a.callee ∷ [] else []
 
 abbrev pub exported : List LinkedAdapter → List Exported
-exported adapters = flat_map functions_of adapters ++ flat_map callee_of adapters
+exported adapters = flat_map exported_functions_of adapters ++ flat_map callee_of adapters
 
 abbrev pub type_of : WasmModule → Option WasmFunc → Option FuncType
 type_of m None = None

@@ -11,7 +11,7 @@ use Rattle.fact_types.specs.declared.outside.CoreDef.{CoreDef}
 use Rattle.fact_types.specs.Adapters.{LinkedAdapter}
 use Rattle.fact_types.specs.declared.import.Import.{Import}
 use Rattle.fact_types.specs.declared.import.Import.TheVariants as known
-use Rattle.fact_module.specs.Exports.{functions_of}
+use Rattle.fact_module.specs.Exports.{exported_functions_of}
 use Rattle.fact_module.specs.Imports.{Mention, a_function, adapter_mentions, imports_of, is_of, with_mentions}
 
 -- ---- numbers, each once
@@ -91,7 +91,7 @@ functions_in p = p.own ++ p.helpers
 -- An adapter's part, behind these others, where these are all imported functions.
 pub record IsPart (imported : List Import) (before : List Part) (a : LinkedAdapter) (p : Part) : Type 0 where
   pub defs : with_mentions (flat_map (λ q. q.defs) before) (adapter_mentions a) ≡ flat_map (λ q. q.defs) before ++ p.defs
-  pub own : length p.own ≡ length (functions_of a)
+  pub own : length p.own ≡ length (exported_functions_of a)
   pub next : ℕ
   pub next_is : next ≡ length (flat_map functions_in before) + length p.own
   pub written : List WasmFunc

@@ -3,7 +3,7 @@
 ghost use Rattle.std.specs.Prelude.{◌≡◌, ◌≤◌, ◌<◌, ◌+◌, Some, slice_get, IfErr, IfOk, IfSome, OnOk};
 ghost use Rattle.fact_plan.specs.Built.{IsBuilt};
 ghost use Rattle.fact_plan_types.specs.PlanTypes.{AreFaultless, AreTypesOf, told};
-ghost use Rattle.fact_checks.specs.FirstFault.{IsFaultless, IsFirstAt};
+ghost use Rattle.fact_checks.specs.FirstFault.{IsFaultlessPlan, IsFirstAt};
 ghost use Rattle.fact_checks.specs.Links.{IsFirstHere};
 ghost use Rattle.fact_module.specs.Fusing.{HasTakenAll, HasTakenTo};
 ghost use Rattle.fact_module.specs.Fused.{IsFused};
@@ -58,7 +58,7 @@ fn take_adapters(made: &mut Module<'_>, plan: &FusePlan, types: &PlanTypes) -> R
     requires faultless { AreFaultless plan.now }
     requires built { IsBuilt plan.now }
     requires at { HasTakenTo plan.now types.now.builder made.old 0 }
-    ensures faultless { OnOk result (IsFaultless plan.now) }
+    ensures faultless { OnOk result (IsFaultlessPlan plan.now) }
     ensures taken { OnOk result (HasTakenAll plan.now made.new) }
     ensures refused { IfErr result (λ e. IfSome (told e) (λ x. IsFirstAt plan.now x.0 x.1)) }
 {
@@ -88,7 +88,7 @@ fn fuse_over(alloc: Global, plan: &FusePlan, types: &PlanTypes) -> Result<Fused,
     requires built { IsBuilt plan.now }
     requires fuel { 1 ≤ plan.now.tunables.fuel }
     ensures fused { IfOk result (λ f. IsFused f plan.now) }
-    ensures faultless { OnOk result (IsFaultless plan.now) }
+    ensures faultless { OnOk result (IsFaultlessPlan plan.now) }
     ensures refused { IfErr result (λ e. IfSome (told e) (λ x. IsFirstAt plan.now x.0 x.1)) }
 {
     let tunables = Tunables {
@@ -116,7 +116,7 @@ pub fn fuse(alloc: Global, plan: &FusePlan) -> Result<Fused, FuseError>
     requires built { IsBuilt plan.now }
     requires fuel { 1 ≤ plan.now.tunables.fuel }
     ensures fused { IfOk result (λ f. IsFused f plan.now) }
-    ensures faultless { OnOk result (IsFaultless plan.now) }
+    ensures faultless { OnOk result (IsFaultlessPlan plan.now) }
     ensures refused { IfErr result (λ e. IfSome (told e) (λ x. IsFirstAt plan.now x.0 x.1)) }
 {
     let types = PlanTypes::new(alloc, plan)?;

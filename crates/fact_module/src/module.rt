@@ -7,8 +7,8 @@ ghost use Rattle.fact_wasm.specs.Spelling.{Spells};
 ghost use Rattle.fact_plan_types.specs.PlanTypes.{told};
 ghost use Rattle.fact_plan_types.specs.declared.error.Place.TheVariants as place_at;
 ghost use Rattle.fact_checks.specs.Linked.{IsTyped};
-ghost use Rattle.fact_module.specs.Adapted.{IsFaultless, IsFirst, MayAdapt, OfAdapter};
-ghost use Rattle.fact_module.specs.Collected.{AreTaken, Extends, HasTaken, Keeps, KeepsPromises, no_tree, taken_of};
+ghost use Rattle.fact_module.specs.Adapted.{IsFaultlessFor, IsFirst, MayAdapt, OfAdapter};
+ghost use Rattle.fact_module.specs.Collected.{AreTaken, Extends, HasTaken, KeepsSettings, KeepsPromises, no_tree, taken_of};
 ghost use Rattle.fact_types.specs.Adapters.{LinkedAdapter};
 ghost use Rattle.fact_module.specs.Emitted.{Adds};
 ghost use Rattle.fact_module.specs.Faithful.{Promised};
@@ -126,7 +126,7 @@ impl<'a> Module<'a> {
         requires whole { self.old.whole ≡ true }
         ensures unchanged { self.new ≡ self.old }
         ensures types { OnOk result (HasSoundTypes self.old.builder number candidate.now.adapter.now) }
-        ensures faultless { OnOk result (IsFaultless self.old number (taken_of candidate.now)) }
+        ensures faultless { OnOk result (IsFaultlessFor self.old number (taken_of candidate.now)) }
         ensures refused { IfErr result (λ e. IfSome (told e) (λ x. IsFirst self.old number (taken_of candidate.now) x.0 × (x.1 ≡ place_at.Adapter number))) }
     {
         check_types(self.builder, &mut self.types, number, candidate.adapter)?;
@@ -139,7 +139,7 @@ impl<'a> Module<'a> {
         requires whole { self.old.whole ≡ true }
         requires typed { IsTyped self.old.builder candidate.now.adapter.now }
         requires built { MayTake self.old candidate.now }
-        ensures keeps { Keeps self.old self.new }
+        ensures keeps { KeepsSettings self.old self.new }
         ensures taken { OnOk result (HasTaken self.old self.new (taken_of candidate.now)) }
         ensures extends { OnOk result (Extends self.old self.new) }
         ensures sound { OnOk result (IsSoundBehind self.old candidate.now) }
@@ -181,10 +181,10 @@ impl<'a> Module<'a> {
     ) -> Result<(), FuseError>
         requires live { adapter.number < length component.now.adapters }
         requires built { OfAdapter component.now adapter name.now (MayAdapt self.old adapter.number) }
-        ensures keeps { Keeps self.old self.new }
+        ensures keeps { KeepsSettings self.old self.new }
         ensures taken { OnOk result (OfAdapter component.now adapter name.now (HasTaken self.old self.new)) }
         ensures extends { OnOk result (Extends self.old self.new) }
-        ensures faultless { OnOk result (OfAdapter component.now adapter name.now (IsFaultless self.old adapter.number)) }
+        ensures faultless { OnOk result (OfAdapter component.now adapter name.now (IsFaultlessFor self.old adapter.number)) }
         ensures refused { IfErr result (λ e. IfSome (told e) (λ x. (self.new ≡ self.old) × OfAdapter component.now adapter name.now (λ t. IsFirst self.old adapter.number t x.0) × (x.1 ≡ place_at.Adapter adapter.number))) }
         ensures lost { result ≡ Err FuseError.OutOfMemory → self.new.whole ≡ false }
         ensures spent { self.old.whole ≡ false → result ≡ Err FuseError.OutOfMemory }

@@ -16,7 +16,7 @@ use Rattle.fact_plan.specs.Plan.{plan_of}
 use Rattle.fact_plan.specs.Reading.{value_in}
 use Rattle.fact_plan_types.specs.declared.error.Place.{Place}
 use Rattle.fact_plan_types.specs.Faults.{Fault}
-use Rattle.fact_checks.specs.FirstFault.{IsFaultless, IsFirstAt}
+use Rattle.fact_checks.specs.FirstFault.{IsFaultlessPlan, IsFirstAt}
 use Rattle.fact_checks.proofs.FaultLaws.{faultless-first}
 use Rattle.fact_run.specs.declared.status.Status.{Status}
 use Rattle.fact_run.specs.declared.status.Status.TheVariants as status
@@ -235,7 +235,7 @@ not-both : (bytes : List ℕ) → HoldsUnbuilt bytes → HoldsBuilt bytes → �
 not-both bytes u b = u.not_built (subst IsBuilt (one-plan bytes b.plan u.plan b.is_plan u.is_plan) b.is_built)
 
 -- nor one that has a fault and one that has none
-not-sound : (bytes : List ℕ) (p : FusePlan) → HoldsPlan bytes p → IsFaultless p → ((f : Fault) × (place : Place) × HoldsRefusal bytes f place) → ⊥
+not-sound : (bytes : List ℕ) (p : FusePlan) → HoldsPlan bytes p → IsFaultlessPlan p → ((f : Fault) × (place : Place) × HoldsRefusal bytes f place) → ⊥
 not-sound bytes p h sound r =
     let q = r.2 in
     faultless-first p r.0 r.1 sound (subst (λ x. IsFirstAt x r.0 r.1) (one-plan bytes q.plan p q.is_plan h) q.is_first)

@@ -14,7 +14,7 @@ use Rattle.fact_run.specs.declared.answer.Reply.{Reply}
 use Rattle.fact_run.specs.declared.answer.Reply.TheVariants as reply
 use Rattle.fact_plan_types.specs.declared.error.Place.{Place}
 use Rattle.fact_plan_types.specs.Faults.{Fault}
-use Rattle.fact_checks.specs.FirstFault.{IsFaultless, IsFirstAt}
+use Rattle.fact_checks.specs.FirstFault.{IsFaultlessPlan, IsFirstAt}
 use Rattle.fact_run.specs.Command.{reading}
 use Rattle.fact_run.specs.Refusal.{refusal_line}
 use Rattle.fact_run.specs.Run.{HoldsFault, HoldsNoJson, HoldsRefusal, HoldsUnbuilt, Prints, Read, SendsPage, limit}
@@ -54,9 +54,9 @@ pub record TellsRefusal (p : FusePlan) (line : List ℕ) : Type 0 where
 
 -- what a plan comes to
 abbrev pub IsReplyToPlan : CommandOptions → FusePlan → Reply → Type 0
-IsReplyToPlan o p (reply.Page text) = IsFaultless p × IsBuilt p × Prints o p (string_bytes text)
+IsReplyToPlan o p (reply.Page text) = IsFaultlessPlan p × IsBuilt p × Prints o p (string_bytes text)
 IsReplyToPlan o p (reply.Refused line) = TellsRefusal p (string_bytes line)
-IsReplyToPlan o p reply.NotBuilt = IsFaultless p × (IsBuilt p → ⊥)
+IsReplyToPlan o p reply.NotBuilt = IsFaultlessPlan p × (IsBuilt p → ⊥)
 IsReplyToPlan o p reply.OutOfMemory = Unit {0}
 IsReplyToPlan o p _ = ⊥
 

@@ -15,7 +15,7 @@ use Rattle.fact_plan.specs.Plan.{plan_of}
 use Rattle.fact_plan.specs.Built.{IsBuilt}
 use Rattle.fact_plan_types.specs.declared.error.Place.{Place}
 use Rattle.fact_plan_types.specs.Faults.{Fault}
-use Rattle.fact_checks.specs.FirstFault.{IsFaultless, IsFirstAt}
+use Rattle.fact_checks.specs.FirstFault.{IsFaultlessPlan, IsFirstAt}
 use Rattle.fact_module.specs.declared.fusion.Fused.{Fused}
 use Rattle.fact_types.specs.declared.import.Import.{Import}
 use Rattle.fact_module.specs.Fused.{IsFused}
@@ -64,14 +64,14 @@ pub record HoldsRefusal (bytes : List ℕ) (f : Fault) (place : Place) : Type 0 
 pub record HoldsUnbuilt (bytes : List ℕ) : Type 0 where
   pub plan : FusePlan
   pub is_plan : HoldsPlan bytes plan
-  pub faultless : IsFaultless plan
+  pub faultless : IsFaultlessPlan plan
   pub not_built : IsBuilt plan → ⊥
 
 -- a plan that has no fault and is built so far
 pub record HoldsBuilt (bytes : List ℕ) : Type 0 where
   pub plan : FusePlan
   pub is_plan : HoldsPlan bytes plan
-  pub faultless : IsFaultless plan
+  pub faultless : IsFaultlessPlan plan
   pub is_built : IsBuilt plan
 
 -- ---- what is written
