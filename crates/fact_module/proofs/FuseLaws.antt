@@ -14,7 +14,7 @@ use Rattle.fact_types.specs.Functions.{HaveShapes}
 use Rattle.fact_types.specs.Shapes.{Shape}
 use Rattle.fact_types.specs.Tables.{HasShape}
 use Rattle.fact_builder.specs.Builder.{Builder}
-use Rattle.fact_plan.specs.Built.{IsPlain, IsPlainAdapter, IsPlainFunc, IsPlainSide}
+use Rattle.fact_plan.specs.Built.{IsPlainRef, IsPlainAdapter, IsPlainFunc, IsPlainSideOf}
 use Rattle.fact_plan.specs.declared.plain.PrimitiveValType.TheVariants as word
 use Rattle.fact_plan.specs.declared.plan.FusePlan.{FusePlan}
 use Rattle.fact_plan.specs.declared.plan.PlanAdapter.{PlanAdapter}
@@ -38,7 +38,7 @@ use Rattle.fact_checks.specs.FirstFault.{IsFaultlessPlan, IsFirstAt}
 use Rattle.fact_plan_types.specs.PlanTypes.{AreFaultless}
 use Rattle.fact_checks.specs.Linked.{IsTyped}
 use Rattle.fact_checks.specs.Links.{IsFirstHere}
-use Rattle.fact_plan.specs.Built.{IsBuilt}
+use Rattle.fact_plan.specs.Built.{IsBuiltPlan}
 use Rattle.fact_plan_types.specs.Faults.{Fault, too_large}
 use Rattle.fact_plan_types.specs.TypeRules.{most_entries}
 use Rattle.fact_plan_types.specs.declared.error.Place.{Place}
@@ -88,7 +88,7 @@ module _ (b : Builder) (one : (ty : InterfaceType) (s z : Shape) → HasShape b.
 
 -- ---- the sides of a plan
 
-number-shape : (p : FusePlan) (r : PlanRef) → IsPlain r → IsNumberShape (shape_of (plan_shapes p) r)
+number-shape : (p : FusePlan) (r : PlanRef) → IsPlainRef r → IsNumberShape (shape_of (plan_shapes p) r)
 number-shape p (ref.Word word.U32) h = inl refl
 number-shape p (ref.Word word.U64) h = inr refl
 number-shape p (ref.Word word.Bool) h = absurd h
@@ -105,11 +105,11 @@ number-shape p (ref.Word word.String) h = absurd h
 number-shape p (ref.Word word.ErrorContext) h = absurd h
 number-shape p (ref.Entry k) h = absurd h
 
-number-shapes : (p : FusePlan) (rs : List PlanRef) → AllByRecursion IsPlain rs → AllByRecursion IsNumberShape (shapes_of (plan_shapes p) rs)
+number-shapes : (p : FusePlan) (rs : List PlanRef) → AllByRecursion IsPlainRef rs → AllByRecursion IsNumberShape (shapes_of (plan_shapes p) rs)
 number-shapes p [] h = tt
 number-shapes p (r ∷ rs) h = (number-shape p r h.0, number-shapes p rs h.1)
 
-types-plain : (params : List (List ℕ × PlanRef)) → AllByRecursion (λ x. IsPlain x.1) params → AllByRecursion IsPlain (map (λ x. x.1) params)
+types-plain : (params : List (List ℕ × PlanRef)) → AllByRecursion (λ x. IsPlainRef x.1) params → AllByRecursion IsPlainRef (map (λ x. x.1) params)
 types-plain [] h = tt
 types-plain (x ∷ params) h = (h.0, types-plain params h.1)
 
@@ -129,7 +129,7 @@ plain-side p s f ty = record {
   post_return = None;
 }
 
-plan-side : (p : FusePlan) (s : PlanSide) (z : Side) → IsPlainSide p s → side_of p s ≡ Some z → IsBuiltSide z × (z.instance ≡ s.instance)
+plan-side : (p : FusePlan) (s : PlanSide) (z : Side) → IsPlainSideOf p s → side_of p s ≡ Some z → IsBuiltSide z × (z.instance ≡ s.instance)
 unfolding plain-side
 plan-side p s z h e = cases (slice_get p.core_types s.core_type) refl
   where
@@ -208,7 +208,7 @@ module _ (p : FusePlan) (b : Builder) (old : Collected) (k : ℕ) (x : PlanAdapt
   pub typed-here : IsTyped old.builder c.adapter.now
   typed-here = sides-typed _ _ links.linked is_linked.sides
 
-  pub may-take : ((ty : InterfaceType) (s z : Shape) → HasShape b.tables ty s → HasShape b.tables ty z → s ≡ z) → IsBuilt p → MayTake old c
+  pub may-take : ((ty : InterfaceType) (s z : Shape) → HasShape b.tables ty s → HasShape b.tables ty z → s ≡ z) → IsBuiltPlan p → MayTake old c
   may-take one built none a taken =
       let h = is-linked old.builder c a taken in
       let plain = subst (IsPlainAdapter p) (get_or_from_slice_get p.adapters k x x there) (built k x (slice_get_within p.adapters k x there)) in

@@ -1,7 +1,7 @@
 //! The fused module of a plan.
 
 ghost use Rattle.std.specs.Prelude.{◌≡◌, ◌≤◌, ◌<◌, ◌+◌, Some, slice_get, IfErr, IfOk, IfSome, OnOk};
-ghost use Rattle.fact_plan.specs.Built.{IsBuilt};
+ghost use Rattle.fact_plan.specs.Built.{IsBuiltPlan};
 ghost use Rattle.fact_plan_types.specs.PlanTypes.{AreFaultless, AreTypesOf, told};
 ghost use Rattle.fact_checks.specs.FirstFault.{IsFaultlessPlan, IsFirstAt};
 ghost use Rattle.fact_checks.specs.Links.{IsFirstHere};
@@ -36,7 +36,7 @@ fn take_adapter(
     adapter: &PlanAdapter,
 ) -> Result<(), FuseError>
     requires types { AreTypesOf plan.now types.now }
-    requires built { IsBuilt plan.now }
+    requires built { IsBuiltPlan plan.now }
     requires at { HasTakenTo plan.now types.now.builder made.old k }
     requires there { slice_get plan.now.adapters k ≡ Some adapter.now }
     ensures taken { OnOk result (HasTakenTo plan.now types.now.builder made.new (k + 1)) }
@@ -56,7 +56,7 @@ fn take_adapter(
 fn take_adapters(made: &mut Module<'_>, plan: &FusePlan, types: &PlanTypes) -> Result<(), FuseError>
     requires types { AreTypesOf plan.now types.now }
     requires faultless { AreFaultless plan.now }
-    requires built { IsBuilt plan.now }
+    requires built { IsBuiltPlan plan.now }
     requires at { HasTakenTo plan.now types.now.builder made.old 0 }
     ensures faultless { OnOk result (IsFaultlessPlan plan.now) }
     ensures taken { OnOk result (HasTakenAll plan.now made.new) }
@@ -85,7 +85,7 @@ fn spelled(alloc: Global, module: WasmModule, imports: Seq<Import>) -> Result<Fu
 fn fuse_over(alloc: Global, plan: &FusePlan, types: &PlanTypes) -> Result<Fused, FuseError>
     requires types { AreTypesOf plan.now types.now }
     requires faultless { AreFaultless plan.now }
-    requires built { IsBuilt plan.now }
+    requires built { IsBuiltPlan plan.now }
     requires fuel { 1 ≤ plan.now.tunables.fuel }
     ensures fused { IfOk result (λ f. IsFused f plan.now) }
     ensures faultless { OnOk result (IsFaultlessPlan plan.now) }
@@ -113,7 +113,7 @@ fn fuse_over(alloc: Global, plan: &FusePlan, types: &PlanTypes) -> Result<Fused,
 /// are those of the plan ([`Import`], and each adapter's name), and its functions carry values unchanged. A plan that has a
 /// fault is refused with its first one, as by `check_plan`.
 pub fn fuse(alloc: Global, plan: &FusePlan) -> Result<Fused, FuseError>
-    requires built { IsBuilt plan.now }
+    requires built { IsBuiltPlan plan.now }
     requires fuel { 1 ≤ plan.now.tunables.fuel }
     ensures fused { IfOk result (λ f. IsFused f plan.now) }
     ensures faultless { OnOk result (IsFaultlessPlan plan.now) }

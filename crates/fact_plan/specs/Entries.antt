@@ -83,8 +83,8 @@ def_by_key d =
     (at_or (codes "trampoline") u32_in (λ n. Trampoline (record { table = _; number = n })) d (Err (Missing [])))
 
 -- a core definition
-unfoldable pub def_in : Data → Result CoreDef PlanFault
-def_in d = do
+unfoldable pub core_def_in : Data → Result CoreDef PlanFault
+core_def_in d = do
   _ ← known_keys def_keys d
   _ ← one_key d
   def_by_key d

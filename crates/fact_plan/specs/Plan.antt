@@ -13,7 +13,7 @@ use Rattle.fact_plan.specs.declared.fault.PlanFault.{PlanFault}
 use Rattle.fact_plan.specs.Fault.{at_step, ◌>>=◌}
 use Rattle.fact_plan.specs.Read.{known_keys, required_keys, field, field_or, u8_in, u32_in, bool_in, text_in, list_in, nullable, pair_in}
 use Rattle.fact_plan.specs.Words.{ref_in, val_type_in, encoding_in}
-use Rattle.fact_plan.specs.Entries.{entry_in, def_in}
+use Rattle.fact_plan.specs.Entries.{entry_in, core_def_in}
 
 -- the keys of core types
 abbrev pub core_type_keys : List (List ℕ)
@@ -141,7 +141,7 @@ plan_in d = do
   tables ← field (list_in (pair_in u32_in u32_in)) (codes "tables") d
   funcs ← field (list_in func_in) (codes "funcs") d
   core_types ← field (list_in core_type_in) (codes "core_types") d
-  core_defs ← field (list_in def_in) (codes "core_defs") d
+  core_defs ← field (list_in core_def_in) (codes "core_defs") d
   adapters ← field (list_in adapter_in) (codes "adapters") d
   tunables ← field_or tunables_in default_tunables (codes "tunables") d
   Ok (record { instances = instances; types = types; tables = tables; funcs = funcs; core_types = core_types; core_defs = core_defs; adapters = adapters; tunables = tunables })

@@ -118,18 +118,18 @@ abbrev pub field_or : {T : Type 0} → (Data → Result T PlanFault) → T → L
 field_or f default k d = or_default f default k (get k d)
 
 -- what was read, as a part that is there
-abbrev pub some_of : {T : Type 0} → Result T PlanFault → Result (Option T) PlanFault
-some_of (Ok x) = Ok (Some x)
-some_of (Err e) = Err e
+abbrev pub present : {T : Type 0} → Result T PlanFault → Result (Option T) PlanFault
+present (Ok x) = Ok (Some x)
+present (Err e) = Err e
 
 -- null stands for an absent part
 abbrev pub nullable : {T : Type 0} → (Data → Result T PlanFault) → Data → Result (Option T) PlanFault
 nullable f null = Ok None
-nullable f (boolean b) = some_of (f (boolean b))
-nullable f (number n) = some_of (f (number n))
-nullable f (string s) = some_of (f (string s))
-nullable f (array ds) = some_of (f (array ds))
-nullable f (object ms) = some_of (f (object ms))
+nullable f (boolean b) = present (f (boolean b))
+nullable f (number n) = present (f (number n))
+nullable f (string s) = present (f (string s))
+nullable f (array ds) = present (f (array ds))
+nullable f (object ms) = present (f (object ms))
 
 -- a pair of the first two items, where there is no third
 abbrev pub pair_of : {S T : Type 0} → (Data → Result S PlanFault) → (Data → Result T PlanFault) → Option Data → Option Data → Option Data → Result (S × T) PlanFault

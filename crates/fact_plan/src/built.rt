@@ -2,7 +2,7 @@
 
 ghost use Rattle.std.specs.Prelude.{◌≢◌, ◌↔◌, IsTrue, IsSomeAnd, slice_get};
 ghost use Rattle.std.specs.List.{AllByRecursion};
-ghost use Rattle.fact_plan.specs.Built.{IsBuilt, IsPlain, IsPlainAdapter, IsPlainFunc, IsPlainSide};
+ghost use Rattle.fact_plan.specs.Built.{IsBuiltPlan, IsPlainRef, IsPlainAdapter, IsPlainFunc, IsPlainSideOf};
 
 use crate::plain::PrimitiveValType;
 use crate::plan::{FusePlan, PlanAdapter, PlanFunc, PlanRef, PlanSide};
@@ -13,7 +13,7 @@ const MAX_PARAMS: usize = 16;
 const MAX_RESULTS: usize = 1;
 
 fn is_plain(ty: PlanRef) -> bool
-    ensures { IsTrue result ↔ IsPlain ty }
+    ensures { IsTrue result ↔ IsPlainRef ty }
 {
     matches!(
         ty,
@@ -22,7 +22,7 @@ fn is_plain(ty: PlanRef) -> bool
 }
 
 fn are_plain_params(params: &[(Text, PlanRef)]) -> bool
-    ensures { IsTrue result ↔ AllByRecursion (λ x. IsPlain x.1) params.now }
+    ensures { IsTrue result ↔ AllByRecursion (λ x. IsPlainRef x.1) params.now }
 {
     match params {
         [] => true,
@@ -31,7 +31,7 @@ fn are_plain_params(params: &[(Text, PlanRef)]) -> bool
 }
 
 fn are_plain(types: &[PlanRef]) -> bool
-    ensures { IsTrue result ↔ AllByRecursion IsPlain types.now }
+    ensures { IsTrue result ↔ AllByRecursion IsPlainRef types.now }
 {
     match types {
         [] => true,
@@ -60,7 +60,7 @@ fn has_plain_func(plan: &FusePlan, side: &PlanSide) -> bool
 }
 
 fn is_plain_side(plan: &FusePlan, side: &PlanSide) -> bool
-    ensures { IsTrue result ↔ IsPlainSide plan.now side.now }
+    ensures { IsTrue result ↔ IsPlainSideOf plan.now side.now }
 {
     has_plain_func(plan, side)
         && !side.async_
@@ -86,7 +86,7 @@ impl FusePlan {
     /// parameters and at most one result, each a u32 or a u64; without a memory, a realloc, a callback, a post-return and
     /// a mark of transparency, and with concurrency and exceptions off. A plan without adapters is built.
     pub fn built(&self) -> bool
-        ensures { IsTrue result ↔ IsBuilt self.now }
+        ensures { IsTrue result ↔ IsBuiltPlan self.now }
     {
         for adapter in self.adapters.as_slice() {
             if !is_plain_adapter(self, adapter) {

@@ -1,7 +1,7 @@
 //! Objects of exactly one key: the entries of a plan's types, and core definitions.
 ghost use Rattle.serde_json.specs.View.{view};
 ghost use Rattle.fact_plan.specs.Fault.{Gives};
-ghost use Rattle.fact_plan.specs.Entries.{def_by_key, def_in, entry_by_key, entry_in, handle_by_key, one_key};
+ghost use Rattle.fact_plan.specs.Entries.{def_by_key, core_def_in, entry_by_key, entry_in, handle_by_key, one_key};
 
 use crate::fault::PlanFault;
 use crate::parts::{FromJson, check_known, read_member};
@@ -139,9 +139,9 @@ fn def_by_key(alloc: Global, value: &Value) -> Result<CoreDef, PlanFault>
 }
 
 impl FromJson for CoreDef {
-    ghost reads = { def_in };
+    ghost reads = { core_def_in };
 
-    #[tactic(auto, unfolding(crate::specs::Entries::def_in))]
+    #[tactic(auto, unfolding(crate::specs::Entries::core_def_in))]
     fn from_json(alloc: Global, value: &Value) -> Result<CoreDef, PlanFault> {
         check_known(alloc, value, &DEF_KEYS)?;
         check_one_key(alloc, value)?;

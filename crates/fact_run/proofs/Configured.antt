@@ -1,11 +1,11 @@
 -- A plan that is built stays so, whatever the words ask for.
 use Rattle.std.proofs.Common.{◌<◌, length, get_or}
 use Rattle.fact_plan.specs.declared.plan.FusePlan.{FusePlan}
-use Rattle.fact_plan.specs.Built.{IsBuilt}
+use Rattle.fact_plan.specs.Built.{IsBuiltPlan}
 use Rattle.fact_run.specs.declared.command.CommandOptions.{CommandOptions}
 use Rattle.fact_run.specs.Run.{configured}
 
-pub built-configured : (o : CommandOptions) (p : FusePlan) → IsBuilt p → IsBuilt (configured o p)
+pub built-configured : (o : CommandOptions) (p : FusePlan) → IsBuiltPlan p → IsBuiltPlan (configured o p)
 built-configured o p h k d within =
     let a = h k d within in
     record {

@@ -11,7 +11,7 @@ use Rattle.fact_plan.specs.declared.plan.FusePlan.{FusePlan}
 use Rattle.fact_plan.specs.declared.fault.PlanFault.{PlanFault}
 use Rattle.fact_plan.specs.declared.fault.PlanFault.TheVariants as fault
 use Rattle.fact_plan.specs.Fault.{IsNotMemory, UnlessMemory, fault_line}
-use Rattle.fact_plan.specs.Built.{IsBuilt}
+use Rattle.fact_plan.specs.Built.{IsBuiltPlan}
 use Rattle.fact_plan.specs.Plan.{plan_of}
 use Rattle.fact_plan.specs.Reading.{value_in}
 use Rattle.fact_plan_types.specs.declared.error.Place.{Place}
@@ -232,7 +232,7 @@ fault-end s bytes h = at-stage 2 s bytes (omega arith) (stage-fault bytes h.0 h.
 
 -- the bytes hold no plan that is built and one that is not
 not-both : (bytes : List ℕ) → HoldsUnbuilt bytes → HoldsBuilt bytes → ⊥
-not-both bytes u b = u.not_built (subst IsBuilt (one-plan bytes b.plan u.plan b.is_plan u.is_plan) b.is_built)
+not-both bytes u b = u.not_built (subst IsBuiltPlan (one-plan bytes b.plan u.plan b.is_plan u.is_plan) b.is_built)
 
 -- nor one that has a fault and one that has none
 not-sound : (bytes : List ℕ) (p : FusePlan) → HoldsPlan bytes p → IsFaultlessPlan p → ((f : Fault) × (place : Place) × HoldsRefusal bytes f place) → ⊥

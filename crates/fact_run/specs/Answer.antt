@@ -5,7 +5,7 @@ use Rattle.std.specs.Io.KnownBytes.{Appends, Keeps}
 use Rattle.fact_io.specs.Transfers.{AppendsFront, TakesPast}
 use Rattle.fact_plan.specs.declared.fault.PlanFault.{PlanFault}
 use Rattle.fact_plan.specs.declared.plan.FusePlan.{FusePlan}
-use Rattle.fact_plan.specs.Built.{IsBuilt}
+use Rattle.fact_plan.specs.Built.{IsBuiltPlan}
 use Rattle.fact_plan.specs.Fault.{IsNotMemory, fault_line}
 use Rattle.fact_run.specs.declared.command.CommandOptions.{CommandOptions}
 use Rattle.fact_run.specs.declared.status.Status.{Status}
@@ -54,9 +54,9 @@ pub record TellsRefusal (p : FusePlan) (line : List ℕ) : Type 0 where
 
 -- what a plan comes to
 abbrev pub IsReplyToPlan : CommandOptions → FusePlan → Reply → Type 0
-IsReplyToPlan o p (reply.Page text) = IsFaultlessPlan p × IsBuilt p × Prints o p (string_bytes text)
+IsReplyToPlan o p (reply.Page text) = IsFaultlessPlan p × IsBuiltPlan p × Prints o p (string_bytes text)
 IsReplyToPlan o p (reply.Refused line) = TellsRefusal p (string_bytes line)
-IsReplyToPlan o p reply.NotBuilt = IsFaultlessPlan p × (IsBuilt p → ⊥)
+IsReplyToPlan o p reply.NotBuilt = IsFaultlessPlan p × (IsBuiltPlan p → ⊥)
 IsReplyToPlan o p reply.OutOfMemory = Unit {0}
 IsReplyToPlan o p _ = ⊥
 

@@ -12,7 +12,7 @@ use Rattle.fact_plan.specs.declared.plan.FusePlan.{FusePlan}
 use Rattle.fact_plan.specs.declared.fault.PlanFault.{PlanFault}
 use Rattle.fact_plan.specs.Reading.{value_in}
 use Rattle.fact_plan.specs.Plan.{plan_of}
-use Rattle.fact_plan.specs.Built.{IsBuilt}
+use Rattle.fact_plan.specs.Built.{IsBuiltPlan}
 use Rattle.fact_plan_types.specs.declared.error.Place.{Place}
 use Rattle.fact_plan_types.specs.Faults.{Fault}
 use Rattle.fact_checks.specs.FirstFault.{IsFaultlessPlan, IsFirstAt}
@@ -65,14 +65,14 @@ pub record HoldsUnbuilt (bytes : List ℕ) : Type 0 where
   pub plan : FusePlan
   pub is_plan : HoldsPlan bytes plan
   pub faultless : IsFaultlessPlan plan
-  pub not_built : IsBuilt plan → ⊥
+  pub not_built : IsBuiltPlan plan → ⊥
 
 -- a plan that has no fault and is built so far
 pub record HoldsBuilt (bytes : List ℕ) : Type 0 where
   pub plan : FusePlan
   pub is_plan : HoldsPlan bytes plan
   pub faultless : IsFaultlessPlan plan
-  pub is_built : IsBuilt plan
+  pub is_built : IsBuiltPlan plan
 
 -- ---- what is written
 

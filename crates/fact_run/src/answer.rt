@@ -3,7 +3,7 @@
 ghost use Rattle.std.specs.Prelude.{◌≡◌, ◌≢◌, ◌≤◌, ◌+◌, length, string_bytes, IfOk, MatchResult};
 ghost use Rattle.fact_io.specs.Faults.{Rose};
 ghost use Rattle.fact_io.specs.Transfers.{TakesUpTo};
-ghost use Rattle.fact_plan.specs.Built.{IsBuilt};
+ghost use Rattle.fact_plan.specs.Built.{IsBuiltPlan};
 ghost use Rattle.fact_plan_types.specs.PlanTypes.{told};
 ghost use Rattle.fact_run.specs.declared.answer.Reply.TheVariants as reply;
 ghost use Rattle.fact_run.specs.declared.command.CommandOptions.{CommandOptions};
@@ -83,7 +83,7 @@ fn configure(plan: FusePlan, options: CommandOptions) -> FusePlan
 }
 
 fn print(alloc: Global, plan: FusePlan, options: CommandOptions) -> Result<String, OutOfMemory>
-    requires built { IsBuilt plan }
+    requires built { IsBuiltPlan plan }
     requires fuel { 1 ≤ options.fuel }
     ensures { IfOk result (λ text. Prints options plan (string_bytes text)) }
 {
