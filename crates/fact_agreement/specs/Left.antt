@@ -1,3 +1,4 @@
+-- Cited by private clauses alone.
 -- What is left to compare of two types: members that are live and lower than the source type, and that tell whether the
 -- types agree.
 use Rattle.std.specs.Prelude.{ℕ, ◌+◌, ◌≤◌, max, List, [], ◌∷◌, Option, Some, None, Bool}

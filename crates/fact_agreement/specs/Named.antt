@@ -1,3 +1,4 @@
+-- Cited by private clauses alone.
 -- The types of fields by their names.
 use Rattle.std.specs.Prelude.{◌≡◌, ℕ, List, [], ◌∷◌, Option, Some, None, map, if◌then◌else◌}
 use Rattle.std.specs.Str.{bytes_eq}

@@ -1,3 +1,4 @@
+-- Cited by private clauses alone.
 -- Answers that are right: whether types agree, and their members.
 use Rattle.std.specs.Prelude.{◌≡◌, ℕ, ◌↔◌, List, Option, Some, None, Bool, IsTrue, map, All}
 use Rattle.fact_types.specs.declared.interface.InterfaceType.{InterfaceType}

@@ -1,3 +1,4 @@
+-- Cited by private clauses alone.
 -- What is known of a type, and how it is worked out from what is known of its members.
 use Rattle.std.specs.Prelude.{◌≡◌, ℕ, zero, suc, true, false, ◌||◌, List, [], ◌∷◌, ◌+◌, max, min, length, map, replicate, Option, Some, None, option_map, unwrap_or}
 use Rattle.fact_types.specs.declared.flats.FlatType.{FlatType}

@@ -1,3 +1,4 @@
+-- Cited by private clauses alone.
 -- Joined flat types, a place at a time.
 use Rattle.std.specs.Prelude.{List, [], ◌∷◌, Option, Some, None}
 use Rattle.fact_types.specs.declared.flats.FlatType.{FlatType}

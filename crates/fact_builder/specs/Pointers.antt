@@ -1,3 +1,4 @@
+-- Cited by private clauses alone.
 -- The pointer to results.
 use Rattle.std.specs.Prelude.{Bool, List, [], ◌∷◌}
 use Rattle.fact_wasm.specs.declared.types.ValType.{ValType}

@@ -1,3 +1,4 @@
+-- Cited by private clauses alone.
 -- What a call does to bindings and to names, behind any that came before.
 use Rattle.std.specs.Prelude.{◌≡◌, ◌≢◌, ℕ, Bool, true, false, List, ◌++◌, AllPairs}
 use Rattle.fact_types.specs.declared.outside.CoreDef.{CoreDef}

@@ -1,3 +1,4 @@
+-- Cited by private clauses alone.
 -- An adapter of a plan that was made over the types of the plan, and what the checks know when they come to a place.
 use Rattle.std.specs.Prelude.{◌≡◌, ℕ, ◌<◌, ◌≤◌, Some}
 use Rattle.fact_entity.specs.declared.id.Id.{Id}

@@ -1,3 +1,4 @@
+-- Cited by private clauses alone.
 -- The shapes of tuples.
 use Rattle.std.specs.Prelude.{ℕ, suc, List, [], ◌∷◌}
 use Rattle.fact_types.specs.Shapes.{k_tuple, Shape, s_node, Members, no_members, typed}

@@ -1,4 +1,5 @@
--- How a cut of the operand stack is told. It serves the clauses of private functions alone.
+-- Cited by private clauses alone.
+-- How a cut of the operand stack is told.
 use Rattle.std.specs.Prelude.{◌≡◌, List, Option, Some, None}
 use Rattle.fact_machine.specs.declared.types.CoreValue.{CoreValue}
 

@@ -1,5 +1,6 @@
--- The configuration that a running machine stands for, and what its functions do to it. These definitions serve the clauses
--- of private functions alone: the public ones cite `Machine` and `World`.
+-- Cited by private clauses alone.
+-- The configuration that a running machine stands for, and what its functions do to it. The public clauses cite `Machine` and
+-- `World`.
 use Rattle.std.specs.Prelude.{◌≡◌, ◌≢◌, ℕ, Bool, bit_and, bit_or, bit_xor, slice_get, List, [], ◌∷◌, ◌++◌, length, map, reverse, Option, Some, None}
 use Rattle.fact_wasm.specs.declared.types.ValType.{ValType}
 use Rattle.fact_wasm.specs.declared.types.FuncType.{FuncType}

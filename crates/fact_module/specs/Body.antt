@@ -1,3 +1,4 @@
+-- Cited by private clauses alone.
 -- The code of an adapter of plain numbers. Its parameters are its first locals; then come the saved lower flag, the saved
 -- lift flag, and the result where there is one.
 use Rattle.std.specs.Prelude.{ℕ, zero, suc, ◌+◌, Bool, true, false, List, [], ◌∷◌, ◌++◌, length}

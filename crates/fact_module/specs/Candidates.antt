@@ -1,3 +1,4 @@
+-- Cited by private clauses alone.
 -- What makes an adapter one that is built, part by part.
 use Rattle.std.specs.Prelude.{◌≡◌, ◌≢◌, ℕ, ◌≤◌, Bool, false, List, None, length}
 use Rattle.std.specs.List.{AllByRecursion}

@@ -1,3 +1,4 @@
+-- Cited by private clauses alone.
 -- The parts of a module that is being made, and what one adapter of plain numbers adds to them.
 use Rattle.std.specs.Prelude.{◌≡◌, ℕ, ◌⊎◌, List, [], ◌∷◌, ◌++◌, Some, Contains, length, slice_get, codes, Bool, true, false}
 use Rattle.std.specs.Fmt.{decimal}

@@ -1,3 +1,4 @@
+-- Cited by private clauses alone.
 -- A module that takes the adapters of a plan, one after another.
 use Rattle.std.specs.Prelude.{◌≡◌, ℕ, ◌<◌, ◌≤◌, true}
 use Rattle.fact_builder.specs.Builder.{Builder}

@@ -1,3 +1,4 @@
+-- Cited by private clauses alone.
 -- What a module that is being made holds of the adapters that it took.
 use Rattle.std.specs.Prelude.{◌≡◌, ◌≢◌, ℕ, suc, Bool, List, [], ◌∷◌, ◌++◌, AllPairs, Some, length, map, slice_get}
 use Rattle.std.specs.List.{filter_map, flat_map}

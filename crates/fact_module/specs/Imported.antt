@@ -1,3 +1,4 @@
+-- Cited by private clauses alone.
 -- What the imported functions of a module are.
 use Rattle.fact_module.specs.declared.imported.ImportedFunction.{ImportedFunction}
 use Rattle.fact_module.specs.declared.imported.ImportedFunction.TheVariants as imported

@@ -1,3 +1,4 @@
+-- Cited by private clauses alone.
 -- Adapters of plain numbers, and the function of one in a module.
 use Rattle.std.specs.Prelude.{◌≡◌, ◌≢◌, ℕ, ◌≤◌, ◌⊎◌, List, [], ◌∷◌, Some, length, map, slice_get}
 use Rattle.std.specs.List.{filter_map}

@@ -1,3 +1,4 @@
+-- Cited by private clauses alone.
 -- What the parts of a module that is being made are found by.
 use Rattle.std.specs.Prelude.{◌≡◌, ◌+◌, ◌<◌, ◌^◌, List, map, length}
 use Rattle.fact_entity.specs.declared.id.Id.{Id}

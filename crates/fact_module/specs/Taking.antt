@@ -1,3 +1,4 @@
+-- Cited by private clauses alone.
 -- An adapter whose types have no fault, and what it is behind the adapters that a module took.
 use Rattle.std.specs.Prelude.{◌<◌, List}
 use Rattle.fact_plan_types.specs.Faults.{Fault, rank}

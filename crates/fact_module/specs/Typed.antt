@@ -1,3 +1,4 @@
+-- Cited by private clauses alone.
 -- What is known of an adapter whose types were looked at.
 use Rattle.std.specs.Prelude.{ℕ, ◌<◌}
 use Rattle.fact_builder.specs.Builder.{Builder}

@@ -1,3 +1,4 @@
+-- Cited by private clauses alone.
 -- Which rule an entry or a function breaks first, of those that look at it alone and at what the plan has.
 use Rattle.std.specs.Prelude.{ℕ, length, Option, Some, None}
 use Rattle.fact_plan.specs.declared.plan.PlanType.{PlanType}

@@ -1,3 +1,4 @@
+-- Cited by private clauses alone.
 -- How the types of a plan stand in a builder.
 use Rattle.std.specs.Prelude.{◌≡◌, ℕ, List, map, All, Option, Some, None, slice_get}
 use Rattle.std.specs.List.{AllZip}

@@ -1,3 +1,4 @@
+-- Cited by private clauses alone.
 -- The walk over types and the types in them, by the entries of the tables.
 use Rattle.std.specs.Prelude.{◌≡◌, ℕ, ◌≤◌, ◌⊎◌, ◌++◌, List, [], length, map, All, Any, Contains, Option, Some, None, Bool, true, false}
 use Rattle.std.specs.List.{sum_by}

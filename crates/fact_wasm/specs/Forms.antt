@@ -1,4 +1,5 @@
--- What the readers of instructions answer. The clauses of private functions alone cite it.
+-- Cited by private clauses alone.
+-- What the readers of instructions answer.
 use Rattle.std.specs.Prelude.{◌≡◌, ℕ, List, [], ◌∷◌, ◌++◌, map}
 use Rattle.std.specs.List.{AllByRecursion}
 use Rattle.fact_wasm.specs.declared.instr.BlockType.{BlockType}

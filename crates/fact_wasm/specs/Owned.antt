@@ -1,3 +1,4 @@
+-- Cited by private clauses alone.
 -- Parts of modules that are what their spelling stands for: a function by the form of name that its index has, and bodies
 -- without an else body that is empty. Modules in range are made of such parts. The clauses of private functions cite it.
 use Rattle.std.specs.Prelude.{◌≡◌, ℕ, ◌<◌, ◌^◌, List, ◌++◌, length}

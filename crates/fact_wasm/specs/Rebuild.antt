@@ -1,4 +1,5 @@
--- The instruction that a tree of the grammar stands for: the table of instructions read from the right. The clauses of private functions and proofs cite it.
+-- Cited by private clauses alone.
+-- The instruction that a tree of the grammar stands for: the table of instructions read from the right.
 use Rattle.std.specs.Prelude.{ℕ, ◌-◌, List, [], ◌∷◌, Option, Some, None, nat_eq, nat_lt, if◌then◌else◌}
 use Rattle.fact_wasm.specs.declared.instr.BlockType.{BlockType}
 use Rattle.fact_wasm.specs.declared.instr.FuncName.{FuncName}

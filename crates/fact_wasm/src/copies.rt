@@ -14,7 +14,7 @@ trait Copied: Drop {
         ensures { IfOk result (λ copy. copy ≡ self.now) };
 }
 
-fn copy_list<T: Copied>(items: &Seq<T>) -> Result<Seq<T>, OutOfMemory>
+pub(crate) fn copy_list<T: Copied>(items: &Seq<T>) -> Result<Seq<T>, OutOfMemory>
     ensures { IfOk result (λ copy. copy ≡ items.now) }
 {
     let mut copies = items.empty_like();

@@ -4,6 +4,7 @@ ghost use Rattle.std.specs.Prelude.{◌≡◌, ◌⊎◌, ◌++◌, ◌∷◌, [
 ghost use Rattle.fact_wasm.specs.CoreTypes.{signature, IsOnlyPlace, HasNoTwins};
 
 use crate::OutOfMemory;
+use crate::copies::copy_list;
 use crate::seq::Seq;
 use crate::types::{FuncType, ValType};
 use fact_entity::{EntityRef, Interner, ModuleInternedTypeIndex};
@@ -87,6 +88,22 @@ impl CoreTypes {
         ensures distinct { HasNoTwins self.now }
     {
         &self.section
+    }
+
+    /// A copy of the list of the types.
+    pub fn copied_types(&self) -> Result<Seq<FuncType>, OutOfMemory>
+        ensures { IfOk result (λ copy. copy ≡ self.now) }
+    {
+        copy_list(&self.section)
+    }
+
+    /// The list of the types.
+    pub fn into_types(self) -> Seq<FuncType>
+        ensures list { result ≡ self }
+        ensures distinct { HasNoTwins self }
+    {
+        let CoreTypes { section, .. } = self;
+        section
     }
 
     /// The index of the type of these parameters and results. Where there is none yet, it comes behind the last one. An
