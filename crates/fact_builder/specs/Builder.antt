@@ -1,12 +1,14 @@
 -- What contracts see of the builder, and what holds of it at all times.
-use Rattle.std.specs.Prelude.{List, []}
+use Rattle.std.specs.Prelude.{ℕ, List, []}
 use Rattle.fact_wasm.specs.declared.types.FuncType.{FuncType}
 use Rattle.fact_types.specs.Tables.{Tables, no_tables}
 
--- The tables of types, and the core function types.
+-- The number of the source that types come from, the tables of types, and the core function types.
 pub record Builder : Type 0 where
+  pub source : ℕ
   pub tables : Tables
   pub module_types : List FuncType
 
-abbrev pub no_types : Builder
-no_types = record { tables = no_tables; module_types = [] }
+-- A builder without types, for those of the source of a number.
+abbrev pub no_types : (source : ℕ) → Builder
+no_types source = record { source = source; tables = no_tables; module_types = [] }

@@ -20,10 +20,11 @@ use fact_types::{
 use std::alloc::Global;
 use std::marker::Model;
 
-/// Tables of types with one entry of each type, and core function types. Contracts see it as the tables and the list of the
-/// core function types. At all times equal types have one index.
+/// Tables of types with one entry of each type, and core function types. Contracts see it as the number of the source that
+/// types come from, the tables and the list of the core function types. At all times equal types have one index.
 #[derive(Drop)]
 pub struct ComponentTypesBuilder {
+    pub(crate) source: u64,
     pub(crate) types: KnownTypes,
     pub(crate) module_types: ModuleTypesBuilder,
     pub(crate) functions: Interner<TypeFuncIndex, TypeFunc>,
@@ -54,19 +55,19 @@ impl Model for ComponentTypesBuilder {
 
     ghost Value = { Builder };
 
-    ghost view = { λ b. record { tables = b.types; module_types = b.module_types } };
+    ghost view = { λ b. record { source = b.source; tables = b.types; module_types = b.module_types } };
 
     // the entries that are found by their value are those of the tables, and the resource tables are counted
     ghost invariant = { λ b. (record b.types { functions = b.functions; records = b.records; flags = b.flags; tuples = b.tuples; fixed_length_lists = b.fixed_length_lists; variants = b.variants; enums = b.enums; options = b.options; results = b.results; lists = b.lists; maps = b.maps; futures = b.futures; future_tables = b.future_tables; streams = b.streams; stream_tables = b.stream_tables; error_context_tables = b.error_context_tables } ≡ b.types) × (b.resource_table_count ≡ length b.types.resource_tables) };
 }
 
 impl ComponentTypesBuilder {
-    /// A builder without types. The number of the source that types come from has no part in what they are. It takes no
-    /// memory.
+    /// A builder without types, for those of the source of a number. It takes no memory.
     pub fn new(alloc: Global, source: u64) -> ComponentTypesBuilder
-        ensures { result ≡ no_types }
+        ensures { result ≡ no_types source }
     {
         ComponentTypesBuilder {
+            source,
             types: KnownTypes::new(alloc),
             module_types: ModuleTypesBuilder::new(alloc, source),
             functions: Interner::new(alloc),
@@ -87,6 +88,13 @@ impl ComponentTypesBuilder {
             error_context_tables: Interner::new(alloc),
             resource_table_count: 0,
         }
+    }
+
+    /// The number of the source that types come from.
+    pub fn source(&self) -> u64
+        ensures { result ≡ self.now.source }
+    {
+        self.source
     }
 
     /// The tables so far.

@@ -27,14 +27,15 @@ use Rattle.fact_plan.specs.declared.plan.PlanFunc.{PlanFunc}
 use Rattle.fact_plan.specs.declared.plan.PlanRef.{PlanRef}
 use Rattle.fact_plan.specs.declared.plan.FusePlan.{FusePlan}
 use Rattle.fact_plan_types.specs.Adding.{AddsFunc, AreTuplesTooWide, IsFilled, MakesTuple}
-use Rattle.fact_plan_types.specs.PlanShapes.{places_of, plan_shapes, shapes_of}
-use Rattle.fact_plan_types.specs.PlanTypes.{IsFuncOf}
+use Rattle.fact_plan_types.specs.PlanShapes.{places_of, plan_shapes, shapes_of, tuple_shape, with_tuple}
+use Rattle.fact_plan_types.specs.PlanTypes.{HasTuples, IsFuncOf}
 use Rattle.fact_plan_types.specs.Reached.{IsNoFunc}
 use Rattle.fact_plan_types.specs.TypeRules.{IsBadFunc, IsFrom, IsPast, NamesNoType, param_types, tuple_layout}
 use Rattle.fact_plan_types.proofs.AddLaws.{makes_fills, not_past, unfit_wide}
 use Rattle.fact_plan_types.proofs.MemberLaws.{members_placed, placed_members, places_layouts, shapes_keep}
 use Rattle.fact_plan_types.proofs.ReadyLaws.{none_of}
 use Rattle.fact_plan_types.proofs.TableLaws.{both_keep, interned_grows}
+use Rattle.fact_plan_types.proofs.TupleLaws.{OneIndex, made_tuples, tuples_stay}
 
 err_is : {A : Type 0} (x y : PushError) (r s : Result A PushError) → r ≡ Err x → s ≡ Err y → r ≡ s → x ≡ y
 err_is x y r s p q e = cc
@@ -50,12 +51,13 @@ tuple_laid : (ss : List Shape) (rs : List PlanRef) → layout_of (s_node k_tuple
 tuple_laid ss rs = ap record_layout (places_layouts ss 0 rs)
 
 pub tuple_made : (old new : Builder) (types : List InterfaceType) (rs : List PlanRef) (xs : List InterfaceType) (i : Id TypeTuples) (result : Result InterfaceType PushError) → result ≡ Ok (t_tuple i) → Makes old new k_tuple (placed 0 xs) result
-    → ((ss : List Shape) → HaveShapes old.tables types ss → HaveShapes old.tables xs (shapes_of ss rs)) → MakesTuple old new types rs (Ok i)
-tuple_made old new types rs xs i result e made has =
+    → OneIndex new.tables → ((ss : List Shape) → HaveShapes old.tables types ss → HaveShapes old.tables xs (shapes_of ss rs)) → MakesTuple old new types rs (Ok i)
+tuple_made old new types rs xs i result e made one has =
     let m = subst (Makes old new k_tuple (placed 0 xs)) e made in
     record {
       live = m.live;
       shaped = λ ss h. m.shaped (places_of ss 0 rs) (placed_members old.tables ss 0 xs rs (has ss h));
+      tuples = λ ss h. made_tuples old new (placed 0 xs) (t_tuple i) (places_of ss 0 rs) m (placed_members old.tables ss 0 xs rs (has ss h)) one;
       fits = λ ss h. not_past _ (subst IsWithin (tuple_laid ss rs) (m.fits (places_of ss 0 rs) (placed_members old.tables ss 0 xs rs (has ss h))).within);
       too_large = λ q. absurd (cc);
       fills = makes_fills old new k_tuple (placed 0 xs) _ m;
@@ -69,6 +71,7 @@ tuple_refused : (old new : Builder) (types : List InterfaceType) (rs : List Plan
 tuple_refused old new types rs x f = record {
   live = tt;
   shaped = tt;
+  tuples = tt;
   fits = tt;
   too_large = λ q. f (err_is x TooLarge _ _ refl refl q);
   fills = tt;
@@ -132,14 +135,15 @@ entry_of t ss rs (Some v) n e h = (v, refl, members_placed t ss 0 v.types rs (su
 tuple_entry : (t : Tables) (ss : List Shape) (rs : List PlanRef) (i : Id TypeTuples) → HasShape t (t_tuple i) (s_node k_tuple (places_of ss 0 rs)) → (e : TypeTuple) × (slice_get t.tuples i.number ≡ Some e) × HaveShapes t e.types (shapes_of ss rs)
 tuple_entry t ss rs i h = entry_of t ss rs (slice_get t.tuples i.number) h.0 h.1 h.3
 
-func_is : (p : FusePlan) (t : Tables) (k : Id TypeFuncs) (f : PlanFunc) (v : TypeFunc) → slice_get t.functions k.number ≡ Some v → v.async_ ≡ f.async_
+func_is : (p : FusePlan) (t : Tables) (k : Id TypeFuncs) (f : PlanFunc) (v : TypeFunc) → slice_get t.functions k.number ≡ Some v → v.async_ ≡ f.async_ → v.param_names ≡ map (λ x. x.0) f.params
     → HasShape t (t_tuple v.params) (s_node k_tuple (places_of (plan_shapes p) 0 (param_types f))) → HasShape t (t_tuple v.results) (s_node k_tuple (places_of (plan_shapes p) 0 f.results)) → IsFuncOf p t k f
-func_is p t k f v e m a b =
+func_is p t k f v e m n a b =
     let x = tuple_entry t (plan_shapes p) (param_types f) v.params a in
     let y = tuple_entry t (plan_shapes p) f.results v.results b in
     record {
       signature = record { func = v; func_there = e; taken = x.0; taken_there = x.1; takes = x.2; given = y.0; given_there = y.1; gives = y.2 };
       mark = m;
+      names = n;
     }
 
 func_refused : (old new : Builder) (types : List InterfaceType) (f : PlanFunc) (x : PushError)
@@ -149,6 +153,7 @@ func_refused old new types f x g = record {
   fits = tt;
   too_large = λ q. g (err_is x TooLarge _ _ refl refl q);
   fills = tt;
+  tuples = tt;
   keeps = tt;
   rest = tt;
 }
@@ -178,11 +183,11 @@ func_filled old mid new n v k d s r f g = record {
   error_contexts = omega (arith, ap (λ (b : Builder). length b.tables.error_context_tables) r, g.error_contexts);
 }
 
-pub func_adds : (old first mid new : Builder) (types : List InterfaceType) (f : PlanFunc) (rs : List PlanRef) (v : TypeFunc) (result : Result (Id TypeFuncs) PushError) → rs ≡ param_types f → v.async_ ≡ f.async_
+pub func_adds : (old first mid new : Builder) (types : List InterfaceType) (f : PlanFunc) (rs : List PlanRef) (v : TypeFunc) (result : Result (Id TypeFuncs) PushError) → rs ≡ param_types f → v.async_ ≡ f.async_ → v.param_names ≡ map (λ x. x.0) f.params
     → MakesTuple old first types rs (Ok v.params) → MakesTuple first mid types f.results (Ok v.results)
     → IfOk result (λ k. IsInterned func_eq.ghosts.eq mid.tables.functions new.tables.functions v k.number) → IfOk result (λ k. slice_get new.tables.functions k.number ≡ Some v)
     → OnOk result (new ≡ record mid { tables = record mid.tables { functions = new.tables.functions } }) → Keeps mid.tables new.tables → (result ≡ Err TooLarge → length mid.tables.functions ≡ 4294967295) → AddsFunc old new types f result
-func_adds old first mid new types f rs v (Ok k) same mark m d int ent r keeps full =
+func_adds old first mid new types f rs v (Ok k) same mark names m d int ent r keeps full =
     let funcs : mid.tables.functions ≡ old.tables.functions = d.functions ∙ m.functions in
     let later = both_keep first.tables mid.tables new.tables d.keeps keeps in
     let all = both_keep old.tables first.tables new.tables m.keeps later in
@@ -190,17 +195,22 @@ func_adds old first mid new types f rs v (Ok k) same mark m d int ent r keeps fu
       added = λ p h.
           let params = later.shapes (t_tuple v.params) (s_node k_tuple (places_of (plan_shapes p) 0 rs)) (m.shaped (plan_shapes p) h) in
           let results = keeps.shapes (t_tuple v.results) (s_node k_tuple (places_of (plan_shapes p) 0 f.results)) (d.shaped (plan_shapes p) (shapes_keep old.tables first.tables m.keeps types (plan_shapes p) h)) in
-          func_is p new.tables k f v ent mark (subst (λ (us : List PlanRef). HasShape new.tables (t_tuple v.params) (s_node k_tuple (places_of (plan_shapes p) 0 us))) same params) results;
+          func_is p new.tables k f v ent mark names (subst (λ (us : List PlanRef). HasShape new.tables (t_tuple v.params) (s_node k_tuple (places_of (plan_shapes p) 0 us))) same params) results;
       fits = λ ss h w. elim w [
         | inl a ↦ m.fits ss h (subst (λ (us : List PlanRef). IsPast (tuple_layout (shapes_of ss us))) (sym same) a)
         | inr b ↦ d.fits ss (shapes_keep old.tables first.tables m.keeps types ss h) b
       ];
       too_large = λ q. absurd (cc);
       fills = λ n g. func_filled old mid new n v k.number int funcs r g (d.fills (n + 1) (m.fills n g));
+      tuples = λ ss h ts z.
+          let params = m.tuples ss h ts z in
+          let results = d.tuples ss (shapes_keep old.tables first.tables m.keeps types ss h) _ params in
+          subst (λ (us : List PlanRef). HasTuples new.tables (with_tuple (with_tuple ts (tuple_shape ss us)) (tuple_shape ss f.results))) same
+          (tuples_stay mid.tables new.tables keeps (ap (λ (b : Builder). b.tables.tuples) r) _ results);
       keeps = record { all = all; funcs = λ i g e. int.keeps i g (subst (λ (fs : List TypeFunc). slice_get fs i ≡ Some g) (sym funcs) e) };
       rest = ap (λ (b : Builder). b.tables.resource_tables) r ∙ d.resource_tables ∙ m.resource_tables;
     }
-func_adds old first mid new types f rs v (Err x) same mark m d int ent r keeps full =
+func_adds old first mid new types f rs v (Err x) same mark names m d int ent r keeps full =
     let funcs : mid.tables.functions ≡ old.tables.functions = d.functions ∙ m.functions in
     func_refused old new types f x (λ q n l g ss h. absurd (omega (arith, full (ap Err q), ap length funcs, g.functions, l)))
 

@@ -11,3 +11,5 @@ pub mod ReadyLaws
 pub mod ShapeLists
 pub mod StepLaws
 pub mod TableLaws
+pub mod TupleLaws
+pub mod ValidLaws

@@ -48,6 +48,7 @@ use Rattle.fact_plan_types.specs.Standing.{IsHandleTable, PayloadStands, Stand}
 use Rattle.fact_plan_types.proofs.AddLaws.{not_past, futures_kept, handles_kept, streams_kept}
 use Rattle.fact_plan_types.proofs.HandleLaws.{added_table, all_kept, payload_keeps}
 use Rattle.fact_plan_types.proofs.MemberLaws.{live_keep, payload_members, shapes_keep}
+use Rattle.fact_plan_types.proofs.TupleLaws.{tuples_stay}
 
 -- ---- how a table grows
 grown : {X : Type 0} (b : Bool) (xs : List X) (v : X) → length (if b then xs else xs ++ v ∷ []) ≤ length xs + 1
@@ -73,6 +74,7 @@ refused_adds old new types e x f = record {
   live = tt;
   shaped = tt;
   stands = tt;
+  tuples = tt;
   fits = tt;
   too_large = λ q n l z shapes h s. absurd (f (err_tells x TooLarge _ _ refl refl q) n l z);
   fills = tt;
@@ -202,6 +204,7 @@ future_adds old mid new p ty table instance a types o i e has = record {
       subst (λ (s : Shape). HasShape new.tables (t_future table) s) (λ k. s_node (k_future (numbered.0 k) (e k)) (member_of shapes [] o no_members))
       (future_shaped old mid new p ty table instance a shapes o (has shapes z.shaped));
   stands = λ shapes h z. future_stands old mid new p ty table instance a (handle_table shapes o i) (has shapes z.shaped) e types shapes h z;
+  tuples = λ shapes h z. tuples_stay old.tables new.tables (both_keep old.tables mid.tables new.tables a.type_keeps a.table_keeps) (ap (λ (b : Builder). b.tables.tuples) a.table_rest ∙ ap (λ (b : Builder). b.tables.tuples) a.type_rest);
   fits = λ shapes h z. small_not_wide (entry_shape shapes h (entry.Future o i)) refl (λ w. w);
   too_large = λ q. absurd (cc);
   fills = future_filled old mid new p ty table instance a;
@@ -315,6 +318,7 @@ stream_adds old mid new p ty table instance a types o i e has = record {
       subst (λ (s : Shape). HasShape new.tables (t_stream table) s) (λ k. s_node (k_stream (numbered.0 k) (e k)) (member_of shapes [] o no_members))
       (stream_shaped old mid new p ty table instance a shapes o (has shapes z.shaped));
   stands = λ shapes h z. stream_stands old mid new p ty table instance a (handle_table shapes o i) (has shapes z.shaped) e types shapes h z;
+  tuples = λ shapes h z. tuples_stay old.tables new.tables (both_keep old.tables mid.tables new.tables a.type_keeps a.table_keeps) (ap (λ (b : Builder). b.tables.tuples) a.table_rest ∙ ap (λ (b : Builder). b.tables.tuples) a.type_rest);
   fits = λ shapes h z. small_not_wide (entry_shape shapes h (entry.Stream o i)) refl (λ w. w);
   too_large = λ q. absurd (cc);
   fills = stream_filled old mid new p ty table instance a;
@@ -371,6 +375,7 @@ error_context_adds old new table instance a types i e =
         streams = streams_kept old.tables new.tables a.keeps h.streams (ap (λ (b : Builder). b.tables.streams) r) (ap (λ (b : Builder). b.tables.stream_tables) r) z.streams;
         error_contexts = context_instances old new table instance a i e h.error_contexts z.error_contexts;
       };
+      tuples = λ shapes h z. tuples_stay old.tables new.tables a.keeps (ap (λ (b : Builder). b.tables.tuples) r);
       fits = λ shapes h z. small_not_wide (entry_shape shapes h (entry.ErrorContext i)) refl (λ w. w);
       too_large = λ q. absurd (cc);
       fills = λ n f. record {
@@ -398,6 +403,7 @@ own_adds b types n i e l = record {
   live = omega (arith, ap (λ (j : Id TypeResourceTables). j.number) e, l);
   shaped = λ shapes h z. (ap t_own e, refl);
   stands = λ shapes h z. z;
+  tuples = λ shapes h z ts u. u;
   fits = λ shapes h z. small_not_wide (entry_shape shapes h (entry.Own n)) refl (λ w. w);
   too_large = λ q. absurd (cc);
   fills = filled_up b.tables;
@@ -409,6 +415,7 @@ borrow_adds b types n i e l = record {
   live = omega (arith, ap (λ (j : Id TypeResourceTables). j.number) e, l);
   shaped = λ shapes h z. (ap t_borrow e, refl);
   stands = λ shapes h z. z;
+  tuples = λ shapes h z ts u. u;
   fits = λ shapes h z. small_not_wide (entry_shape shapes h (entry.Borrow n)) refl (λ w. w);
   too_large = λ q. absurd (cc);
   fills = filled_up b.tables;

@@ -1,5 +1,5 @@
 -- What adding the types and the functions of a plan does to a builder.
-use Rattle.std.specs.Prelude.{◌⊎◌, ◌≡◌, ℕ, ◌+◌, ◌<◌, ◌≤◌, List, All, Any, length, map, take, slice_get, Some, Result, Err, IfOk, IfSome}
+use Rattle.std.specs.Prelude.{◌⊎◌, ◌≡◌, ℕ, ◌+◌, ◌<◌, ◌≤◌, List, [], ◌∷◌, All, Any, length, map, take, slice_get, Some, Result, Err, IfOk, IfSome}
 use Rattle.fact_entity.specs.declared.error.PushError.{PushError}
 use Rattle.fact_entity.specs.declared.error.PushError.TheVariants.{TooLarge}
 use Rattle.fact_entity.specs.declared.id.Id.{Id}
@@ -9,7 +9,7 @@ use Rattle.fact_types.specs.declared.interface.InterfaceType.{InterfaceType}
 use Rattle.fact_types.specs.declared.interface.InterfaceType.TheVariants.{Tuple as t_tuple}
 use Rattle.fact_types.specs.declared.kinds.TypeFunc.{TypeFunc}
 use Rattle.fact_types.specs.Functions.{HaveShapes}
-use Rattle.fact_types.specs.Shapes.{k_tuple, Shape, s_node, layout_of}
+use Rattle.fact_types.specs.Shapes.{Shape, layout_of}
 use Rattle.fact_types.specs.Tables.{Tables, IsLive, HasShape, entries}
 use Rattle.fact_builder.specs.Builder.{Builder}
 use Rattle.fact_builder.specs.Keeps.{Keeps}
@@ -17,8 +17,8 @@ use Rattle.fact_plan.specs.declared.plan.PlanRef.{PlanRef}
 use Rattle.fact_plan.specs.declared.plan.PlanType.{PlanType}
 use Rattle.fact_plan.specs.declared.plan.PlanFunc.{PlanFunc}
 use Rattle.fact_plan.specs.declared.plan.FusePlan.{FusePlan}
-use Rattle.fact_plan_types.specs.PlanShapes.{HandleTables, entry_shape, places_of, plan_shapes, shapes_of, tables_with}
-use Rattle.fact_plan_types.specs.PlanTypes.{IsFuncOf, resource_table}
+use Rattle.fact_plan_types.specs.PlanShapes.{HandleTables, entry_shape, plan_shapes, shapes_of, tables_with, tuple_shape, tuples_among, with_tuple}
+use Rattle.fact_plan_types.specs.PlanTypes.{HasTuples, IsFuncOf, func_tuples, resource_table}
 use Rattle.fact_plan_types.specs.Standing.{Stand}
 use Rattle.fact_plan_types.specs.TypeRules.{IsBadType, IsEntryPast, IsFrom, IsLongEntry, IsPast, param_types, table_in, tuple_layout, types_in}
 
@@ -60,6 +60,7 @@ pub record Adds (old new : Builder) (types : List InterfaceType) (e : PlanType) 
   pub live : IfOk result (IsLive new.tables)
   pub shaped : IfOk result (λ ty. (shapes : List Shape) (h : HandleTables) → Stand old.tables types shapes h → HasShape new.tables ty (entry_shape shapes h e))
   pub stands : IfOk result (λ ty. (shapes : List Shape) (h : HandleTables) → Stand old.tables types shapes h → Stand new.tables types shapes (tables_with shapes h e))
+  pub tuples : IfOk result (λ ty. (shapes : List Shape) (h : HandleTables) → Stand old.tables types shapes h → (ts : List Shape) → HasTuples old.tables ts → HasTuples new.tables (with_tuple ts (entry_shape shapes h e)))
   pub fits : IfOk result (λ ty. (shapes : List Shape) (h : HandleTables) → Stand old.tables types shapes h → IsTooWide (entry_shape shapes h e) → ⊥)
   pub too_large : result ≡ Err TooLarge → (n : ℕ) → n < 4294967295 → IsFilled n old.tables → (shapes : List Shape) (h : HandleTables) → Stand old.tables types shapes h → IsTooWide (entry_shape shapes h e)
   pub fills : IfOk result (λ ty. (n : ℕ) → IsFilled n old.tables → IsFilled (n + 1) new.tables)
@@ -74,7 +75,8 @@ pub record Pushes (p : FusePlan) (old new : Builder) : Type 0 where
 -- The tuple of types was looked for, and added where it was not there.
 pub record MakesTuple (old new : Builder) (types : List InterfaceType) (rs : List PlanRef) (result : Result (Id TypeTuples) PushError) : Type 0 where
   pub live : IfOk result (λ i. i.number < length new.tables.tuples)
-  pub shaped : IfOk result (λ i. (shapes : List Shape) → HaveShapes old.tables types shapes → HasShape new.tables (t_tuple i) (s_node k_tuple (places_of shapes 0 rs)))
+  pub shaped : IfOk result (λ i. (shapes : List Shape) → HaveShapes old.tables types shapes → HasShape new.tables (t_tuple i) (tuple_shape shapes rs))
+  pub tuples : IfOk result (λ i. (shapes : List Shape) → HaveShapes old.tables types shapes → (ts : List Shape) → HasTuples old.tables ts → HasTuples new.tables (with_tuple ts (tuple_shape shapes rs)))
   pub fits : IfOk result (λ i. (shapes : List Shape) → HaveShapes old.tables types shapes → IsPast (tuple_layout (shapes_of shapes rs)) → ⊥)
   pub too_large : result ≡ Err TooLarge → (n : ℕ) → n < 4294967295 → IsFilled n old.tables → (shapes : List Shape) → HaveShapes old.tables types shapes → IsPast (tuple_layout (shapes_of shapes rs))
   pub fills : IfOk result (λ i. (n : ℕ) → IsFilled n old.tables → IsFilled (n + 1) new.tables)
@@ -88,5 +90,6 @@ pub record AddsFunc (old new : Builder) (types : List InterfaceType) (f : PlanFu
   pub fits : IfOk result (λ i. (shapes : List Shape) → HaveShapes old.tables types shapes → AreTuplesTooWide f shapes → ⊥)
   pub too_large : result ≡ Err TooLarge → (n : ℕ) → n < 4294967294 → IsFilled n old.tables → (shapes : List Shape) → HaveShapes old.tables types shapes → AreTuplesTooWide f shapes
   pub fills : IfOk result (λ i. (n : ℕ) → IsFilled n old.tables → IsFilled (n + 2) new.tables)
+  pub tuples : IfOk result (λ i. (shapes : List Shape) → HaveShapes old.tables types shapes → (ts : List Shape) → HasTuples old.tables ts → HasTuples new.tables (tuples_among ts (func_tuples shapes (f ∷ []))))
   pub keeps : IfOk result (λ i. KeepsFuncs old.tables new.tables)
   pub rest : IfOk result (λ i. new.tables.resource_tables ≡ old.tables.resource_tables)

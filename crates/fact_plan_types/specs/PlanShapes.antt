@@ -115,6 +115,10 @@ abbrev pub places_of : List Shape → ℕ → List PlanRef → Members
 places_of before n [] = no_members
 places_of before n (r ∷ rs) = typed (n ∷ []) (shape_of before r) (places_of before (suc n) rs)
 
+-- the tuple of types
+abbrev pub tuple_shape : List Shape → List PlanRef → Shape
+tuple_shape before rs = s_node k_tuple (places_of before 0 rs)
+
 abbrev pub names_alone : List (List ℕ) → Members
 names_alone [] = no_members
 names_alone (n ∷ ns) = bare n (names_alone ns)
@@ -129,7 +133,7 @@ handle_table before payload instance = record { payload = payload_of before payl
 abbrev pub entry_shape : List Shape → HandleTables → PlanType → Shape
 entry_shape before t (entry.Record fs) = s_node k_record (fields_of before fs)
 entry_shape before t (entry.Variant cs) = s_node k_variant (cases_of before cs)
-entry_shape before t (entry.Tuple rs) = s_node k_tuple (places_of before 0 rs)
+entry_shape before t (entry.Tuple rs) = tuple_shape before rs
 entry_shape before t (entry.List r) = s_node k_list (typed [] (shape_of before r) no_members)
 entry_shape before t (entry.Option r) = s_node k_option (bare none_name (typed some_name (shape_of before r) no_members))
 entry_shape before t (entry.Map key value) = s_node k_map (places_of before 0 (key ∷ value ∷ []))
@@ -155,6 +159,18 @@ tables_with before t _ = t
 abbrev pub shapes_from : List Shape → HandleTables → List PlanType → List Shape
 shapes_from before t [] = before
 shapes_from before t (e ∷ es) = shapes_from (before ++ entry_shape before t e ∷ []) (tables_with before t e) es
+
+-- ---- tuples
+
+-- Tuples with another one behind them, where it is not among them. What is no tuple changes nothing.
+abbrev pub with_tuple : List Shape → Shape → List Shape
+with_tuple ts (s_node k_tuple ms) = insert_key same_shape ts (s_node k_tuple ms)
+with_tuple ts s = ts
+
+-- The tuples among shapes, each once, at its first place, behind other tuples.
+abbrev pub tuples_among : List Shape → List Shape → List Shape
+tuples_among ts [] = ts
+tuples_among ts (s ∷ ss) = tuples_among (with_tuple ts s) ss
 
 -- The shapes of the entries of a plan, in order.
 abbrev pub plan_shapes : FusePlan → List Shape

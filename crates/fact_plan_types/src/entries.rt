@@ -83,7 +83,9 @@ fn add_tuple(
     ensures { Adds builder.old builder.new types.now (entry.Tuple members.now) result }
 {
     let members = types_of(alloc, types, members)?;
-    make_tuple(alloc, builder, Seq::from_vec(members))
+    let made = make_tuple(alloc, builder, Seq::from_vec(members))?;
+    builder.reveal();
+    Ok(made)
 }
 
 fn add_list(

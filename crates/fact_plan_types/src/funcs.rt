@@ -153,7 +153,9 @@ fn add_tuple(
 {
     builder.reveal();
     let members = types_of(alloc, types, refs)?;
-    match make_tuple(alloc, builder, Seq::from_vec(members))? {
+    let made = make_tuple(alloc, builder, Seq::from_vec(members))?;
+    builder.reveal();
+    match made {
         InterfaceType::Tuple(index) => Ok(index),
         _ => unreachable!(),
     }

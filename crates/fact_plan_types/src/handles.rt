@@ -1,8 +1,9 @@
 //! The tables of handles of a plan, added to a builder.
 
-ghost use Rattle.std.specs.Prelude.{◌≡◌, ◌<◌, ◌+◌, IfSome, OnOk, length};
+ghost use Rattle.std.specs.Prelude.{◌≡◌, ◌<◌, ◌+◌, IfSome, OnOk, length, max};
 ghost use Rattle.fact_plan.specs.declared.plan.PlanType.TheVariants as entry;
 ghost use Rattle.fact_plan_types.specs.Adding.{Adds, AreFirst, IsReady, Pushes};
+ghost use Rattle.fact_plan_types.specs.PlanTypes.{tables_up_to};
 ghost use Rattle.fact_plan_types.specs.TypeRules.{table_in};
 
 use crate::members::payload_of;
@@ -77,7 +78,7 @@ pub(crate) fn push_resource_tables(
     requires there { IfSome (table_in entry.now) (λ n. n < length plan.now.tables) }
     requires first { AreFirst plan.now builder.old.tables }
     ensures pushed { OnOk result (Pushes plan.now builder.old builder.new) }
-    ensures live { OnOk result (IfSome (table_in entry.now) (λ n. n < length builder.new.tables.resource_tables)) }
+    ensures named { OnOk result (length builder.new.tables.resource_tables ≡ max (length builder.old.tables.resource_tables) (tables_up_to (table_in entry.now))) }
 {
     match entry {
         PlanType::Own(table) | PlanType::Borrow(table) => push_up_to(builder, plan, *table),
@@ -94,7 +95,7 @@ fn push_up_to(
     requires there { table < length plan.now.tables }
     requires first { AreFirst plan.now builder.old.tables }
     ensures pushed { OnOk result (Pushes plan.now builder.old builder.new) }
-    ensures live { OnOk result (table < length builder.new.tables.resource_tables) }
+    ensures named { OnOk result (length builder.new.tables.resource_tables ≡ max (length builder.old.tables.resource_tables) (table + 1)) }
 {
     while builder.num_resource_tables() <= table as usize {
         push_next(builder, plan)?;

@@ -130,7 +130,9 @@ pub(crate) fn set_of_names(alloc: Global, names: &[Text]) -> Result<IndexSet<Tex
 pub(crate) fn names_of_params(
     alloc: Global,
     params: &[(Text, PlanRef)],
-) -> Result<Seq<Text>, OutOfMemory> {
+) -> Result<Seq<Text>, OutOfMemory>
+    ensures { IfOk result (λ names. names ≡ map (λ x. x.0) params.now) }
+{
     let mut names = Seq::new(alloc);
     for (name, _) in params {
         names.push(name.try_clone()?)?;

@@ -3,7 +3,7 @@
 ghost use Rattle.std.specs.Prelude.{◌≡◌, IfOk, IfErr, IfSome, Some, length, slice_get};
 ghost use Rattle.std.specs.List.{AllZip};
 ghost use Rattle.fact_builder.specs.Builder.{no_types};
-ghost use Rattle.fact_plan_types.specs.PlanTypes.{AreFaultless, AreTypesOf, IsFirstOfTypes, IsFuncOf, told};
+ghost use Rattle.fact_plan_types.specs.PlanTypes.{AreFaultless, AreTypesOf, HasTupleNumbers, IsFirstOfTypes, IsFuncOf, told};
 ghost use Rattle.fact_plan_types.specs.Reached.{HasFuncs};
 
 use crate::core_types::intern_all;
@@ -83,15 +83,17 @@ fn add_all(
     builder: &mut ComponentTypesBuilder,
     plan: &FusePlan,
 ) -> Result<Indices, FuseError>
-    requires { builder.old ≡ no_types }
+    requires { builder.old ≡ no_types 0 }
     ensures reached { IfOk result (λ i. HasFuncs plan.now (length plan.now.funcs) builder.new i.types.items) }
     ensures funcs { IfOk result (λ i. AllZip (IsFuncOf plan.now builder.new.tables) i.funcs.items plan.now.funcs) }
+    ensures numbers { IfOk result (λ i. AllZip (HasTupleNumbers plan.now builder.new.tables) i.funcs.items plan.now.funcs) }
     ensures core_types { IfOk result (λ i. AllZip (λ j ty. slice_get builder.new.module_types j.number ≡ Some ty) i.core_types.items plan.now.core_types) }
     ensures refused { IfErr result (λ e. IfSome (told e) (λ x. IsFirstOfTypes plan.now x.0 x.1)) }
 {
     let types = add_types(alloc, builder, plan)?;
     let funcs = add_funcs(alloc, builder, plan, types.as_slice())?;
     let core_types = add_core_types(alloc, builder, plan)?;
+    builder.reveal();
     Ok(Indices {
         types,
         funcs,

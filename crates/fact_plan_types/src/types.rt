@@ -24,7 +24,7 @@ pub(crate) fn add_types(
     builder: &mut ComponentTypesBuilder,
     plan: &FusePlan,
 ) -> Result<Vec<InterfaceType>, FuseError>
-    requires { builder.old ≡ no_types }
+    requires { builder.old ≡ no_types 0 }
     ensures added { IfOk result (λ types. HasTypes plan.now (length plan.now.types) builder.new types.items) }
     ensures refused { IfErr result (λ e. IfSome (told e) (λ x. IsFirstOfTypes plan.now x.0 x.1)) }
 {

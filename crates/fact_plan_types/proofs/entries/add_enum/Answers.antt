@@ -2,9 +2,10 @@ use Rattle.std.proofs.Common.{ℕ, List, None, Err, map, refl, ap, ◌∙◌, sy
 use Rattle.std.proofs.lemmas.Result.{err_from_is_err_and}
 use Rattle.fact_types.specs.Shapes.{k_enum}
 use Rattle.fact_types.specs.Tables.{HasMembers}
+use Rattle.fact_builder.specs.Builder.{Builder}
 use Rattle.fact_plan.specs.declared.plan.PlanType.TheVariants as entry
 use Rattle.fact_plan_types.specs.PlanShapes.{names_alone}
-use Rattle.fact_plan_types.proofs.AddLaws.{makes_adds}
+use Rattle.fact_plan_types.proofs.AddLaws.{makes_adds, no_tuples}
 use Rattle.fact_plan_types.proofs.MemberLaws.{names_members}
 use Rattle.fact_plan_types.proofs.ReadyLaws.{few_names, no_memory_adds}
 use Rattle.fact_plan_types.proofs.entries.add_enum.Goals as goal
@@ -23,3 +24,4 @@ returns c =
     makes_adds _ _ c.args.types.now (entry.Enum c.args.names.now) k_enum _ (λ ss. names_alone c.args.names.now) _ c.make_enum.ensures
     (λ ss h. subst (λ (ns : List (List ℕ)). HasMembers t (map (λ n. (n, None)) ns) (names_alone c.args.names.now)) (sym c.in_ok-names.ensures) (names_members t c.args.names.now))
     (λ ss h. refl) (λ ss h. refl) (λ ss. few_names c.args.names.now (λ l. c.requires.short (inr (inr (inl l)))))
+    (no_tuples _ _ c.args.types.now k_enum _ (λ ss. names_alone c.args.names.now) _ c.make_enum.ensures (ap (λ (b : Builder). b.tables.tuples) c.make_enum.ensures.rest) (λ ts ss. refl))

@@ -1,8 +1,9 @@
-use Rattle.std.proofs.Common.{[], refl}
+use Rattle.std.proofs.Common.{[], refl, ap}
 use Rattle.fact_types.specs.Shapes.{k_fixed, no_members, typed}
+use Rattle.fact_builder.specs.Builder.{Builder}
 use Rattle.fact_plan.specs.declared.plan.PlanType.TheVariants as entry
 use Rattle.fact_plan_types.specs.PlanShapes.{shape_of}
-use Rattle.fact_plan_types.proofs.AddLaws.{makes_adds}
+use Rattle.fact_plan_types.proofs.AddLaws.{makes_adds, no_tuples}
 use Rattle.fact_plan_types.proofs.ReadyLaws.{not_first}
 use Rattle.fact_plan_types.proofs.entries.add_fixed_list.Goals as goal
 
@@ -16,3 +17,4 @@ pub returns : goal.returns
 returns c =
     makes_adds _ _ c.args.types.now (entry.FixedList c.args.element c.args.count) (k_fixed c.args.count) _ (λ ss. typed [] (shape_of ss c.args.element) no_members) _ c.make_fixed_length_list.ensures
     (λ ss h. (refl, (_, refl, c.type_of.ensures.shaped c.args.builder.now.tables ss h), tt)) (λ ss h. refl) (λ ss h. refl) (λ ss. tt)
+    (no_tuples _ _ c.args.types.now (k_fixed c.args.count) _ (λ ss. typed [] (shape_of ss c.args.element) no_members) _ c.make_fixed_length_list.ensures (ap (λ (b : Builder). b.tables.tuples) c.make_fixed_length_list.ensures.rest) (λ ts ss. refl))

@@ -1,8 +1,9 @@
-use Rattle.std.proofs.Common.{[], ◌∷◌, refl}
+use Rattle.std.proofs.Common.{[], ◌∷◌, refl, ap}
 use Rattle.fact_types.specs.Shapes.{k_map}
+use Rattle.fact_builder.specs.Builder.{Builder}
 use Rattle.fact_plan.specs.declared.plan.PlanType.TheVariants as entry
 use Rattle.fact_plan_types.specs.PlanShapes.{places_of}
-use Rattle.fact_plan_types.proofs.AddLaws.{makes_adds}
+use Rattle.fact_plan_types.proofs.AddLaws.{makes_adds, no_tuples}
 use Rattle.fact_plan_types.proofs.ReadyLaws.{not_first, not_second}
 use Rattle.fact_plan_types.proofs.entries.add_map.Goals as goal
 
@@ -20,3 +21,4 @@ returns c =
     makes_adds _ _ c.args.types.now (entry.Map c.args.key c.args.value) k_map _ (λ ss. places_of ss 0 (c.args.key ∷ c.args.value ∷ [])) _ c.make_map.ensures
     (λ ss h. (refl, (_, refl, c.type_of.ensures.shaped c.args.builder.now.tables ss h), (refl, (_, refl, c.type_of-2.ensures.shaped c.args.builder.now.tables ss h), tt)))
     (λ ss h. refl) (λ ss h. refl) (λ ss. tt)
+    (no_tuples _ _ c.args.types.now k_map _ (λ ss. places_of ss 0 (c.args.key ∷ c.args.value ∷ [])) _ c.make_map.ensures (ap (λ (b : Builder). b.tables.tuples) c.make_map.ensures.rest) (λ ts ss. refl))

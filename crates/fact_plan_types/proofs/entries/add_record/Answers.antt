@@ -1,9 +1,10 @@
 use Rattle.std.proofs.Common.{Err, refl, ap, ◌∙◌}
 use Rattle.std.proofs.lemmas.Result.{err_from_is_err_and}
 use Rattle.fact_types.specs.Shapes.{k_record}
+use Rattle.fact_builder.specs.Builder.{Builder}
 use Rattle.fact_plan.specs.declared.plan.PlanType.TheVariants as entry
 use Rattle.fact_plan_types.specs.PlanShapes.{fields_of}
-use Rattle.fact_plan_types.proofs.AddLaws.{makes_adds}
+use Rattle.fact_plan_types.proofs.AddLaws.{makes_adds, no_tuples}
 use Rattle.fact_plan_types.proofs.ReadyLaws.{no_memory_adds, none_among}
 use Rattle.fact_plan_types.proofs.entries.add_record.Goals as goal
 
@@ -22,3 +23,4 @@ pub returns : goal.returns
 returns c =
     makes_adds _ _ c.args.types.now (entry.Record c.args.fields.now) k_record _ (λ ss. fields_of ss c.args.fields.now) _ c.make_record.ensures
     (c.in_ok-fields.ensures.shaped c.args.builder.now.tables) (λ ss h. refl) (λ ss h. refl) (λ ss. tt)
+    (no_tuples _ _ c.args.types.now k_record _ (λ ss. fields_of ss c.args.fields.now) _ c.make_record.ensures (ap (λ (b : Builder). b.tables.tuples) c.make_record.ensures.rest) (λ ts ss. refl))

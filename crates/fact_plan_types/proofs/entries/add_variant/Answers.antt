@@ -1,9 +1,10 @@
 use Rattle.std.proofs.Common.{Err, refl, ap, ◌∙◌, inl, inr}
 use Rattle.std.proofs.lemmas.Result.{err_from_is_err_and}
 use Rattle.fact_types.specs.Shapes.{k_variant}
+use Rattle.fact_builder.specs.Builder.{Builder}
 use Rattle.fact_plan.specs.declared.plan.PlanType.TheVariants as entry
 use Rattle.fact_plan_types.specs.PlanShapes.{cases_of}
-use Rattle.fact_plan_types.proofs.AddLaws.{makes_adds}
+use Rattle.fact_plan_types.proofs.AddLaws.{makes_adds, no_tuples}
 use Rattle.fact_plan_types.proofs.ReadyLaws.{few_cases, no_memory_adds, none_in_cases}
 use Rattle.fact_plan_types.proofs.entries.add_variant.Goals as goal
 
@@ -25,3 +26,4 @@ pub returns : goal.returns
 returns c =
     makes_adds _ _ c.args.types.now (entry.Variant c.args.cases.now) k_variant _ (λ ss. cases_of ss c.args.cases.now) _ c.make_variant.ensures
     (c.in_ok-cases.ensures.shaped c.args.builder.now.tables) (λ ss h. refl) (λ ss h. refl) (few_cases c.args.cases.now (λ l. c.requires.short (inr (inr (inl l)))))
+    (no_tuples _ _ c.args.types.now k_variant _ (λ ss. cases_of ss c.args.cases.now) _ c.make_variant.ensures (ap (λ (b : Builder). b.tables.tuples) c.make_variant.ensures.rest) (λ ts ss. refl))

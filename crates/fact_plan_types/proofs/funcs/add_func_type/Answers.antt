@@ -44,4 +44,4 @@ returns c =
     let a = c.add_func_type.ensures in
     func_adds c.args.builder.now b c.add_tuple-2.new.builder c.add_func_type.new.self c.args.types.now c.args.func.now _
     (record { async_ = c.args.func.now.async_; param_names = c.in_ok-param_names.param_names; params = c.in_ok-params.params; results = c.in_ok-results.results })
-    c.add_func_type.result same refl c.in_ok-params.ensures made a.interned a.entry a.rest a.keeps (λ q. (a.too_large.0 q).1)
+    c.add_func_type.result same refl (c.in_ok-param_names.ensures ∙ ap (map (λ x. x.0)) c.as_slice-2.ensures) c.in_ok-params.ensures made a.interned a.entry a.rest a.keeps (λ q. (a.too_large.0 q).1)

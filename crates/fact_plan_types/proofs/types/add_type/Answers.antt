@@ -16,7 +16,7 @@ push_resource_tables-requires c =
 pub add_entry-requires : goal.add_entry-requires
 add_entry-requires c =
     let b = subst (Breaks c.args.plan.now c.args.k c.args.entry.now) c.in_default.is c.in_ok-rule.ensures in
-    ready c.args.plan.now c.args.k c.args.builder.now _ _ _ c.requires.reached b c.in_ok-push_resource_tables.ensures.pushed c.in_ok-push_resource_tables.ensures.live
+    ready c.args.plan.now c.args.k c.args.builder.now _ _ _ c.requires.reached b c.in_ok-push_resource_tables.ensures.pushed c.in_ok-push_resource_tables.ensures.named
 
 pub returns-in-Some : goal.returns-in-Some
 returns-in-Some c =
@@ -31,7 +31,7 @@ pub returns-in-Ok : goal.returns-in-Ok
 returns-in-Ok c =
     let b = subst (Breaks c.args.plan.now c.args.k c.args.entry.now) c.in_default.is c.in_ok-rule.ensures in
     record {
-      added = types_next c.args.plan.now c.args.k _ _ _ _ _ c.in-Ok.ty c.requires.reached c.requires.here b c.in_ok-push_resource_tables.ensures.pushed c.in-Ok.ensures
+      added = types_next c.args.plan.now c.args.k _ _ _ _ _ c.in-Ok.ty c.requires.reached c.requires.here b c.in_ok-push_resource_tables.ensures.pushed c.in_ok-push_resource_tables.ensures.named c.in-Ok.ensures
           (λ s h. nests_within c.nesting.result _ c.if-nesting-le-MOST_NESTING.true (c.nesting.ensures s h));
       refused = tt;
     }

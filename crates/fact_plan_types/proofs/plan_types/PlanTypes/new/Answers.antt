@@ -4,7 +4,7 @@ use Rattle.std.specs.List.{AllZip}
 use Rattle.fact_entity.specs.declared.id.Id.{Id}
 use Rattle.fact_entity.specs.declared.table.ModuleInternedTypes.{ModuleInternedTypes}
 use Rattle.fact_entity.specs.declared.table.TypeFuncs.{TypeFuncs}
-use Rattle.fact_plan_types.specs.PlanTypes.{IsFuncOf}
+use Rattle.fact_plan_types.specs.PlanTypes.{HasTupleNumbers, IsFuncOf}
 use Rattle.fact_plan_types.proofs.StepLaws.{all_faultless, all_types}
 use Rattle.fact_plan_types.proofs.plan_types.PlanTypes.new.Goals as goal
 
@@ -17,6 +17,7 @@ returns-in-Ok c =
     record {
       stand = all_types p b c.in-Ok.indices.types.items c.within.result w.builder w.types a.reached
           (subst (λ (is : List (Id TypeFuncs)). AllZip (IsFuncOf p b.tables) is p.funcs) (sym w.funcs) a.funcs)
+          (subst (λ (is : List (Id TypeFuncs)). AllZip (HasTupleNumbers p b.tables) is p.funcs) (sym w.funcs) a.numbers)
           (subst (λ (is : List (Id ModuleInternedTypes)). AllZip (λ i ty. slice_get b.module_types i.number ≡ Some ty) is p.core_types) (sym w.core_types) a.core_types);
       faultless = all_faultless p b c.in-Ok.indices.types.items a.reached;
       refused = tt;
