@@ -3,6 +3,7 @@
 
 mod entries;
 mod functions;
+mod laws;
 mod members;
 mod names;
 mod rules;
@@ -10,3 +11,4 @@ mod walk;
 
 pub use fact_wasm::OutOfMemory;
 pub use functions::FunctionTypes;
+pub use laws::rules_are_one;
