@@ -1,4 +1,5 @@
--- How deep types go, told by the tables alone: the measure of a recursion over the types of the tables.
+-- How deep types go, told by the tables alone: the measure of a recursion over the types of the tables. (`depth` is that of
+-- shapes, `nesting` how deep types nest by the rules.)
 use Rattle.std.specs.Prelude.{ℕ, zero, suc, ◌+◌, ◌<◌, max, List, [], ◌∷◌, Option, Some, None}
 use Rattle.fact_types.specs.declared.interface.InterfaceType.{InterfaceType}
 use Rattle.fact_types.specs.Tables.{Tables, Node, node_of, IsLive, entries}

@@ -136,7 +136,8 @@ ends_of w no_members n = n
 ends_of w (bare name ms) n = ends_of w ms n
 ends_of w (typed name s ms) n = ends_of w ms (next_of w s n)
 
--- ---- how many types lie within one another
+-- ---- how many types with members lie within one another: at most as many as the tables have entries. (`nesting` is how deep
+-- types nest by the rules, `height` is told by the tables alone, for recursions.)
 abbrev mutual
   pub depth : Shape → ℕ
   depth (s_plain p) = 0

@@ -51,7 +51,8 @@ abbrev mutual
   AreRuled (bare n ms) = AreRuled ms
   AreRuled (typed n s ms) = IsRuled s × AreRuled ms
 
--- How deep types nest: a plain type 1, another one 1 more than its deepest member.
+-- How deep types nest, as the rules count it: a plain type 1, another one 1 more than its deepest member. (`depth` counts the
+-- entries of tables within one another, `height` the same by the tables alone, for recursions.)
 abbrev mutual
   pub nesting : Shape → ℕ
   nesting (s_plain p) = 1
