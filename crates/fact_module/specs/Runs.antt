@@ -1,17 +1,13 @@
 -- Runs of an adapter: typed, honest, and what they carry.
-use Rattle.std.specs.Prelude.{◌≡◌, ◌≢◌, ℕ, ◌+◌, ◌*◌, ◌%◌, ◌/◌, ◌<◌, ◌≤◌, ◌^◌, Bool, true, false, nat_eq, List, [], ◌∷◌, Option, Some, None, slice_get, All, filter, length, ◌⊎◌, if◌then◌else◌, IfSome, IsSome, unwrap_or, suc, option_map}
-use Rattle.std.specs.List.{AllZip, find, filter_map}
-use Rattle.fact_wasm.specs.declared.types.ValType.{ValType}
-use Rattle.fact_wasm.specs.declared.types.FuncType.{FuncType}
+use Rattle.std.specs.Prelude.{◌≡◌, ◌≢◌, ℕ, ◌+◌, ◌*◌, ◌≤◌, Bool, true, false, nat_eq, List, [], ◌∷◌, Option, Some, None, slice_get, All, filter, length, ◌⊎◌, if◌then◌else◌, IfSome, IsSome, unwrap_or, suc, option_map}
+use Rattle.std.specs.List.{AllZip, find}
 use Rattle.fact_wasm.specs.declared.instr.FuncName.TheVariants as func
-use Rattle.fact_wasm.specs.declared.module.ImportType.TheVariants as import
-use Rattle.fact_wasm.specs.declared.module.WasmImport.{WasmImport}
 use Rattle.fact_wasm.specs.declared.module.WasmModule.{WasmModule}
 use Rattle.fact_types.specs.declared.outside.CoreDef.{CoreDef}
 use Rattle.fact_types.specs.declared.outside.CoreDef.TheVariants as def
 use Rattle.fact_types.specs.Steps.{◌>>=◌}
 use Rattle.fact_machine.specs.declared.types.CoreValue.{CoreValue}
-use Rattle.fact_machine.specs.declared.types.CoreValue.TheVariants.{I32, I64, F32, F64, Func}
+use Rattle.fact_machine.specs.declared.types.CoreValue.TheVariants.{I32}
 use Rattle.fact_machine.specs.declared.types.MachineState.{MachineState}
 use Rattle.fact_machine.specs.declared.types.Answer.{Answer}
 use Rattle.fact_machine.specs.declared.types.Answer.TheVariants.{Returns, Traps, Throws}
