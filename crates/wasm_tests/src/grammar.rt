@@ -73,26 +73,30 @@ fn agrees(rt: &impl Abort, alloc: Global, digits: &str, tree: &str) -> Result<()
     said
 }
 
-/// Sections of fewer than 128 bytes, each given as its id and its content, behind the header.
-fn sections(rt: &impl Abort, alloc: Global, parts: &str) -> Result<Vec<u8>, Fail> {
+/// Adds a section of fewer than 128 bytes, given as its id and its content.
+fn push_section(out: &mut Vec<u8>, part: &[u8]) -> Result<(), Fail> {
+    let (id, content) = part.split_first().ok_or("no id")?;
+    out.push(*id)?;
+    out.push(u8::try_from(content.len())?)?;
+    out.extend_from_slice(content)?;
+    Ok(())
+}
+
+/// Such sections behind the header.
+fn sections(alloc: Global, parts: &str) -> Result<Vec<u8>, Fail> {
     let mut out = hex::decode(alloc, HEADER)?;
     for part in parts.split_whitespace() {
         let part = hex::decode(alloc, part)?;
-        let (id, content) = part.as_slice().split_first().ok_or("no id")?;
-        assert!(rt; content.len() < 128);
-        out.push(*id)?;
-        out.push(u8::try_from(content.len())?)?;
-        out.extend_from_slice(content)?;
+        push_section(&mut out, part.as_slice())?;
     }
     Ok(out)
 }
 
-/// A module with one function, of these locals and this code.
-fn with_body(rt: &impl Abort, alloc: Global, body: &[u8]) -> Result<Vec<u8>, Fail> {
-    let mut out = sections(rt, alloc, "0101600000 0200 030100 0700")?;
-    assert!(rt; body.len() < 100);
+/// A module with one function, of these locals and this code of fewer than 100 bytes.
+fn with_body(alloc: Global, body: &[u8]) -> Result<Vec<u8>, Fail> {
     let length = u8::try_from(body.len())?;
-    out.extend_from_slice(&[0x0a, length + 2, 1, length])?;
+    let mut out = sections(alloc, "0101600000 0200 030100 0700")?;
+    out.extend_from_slice(&[0x0a, length.wrapping_add(2), 1, length])?;
     out.extend_from_slice(body)?;
     Ok(out)
 }
@@ -105,12 +109,18 @@ enum Spelled {
 }
 
 /// The bytes of a row.
-fn bytes_of(rt: &impl Abort, alloc: Global, spelled: Spelled, row: &str) -> Result<Vec<u8>, Fail> {
-    let (_, digits) = row.split_once(":").ok_or("no digits")?;
+fn bytes_of(alloc: Global, spelled: Spelled, digits: &str) -> Result<Vec<u8>, Fail> {
     match spelled {
-        Spelled::Sections => sections(rt, alloc, digits),
-        Spelled::Body => with_body(rt, alloc, hex::decode(alloc, digits.trim())?.as_slice()),
+        Spelled::Sections => sections(alloc, digits),
+        Spelled::Body => with_body(alloc, hex::decode(alloc, digits.trim())?.as_slice()),
     }
+}
+
+/// Whether this is said of the bytes of a row.
+fn row_is(alloc: Global, spelled: Spelled, row: &str, wanted: &str) -> Result<bool, Fail> {
+    let (_, digits) = row.split_once(":").ok_or("no digits")?;
+    let bytes = bytes_of(alloc, spelled, digits)?;
+    Ok(verdict(alloc, bytes.as_slice())? == wanted)
 }
 
 /// Each row is a module, or none is.
@@ -122,28 +132,39 @@ fn rows_are(
     wanted: &str,
 ) -> Result<(), Fail> {
     for row in rows.trim().lines() {
-        let bytes = bytes_of(rt, alloc, spelled, row)?;
-        assert_eq!(rt; verdict(alloc, bytes.as_slice())?, wanted, "{row}");
+        assert!(rt; row_is(alloc, spelled, row, wanted)?, "{row}");
     }
+    Ok(())
+}
+
+/// Makes the sizes at these places greater by one.
+fn grow(bytes: &mut Vec<u8>, places: &str) -> Result<(), Fail> {
+    for place in places.split_whitespace() {
+        let size = bytes.get_mut(place.parse::<usize>()?).ok_or("no size")?;
+        *size = size.wrapping_add(1);
+    }
+    Ok(())
+}
+
+/// Makes the spelling of the number at a place longer by a byte.
+fn lengthen(bytes: &mut Vec<u8>, place: usize, behind: u8) -> Result<(), Fail> {
+    let number = bytes.get_mut(place).ok_or("no number")?;
+    *number |= 0x80;
+    let mut rest = bytes.split_off((place + 1).min(bytes.len()))?;
+    bytes.push(behind)?;
+    bytes.append(&mut rest)?;
     Ok(())
 }
 
 /// The bytes with the number at a place spelled longer by one byte, and the sizes that it counts in greater by one. The row
 /// gives the place, the byte behind and the places of the sizes.
 fn longer(alloc: Global, bytes: &[u8], row: &str) -> Result<Vec<u8>, Fail> {
-    let mut numbers = row.split_whitespace();
-    let place = numbers.next().ok_or("no place")?.parse::<usize>()?;
-    let behind = u8::from_str_radix(numbers.next().ok_or("no byte")?, 16)?;
+    let (place, row) = row.trim().split_once(" ").ok_or("no byte")?;
+    let (behind, places) = row.split_once(" ").unwrap_or((row, ""));
+    let (place, behind) = (place.parse::<usize>()?, u8::from_str_radix(behind, 16)?);
     let mut out = bytes.to_vec(alloc)?;
-    for size in numbers {
-        let size = out.get_mut(size.parse::<usize>()?).ok_or("no size")?;
-        *size = size.wrapping_add(1);
-    }
-    let number = out.get_mut(place).ok_or("no number")?;
-    *number |= 0x80;
-    let mut rest = out.split_off(place + 1)?;
-    out.push(behind)?;
-    out.append(&mut rest)?;
+    grow(&mut out, places)?;
+    lengthen(&mut out, place, behind)?;
     Ok(out)
 }
 
@@ -152,16 +173,23 @@ fn is_refused(alloc: Global, bytes: &[u8]) -> Result<bool, DecodeError> {
     Ok(verdict(alloc, bytes)? == REFUSED)
 }
 
+/// Whether the digits spell no module.
+fn are_refused(alloc: Global, digits: &str) -> Result<bool, Fail> {
+    let bytes = hex::decode(alloc, digits)?;
+    Ok(is_refused(alloc, bytes.as_slice())?)
+}
+
 #[test]
 fn empty_module_is_decoded(rt: HostRuntime) -> Result<(), Fail> {
-    let alloc = rt.alloc();
-    agrees(&rt, alloc, EMPTY, EMPTY_TREE)?;
-    let bytes = hex::decode(alloc, EMPTY)?;
-    let (_, cut) = bytes.as_slice().split_last().ok_or("no bytes")?;
-    assert_eq!(rt; cut.len(), 22);
-    assert!(rt; is_refused(alloc, cut)?);
-    let long = hex::decode(alloc, "0061736d01000000018100000201000301000701000a0100")?;
-    assert!(rt; is_refused(alloc, long.as_slice())?);
+    agrees(&rt, rt.alloc(), EMPTY, EMPTY_TREE)?;
+    // Without the last byte, and with the size of the first section spelled in two bytes.
+    assert!(rt; are_refused(rt.alloc(), "0061736d010000000101000201000301000701000a01")?);
+    assert!(rt;
+        are_refused(
+            rt.alloc(),
+            "0061736d01000000018100000201000301000701000a0100"
+        )?
+    );
     Ok(())
 }
 
@@ -177,15 +205,26 @@ fn trees_and_bytes_agree(rt: HostRuntime) -> Result<(), Fail> {
 fn fronts_of_a_module_are_refused(rt: HostRuntime) -> Result<(), Fail> {
     let alloc = rt.alloc();
     let bytes = hex::decode(alloc, NUMBERS)?;
-    let mut front = Vec::new(alloc);
-    for byte in bytes.as_slice() {
-        assert!(rt; is_refused(alloc, front.as_slice())?, "{}", front.len());
-        front.push(*byte)?;
+    for count in 0..bytes.len() {
+        assert!(rt; is_refused(alloc, &bytes.as_slice()[..count])?, "{count}");
     }
-    assert_eq!(rt; verdict(alloc, front.as_slice())?, MODULE);
-    front.push(0)?;
-    assert!(rt; is_refused(alloc, front.as_slice())?);
+    assert!(rt; verdict(alloc, bytes.as_slice())? == MODULE);
     Ok(())
+}
+
+#[test]
+fn a_byte_behind_a_module_is_refused(rt: HostRuntime) -> Result<(), Fail> {
+    let mut bytes = hex::decode(rt.alloc(), NUMBERS)?;
+    bytes.push(0)?;
+    assert!(rt; is_refused(rt.alloc(), bytes.as_slice())?);
+    Ok(())
+}
+
+/// Whether the bytes of a row, which has the same numbers in longer spellings, are refused.
+fn longer_is_refused(alloc: Global, bytes: &[u8], row: &str) -> Result<bool, Fail> {
+    let (_, row) = row.split_once(":").ok_or("no number")?;
+    let long = longer(alloc, bytes, row)?;
+    Ok(is_refused(alloc, long.as_slice())?)
 }
 
 #[test]
@@ -193,9 +232,7 @@ fn long_spellings_are_refused(rt: HostRuntime) -> Result<(), Fail> {
     let alloc = rt.alloc();
     let bytes = hex::decode(alloc, NUMBERS)?;
     for row in LONGER.trim().lines() {
-        let (_, row) = row.split_once(":").ok_or("no number")?;
-        let long = longer(alloc, bytes.as_slice(), row)?;
-        assert!(rt; is_refused(alloc, long.as_slice())?, "{row}");
+        assert!(rt; longer_is_refused(alloc, bytes.as_slice(), row)?, "{row}");
     }
     Ok(())
 }
@@ -208,18 +245,25 @@ fn rows_make_modules_or_not(rt: HostRuntime) -> Result<(), Fail> {
     rows_are(&rt, rt.alloc(), Spelled::Body, NO_BODIES, REFUSED)
 }
 
+/// Whether a byte alone is an instruction where it is one of these, and nothing else is.
+fn is_told_apart(alloc: Global, plain: &[u8], opcode: u8) -> Result<bool, Fail> {
+    let bytes = with_body(alloc, &[0, opcode, 0x0b])?;
+    let wanted = if plain.contains(&opcode) {
+        MODULE
+    } else {
+        REFUSED
+    };
+    Ok(verdict(alloc, bytes.as_slice())? == wanted)
+}
+
 #[test]
 fn lone_bytes_are_instructions_or_not(rt: HostRuntime) -> Result<(), Fail> {
-    let alloc = rt.alloc();
-    let plain = hex::decode(alloc, PLAIN)?;
+    let plain = hex::decode(rt.alloc(), PLAIN)?;
     for opcode in 0..=255u8 {
-        let bytes = with_body(&rt, alloc, &[0, opcode, 0x0b])?;
-        let wanted = if plain.contains(&opcode) {
-            MODULE
-        } else {
-            REFUSED
-        };
-        assert_eq!(rt; verdict(alloc, bytes.as_slice())?, wanted, "{opcode}");
+        assert!(rt;
+            is_told_apart(rt.alloc(), plain.as_slice(), opcode)?,
+            "{opcode}"
+        );
     }
     Ok(())
 }
