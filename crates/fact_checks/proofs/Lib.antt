@@ -5,6 +5,7 @@ pub mod FirstLaws
 pub mod LinkLaws
 pub mod MismatchLaws
 pub mod PlanLaws
+pub mod SignatureLaws
 pub mod StageLaws
 pub mod TupleLaws
 pub mod UseLaws

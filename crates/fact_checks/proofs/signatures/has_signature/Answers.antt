@@ -1,4 +1,4 @@
-use Rattle.fact_wasm.proofs.Signatures.{other_params, results_decide}
+use Rattle.fact_checks.proofs.SignatureLaws.{other_params, results_decide}
 use Rattle.fact_checks.proofs.signatures.has_signature.Goals as goal
 
 pub returns-then-eq : goal.returns-then-eq
