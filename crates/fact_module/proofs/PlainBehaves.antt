@@ -1,6 +1,6 @@
 -- What the runs of an adapter of plain numbers do. A run is first followed up to the callee's call, whatever is answered
 -- there: from then on the log has the call, so the answer is typed and honest. Only then is it followed to its end.
-use Rattle.std.proofs.Common.{◌≡◌, ◌≢◌, ℕ, zero, suc, ◌+◌, ◌≤◌, Bool, true, false, List, [], ◌∷◌, ◌++◌, Option, Some, refl, sym, ap, ◌∙◌, subst, arith, length, map, reverse, append_assoc, inl, inr, slice_get}
+use Rattle.std.proofs.Common.{◌≡◌, ◌≢◌, ℕ, zero, suc, ◌+◌, ◌≤◌, Bool, true, false, List, [], ◌∷◌, ◌++◌, Option, Some, None, refl, sym, ap, ◌∙◌, subst, arith, length, map, reverse, append_assoc, inl, inr, slice_get}
 use Rattle.std.specs.Prelude.{All}
 use Rattle.std.specs.List.{AllZip}
 use Rattle.std.proofs.lemmas.Bool.{cases_lt, eq-eqb}
@@ -31,7 +31,7 @@ use Rattle.fact_machine.specs.World.{World, calls, outside}
 use Rattle.fact_machine.specs.Machine.{outcome, run_of, some_of, locals_of}
 use Rattle.fact_machine.specs.Trace.{outcome_of}
 use Rattle.fact_machine.specs.Exits.{Exit, Falls, IsEarly, Leaves, Calls, block_exit, first_world, run_exit, CallsImport, res_exit, exit_world}
-use Rattle.fact_machine.specs.Typed.{IsValue, TypedState}
+use Rattle.fact_machine.specs.Typed.{AreResults, IsValue, TypedState}
 use Rattle.fact_machine.proofs.Laws.{IsOver as Over, leaves_then, leaves_next, leaves_early}
 use Rattle.fact_machine.proofs.Structure.{have_types_length, enters_empty, leaves_block}
 use Rattle.fact_machine.proofs.WholeRuns.{run_returns}
@@ -160,7 +160,7 @@ module _ (m : WasmModule) (is : List Import) (a : LinkedAdapter) (params results
       -- where the callee returns, honestly
       module _ (qs : List CoreValue) (s' : MachineState) (more : List Answer) (set : lower ≢ 0) (fair : IsHonest m is (event (answer.Returns qs s'))) where
         results-typed : AllZip (λ v t. IsValue v t) qs (map core_of results)
-        results-typed = rw (h.callee.import_is, h.callee.type_is) at fair.0.0
+        results-typed = subst (λ t. AreResults t qs) (ap (λ t. elim t [ None ↦ None | Some k ↦ slice_get m.types k ]) h.callee.import_is ∙ h.callee.type_is) fair.0.0
 
         carried : AllSame results qs → Carried m is a s args (event (answer.Returns qs s') ∷ []) qs
         carried outs =

@@ -17,7 +17,7 @@ use Rattle.fact_wasm.specs.Ranges.{InRange}
 use Rattle.fact_types.specs.declared.interface.InterfaceType.{InterfaceType}
 use Rattle.fact_types.specs.Functions.{HasSignature, HaveShapes}
 use Rattle.fact_types.specs.Shapes.{Shape}
-use Rattle.fact_types.specs.Tables.{IsLive, IsSoundNext as IsSoundTables, Tables, of_functions}
+use Rattle.fact_types.specs.Tables.{IsLive, IsSound as IsSoundTables, Tables, of_functions}
 use Rattle.fact_builder.specs.Builder.{Builder}
 use Rattle.fact_builder.proofs.HandleLaws.{tuple_live}
 use Rattle.fact_uses.proofs.BindingLaws.{AreConsistent-covered, Covers-nothing}

@@ -25,7 +25,7 @@ use Rattle.fact_machine.specs.Typed.{global_type}
 use Rattle.fact_types.specs.Adapters.{LinkedAdapter}
 use Rattle.fact_checks.specs.AdapterRules.{export_names, uses_of}
 use Rattle.fact_module.specs.Built.{IsBuiltAdapter}
-use Rattle.fact_module.specs.Emitted.{Emitted, exported_functions_of as functions_in, module_of}
+use Rattle.fact_module.specs.Emitted.{Emitted, functions_of as functions_in, module_of}
 use Rattle.fact_module.specs.Exports.{IsExport, Whole, callee_of, exported, exported_as, exported_functions_of}
 use Rattle.fact_module.specs.Faithful.{Promised}
 use Rattle.fact_module.specs.Plain.{ImportsFlags, ImportsFunction, IsPlain, IsPlainFunction}
