@@ -18,6 +18,7 @@ pub mod Whole
 pub mod BuiltLaws
 pub mod TakeLaws
 pub mod FuseLaws
+pub mod FewCalls
 pub mod TypedLaws
 pub mod SideLaws
 pub mod JudgeLaws

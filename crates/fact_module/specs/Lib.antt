@@ -13,6 +13,7 @@ pub mod Imported
 pub mod Imports
 pub mod Order
 pub mod Plain
+pub mod RunLaws
 pub mod Runs
 pub mod State
 pub mod Taking

@@ -8,6 +8,7 @@ mod emit;
 mod fusion;
 mod imported;
 mod module;
+mod run_laws;
 mod state;
 mod taken;
 mod tunables;
@@ -25,4 +26,5 @@ pub use fact_types::{
 };
 pub use fusion::{Fused, fuse};
 pub use module::Module;
+pub use run_laws::laws_of_adapter_runs;
 pub use tunables::{Tunables, WasmFeatures};
