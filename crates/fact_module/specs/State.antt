@@ -3,16 +3,13 @@
 use Rattle.std.specs.Prelude.{◌≡◌, ◌+◌, ◌<◌, ◌^◌, List, map, length}
 use Rattle.fact_entity.specs.declared.id.Id.{Id}
 use Rattle.fact_entity.specs.declared.table.RuntimeComponentInstances.{RuntimeComponentInstances}
-use Rattle.fact_wasm.specs.declared.types.FuncType.{FuncType}
 use Rattle.fact_module.specs.declared.imported.ImportedFunction.{ImportedFunction}
 use Rattle.fact_module.specs.Emitted.{Emitted, flags, functions_of, globals_of}
 use Rattle.fact_module.specs.Imported.{known_as}
 
--- The types, the instances whose flags are imported and the imported functions are listed in order, and all functions have a
--- number.
-pub record IsIndexed (s : Emitted) (types : List FuncType) (instances : List (Id RuntimeComponentInstances)) (imported : List ImportedFunction) : Type 0 where
+-- The instances whose flags are imported and the imported functions are listed in order, and all functions have a number.
+pub record IsIndexed (s : Emitted) (instances : List (Id RuntimeComponentInstances)) (imported : List ImportedFunction) : Type 0 where
   pub same_length : length s.section ≡ length s.imports
-  pub types_are : s.types ≡ types
   pub globals : globals_of s ≡ map flags instances
   pub functions : functions_of s ≡ map known_as imported
   pub numbered : length imported + length s.functions < 2 ^ 32

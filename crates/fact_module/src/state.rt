@@ -7,12 +7,11 @@ ghost use Rattle.fact_module.specs.Imported.{known_as};
 
 use crate::emit::{Places, emit_function};
 use crate::imported::{ImportedFunction, flags_import, function_import};
-use fact_entity::{
-    EntityRef, FuncIndex, GlobalIndex, Interner, ModuleInternedTypeIndex,
-    RuntimeComponentInstanceIndex,
-};
+use fact_entity::{EntityRef, FuncIndex, GlobalIndex, Interner, RuntimeComponentInstanceIndex};
 use fact_types::{CoreDef, Import, Trap};
-use fact_wasm::{FuncName, FuncType, OutOfMemory, Seq, Text, WasmExport, WasmFunc, WasmModule};
+use fact_wasm::{
+    CoreTypes, FuncName, FuncType, OutOfMemory, Seq, Text, WasmExport, WasmFunc, WasmModule,
+};
 use std::alloc::{AllocError, Global};
 use std::marker::Model;
 
@@ -24,11 +23,12 @@ const MOST_FUNCTIONS: usize = 4_294_967_295;
 #[derive(Drop)]
 pub struct ModuleState {
     alloc: Global,
-    types: Interner<ModuleInternedTypeIndex, FuncType>,
+    types: CoreTypes,
     // The instances whose flags are imported, in the order of the imported globals.
     flags: Interner<GlobalIndex, RuntimeComponentInstanceIndex>,
     // The imported functions, in order.
     imported: Interner<FuncIndex, ImportedFunction>,
+    // The other sections: a module without types.
     module: WasmModule,
     // What the imports of the module are.
     imports: Seq<Import>,
@@ -47,9 +47,9 @@ impl Model for ModuleState {
 
     ghost coded = { Prim.hlevel (codes, instr.the_row.coded) };
 
-    ghost view = { λ s. record { types = s.module.types; section = s.module.imports; imports = s.imports; functions = s.module.funcs; exports = s.module.exports; whole = s.whole } };
+    ghost view = { λ s. record { types = s.types; section = s.module.imports; imports = s.imports; functions = s.module.funcs; exports = s.module.exports; whole = s.whole } };
 
-    ghost invariant = { λ s. IsTrue s.whole → IsIndexed (record { types = s.module.types; section = s.module.imports; imports = s.imports; functions = s.module.funcs; exports = s.module.exports; whole = s.whole }) s.types s.flags s.imported };
+    ghost invariant = { λ s. IsTrue s.whole → IsIndexed (record { types = s.types; section = s.module.imports; imports = s.imports; functions = s.module.funcs; exports = s.module.exports; whole = s.whole }) s.flags s.imported };
 }
 
 impl ModuleState {
@@ -59,7 +59,7 @@ impl ModuleState {
     {
         ModuleState {
             alloc,
-            types: Interner::new(alloc),
+            types: CoreTypes::new(alloc),
             flags: Interner::new(alloc),
             imported: Interner::new(alloc),
             module: WasmModule {
@@ -100,7 +100,19 @@ impl ModuleState {
         ensures copy { IfOk result (λ m. m ≡ module_of self.now) }
         ensures numbered { length (functions_of self.now) + length self.now.functions < 2 ^ 32 }
     {
-        self.module.try_clone()
+        let WasmModule {
+            imports,
+            funcs,
+            exports,
+            ..
+        } = self.module.try_clone()?;
+        let types = self.types.copied_types()?;
+        Ok(WasmModule {
+            types,
+            imports,
+            funcs,
+            exports,
+        })
     }
 
     /// The module, and what its imports are.
@@ -110,10 +122,23 @@ impl ModuleState {
         ensures numbered { length (functions_of self) + length self.functions < 2 ^ 32 }
     {
         let ModuleState {
+            types,
             module,
             imports,
             ..
         } = self;
+        let WasmModule {
+            imports: section,
+            funcs,
+            exports,
+            ..
+        } = module;
+        let module = WasmModule {
+            types: types.into_types(),
+            imports: section,
+            funcs,
+            exports,
+        };
         (module, imports)
     }
 
@@ -123,18 +148,8 @@ impl ModuleState {
         ensures place { IfOk result (λ n. slice_get self.new.types n ≡ Some ty.now) }
         ensures types { OnOk result (HasType self.old self.new ty.now) }
     {
-        if let Some(place) = self.types.find(ty) {
-            return Ok(place.as_u32());
-        }
-        let copy = ty.try_clone()?;
-        let listed = ty.try_clone()?;
-        self.whole = false;
-        self.module.types.push(listed)?;
-        let Ok(place) = self.types.add_new(copy) else {
-            return Err(AllocError);
-        };
-        self.whole = true;
-        Ok(place.as_u32())
+        self.types
+            .function(ty.params.as_slice(), ty.results.as_slice())
     }
 
     /// The place of an instance's flags among the imported globals.

@@ -4,7 +4,7 @@ use Rattle.fact_module.specs.Emitted.{flags, flags_import}
 use Rattle.fact_types.specs.Exact.{exact_key}
 use Rattle.fact_module.proofs.Exact.{same_key}
 use Rattle.fact_module.proofs.Sections.{flags-interned, interned-at, interned-new}
-use Rattle.fact_module.proofs.StateLaws.{absent-known, has-import, has-known, whole-again, with-flags}
+use Rattle.fact_module.proofs.StateLaws.{absent-known, has-import, has-known, same-imports, with-flags}
 use Rattle.fact_module.proofs.state.ModuleState.import_flags.Goals as goal
 
 pub returns-in-Some-clause-place : goal.returns-in-Some-clause-place
@@ -21,12 +21,12 @@ pub invariant_of-self-2 : goal.invariant_of-self-2
 invariant_of-self-2 c whole =
     let before = c.self.invariant (ap (λ s. s.whole) c.self.view_is ∙ c.requires.whole) in
     rw (c.in_ok-push.ensures.ok, c.in_ok-push-2.ensures.ok, c.in-Ok.ensures.list, c.in_ok-import.ensures, c.as_u32-2.ensures)
-    (whole-again _ true _ _ _ (with-flags (the_view c.self.inside) _ _ _ before c.args.instance))
+    (same-imports _ _ true _ _ (with-flags (the_view c.self.inside) _ _ before c.args.instance))
 
 pub returns-clause-place : goal.returns-clause-place
 returns-clause-place c =
     let before = c.self.invariant (ap (λ s. s.whole) c.self.view_is ∙ c.requires.whole) in
-    rw (c.in_ok-push.ensures.ok, c.in_ok-push-2.ensures.ok, c.in_ok-import.ensures, c.as_u32-2.ensures, c.as_u32-3.ensures, (with-flags (the_view c.self.inside) _ _ _ before c.args.instance).globals, ← c.in-Ok.ensures.list)
+    rw (c.in_ok-push.ensures.ok, c.in_ok-push-2.ensures.ok, c.in_ok-import.ensures, c.as_u32-2.ensures, c.as_u32-3.ensures, (with-flags (the_view c.self.inside) _ _ before c.args.instance).globals, ← c.in-Ok.ensures.list)
     (flags-interned _ _ _ _ c.in-Ok.ensures.interned)
 
 pub returns-clause-imports : goal.returns-clause-imports

@@ -7,7 +7,7 @@ use Rattle.fact_module.specs.Emitted.{Emitted, function_import, functions_of}
 use Rattle.fact_module.specs.Imported.{known_as}
 use Rattle.fact_module.proofs.Exact.{exact_imported}
 use Rattle.fact_module.proofs.Sections.{interned-at, interned-new}
-use Rattle.fact_module.proofs.StateLaws.{absent-known, has-import, has-known, known-once, known-there, whole-again, with-function}
+use Rattle.fact_module.proofs.StateLaws.{absent-known, has-import, has-known, known-once, known-there, same-imports, with-function}
 use Rattle.fact_module.proofs.state.ModuleState.import_function.Goals as goal
 
 pub returns-in-Some-clause-place : goal.returns-in-Some-clause-place
@@ -29,13 +29,13 @@ invariant_of-self-2 c whole =
     let before = c.self.invariant (ap (λ s. s.whole) c.self.view_is ∙ c.requires.whole) in
     let room = room-for (the_view c.self.inside) _ c.self.view_is c.self.inside.imported before.functions (c.is_full.ensures c.if-is_full.false) in
     rw (c.in_ok-push.ensures.ok, c.in_ok-push-2.ensures.ok, c.in-Ok.ensures.list, c.in_ok-import.ensures, c.in_ok-known.ensures)
-    (whole-again _ true _ _ _ (with-function (the_view c.self.inside) _ _ _ before c.args.origin.now c.args.name.now c.args.ty c.args.function room))
+    (same-imports _ _ true _ _ (with-function (the_view c.self.inside) _ _ before c.args.origin.now c.args.name.now c.args.ty c.args.function room))
 
 pub returns-clause-place : goal.returns-clause-place
 returns-clause-place c =
     let before = c.self.invariant (ap (λ s. s.whole) c.self.view_is ∙ c.requires.whole) in
     let room = room-for (the_view c.self.inside) _ c.self.view_is c.self.inside.imported before.functions (c.is_full.ensures c.if-is_full.false) in
-    let functions = (with-function (the_view c.self.inside) _ _ _ before c.args.origin.now c.args.name.now c.args.ty c.args.function room).functions in
+    let functions = (with-function (the_view c.self.inside) _ _ before c.args.origin.now c.args.name.now c.args.ty c.args.function room).functions in
     rw (c.in_ok-push.ensures.ok, c.in_ok-push-2.ensures.ok, c.in_ok-import.ensures, c.in_ok-known.ensures, c.as_u32-2.ensures)
     (known-there known_as _ _ _ _ functions (rw (← c.in-Ok.ensures.list) (interned-at _ exact_imported laws-law.refl _ _ _ _ c.in-Ok.ensures.interned)))
 

@@ -1,36 +1,25 @@
-use Rattle.std.proofs.Common.{◌≡◌, ◌++◌, ◌∷◌, [], Contains, true, Some, ap, ◌∙◌, subst, sym}
+use Rattle.std.proofs.Common.{◌≡◌, ap, ◌∙◌, Some, subst}
+use Rattle.std.specs.Prelude.{OnOk}
+use Rattle.std.proofs.lemmas.Result.{IfOk-weaker}
+use Rattle.fact_wasm.specs.CoreTypes.{signature}
 use Rattle.fact_wasm.specs.declared.types.FuncType.{FuncType}
-use Rattle.fact_wasm.specs.contracts.types.FuncTypePartialEq.TheImpl as func_eq
-use Rattle.fact_wasm.specs.contracts.types.FuncTypeEq.TheImpl.Laws.{laws-law}
+use Rattle.fact_module.specs.Emitted.{HasType}
 use Rattle.fact_module.specs.contracts.state.ModuleState.{the_view}
-use Rattle.fact_wasm.proofs.Signatures.{exact_func}
-use Rattle.fact_module.proofs.Sections.{interned-at, interned-new}
-use Rattle.fact_module.proofs.StateLaws.{has-new, whole-again, with-type}
+use Rattle.fact_module.proofs.StateLaws.{same-imports, type-there}
 use Rattle.fact_module.proofs.state.ModuleState.type_index.Goals as goal
 
-pub returns-in-Some-clause-place : goal.returns-in-Some-clause-place
-returns-in-Some-clause-place c =
-    let before = c.self.invariant (ap (λ s. s.whole) c.self.view_is ∙ c.requires.whole) in
-    rw (c.as_u32.ensures, ← c.self.view_is, before.types_are) (interned-at func_eq.ghosts.eq exact_func laws-law.refl _ _ _ _ c.in-Some.ensures.interned)
-
-pub invariant_of-self-2 : goal.invariant_of-self-2
-invariant_of-self-2 c whole =
-    let before = c.self.invariant (ap (λ s. s.whole) c.self.view_is ∙ c.requires.whole) in
-    rw (c.in_ok-push.ensures.ok, c.in-Ok.ensures.list, c.in_ok-listed.ensures, c.in_ok-copy.ensures)
-    (whole-again _ true _ _ _ (with-type (the_view c.self.inside) _ c.args.ty.now _ _ before))
+pub invariant_of-self : goal.invariant_of-self
+invariant_of-self c whole = same-imports (the_view c.self.inside) _ _ _ _ (c.self.invariant whole)
 
 pub returns-clause-place : goal.returns-clause-place
 returns-clause-place c =
-    let before = c.self.invariant (ap (λ s. s.whole) c.self.view_is ∙ c.requires.whole) in
-    let listed : c.push.new.self ≡ c.add_new.new.self = rw (c.in_ok-push.ensures.ok, c.in-Ok.ensures.list, c.in_ok-listed.ensures, c.in_ok-copy.ensures) (ap (λ ts. ts ++ c.args.ty.now ∷ []) before.types_are) in
-    rw (c.as_u32-2.ensures, listed) (interned-at func_eq.ghosts.eq exact_func laws-law.refl _ _ _ _ c.in-Ok.ensures.interned ∙ ap Some c.in_ok-copy.ensures)
+    let same : signature c.as_slice.result.now c.as_slice-2.result.now ≡ c.args.ty.now = λ k. record { params = c.as_slice.ensures k; results = c.as_slice-2.ensures k } in
+    IfOk-weaker c.function.result _ _ (λ n h. h.holds ∙ ap Some same) c.function.ensures.place
 
 pub returns-clause-types : goal.returns-clause-types
 returns-clause-types c =
-    let is_whole = ap (λ s. s.whole) c.self.view_is ∙ c.requires.whole in
-    let before = c.self.invariant is_whole in
-    let absent = interned-new func_eq.ghosts.eq exact_func laws-law.refl _ _ _ _ c.in-Ok.ensures.key c.in-Ok.ensures.interned in
+    let same : signature c.as_slice.result.now c.as_slice-2.result.now ≡ c.args.ty.now = λ k. record { params = c.as_slice.ensures k; results = c.as_slice-2.ensures k } in
+    let old = the_view c.self.inside in
     rw (← c.self.view_is)
-    (has-new (the_view c.self.inside) is_whole _ _ _ c.in_ok-listed.ensures
-    (λ there. absent (subst (λ (t : FuncType). Contains c.self.inside.types t) (sym c.in_ok-copy.ensures) (subst (λ ts. Contains ts c.args.ty.now) before.types_are there)))
-    c.in_ok-push.ensures.ok)
+    (subst (λ (ty : FuncType). OnOk c.function.result (HasType old (record old { types = c.function.new.self }) ty)) same
+    (type-there c.function.result old _ _ c.function.ensures.place c.function.ensures.keeps c.function.ensures.list))
