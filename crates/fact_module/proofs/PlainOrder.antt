@@ -4,10 +4,8 @@ use Rattle.std.specs.List.{filter_map, flat_map}
 use Rattle.std.specs.Prelude.{filter, nat_le}
 use Rattle.fact_wasm.specs.declared.types.FuncType.{FuncType}
 use Rattle.fact_wasm.specs.declared.instr.BlockType.TheVariants as block
-use Rattle.fact_wasm.specs.declared.instr.FuncName.{FuncName}
 use Rattle.fact_wasm.specs.declared.instr.FuncName.TheVariants as func
 use Rattle.fact_wasm.specs.declared.instr.Instr.{Instr, the_lemmas}
-use Rattle.fact_wasm.specs.declared.module.WasmFunc.{WasmFunc}
 use Rattle.fact_wasm.specs.Ranges.{Named, Point, body_points, points}
 use Rattle.fact_wasm.proofs.Ranged.{points-block}
 use Rattle.fact_types.specs.declared.outside.CoreDef.{CoreDef}

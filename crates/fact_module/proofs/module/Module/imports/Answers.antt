@@ -1,5 +1,4 @@
-use Rattle.std.proofs.Common.{ap, ◌∙◌, refl, subst}
-use Rattle.fact_module.specs.Collected.{Collected}
+use Rattle.std.proofs.Common.{refl}
 use Rattle.fact_module.proofs.TakeLaws.{promised-of}
 use Rattle.fact_module.proofs.module.Module.imports.Goals as goal
 
