@@ -14,6 +14,7 @@ use Rattle.fact_types.specs.declared.variants.VariantInfo.{VariantInfo}
 use Rattle.fact_types.specs.Layout.{variant_info, zero_layout}
 use Rattle.fact_types.specs.Shapes.{Kind, k_record, k_variant, k_list, k_tuple, k_map, k_flags, k_enum, k_option, k_result, k_fixed, k_future, k_stream, Shape, s_plain, s_node, Members, no_members, bare, typed, layout_by, Parts, case_parts, entry_parts, parts_by}
 use Rattle.fact_types.specs.Tables.{Tables, Node, node_of, record_node, variant_node, placed, tuple_node, flags_node, enum_node, option_node, result_node, list_node, map_node, fixed_length_list_node, payload_in, future_node, stream_node, abi_at, HasShape, HasMembers, Stands, IsSound}
+use Rattle.fact_builder.specs.Kinds.{type_at}
 
 -- ---- no entry stands at two places of its table
 abbrev pub IsOnce : {X : Type 0} → List X → Type 0
@@ -44,7 +45,7 @@ once eq same xs d i j x p q = elim (cases_lt i j) [
   ]
 ]
 
--- ---- a node tells its entry
+-- ---- the entry of a node
 some_tells : {X : Type 0} (x y : X) → Some x ≡ Some y → x ≡ y
 some_tells x y h = cc
 
@@ -53,13 +54,23 @@ told : {X Y : Type 0} (f : X → Node) (g : Node → Y) (y : Y) → ((x : X) →
 told f g y all None n h = cc
 told f g y all (Some x) n h = all x ∙ ap g (some_tells (f x) n h)
 
-entry : {X : Type 0} (f : X → Node) (g : Node → X) → ((x : X) → x ≡ g (f x)) → (o : Option X) (n : Node) → option_map f o ≡ Some n → o ≡ Some (g n)
-entry f g all None n h = cc
-entry f g all (Some x) n h = ap Some (all x ∙ ap g (some_tells (f x) n h))
+pub entry_in : {X : Type 0} (f : X → Node) (o : Option X) (n : Node) → option_map f o ≡ Some n → (x : X) × (o ≡ Some x) × (f x ≡ n)
+entry_in f None n h = cc
+entry_in f (Some x) n h = (x, refl, some_tells (f x) n h)
+
+-- no two entries have one node
+abbrev pub IsTold : {X : Type 0} → (X → Node) → Type 0
+IsTold {X} f = (x y : X) → f x ≡ f y → x ≡ y
+
+told_by : {X : Type 0} (f : X → Node) (g : Node → X) → ((x : X) → x ≡ g (f x)) → IsTold f
+told_by f g all x y h = all x ∙ ap g h ∙ sym (all y)
 
 -- so two places of one node are one
-one_place : {X : Type 0} (f : X → Node) (g : Node → X) → ((x : X) → x ≡ g (f x)) → (xs : List X) → IsOnce xs → (i j : ℕ) (n : Node) → option_map f (slice_get xs i) ≡ Some n → option_map f (slice_get xs j) ≡ Some n → i ≡ j
-one_place f g all xs is_once i j n h l = is_once i j (g n) (entry f g all (slice_get xs i) n h) (entry f g all (slice_get xs j) n l)
+one_place : {X : Type 0} (f : X → Node) → IsTold f → (xs : List X) → IsOnce xs → (i j : ℕ) (n : Node) → option_map f (slice_get xs i) ≡ Some n → option_map f (slice_get xs j) ≡ Some n → i ≡ j
+one_place f tells xs is_once i j n h l =
+    let (x, p, e) = entry_in f (slice_get xs i) n h in
+    let (y, q, g) = entry_in f (slice_get xs j) n l in
+    is_once i j x p (q ∙ ap Some (tells y x (g ∙ sym e)))
 
 -- ---- what an entry's members, kind and parts tell
 abbrev Member : Type 0
@@ -74,11 +85,11 @@ name_of m = m.0
 abbrev field_of : Member → RecordField
 field_of m = record { name = m.0; ty = type_of m }
 
-abbrev type_at : ℕ → Node → Option InterfaceType
-type_at k n = payload_in (λ (m : Member). m.1) (slice_get n.members k)
+abbrev member_type : ℕ → Node → Option InterfaceType
+member_type k n = payload_in (λ (m : Member). m.1) (slice_get n.members k)
 
 abbrev member : ℕ → Node → InterfaceType
-member k n = unwrap_or (type_at k n) t_bool
+member k n = unwrap_or (member_type k n) t_bool
 
 abbrev number_in : Kind → ℕ
 number_in (k_fixed size) = size
@@ -106,48 +117,64 @@ names_told : (ns : List (List ℕ)) → ns ≡ map name_of (map (λ n. (n, None)
 names_told [] = refl
 names_told (n ∷ ns) = λ i. n ∷ names_told ns i
 
--- ---- so it tells the type that names it
--- the type of a kind and a number
-abbrev named : Kind → ℕ → InterfaceType
-named k_record i = t_record (record { number = i; table = _ })
-named k_variant i = t_variant (record { number = i; table = _ })
-named k_list i = t_list (record { number = i; table = _ })
-named k_tuple i = t_tuple (record { number = i; table = _ })
-named k_map i = t_map (record { number = i; table = _ })
-named k_flags i = t_flags (record { number = i; table = _ })
-named k_enum i = t_enum (record { number = i; table = _ })
-named k_option i = t_option (record { number = i; table = _ })
-named k_result i = t_result (record { number = i; table = _ })
-named (k_fixed size) i = t_fixed_length_list (record { number = i; table = _ })
-named (k_future table instance) i = t_future (record { number = i; table = _ })
-named (k_stream table instance) i = t_stream (record { number = i; table = _ })
+-- ---- so it tells its entry
+pub record_told : IsTold record_node
+record_told = told_by record_node (λ n. record { fields = map field_of n.members; abi = n.abi }) (λ x i. record { fields = fields_told x.fields i; abi = x.abi })
 
-is_named : (t : Tables) (ty : InterfaceType) (n : Node) → node_of t ty ≡ Some n → (i : ℕ) × (ty ≡ named n.kind i)
-is_named t (t_record i) n h = (i.number, told record_node (λ n. named n.kind i.number) (t_record i) (λ x. refl) (slice_get t.records i.number) n h)
-is_named t (t_variant i) n h = (i.number, told variant_node (λ n. named n.kind i.number) (t_variant i) (λ x. refl) (slice_get t.variants i.number) n h)
-is_named t (t_list i) n h = (i.number, told list_node (λ n. named n.kind i.number) (t_list i) (λ x. refl) (slice_get t.lists i.number) n h)
-is_named t (t_tuple i) n h = (i.number, told tuple_node (λ n. named n.kind i.number) (t_tuple i) (λ x. refl) (slice_get t.tuples i.number) n h)
-is_named t (t_map i) n h = (i.number, told map_node (λ n. named n.kind i.number) (t_map i) (λ x. refl) (slice_get t.maps i.number) n h)
-is_named t (t_flags i) n h = (i.number, told flags_node (λ n. named n.kind i.number) (t_flags i) (λ x. refl) (slice_get t.flags i.number) n h)
-is_named t (t_enum i) n h = (i.number, told enum_node (λ n. named n.kind i.number) (t_enum i) (λ x. refl) (slice_get t.enums i.number) n h)
-is_named t (t_option i) n h = (i.number, told option_node (λ n. named n.kind i.number) (t_option i) (λ x. refl) (slice_get t.options i.number) n h)
-is_named t (t_result i) n h = (i.number, told result_node (λ n. named n.kind i.number) (t_result i) (λ x. refl) (slice_get t.results i.number) n h)
-is_named t (t_future i) n h = (i.number, told (future_node t.futures i.number) (λ n. named n.kind i.number) (t_future i) (λ x. refl) (slice_get t.future_tables i.number) n h)
-is_named t (t_stream i) n h = (i.number, told (stream_node t.streams i.number) (λ n. named n.kind i.number) (t_stream i) (λ x. refl) (slice_get t.stream_tables i.number) n h)
-is_named t (t_fixed_length_list i) n h = (i.number, told fixed_length_list_node (λ n. named n.kind i.number) (t_fixed_length_list i) (λ x. refl) (slice_get t.fixed_length_lists i.number) n h)
+pub variant_told : IsTold variant_node
+variant_told = told_by variant_node (λ n. record { cases = n.members; abi = n.abi; info = info_in n.parts }) (λ x. refl)
+
+pub list_told : IsTold list_node
+list_told = told_by list_node (λ n. record { element = member 0 n }) (λ x. refl)
+
+pub tuple_told : IsTold tuple_node
+tuple_told = told_by tuple_node (λ n. record { types = map type_of n.members; abi = n.abi }) (λ x i. record { types = types_told 0 x.types i; abi = x.abi })
+
+pub map_told : IsTold map_node
+map_told = told_by map_node (λ n. map_by (member 0 n) (member 1 n) n.parts) (λ x. refl)
+
+pub flags_told : IsTold flags_node
+flags_told = told_by flags_node (λ n. record { names = map name_of n.members; abi = n.abi }) (λ x i. record { names = names_told x.names i; abi = x.abi })
+
+pub enum_told : IsTold enum_node
+enum_told = told_by enum_node (λ n. record { names = map name_of n.members; abi = n.abi; info = info_in n.parts }) (λ x i. record { names = names_told x.names i; abi = x.abi; info = x.info })
+
+pub option_told : IsTold option_node
+option_told = told_by option_node (λ n. record { ty = member 1 n; abi = n.abi; info = info_in n.parts }) (λ x. refl)
+
+pub result_told : IsTold result_node
+result_told = told_by result_node (λ n. record { ok = member_type 0 n; err = member_type 1 n; abi = n.abi; info = info_in n.parts }) (λ x. refl)
+
+pub fixed_length_list_told : IsTold fixed_length_list_node
+fixed_length_list_told = told_by fixed_length_list_node (λ n. record { element = member 0 n; size = number_in n.kind; abi = n.abi }) (λ x. refl)
+
+-- ---- and the type that names it
+pub is_named : (t : Tables) (ty : InterfaceType) (n : Node) → node_of t ty ≡ Some n → (i : ℕ) × (ty ≡ type_at n.kind i)
+is_named t (t_record i) n h = (i.number, told record_node (λ n. type_at n.kind i.number) (t_record i) (λ x. refl) (slice_get t.records i.number) n h)
+is_named t (t_variant i) n h = (i.number, told variant_node (λ n. type_at n.kind i.number) (t_variant i) (λ x. refl) (slice_get t.variants i.number) n h)
+is_named t (t_list i) n h = (i.number, told list_node (λ n. type_at n.kind i.number) (t_list i) (λ x. refl) (slice_get t.lists i.number) n h)
+is_named t (t_tuple i) n h = (i.number, told tuple_node (λ n. type_at n.kind i.number) (t_tuple i) (λ x. refl) (slice_get t.tuples i.number) n h)
+is_named t (t_map i) n h = (i.number, told map_node (λ n. type_at n.kind i.number) (t_map i) (λ x. refl) (slice_get t.maps i.number) n h)
+is_named t (t_flags i) n h = (i.number, told flags_node (λ n. type_at n.kind i.number) (t_flags i) (λ x. refl) (slice_get t.flags i.number) n h)
+is_named t (t_enum i) n h = (i.number, told enum_node (λ n. type_at n.kind i.number) (t_enum i) (λ x. refl) (slice_get t.enums i.number) n h)
+is_named t (t_option i) n h = (i.number, told option_node (λ n. type_at n.kind i.number) (t_option i) (λ x. refl) (slice_get t.options i.number) n h)
+is_named t (t_result i) n h = (i.number, told result_node (λ n. type_at n.kind i.number) (t_result i) (λ x. refl) (slice_get t.results i.number) n h)
+is_named t (t_future i) n h = (i.number, told (future_node t.futures i.number) (λ n. type_at n.kind i.number) (t_future i) (λ x. refl) (slice_get t.future_tables i.number) n h)
+is_named t (t_stream i) n h = (i.number, told (stream_node t.streams i.number) (λ n. type_at n.kind i.number) (t_stream i) (λ x. refl) (slice_get t.stream_tables i.number) n h)
+is_named t (t_fixed_length_list i) n h = (i.number, told fixed_length_list_node (λ n. type_at n.kind i.number) (t_fixed_length_list i) (λ x. refl) (slice_get t.fixed_length_lists i.number) n h)
 is_named t ty n h = cc
 
-one_number : (t : Tables) → HoldsOnce t → (k : Kind) (i j : ℕ) (n : Node) → node_of t (named k i) ≡ Some n → node_of t (named k j) ≡ Some n → i ≡ j
-one_number t d k_record i j n h l = one_place record_node (λ n. record { fields = map field_of n.members; abi = n.abi }) (λ x i. record { fields = fields_told x.fields i; abi = x.abi }) t.records d.records i j n h l
-one_number t d k_variant i j n h l = one_place variant_node (λ n. record { cases = n.members; abi = n.abi; info = info_in n.parts }) (λ x. refl) t.variants d.variants i j n h l
-one_number t d k_list i j n h l = one_place list_node (λ n. record { element = member 0 n }) (λ x. refl) t.lists d.lists i j n h l
-one_number t d k_tuple i j n h l = one_place tuple_node (λ n. record { types = map type_of n.members; abi = n.abi }) (λ x i. record { types = types_told 0 x.types i; abi = x.abi }) t.tuples d.tuples i j n h l
-one_number t d k_map i j n h l = one_place map_node (λ n. map_by (member 0 n) (member 1 n) n.parts) (λ x. refl) t.maps d.maps i j n h l
-one_number t d k_flags i j n h l = one_place flags_node (λ n. record { names = map name_of n.members; abi = n.abi }) (λ x i. record { names = names_told x.names i; abi = x.abi }) t.flags d.flags i j n h l
-one_number t d k_enum i j n h l = one_place enum_node (λ n. record { names = map name_of n.members; abi = n.abi; info = info_in n.parts }) (λ x i. record { names = names_told x.names i; abi = x.abi; info = x.info }) t.enums d.enums i j n h l
-one_number t d k_option i j n h l = one_place option_node (λ n. record { ty = member 1 n; abi = n.abi; info = info_in n.parts }) (λ x. refl) t.options d.options i j n h l
-one_number t d k_result i j n h l = one_place result_node (λ n. record { ok = type_at 0 n; err = type_at 1 n; abi = n.abi; info = info_in n.parts }) (λ x. refl) t.results d.results i j n h l
-one_number t d (k_fixed size) i j n h l = one_place fixed_length_list_node (λ n. record { element = member 0 n; size = number_in n.kind; abi = n.abi }) (λ x. refl) t.fixed_length_lists d.fixed_length_lists i j n h l
+one_number : (t : Tables) → HoldsOnce t → (k : Kind) (i j : ℕ) (n : Node) → node_of t (type_at k i) ≡ Some n → node_of t (type_at k j) ≡ Some n → i ≡ j
+one_number t d k_record i j n h l = one_place record_node record_told t.records d.records i j n h l
+one_number t d k_variant i j n h l = one_place variant_node variant_told t.variants d.variants i j n h l
+one_number t d k_list i j n h l = one_place list_node list_told t.lists d.lists i j n h l
+one_number t d k_tuple i j n h l = one_place tuple_node tuple_told t.tuples d.tuples i j n h l
+one_number t d k_map i j n h l = one_place map_node map_told t.maps d.maps i j n h l
+one_number t d k_flags i j n h l = one_place flags_node flags_told t.flags d.flags i j n h l
+one_number t d k_enum i j n h l = one_place enum_node enum_told t.enums d.enums i j n h l
+one_number t d k_option i j n h l = one_place option_node option_told t.options d.options i j n h l
+one_number t d k_result i j n h l = one_place result_node result_told t.results d.results i j n h l
+one_number t d (k_fixed size) i j n h l = one_place fixed_length_list_node fixed_length_list_told t.fixed_length_lists d.fixed_length_lists i j n h l
 one_number t d (k_future table instance) i j n h l =
     told (future_node t.futures i) (λ n. number_in n.kind) i (λ x. refl) (slice_get t.future_tables i) n h
     ∙ sym (told (future_node t.futures j) (λ n. number_in n.kind) j (λ x. refl) (slice_get t.future_tables j) n l)
@@ -159,10 +186,10 @@ one_type : (t : Tables) → HoldsOnce t → (a b : InterfaceType) (n : Node) →
 one_type t d a b n h l =
     let (i, e) = is_named t a n h in
     let (j, f) = is_named t b n l in
-    e ∙ ap (named n.kind) (one_number t d n.kind i j n (sym (ap (node_of t) e) ∙ h) (sym (ap (node_of t) f) ∙ l)) ∙ sym f
+    e ∙ ap (type_at n.kind) (one_number t d n.kind i j n (sym (ap (node_of t) e) ∙ h) (sym (ap (node_of t) f) ∙ l)) ∙ sym f
 
 -- ---- one kind and one list of members make one node
-one_node : (t : Tables) (n m : Node) → Stands t n → Stands t m → n.kind ≡ m.kind → n.members ≡ m.members → n ≡ m
+pub one_node : (t : Tables) (n m : Node) → Stands t n → Stands t m → n.kind ≡ m.kind → n.members ≡ m.members → n ≡ m
 one_node t n m s z k e =
     let abi = s.laid ∙ (λ i. layout_by (k i) (map (λ (x : Member). option_map (abi_at t) x.1) (e i))) ∙ sym z.laid in
     let parts = s.parts ∙ (λ i. parts_by (k i) (map (λ (x : Member). option_map (abi_at t) x.1) (e i))) ∙ sym z.parts in

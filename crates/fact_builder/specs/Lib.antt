@@ -3,6 +3,7 @@ pub mod Handles
 pub mod Information
 pub mod Joins
 pub mod Keeps
+pub mod Kinds
 pub mod Lending
 pub mod PointerPairs
 pub mod Pointers

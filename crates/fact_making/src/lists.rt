@@ -1,9 +1,9 @@
 //! Lists, maps and lists of fixed length.
 
-ghost use Rattle.std.specs.Prelude.{◌≡◌, ◌∷◌, [], Some};
+ghost use Rattle.std.specs.Prelude.{◌≡◌, ◌↔◌, ◌∷◌, [], Some, Err};
 ghost use Rattle.fact_types.specs.Shapes.{k_list, k_map, k_fixed};
 ghost use Rattle.fact_types.specs.Tables.{IsLive};
-ghost use Rattle.fact_making.specs.Makes.{Makes};
+ghost use Rattle.fact_making.specs.Makes.{CannotBeMade, Makes};
 
 use fact_builder::ComponentTypesBuilder;
 use fact_entity::PushError;
@@ -15,7 +15,8 @@ pub fn make_list(
     element: InterfaceType,
 ) -> Result<InterfaceType, PushError>
     requires { IsLive builder.old.tables element }
-    ensures { Makes builder.old builder.new k_list (([], Some element) ∷ []) result }
+    ensures makes { Makes builder.old builder.new k_list (([], Some element) ∷ []) result }
+    ensures too_large { result ≡ Err PushError.TooLarge ↔ CannotBeMade builder.old.tables k_list (([], Some element) ∷ []) }
 {
     builder.reveal();
     let index = builder.add_list_type(TypeList { element })?;
@@ -29,7 +30,8 @@ pub fn make_fixed_length_list(
     size: u32,
 ) -> Result<InterfaceType, PushError>
     requires { IsLive builder.old.tables element }
-    ensures { Makes builder.old builder.new (k_fixed size) (([], Some element) ∷ []) result }
+    ensures makes { Makes builder.old builder.new (k_fixed size) (([], Some element) ∷ []) result }
+    ensures too_large { result ≡ Err PushError.TooLarge ↔ CannotBeMade builder.old.tables (k_fixed size) (([], Some element) ∷ []) }
 {
     builder.reveal();
     let element_abi = builder.canonical_abi(&element);
@@ -49,7 +51,8 @@ pub fn make_map(
 ) -> Result<InterfaceType, PushError>
     requires key { IsLive builder.old.tables key }
     requires value { IsLive builder.old.tables value }
-    ensures { Makes builder.old builder.new k_map ((0 ∷ [], Some key) ∷ (1 ∷ [], Some value) ∷ []) result }
+    ensures makes { Makes builder.old builder.new k_map ((0 ∷ [], Some key) ∷ (1 ∷ [], Some value) ∷ []) result }
+    ensures too_large { result ≡ Err PushError.TooLarge ↔ CannotBeMade builder.old.tables k_map ((0 ∷ [], Some key) ∷ (1 ∷ [], Some value) ∷ []) }
 {
     builder.reveal();
     let parts = [*builder.canonical_abi(&key), *builder.canonical_abi(&value)];

@@ -1,9 +1,9 @@
 //! Options, results, variants, enums and flags.
 
-ghost use Rattle.std.specs.Prelude.{◌≡◌, ◌∷◌, [], map, All, Some, None};
+ghost use Rattle.std.specs.Prelude.{◌≡◌, ◌↔◌, ◌∷◌, [], map, All, Some, None, Err};
 ghost use Rattle.fact_types.specs.Shapes.{k_variant, k_flags, k_enum, k_option, k_result, none_name, some_name, ok_name, error_name};
 ghost use Rattle.fact_types.specs.Tables.{IsLive, IsLiveMember};
-ghost use Rattle.fact_making.specs.Makes.{Makes};
+ghost use Rattle.fact_making.specs.Makes.{CannotBeMade, Makes};
 
 use crate::layouts::{layout_of_payload, layouts_of_payloads};
 use fact_builder::ComponentTypesBuilder;
@@ -22,7 +22,8 @@ pub fn make_option(
     ty: InterfaceType,
 ) -> Result<InterfaceType, PushError>
     requires { IsLive builder.old.tables ty }
-    ensures { Makes builder.old builder.new k_option ((none_name, None) ∷ (some_name, Some ty) ∷ []) result }
+    ensures makes { Makes builder.old builder.new k_option ((none_name, None) ∷ (some_name, Some ty) ∷ []) result }
+    ensures too_large { result ≡ Err PushError.TooLarge ↔ CannotBeMade builder.old.tables k_option ((none_name, None) ∷ (some_name, Some ty) ∷ []) }
 {
     builder.reveal();
     let cases = [None, Some(*builder.canonical_abi(&ty))];
@@ -42,7 +43,8 @@ pub fn make_result(
 ) -> Result<InterfaceType, PushError>
     requires ok { IsLiveMember builder.old.tables ok }
     requires err { IsLiveMember builder.old.tables err }
-    ensures { Makes builder.old builder.new k_result ((ok_name, ok) ∷ (error_name, err) ∷ []) result }
+    ensures makes { Makes builder.old builder.new k_result ((ok_name, ok) ∷ (error_name, err) ∷ []) result }
+    ensures too_large { result ≡ Err PushError.TooLarge ↔ CannotBeMade builder.old.tables k_result ((ok_name, ok) ∷ (error_name, err) ∷ []) }
 {
     builder.reveal();
     let cases = [
@@ -81,7 +83,8 @@ pub fn make_enum(
     builder: &mut ComponentTypesBuilder,
     names: IndexSet<Text>,
 ) -> Result<InterfaceType, PushError>
-    ensures { Makes builder.old builder.new k_enum (map (λ n. (n, None)) names.keys) result }
+    ensures makes { Makes builder.old builder.new k_enum (map (λ n. (n, None)) names.keys) result }
+    ensures too_large { result ≡ Err PushError.TooLarge ↔ CannotBeMade builder.old.tables k_enum (map (λ n. (n, None)) names.keys) }
 {
     builder.reveal();
     let count = names.len();
@@ -103,7 +106,8 @@ pub fn make_flags(
     builder: &mut ComponentTypesBuilder,
     names: IndexSet<Text>,
 ) -> Result<InterfaceType, PushError>
-    ensures { Makes builder.old builder.new k_flags (map (λ n. (n, None)) names.keys) result }
+    ensures makes { Makes builder.old builder.new k_flags (map (λ n. (n, None)) names.keys) result }
+    ensures too_large { result ≡ Err PushError.TooLarge ↔ CannotBeMade builder.old.tables k_flags (map (λ n. (n, None)) names.keys) }
 {
     builder.reveal();
     let count = names.len();

@@ -17,7 +17,8 @@ use Rattle.fact_types.specs.Tables.{Tables, HasMembers, HasShape, entries}
 use Rattle.fact_types.specs.Valid.{IsEntryWithin}
 use Rattle.fact_builder.specs.Builder.{Builder}
 use Rattle.fact_builder.specs.Keeps.{Keeps}
-use Rattle.fact_making.specs.Makes.{AreFew, FitsBytes, Makes, count_of, with_table_of}
+use Rattle.fact_builder.specs.Kinds.{count_of}
+use Rattle.fact_making.specs.Makes.{AreFew, FitsBytes, Makes, with_table_of}
 use Rattle.fact_plan.specs.declared.plan.PlanType.{PlanType}
 use Rattle.fact_plan_types.specs.Adding.{Adds, IsFilled, IsTooWide}
 use Rattle.fact_plan_types.specs.PlanShapes.{HandleTable, HandleTables, entry_shape, tables_with, with_tuple}
@@ -191,7 +192,7 @@ makes_adds old new types e k xs ms (Err x) m has shape same few tuples = record 
   fits = tt;
   too_large = λ q n l f shapes h z. subst IsTooWide (sym (shape shapes h)) (elim (m.too_large q) [
     | inl u ↦ unfit_wide k (ms shapes) (u (ms shapes) (has shapes z.shaped)) (few shapes)
-    | inr full ↦ absurd (omega (arith, full, kind_few k old.tables, l, f.members))
+    | inr full ↦ absurd (omega (arith, full.1, kind_few k old.tables, l, f.members))
   ]);
   fills = tt;
   rest = tt;

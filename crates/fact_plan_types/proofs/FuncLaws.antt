@@ -90,7 +90,7 @@ tuple_unmade old new types rs xs made result x y e m has p q =
     subst (MakesTuple old new types rs) (sym (p ∙ ap Err q)) (tuple_refused old new types rs x (λ r n l f ss h.
     elim (m.too_large (e ∙ ap Err r)) [
       | inl u ↦ subst IsPast (tuple_laid ss rs) (past_only (places_of ss 0 rs) (unfit_wide k_tuple (places_of ss 0 rs) (u (places_of ss 0 rs) (placed_members old.tables ss 0 xs rs (has ss h))) tt))
-      | inr full ↦ absurd (omega (arith, full, l, f.members))
+      | inr full ↦ absurd (omega (arith, full.1, l, f.members))
     ]))
 
 pub tuple_no_memory : (old new : Builder) (types : List InterfaceType) (rs : List PlanRef) (result : Result (Id TypeTuples) PushError) (y : PushError) → result ≡ Err y → y ≡ OutOfMemory → MakesTuple old new types rs result

@@ -21,7 +21,7 @@ returns-in_err-names c =
 pub returns : goal.returns
 returns c =
     let t = c.args.builder.now.tables in
-    makes_adds _ _ c.args.types.now (entry.Enum c.args.names.now) k_enum _ (λ ss. names_alone c.args.names.now) _ c.make_enum.ensures
+    makes_adds _ _ c.args.types.now (entry.Enum c.args.names.now) k_enum _ (λ ss. names_alone c.args.names.now) _ c.make_enum.ensures.makes
     (λ ss h. subst (λ (ns : List (List ℕ)). HasMembers t (map (λ n. (n, None)) ns) (names_alone c.args.names.now)) (sym c.in_ok-names.ensures) (names_members t c.args.names.now))
     (λ ss h. refl) (λ ss h. refl) (λ ss. few_names c.args.names.now (λ l. c.requires.short (inr (inr (inl l)))))
-    (no_tuples _ _ c.args.types.now k_enum _ (λ ss. names_alone c.args.names.now) _ c.make_enum.ensures (ap (λ (b : Builder). b.tables.tuples) c.make_enum.ensures.rest) (λ ts ss. refl))
+    (no_tuples _ _ c.args.types.now k_enum _ (λ ss. names_alone c.args.names.now) _ c.make_enum.ensures.makes (ap (λ (b : Builder). b.tables.tuples) c.make_enum.ensures.makes.rest) (λ ts ss. refl))

@@ -15,6 +15,6 @@ make_fixed_length_list-requires c = c.type_of.ensures.live c.args.builder.now.ta
 
 pub returns : goal.returns
 returns c =
-    makes_adds _ _ c.args.types.now (entry.FixedList c.args.element c.args.count) (k_fixed c.args.count) _ (λ ss. typed [] (shape_of ss c.args.element) no_members) _ c.make_fixed_length_list.ensures
+    makes_adds _ _ c.args.types.now (entry.FixedList c.args.element c.args.count) (k_fixed c.args.count) _ (λ ss. typed [] (shape_of ss c.args.element) no_members) _ c.make_fixed_length_list.ensures.makes
     (λ ss h. (refl, (_, refl, c.type_of.ensures.shaped c.args.builder.now.tables ss h), tt)) (λ ss h. refl) (λ ss h. refl) (λ ss. tt)
-    (no_tuples _ _ c.args.types.now (k_fixed c.args.count) _ (λ ss. typed [] (shape_of ss c.args.element) no_members) _ c.make_fixed_length_list.ensures (ap (λ (b : Builder). b.tables.tuples) c.make_fixed_length_list.ensures.rest) (λ ts ss. refl))
+    (no_tuples _ _ c.args.types.now (k_fixed c.args.count) _ (λ ss. typed [] (shape_of ss c.args.element) no_members) _ c.make_fixed_length_list.ensures.makes (ap (λ (b : Builder). b.tables.tuples) c.make_fixed_length_list.ensures.makes.rest) (λ ts ss. refl))

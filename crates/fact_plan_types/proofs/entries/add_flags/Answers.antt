@@ -21,7 +21,7 @@ returns-in_err-names c =
 pub returns : goal.returns
 returns c =
     let t = c.args.builder.now.tables in
-    makes_adds _ _ c.args.types.now (entry.Flags c.args.names.now) k_flags _ (λ ss. names_alone c.args.names.now) _ c.make_flags.ensures
+    makes_adds _ _ c.args.types.now (entry.Flags c.args.names.now) k_flags _ (λ ss. names_alone c.args.names.now) _ c.make_flags.ensures.makes
     (λ ss h. subst (λ (ns : List (List ℕ)). HasMembers t (map (λ n. (n, None)) ns) (names_alone c.args.names.now)) (sym c.in_ok-names.ensures) (names_members t c.args.names.now))
     (λ ss h. refl) (λ ss h. refl) (λ ss. few_flags c.args.names.now (λ l. c.requires.good (inr (inr (inl l)))))
-    (no_tuples _ _ c.args.types.now k_flags _ (λ ss. names_alone c.args.names.now) _ c.make_flags.ensures (ap (λ (b : Builder). b.tables.tuples) c.make_flags.ensures.rest) (λ ts ss. refl))
+    (no_tuples _ _ c.args.types.now k_flags _ (λ ss. names_alone c.args.names.now) _ c.make_flags.ensures.makes (ap (λ (b : Builder). b.tables.tuples) c.make_flags.ensures.makes.rest) (λ ts ss. refl))

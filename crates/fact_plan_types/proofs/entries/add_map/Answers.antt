@@ -18,7 +18,7 @@ make_map-requires c = record { key = c.type_of.ensures.live c.args.builder.now.t
 
 pub returns : goal.returns
 returns c =
-    makes_adds _ _ c.args.types.now (entry.Map c.args.key c.args.value) k_map _ (λ ss. places_of ss 0 (c.args.key ∷ c.args.value ∷ [])) _ c.make_map.ensures
+    makes_adds _ _ c.args.types.now (entry.Map c.args.key c.args.value) k_map _ (λ ss. places_of ss 0 (c.args.key ∷ c.args.value ∷ [])) _ c.make_map.ensures.makes
     (λ ss h. (refl, (_, refl, c.type_of.ensures.shaped c.args.builder.now.tables ss h), (refl, (_, refl, c.type_of-2.ensures.shaped c.args.builder.now.tables ss h), tt)))
     (λ ss h. refl) (λ ss h. refl) (λ ss. tt)
-    (no_tuples _ _ c.args.types.now k_map _ (λ ss. places_of ss 0 (c.args.key ∷ c.args.value ∷ [])) _ c.make_map.ensures (ap (λ (b : Builder). b.tables.tuples) c.make_map.ensures.rest) (λ ts ss. refl))
+    (no_tuples _ _ c.args.types.now k_map _ (λ ss. places_of ss 0 (c.args.key ∷ c.args.value ∷ [])) _ c.make_map.ensures.makes (ap (λ (b : Builder). b.tables.tuples) c.make_map.ensures.makes.rest) (λ ts ss. refl))

@@ -15,6 +15,6 @@ make_option-requires c = c.type_of.ensures.live c.args.builder.now.tables c.requ
 
 pub returns : goal.returns
 returns c =
-    makes_adds _ _ c.args.types.now (entry.Option c.args.ty) k_option _ (λ ss. bare none_name (typed some_name (shape_of ss c.args.ty) no_members)) _ c.make_option.ensures
+    makes_adds _ _ c.args.types.now (entry.Option c.args.ty) k_option _ (λ ss. bare none_name (typed some_name (shape_of ss c.args.ty) no_members)) _ c.make_option.ensures.makes
     (λ ss h. (refl, refl, (refl, (_, refl, c.type_of.ensures.shaped c.args.builder.now.tables ss h), tt))) (λ ss h. refl) (λ ss h. refl) (λ ss. tt)
-    (no_tuples _ _ c.args.types.now k_option _ (λ ss. bare none_name (typed some_name (shape_of ss c.args.ty) no_members)) _ c.make_option.ensures (ap (λ (b : Builder). b.tables.tuples) c.make_option.ensures.rest) (λ ts ss. refl))
+    (no_tuples _ _ c.args.types.now k_option _ (λ ss. bare none_name (typed some_name (shape_of ss c.args.ty) no_members)) _ c.make_option.ensures.makes (ap (λ (b : Builder). b.tables.tuples) c.make_option.ensures.makes.rest) (λ ts ss. refl))

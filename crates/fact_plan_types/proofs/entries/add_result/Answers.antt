@@ -19,7 +19,7 @@ make_result-requires c = record { ok = c.payload_of.ensures.live c.args.builder.
 
 pub returns : goal.returns
 returns c =
-    makes_adds _ _ c.args.types.now (entry.Result c.args.ok c.args.err) k_result _ (λ ss. member_of ss ok_name c.args.ok (member_of ss error_name c.args.err no_members)) _ c.make_result.ensures
+    makes_adds _ _ c.args.types.now (entry.Result c.args.ok c.args.err) k_result _ (λ ss. member_of ss ok_name c.args.ok (member_of ss error_name c.args.err no_members)) _ c.make_result.ensures.makes
     (λ ss h. payload_members c.args.builder.now.tables _ ss c.args.ok ok_name _ _ (c.payload_of.ensures.shaped c.args.builder.now.tables ss h) (payload_members c.args.builder.now.tables _ ss c.args.err error_name _ no_members (c.payload_of-2.ensures.shaped c.args.builder.now.tables ss h) tt))
     (λ ss h. refl) (λ ss h. refl) (λ ss. tt)
-    (no_tuples _ _ c.args.types.now k_result _ (λ ss. member_of ss ok_name c.args.ok (member_of ss error_name c.args.err no_members)) _ c.make_result.ensures (ap (λ (b : Builder). b.tables.tuples) c.make_result.ensures.rest) (λ ts ss. refl))
+    (no_tuples _ _ c.args.types.now k_result _ (λ ss. member_of ss ok_name c.args.ok (member_of ss error_name c.args.err no_members)) _ c.make_result.ensures.makes (ap (λ (b : Builder). b.tables.tuples) c.make_result.ensures.makes.rest) (λ ts ss. refl))
