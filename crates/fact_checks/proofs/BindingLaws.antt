@@ -8,7 +8,7 @@ use Rattle.fact_types.specs.declared.outside.CoreDef.{CoreDef}
 use Rattle.fact_uses.specs.Bindings.{AreConsistent, Covers, IsBoundToAnother}
 use Rattle.fact_uses.proofs.BindingLaws.{not_consistent}
 use Rattle.fact_uses.proofs.NameLaws.{not_distinct}
-use Rattle.fact_checks.specs.Binding.{AddsNames, AreDistinct, Binds}
+use Rattle.fact_checks.specs.Binding.{AddsNames, AreAllDifferent, Binds}
 
 -- what a list of lists gives, with one more
 pub flat_map-with : {A B : Type 0} (f : A → List B) (xs : List A) (x : A) → flat_map f (xs ++ x ∷ []) ≡ flat_map f xs ++ f x
@@ -58,11 +58,11 @@ AddsNames-none names = (sym (append-nil names), λ d. d)
 pub AddsNames-then : (old mid new ys zs : List (List ℕ)) (b : Bool) → AddsNames old mid ys true → AddsNames mid new zs b → AddsNames old new (ys ++ zs) b
 AddsNames-then old mid new ys zs true first next = (next.0 ∙ ap (λ (l : List (List ℕ)). l ++ zs) first.0 ∙ append_assoc old ys zs, λ d. next.1 (first.1 d))
 AddsNames-then old mid new ys zs false first next =
-    λ ws c. next ws (subst AreDistinct (ap (λ (l : List (List ℕ)). old ++ l) (append_assoc ys zs ws) ∙ sym (append_assoc old ys (zs ++ ws)) ∙ ap (λ (l : List (List ℕ)). l ++ (zs ++ ws)) (sym first.0)) c)
+    λ ws c. next ws (subst AreAllDifferent (ap (λ (l : List (List ℕ)). old ++ l) (append_assoc ys zs ws) ∙ sym (append_assoc old ys (zs ++ ws)) ∙ ap (λ (l : List (List ℕ)). l ++ (zs ++ ws)) (sym first.0)) c)
 
 -- one name that was offered
 pub AddsNames-one : (old new : List (List ℕ)) (name : List ℕ) (b : Bool)
-    → (IsTrue b → new ≡ old ++ name ∷ []) → (IsFalse b → Contains old name) → AreDistinct new → AddsNames old new (name ∷ []) b
+    → (IsTrue b → new ≡ old ++ name ∷ []) → (IsFalse b → Contains old name) → AreAllDifferent new → AddsNames old new (name ∷ []) b
 AddsNames-one old new name true added known distinct = (added refl, λ d. distinct)
 AddsNames-one old new name false added known distinct = λ zs c. not_distinct old zs name (known refl) c
 
@@ -76,7 +76,7 @@ pub AddsNames-offered : (old mid new ys rest behind all : List (List ℕ)) (name
 AddsNames-offered old mid new ys rest behind all name b is next first one stops =
     let both = AddsNames-then old mid new ys (name ∷ []) false first (subst (AddsNames mid new (name ∷ [])) stops one) in
     let split : all ≡ (ys ++ name ∷ []) ++ behind = is ∙ ap (λ (l : List (List ℕ)). ys ++ l) next ∙ sym (append_assoc ys (name ∷ []) behind) in
-    λ ws c. both (behind ++ ws) (subst (λ (l : List (List ℕ)). AreDistinct (old ++ l)) (ap (λ (l : List (List ℕ)). l ++ ws) split ∙ append_assoc (ys ++ name ∷ []) behind ws) c)
+    λ ws c. both (behind ++ ws) (subst (λ (l : List (List ℕ)). AreAllDifferent (old ++ l)) (ap (λ (l : List (List ℕ)). l ++ ws) split ∙ append_assoc (ys ++ name ∷ []) behind ws) c)
 
 -- three items, pushed one by one
 pub three-pushed : {A : Type 0} (p q r s : List A) (x y z a b c : A) → q ≡ p ++ x ∷ [] → r ≡ q ++ y ∷ [] → s ≡ r ++ z ∷ [] → x ≡ a → y ≡ b → z ≡ c → s ≡ p ++ a ∷ b ∷ c ∷ []

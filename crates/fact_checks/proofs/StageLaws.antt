@@ -11,7 +11,7 @@ use Rattle.fact_plan_types.specs.Faults.{Fault, unknown_index, bad_type, too_lar
 use Rattle.fact_plan_types.specs.TypeRules.{IsRepeated}
 use Rattle.fact_types.specs.Adapters.{LinkedAdapter}
 use Rattle.fact_checks.specs.AdapterRules.{HasBadMemory, HasBadOptions, HasBadSignature, HasDuplicateName, HasImportConflict, HasTypeMismatch, LinkedHas, export_names, with}
-use Rattle.fact_checks.specs.Binding.{AddsNames, AreDistinct, Binds}
+use Rattle.fact_checks.specs.Binding.{AddsNames, AreAllDifferent, Binds}
 use Rattle.fact_checks.proofs.BindingLaws.{flat_map-with}
 use Rattle.fact_checks.proofs.FirstLaws.{HasNoneBelow, none-next}
 
@@ -40,11 +40,11 @@ module _ (before : List LinkedAdapter) (a : LinkedAdapter) (old new items : List
 
   unadded-with : AddsNames old new items false → IsRepeated (flat_map export_names (with before a))
   unadded-with h k =
-      h [] (subst AreDistinct (flat_map-with export_names before a ∙ ap (λ l. l ++ export_names a) (sym names) ∙ ap (λ l. old ++ l) (sym (append-nil items ∙ is))) k)
+      h [] (subst AreAllDifferent (flat_map-with export_names before a ∙ ap (λ l. l ++ export_names a) (sym names) ∙ ap (λ l. old ++ l) (sym (append-nil items ∙ is))) k)
 
   -- what was not added is repeated
-  pub added-exactly : (b : Bool) → AddsNames old new items b → AreDistinct old → IsTrue (not b) ↔ HasDuplicateName before a
-  added-exactly true h d = (λ e. absurd (true≢false (sym e)), λ k. absurd (k (subst AreDistinct (added-with true h refl) (h.1 d))))
+  pub added-exactly : (b : Bool) → AddsNames old new items b → AreAllDifferent old → IsTrue (not b) ↔ HasDuplicateName before a
+  added-exactly true h d = (λ e. absurd (true≢false (sym e)), λ k. absurd (k (subst AreAllDifferent (added-with true h refl) (h.1 d))))
   added-exactly false h d = (λ e. unadded-with h, λ k. refl)
 
 -- ---- the faults of an adapter, in their order

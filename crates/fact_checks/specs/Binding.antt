@@ -12,11 +12,11 @@ Binds {V} old new ys true = (xs : List (CoreDef × V)) → Covers old xs → Cov
 Binds {V} old new ys false = (xs zs : List (CoreDef × V)) → Covers old xs → AreConsistent (xs ++ (ys ++ zs)) → ⊥
 
 -- no two are the same
-abbrev pub AreDistinct : List (List ℕ) → Type 0
-AreDistinct names = AllPairs (λ x y. x ≢ y) names
+abbrev pub AreAllDifferent : List (List ℕ) → Type 0
+AreAllDifferent names = AllPairs (λ x y. x ≢ y) names
 
 -- The names ys were added behind those so far, and all are distinct where those were, or, where they were not, a name is
 -- repeated in each list that begins with these and ys.
 abbrev pub AddsNames : (old new ys : List (List ℕ)) → Bool → Type 0
-AddsNames old new ys true = (new ≡ old ++ ys) × (AreDistinct old → AreDistinct new)
+AddsNames old new ys true = (new ≡ old ++ ys) × (AreAllDifferent old → AreAllDifferent new)
 AddsNames old new ys false = (zs : List (List ℕ)) → IsRepeated (old ++ (ys ++ zs))

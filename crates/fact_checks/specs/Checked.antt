@@ -8,7 +8,7 @@ use Rattle.fact_checks.specs.declared.bound.Bound.{Bound}
 use Rattle.fact_checks.specs.declared.sides.Candidate.{Candidate}
 use Rattle.fact_types.specs.Adapters.{LinkedAdapter}
 use Rattle.fact_checks.specs.AdapterRules.{LinkedHas, export_names, memories_of, reallocs_of, uses_of}
-use Rattle.fact_checks.specs.Binding.{AreDistinct}
+use Rattle.fact_checks.specs.Binding.{AreAllDifferent}
 use Rattle.fact_checks.specs.Linked.{IsLinked}
 
 -- What was bound and exported is what these adapters use and export, each thing once.
@@ -17,7 +17,7 @@ pub record AreBound (b : Bound) (before : List LinkedAdapter) : Type 0 where
   pub reallocs : Covers b.reallocs (flat_map reallocs_of before)
   pub uses : Covers b.uses (flat_map uses_of before)
   pub names : b.names ≡ flat_map export_names before
-  pub distinct : AreDistinct b.names
+  pub distinct : AreAllDifferent b.names
 
 -- Behind any adapters that are bound, this one has no fault, and is bound now.
 abbrev pub IsSoundOver : Builder → Bool → (old new : Bound) → Candidate → Type 0

@@ -6,7 +6,7 @@ ghost use Rattle.fact_uses.specs.Bindings.{Covers};
 ghost use Rattle.fact_uses.specs.Fronts.{IsFront};
 ghost use Rattle.fact_types.specs.Adapters.{LinkedAdapter};
 ghost use Rattle.fact_checks.specs.AdapterRules.{HasBadMemory, HasDuplicateName, HasImportConflict, export_names, memories_of, reallocs_of, uses_of, with};
-ghost use Rattle.fact_checks.specs.Binding.{AreDistinct};
+ghost use Rattle.fact_checks.specs.Binding.{AreAllDifferent};
 ghost use Rattle.fact_checks.specs.Linked.{HasSides, IsLinked, IsTyped};
 
 use crate::adapter::Adapter;
@@ -127,10 +127,10 @@ pub(crate) fn has_duplicate_name(
 ) -> Result<bool, OutOfMemory>
     requires { IsTyped builder.now candidate.now.adapter.now }
     ensures exact { IfOk result (λ found. (before : List LinkedAdapter) (a : LinkedAdapter) → IsLinked builder.now candidate.now a
-        → exported.old ≡ flat_map export_names before → AreDistinct exported.old → (IsTrue found ↔ HasDuplicateName before a)) }
+        → exported.old ≡ flat_map export_names before → AreAllDifferent exported.old → (IsTrue found ↔ HasDuplicateName before a)) }
     ensures names { IfOk result (λ found. IsFalse found → (before : List LinkedAdapter) (a : LinkedAdapter) → IsLinked builder.now candidate.now a
         → exported.old ≡ flat_map export_names before → exported.new ≡ flat_map export_names (with before a)) }
-    ensures distinct { IfOk result (λ found. IsFalse found → AreDistinct exported.old → AreDistinct exported.new) }
+    ensures distinct { IfOk result (λ found. IsFalse found → AreAllDifferent exported.old → AreAllDifferent exported.new) }
     ensures front { IsFront exported.old exported.new }
 {
     let names = names(alloc, builder, candidate)?;

@@ -34,7 +34,7 @@ use Rattle.fact_module.specs.declared.taken.TakenAdapter.{TakenAdapter}
 use Rattle.fact_module.specs.declared.tunables.Tunables.{Tunables}
 use Rattle.fact_module.specs.declared.tunables.WasmFeatures.{WasmFeatures}
 use Rattle.fact_module.specs.Built.{IsBuiltAdapter}
-use Rattle.fact_module.specs.Collected.{AreTaken, Collected, Covers, Extends, HasLinkedFault, IsMade, IsTakenAs, KeepsPromises, no_tree, taken_of}
+use Rattle.fact_module.specs.Collected.{AreTaken, Collected, IsStateOf, Extends, HasLinkedFault, IsMade, IsTakenAs, KeepsPromises, no_tree, taken_of}
 use Rattle.fact_module.specs.Emitted.{Adds, Emitted, functions_of, module_of, nothing_emitted}
 use Rattle.fact_module.specs.Exports.{exported_as}
 use Rattle.fact_module.specs.Faithful.{Promised}
@@ -239,7 +239,7 @@ module _ (b : Builder) (t : Tunables) (f : WasmFeatures) where
   no_checks : Checks
   no_checks = record { builder = b; concurrency = t.concurrency_support; bound = record { memories = []; reallocs = []; uses = []; names = [] } }
 
-  covers-none : (adapters : List LinkedAdapter) → AllZip (IsTakenAs b) [] adapters → Covers no_collected no_checks nothing_emitted adapters
+  covers-none : (adapters : List LinkedAdapter) → AllZip (IsTakenAs b) [] adapters → IsStateOf no_collected no_checks nothing_emitted adapters
   unfolding no_collected no_checks
   covers-none [] h = record {
     checked = record { memories = Covers-nothing; reallocs = Covers-nothing; uses = Covers-nothing; names = refl; distinct = λ i j d below within. absurd (omega arith) };

@@ -15,19 +15,19 @@ use Rattle.fact_checks.specs.declared.adapter.Adapter.{Adapter}
 use Rattle.fact_types.specs.Adapters.{LinkedAdapter}
 use Rattle.fact_checks.specs.AdapterRules.{most_instance}
 use Rattle.fact_checks.specs.Linked.{HasSides, IsTyped}
-use Rattle.fact_module.specs.Adapted.{IsBadType, IsLargeType, TypesHave}
+use Rattle.fact_module.specs.Adapted.{IsBadFunctionType, IsLargeFunctionType, TypesHave}
 use Rattle.fact_module.specs.Typed.{HasSoundTypes}
 use Rattle.fact_module.proofs.TakeLaws.{signature-of}
 
 -- ---- a function type has a signature
 
 module _ (b : Builder) (sound : IsSoundTables b.tables) (ty : Id TypeFuncs) (live : ty.number < length b.tables.functions) (found : Bool) where
-  pub bad-type : ((params results : List Shape) (s : HasSignature b.tables ty params results) → (IsTrue found ↔ IsBadFunction s.func.param_names params results)) → (IsTrue found ↔ IsBadType b ty)
+  pub bad-type : ((params results : List Shape) (s : HasSignature b.tables ty params results) → (IsTrue found ↔ IsBadFunction s.func.param_names params results)) → (IsTrue found ↔ IsBadFunctionType b ty)
   bad-type h =
       let (params, results, s) = signature-of b.tables sound ty live in
       (λ t. record { params = params; results = results; signature = s; is_bad = (h params results s).0 t }, λ x. (h x.params x.results x.signature).1 x.is_bad)
 
-  pub large-type : ((params results : List Shape) (s : HasSignature b.tables ty params results) → (IsTrue found ↔ IsLargeFunction s.func.param_names params results)) → (IsTrue found ↔ IsLargeType b ty)
+  pub large-type : ((params results : List Shape) (s : HasSignature b.tables ty params results) → (IsTrue found ↔ IsLargeFunction s.func.param_names params results)) → (IsTrue found ↔ IsLargeFunctionType b ty)
   large-type h =
       let (params, results, s) = signature-of b.tables sound ty live in
       (λ t. record { params = params; results = results; signature = s; is_large = (h params results s).0 t }, λ x. (h x.params x.results x.signature).1 x.is_large)
@@ -37,7 +37,7 @@ module _ (b : Builder) (sound : IsSoundTables b.tables) (ty : Id TypeFuncs) (liv
 pub not-found : {P : Type 0} (found : Bool) → (IsTrue found ↔ P) → found ≡ false → P → ⊥
 not-found found h none p = true≢false (sym (h.1 p) ∙ none)
 
-pub sound-types : (b : Builder) (k : ℕ) (a : Adapter) → IsTyped b a → ((l : LinkedAdapter) × HasSides b a l) → (IsBadType b a.lift_ty ⊎ IsBadType b a.lower_ty → ⊥) → (IsLargeType b a.lift_ty ⊎ IsLargeType b a.lower_ty → ⊥)
+pub sound-types : (b : Builder) (k : ℕ) (a : Adapter) → IsTyped b a → ((l : LinkedAdapter) × HasSides b a l) → (IsBadFunctionType b a.lift_ty ⊎ IsBadFunctionType b a.lower_ty → ⊥) → (IsLargeFunctionType b a.lift_ty ⊎ IsLargeFunctionType b a.lower_ty → ⊥)
     → ((most_entries ≤ k) ⊎ ((most_instance < a.lift_options.instance.number) ⊎ (most_instance < a.lower_options.instance.number)) → ⊥) → HasSoundTypes b k a
 sound-types b k a typed linked not_bad not_large small = record { typed = typed; linked = linked.0; sides = linked.1; sound = none }
   where

@@ -33,14 +33,14 @@ OfAdapter component id name P =
 -- ---- faults of its types
 
 -- A function type is none, or a type in it is.
-pub record IsBadType (b : Builder) (ty : Id TypeFuncs) : Type 0 where
+pub record IsBadFunctionType (b : Builder) (ty : Id TypeFuncs) : Type 0 where
   pub params : List Shape
   pub results : List Shape
   pub signature : HasSignature b.tables ty params results
   pub is_bad : IsBadFunction signature.func.param_names params results
 
 -- A function type is too large, or a type in it is.
-pub record IsLargeType (b : Builder) (ty : Id TypeFuncs) : Type 0 where
+pub record IsLargeFunctionType (b : Builder) (ty : Id TypeFuncs) : Type 0 where
   pub params : List Shape
   pub results : List Shape
   pub signature : HasSignature b.tables ty params results
@@ -49,9 +49,9 @@ pub record IsLargeType (b : Builder) (ty : Id TypeFuncs) : Type 0 where
 -- The types of an adapter of this number are none or too large, or its numbers are.
 abbrev pub TypesHave : Builder → ℕ → Adapter → Fault → Type 0
 TypesHave b k a unknown_index = IsTyped b a → ⊥
-TypesHave b k a bad_type = IsBadType b a.lift_ty ⊎ IsBadType b a.lower_ty
+TypesHave b k a bad_type = IsBadFunctionType b a.lift_ty ⊎ IsBadFunctionType b a.lower_ty
 TypesHave b k a too_large =
-    (IsLargeType b a.lift_ty ⊎ IsLargeType b a.lower_ty)
+    (IsLargeFunctionType b a.lift_ty ⊎ IsLargeFunctionType b a.lower_ty)
     ⊎ ((most_entries ≤ k) ⊎ ((most_instance < a.lift_options.instance.number) ⊎ (most_instance < a.lower_options.instance.number)))
 TypesHave b k a _ = ⊥
 

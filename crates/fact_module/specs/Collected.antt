@@ -96,7 +96,7 @@ pub record KeepsPromises (c : Collected) : Type 0 where
 -- ---- what holds of it at all times
 
 -- The checks and the parts of the module are those of these adapters.
-pub record Covers (c : Collected) (checks : Checks) (s : Emitted) (adapters : List LinkedAdapter) : Type 0 where
+pub record IsStateOf (c : Collected) (checks : Checks) (s : Emitted) (adapters : List LinkedAdapter) : Type 0 where
   pub checked : AreChecked checks adapters
   pub holds : Holds s adapters
   pub built : AreBuilt c.tunables.concurrency_support c.features.exceptions adapters
@@ -106,4 +106,4 @@ pub record IsMade (c : Collected) (checks : Checks) (s : Emitted) : Type 0 where
   pub builder : checks.builder ≡ c.builder
   pub concurrency : checks.concurrency ≡ c.tunables.concurrency_support
   pub some : (adapters : List LinkedAdapter) × AreTaken c adapters
-  pub covers : c.whole ≡ true → (adapters : List LinkedAdapter) → AreTaken c adapters → Covers c checks s adapters
+  pub covers : c.whole ≡ true → (adapters : List LinkedAdapter) → AreTaken c adapters → IsStateOf c checks s adapters

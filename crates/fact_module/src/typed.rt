@@ -7,7 +7,7 @@ ghost use Rattle.fact_plan_types.specs.declared.error.Place.TheVariants as place
 ghost use Rattle.fact_checks.specs.AdapterRules.{most_instance};
 ghost use Rattle.fact_types.specs.Adapters.{LinkedAdapter};
 ghost use Rattle.fact_checks.specs.Linked.{HasSides, IsTyped};
-ghost use Rattle.fact_module.specs.Adapted.{IsBadType, IsLargeType};
+ghost use Rattle.fact_module.specs.Adapted.{IsBadFunctionType, IsLargeFunctionType};
 ghost use Rattle.fact_module.specs.Typed.{HasSoundTypes, TypesHaveFirst};
 
 use fact_builder::ComponentTypesBuilder;
@@ -53,7 +53,7 @@ fn is_bad_type(
     requires same { types.old ≡ builder.now }
     requires live { ty.number < length builder.now.tables.functions }
     ensures same { types.new ≡ types.old }
-    ensures exact { IfOk result (λ found. IsTrue found ↔ IsBadType builder.now ty) }
+    ensures exact { IfOk result (λ found. IsTrue found ↔ IsBadFunctionType builder.now ty) }
 {
     builder.reveal();
     builder.component_types().reveal();
@@ -69,7 +69,7 @@ fn is_large_type(
     requires same { types.old ≡ builder.now }
     requires live { ty.number < length builder.now.tables.functions }
     ensures same { types.new ≡ types.old }
-    ensures exact { IfOk result (λ found. IsTrue found ↔ IsLargeType builder.now ty) }
+    ensures exact { IfOk result (λ found. IsTrue found ↔ IsLargeFunctionType builder.now ty) }
 {
     builder.reveal();
     builder.component_types().reveal();
@@ -85,7 +85,7 @@ fn has_bad_type(
     requires same { types.old ≡ builder.now }
     requires typed { IsTyped builder.now adapter.now }
     ensures same { types.new ≡ types.old }
-    ensures exact { IfOk result (λ found. IsTrue found ↔ (IsBadType builder.now adapter.now.lift_ty ⊎ IsBadType builder.now adapter.now.lower_ty)) }
+    ensures exact { IfOk result (λ found. IsTrue found ↔ (IsBadFunctionType builder.now adapter.now.lift_ty ⊎ IsBadFunctionType builder.now adapter.now.lower_ty)) }
 {
     if is_bad_type(builder, types, adapter.lift_ty)? {
         return Ok(true);
@@ -102,7 +102,7 @@ fn has_large_type(
     requires same { types.old ≡ builder.now }
     requires typed { IsTyped builder.now adapter.now }
     ensures same { types.new ≡ types.old }
-    ensures exact { IfOk result (λ found. IsTrue found ↔ (IsLargeType builder.now adapter.now.lift_ty ⊎ IsLargeType builder.now adapter.now.lower_ty)) }
+    ensures exact { IfOk result (λ found. IsTrue found ↔ (IsLargeFunctionType builder.now adapter.now.lift_ty ⊎ IsLargeFunctionType builder.now adapter.now.lower_ty)) }
 {
     if is_large_type(builder, types, adapter.lift_ty)? {
         return Ok(true);

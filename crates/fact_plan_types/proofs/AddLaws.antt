@@ -20,7 +20,7 @@ use Rattle.fact_builder.specs.Keeps.{Keeps}
 use Rattle.fact_builder.specs.Kinds.{count_of}
 use Rattle.fact_making.specs.Makes.{AreFew, FitsBytes, Makes, with_table_of}
 use Rattle.fact_plan.specs.declared.plan.PlanType.{PlanType}
-use Rattle.fact_plan_types.specs.Adding.{Adds, IsFilled, IsTooWide}
+use Rattle.fact_plan_types.specs.Adding.{AddsEntry, IsFilled, IsTooWide}
 use Rattle.fact_plan_types.specs.PlanShapes.{HandleTable, HandleTables, entry_shape, tables_with, with_tuple}
 use Rattle.fact_plan_types.specs.PlanTypes.{HasTuples}
 use Rattle.fact_plan_types.specs.Standing.{IsHandleTable, IsFutureTable, IsStreamTable, Stand}
@@ -173,7 +173,7 @@ pub makes_adds : (old new : Builder) (types : List InterfaceType) (e : PlanType)
     → ((shapes : List Shape) (h : HandleTables) → tables_with shapes h e ≡ h)
     → ((shapes : List Shape) → AreFew k (length (layouts_of (ms shapes))))
     → IfOk result (λ ty. AddsTuples old new types (λ ss. s_node k (ms ss)))
-    → Adds old new types e result
+    → AddsEntry old new types e result
 makes_adds old new types e k xs ms (Ok ty) m has shape same few tuples = record {
   live = m.live;
   shaped = λ shapes h z. subst (HasShape new.tables ty) (sym (shape shapes h)) (m.shaped (ms shapes) (has shapes z.shaped));

@@ -9,7 +9,7 @@ use Rattle.fact_types.specs.Shapes.{Shape, layouts_of}
 use Rattle.fact_builder.specs.Builder.{Builder}
 use Rattle.fact_plan.specs.declared.plan.PlanRef.{PlanRef}
 use Rattle.fact_plan.specs.declared.plan.PlanType.{PlanType}
-use Rattle.fact_plan_types.specs.Adding.{Adds}
+use Rattle.fact_plan_types.specs.Adding.{AddsEntry}
 use Rattle.fact_plan_types.specs.PlanShapes.{cases_of, names_alone}
 use Rattle.fact_plan_types.specs.TypeRules.{most_entries, optional}
 use Rattle.fact_plan_types.proofs.MemberLaws.{cases_count, names_count}
@@ -66,5 +66,5 @@ pub few_flags : (ns : List (List ℕ)) → (32 < length ns → ⊥) → length (
 few_flags ns n = omega (arith, names_count ns, n)
 
 -- a want of memory
-pub no_memory_adds : (old new : Builder) (types : List InterfaceType) (e : PlanType) (result : Result InterfaceType PushError) → result ≡ Err OutOfMemory → Adds old new types e result
-no_memory_adds old new types e result p = subst (Adds old new types e) (sym p) (refused_adds old new types e OutOfMemory (λ q. absurd (cc)))
+pub no_memory_adds : (old new : Builder) (types : List InterfaceType) (e : PlanType) (result : Result InterfaceType PushError) → result ≡ Err OutOfMemory → AddsEntry old new types e result
+no_memory_adds old new types e result p = subst (AddsEntry old new types e) (sym p) (refused_adds old new types e OutOfMemory (λ q. absurd (cc)))

@@ -22,7 +22,7 @@ use Rattle.fact_plan.specs.declared.plan.PlanType.{PlanType}
 use Rattle.fact_plan.specs.declared.plan.FusePlan.{FusePlan}
 use Rattle.fact_plan_types.specs.declared.rules.Rule.{Rule}
 use Rattle.fact_plan_types.specs.declared.error.Place.TheVariants.{TypeEntry, Func}
-use Rattle.fact_plan_types.specs.Adding.{Adds, AddsFunc, AreFirst, IsFilled, IsReady, KeepsFuncs, Pushes}
+use Rattle.fact_plan_types.specs.Adding.{AddsEntry, AddsFunc, AreFirst, IsFilled, IsReady, KeepsFuncs, Pushes}
 use Rattle.fact_plan_types.specs.Faults.{too_large}
 use Rattle.fact_plan_types.specs.PlanShapes.{HandleTables, entry_shape, plan_shapes, shapes_from, tables_with, tuples_among}
 use Rattle.fact_plan_types.specs.declared.plan_types.PlanTypes.{PlanTypes}
@@ -126,7 +126,7 @@ named_more : (es : List PlanType) (e : PlanType) → tables_named (es ++ e ∷ [
 named_more [] e = omega arith
 named_more (d ∷ es) e = let rest = named_more es e in omega (arith, rest)
 
-pub types_next : (p : FusePlan) (k : ℕ) (old mid new : Builder) (types : List InterfaceType) (e : PlanType) (ty : InterfaceType) → HasTypes p k old types → slice_get p.types k ≡ Some e → Breaks p k e None → Pushes p old mid → length mid.tables.resource_tables ≡ max (length old.tables.resource_tables) (tables_up_to (table_in e)) → Adds mid new types e (Ok ty)
+pub types_next : (p : FusePlan) (k : ℕ) (old mid new : Builder) (types : List InterfaceType) (e : PlanType) (ty : InterfaceType) → HasTypes p k old types → slice_get p.types k ≡ Some e → Breaks p k e None → Pushes p old mid → length mid.tables.resource_tables ≡ max (length old.tables.resource_tables) (tables_up_to (table_in e)) → AddsEntry mid new types e (Ok ty)
     → ((s : Shape) → HasShape new.tables ty s → nesting s ≤ 100) → HasTypes p (k + 1) new (types ++ ty ∷ [])
 types_next p k old mid new types e ty h here b q t a deep =
     let mids = pushed_stand p old mid types h.shapes h.handles q h.stand in
@@ -158,7 +158,7 @@ types_next p k old mid new types e ty h here b q t a deep =
 pub rule_told : (p : FusePlan) (k : ℕ) (old : Builder) (types : List InterfaceType) (e : PlanType) (r : Rule) → HasTypes p k old types → slice_get p.types k ≡ Some e → Breaks p k e (Some r) → IsFirstOfTypes p (fault_of r) (TypeEntry k)
 rule_told p k old types e r h here b = rule_first p k e r here h.faultless b
 
-pub wide_told : (p : FusePlan) (k : ℕ) (old mid last : Builder) (types : List InterfaceType) (e : PlanType) → HasTypes p k old types → slice_get p.types k ≡ Some e → Breaks p k e None → Pushes p old mid → Adds mid last types e (Err TooLarge) → IsFirstOfTypes p too_large (TypeEntry k)
+pub wide_told : (p : FusePlan) (k : ℕ) (old mid last : Builder) (types : List InterfaceType) (e : PlanType) → HasTypes p k old types → slice_get p.types k ≡ Some e → Breaks p k e None → Pushes p old mid → AddsEntry mid last types e (Err TooLarge) → IsFirstOfTypes p too_large (TypeEntry k)
 wide_told p k old mid last types e h here b q a =
     let wide = a.too_large refl k (omega (arith, h.place)) (pushed_filled p old mid k q h.filled) h.shapes h.handles (pushed_stand p old mid types h.shapes h.handles q h.stand) in
     large_first p k e _ here (here_shape p k old types e h here) h.faultless b (wide_large _ wide)
@@ -166,7 +166,7 @@ wide_told p k old mid last types e h here b q a =
 deep_large : (s : Shape) → 100 < nesting s → IsTooLarge s
 deep_large s l = inr (inr l)
 
-pub deep_told : (p : FusePlan) (k : ℕ) (old mid new : Builder) (types : List InterfaceType) (e : PlanType) (ty : InterfaceType) → HasTypes p k old types → slice_get p.types k ≡ Some e → Breaks p k e None → Pushes p old mid → Adds mid new types e (Ok ty)
+pub deep_told : (p : FusePlan) (k : ℕ) (old mid new : Builder) (types : List InterfaceType) (e : PlanType) (ty : InterfaceType) → HasTypes p k old types → slice_get p.types k ≡ Some e → Breaks p k e None → Pushes p old mid → AddsEntry mid new types e (Ok ty)
     → ((s : Shape) → HasShape new.tables ty s → 100 < nesting s) → IsFirstOfTypes p too_large (TypeEntry k)
 deep_told p k old mid new types e ty h here b q a deep =
     let shaped = a.shaped h.shapes h.handles (pushed_stand p old mid types h.shapes h.handles q h.stand) in

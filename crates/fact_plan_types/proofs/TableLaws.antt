@@ -40,7 +40,7 @@ use Rattle.fact_builder.specs.Keeps.{Keeps}
 use Rattle.fact_plan.specs.declared.plan.PlanRef.{PlanRef}
 use Rattle.fact_plan.specs.declared.plan.PlanType.{PlanType}
 use Rattle.fact_plan.specs.declared.plan.PlanType.TheVariants as entry
-use Rattle.fact_plan_types.specs.Adding.{Adds, IsFilled, IsTooWide}
+use Rattle.fact_plan_types.specs.Adding.{AddsEntry, IsFilled, IsTooWide}
 use Rattle.fact_plan_types.specs.PlanShapes.{HandleTable, HandleTables, handle_table, entry_shape, member_of, payload_of, same_table}
 use Rattle.fact_plan_types.specs.TypeRules.{IsEntryPast}
 use Rattle.fact_builder.proofs.IndexLaws.{once}
@@ -69,7 +69,7 @@ interned_longer eq old new v i d = subst (λ (xs : List _). length old ≤ lengt
 err_tells : (x y : PushError) (r s : Result InterfaceType PushError) → r ≡ Err x → s ≡ Err y → r ≡ s → x ≡ y
 err_tells x y r s p q e = cc
 
-pub refused_adds : (old new : Builder) (types : List InterfaceType) (e : PlanType) (x : PushError) → (x ≡ TooLarge → (n : ℕ) → n < 4294967295 → IsFilled n old.tables → ⊥) → Adds old new types e (Err x)
+pub refused_adds : (old new : Builder) (types : List InterfaceType) (e : PlanType) (x : PushError) → (x ≡ TooLarge → (n : ℕ) → n < 4294967295 → IsFilled n old.tables → ⊥) → AddsEntry old new types e (Err x)
 refused_adds old new types e x f = record {
   live = tt;
   shaped = tt;
@@ -83,8 +83,8 @@ refused_adds old new types e x f = record {
 
 -- a refusal that came through `?`
 pub full_adds : (old new : Builder) (types : List InterfaceType) (e : PlanType) (result : Result InterfaceType PushError) (x y : PushError) → result ≡ Err y → y ≡ x
-    → (x ≡ TooLarge → (n : ℕ) → n < 4294967295 → IsFilled n old.tables → ⊥) → Adds old new types e result
-full_adds old new types e result x y p q f = subst (Adds old new types e) (sym (p ∙ ap Err q)) (refused_adds old new types e x f)
+    → (x ≡ TooLarge → (n : ℕ) → n < 4294967295 → IsFilled n old.tables → ⊥) → AddsEntry old new types e result
+full_adds old new types e result x y p q f = subst (AddsEntry old new types e) (sym (p ∙ ap Err q)) (refused_adds old new types e x f)
 
 pub both_keep : (t u v : Tables) → Keeps t u → Keeps u v → Keeps t v
 both_keep t u v k l = record {
@@ -195,7 +195,7 @@ future_shaped old mid new p ty table instance a before o ps =
 -- a table that was added is that of the entry
 pub future_adds : (old mid new : Builder) (p : Option InterfaceType) (ty : Id TypeFutures) (table : Id TypeFutureTables) (instance : Id RuntimeComponentInstances) → AddedFuture old mid new p ty table instance
     → (types : List InterfaceType) (o : Option PlanRef) (i : ℕ) → instance.number ≡ i → ((shapes : List Shape) → HaveShapes old.tables types shapes → PayloadStands old.tables p (payload_of shapes o))
-    → Adds old new types (entry.Future o i) (Ok (t_future table))
+    → AddsEntry old new types (entry.Future o i) (Ok (t_future table))
 future_adds old mid new p ty table instance a types o i e has = record {
   live = slice_get_within _ _ _ a.table_entry;
   shaped = λ shapes h z.
@@ -309,7 +309,7 @@ stream_shaped old mid new p ty table instance a before o ps =
 -- a table that was added is that of the entry
 pub stream_adds : (old mid new : Builder) (p : Option InterfaceType) (ty : Id TypeStreams) (table : Id TypeStreamTables) (instance : Id RuntimeComponentInstances) → AddedStream old mid new p ty table instance
     → (types : List InterfaceType) (o : Option PlanRef) (i : ℕ) → instance.number ≡ i → ((shapes : List Shape) → HaveShapes old.tables types shapes → PayloadStands old.tables p (payload_of shapes o))
-    → Adds old new types (entry.Stream o i) (Ok (t_stream table))
+    → AddsEntry old new types (entry.Stream o i) (Ok (t_stream table))
 stream_adds old mid new p ty table instance a types o i e has = record {
   live = slice_get_within _ _ _ a.table_entry;
   shaped = λ shapes h z.
@@ -362,7 +362,7 @@ context_instances old new table instance a i e ys z =
     ∙ (λ k. insert_key nat_eq (z k) (e k))
 
 pub error_context_adds : (old new : Builder) (table : Id TypeComponentLocalErrorContextTables) (instance : Id RuntimeComponentInstances) → AddedErrorContext old new table instance
-    → (types : List InterfaceType) (i : ℕ) → instance.number ≡ i → Adds old new types (entry.ErrorContext i) (Ok (t_error_context table))
+    → (types : List InterfaceType) (i : ℕ) → instance.number ≡ i → AddsEntry old new types (entry.ErrorContext i) (Ok (t_error_context table))
 error_context_adds old new table instance a types i e =
     let r = a.rest in
     record {
@@ -398,7 +398,7 @@ filled_up t n f = record {
   error_contexts = omega (arith, f.error_contexts);
 }
 
-pub own_adds : (b : Builder) (types : List InterfaceType) (n : ℕ) (i : Id TypeResourceTables) → i ≡ record { number = n; table = _ } → n < length b.tables.resource_tables → Adds b b types (entry.Own n) (Ok (t_own i))
+pub own_adds : (b : Builder) (types : List InterfaceType) (n : ℕ) (i : Id TypeResourceTables) → i ≡ record { number = n; table = _ } → n < length b.tables.resource_tables → AddsEntry b b types (entry.Own n) (Ok (t_own i))
 own_adds b types n i e l = record {
   live = omega (arith, ap (λ (j : Id TypeResourceTables). j.number) e, l);
   shaped = λ shapes h z. (ap t_own e, refl);
@@ -410,7 +410,7 @@ own_adds b types n i e l = record {
   rest = refl;
 }
 
-pub borrow_adds : (b : Builder) (types : List InterfaceType) (n : ℕ) (i : Id TypeResourceTables) → i ≡ record { number = n; table = _ } → n < length b.tables.resource_tables → Adds b b types (entry.Borrow n) (Ok (t_borrow i))
+pub borrow_adds : (b : Builder) (types : List InterfaceType) (n : ℕ) (i : Id TypeResourceTables) → i ≡ record { number = n; table = _ } → n < length b.tables.resource_tables → AddsEntry b b types (entry.Borrow n) (Ok (t_borrow i))
 borrow_adds b types n i e l = record {
   live = omega (arith, ap (λ (j : Id TypeResourceTables). j.number) e, l);
   shaped = λ shapes h z. (ap t_borrow e, refl);

@@ -56,7 +56,7 @@ abbrev pub AreTuplesTooWide : PlanFunc → List Shape → Type 0
 AreTuplesTooWide f shapes = IsPast (tuple_layout (shapes_of shapes (param_types f))) ⊎ IsPast (tuple_layout (shapes_of shapes f.results))
 
 -- The type of an entry was looked for, and added where it was not there, given the types before it.
-pub record Adds (old new : Builder) (types : List InterfaceType) (e : PlanType) (result : Result InterfaceType PushError) : Type 0 where
+pub record AddsEntry (old new : Builder) (types : List InterfaceType) (e : PlanType) (result : Result InterfaceType PushError) : Type 0 where
   pub live : IfOk result (IsLive new.tables)
   pub shaped : IfOk result (λ ty. (shapes : List Shape) (h : HandleTables) → Stand old.tables types shapes h → HasShape new.tables ty (entry_shape shapes h e))
   pub stands : IfOk result (λ ty. (shapes : List Shape) (h : HandleTables) → Stand old.tables types shapes h → Stand new.tables types shapes (tables_with shapes h e))

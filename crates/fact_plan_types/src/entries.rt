@@ -1,7 +1,7 @@
 //! The types of entries of a plan, added to a builder.
 
 ghost use Rattle.fact_plan.specs.declared.plan.PlanType.TheVariants as entry;
-ghost use Rattle.fact_plan_types.specs.Adding.{Adds, IsReady};
+ghost use Rattle.fact_plan_types.specs.Adding.{AddsEntry, IsReady};
 
 use crate::handles::{add_error_context, add_future, add_stream};
 use crate::members::{cases_of, fields_of, payload_of, set_of_names, type_of, types_of};
@@ -24,7 +24,7 @@ pub(crate) fn add_entry(
     entry: &PlanType,
 ) -> Result<InterfaceType, PushError>
     requires { IsReady builder.old.tables types.now entry.now }
-    ensures { Adds builder.old builder.new types.now entry.now result }
+    ensures { AddsEntry builder.old builder.new types.now entry.now result }
 {
     match entry {
         PlanType::Record(fields) => add_record(alloc, builder, types, fields.as_slice()),
@@ -54,7 +54,7 @@ fn add_record(
     fields: &[(Text, PlanRef)],
 ) -> Result<InterfaceType, PushError>
     requires { IsReady builder.old.tables types.now (entry.Record fields.now) }
-    ensures { Adds builder.old builder.new types.now (entry.Record fields.now) result }
+    ensures { AddsEntry builder.old builder.new types.now (entry.Record fields.now) result }
 {
     let fields = fields_of(alloc, types, fields)?;
     make_record(alloc, builder, fields)
@@ -67,7 +67,7 @@ fn add_variant(
     cases: &[(Text, Option<PlanRef>)],
 ) -> Result<InterfaceType, PushError>
     requires { IsReady builder.old.tables types.now (entry.Variant cases.now) }
-    ensures { Adds builder.old builder.new types.now (entry.Variant cases.now) result }
+    ensures { AddsEntry builder.old builder.new types.now (entry.Variant cases.now) result }
 {
     let cases = cases_of(alloc, types, cases)?;
     make_variant(alloc, builder, cases)
@@ -80,7 +80,7 @@ fn add_tuple(
     members: &[PlanRef],
 ) -> Result<InterfaceType, PushError>
     requires { IsReady builder.old.tables types.now (entry.Tuple members.now) }
-    ensures { Adds builder.old builder.new types.now (entry.Tuple members.now) result }
+    ensures { AddsEntry builder.old builder.new types.now (entry.Tuple members.now) result }
 {
     let members = types_of(alloc, types, members)?;
     let made = make_tuple(alloc, builder, Seq::from_vec(members))?;
@@ -94,7 +94,7 @@ fn add_list(
     element: PlanRef,
 ) -> Result<InterfaceType, PushError>
     requires { IsReady builder.old.tables types.now (entry.List element) }
-    ensures { Adds builder.old builder.new types.now (entry.List element) result }
+    ensures { AddsEntry builder.old builder.new types.now (entry.List element) result }
 {
     make_list(builder, type_of(types, element))
 }
@@ -105,7 +105,7 @@ fn add_option(
     ty: PlanRef,
 ) -> Result<InterfaceType, PushError>
     requires { IsReady builder.old.tables types.now (entry.Option ty) }
-    ensures { Adds builder.old builder.new types.now (entry.Option ty) result }
+    ensures { AddsEntry builder.old builder.new types.now (entry.Option ty) result }
 {
     make_option(builder, type_of(types, ty))
 }
@@ -117,7 +117,7 @@ fn add_map(
     value: PlanRef,
 ) -> Result<InterfaceType, PushError>
     requires { IsReady builder.old.tables types.now (entry.Map key value) }
-    ensures { Adds builder.old builder.new types.now (entry.Map key value) result }
+    ensures { AddsEntry builder.old builder.new types.now (entry.Map key value) result }
 {
     make_map(builder, type_of(types, key), type_of(types, value))
 }
@@ -129,7 +129,7 @@ fn add_result(
     err: Option<PlanRef>,
 ) -> Result<InterfaceType, PushError>
     requires { IsReady builder.old.tables types.now (entry.Result ok err) }
-    ensures { Adds builder.old builder.new types.now (entry.Result ok err) result }
+    ensures { AddsEntry builder.old builder.new types.now (entry.Result ok err) result }
 {
     make_result(builder, payload_of(types, ok), payload_of(types, err))
 }
@@ -141,7 +141,7 @@ fn add_flags(
     names: &[Text],
 ) -> Result<InterfaceType, PushError>
     requires { IsReady builder.old.tables types.now (entry.Flags names.now) }
-    ensures { Adds builder.old builder.new types.now (entry.Flags names.now) result }
+    ensures { AddsEntry builder.old builder.new types.now (entry.Flags names.now) result }
 {
     let names = set_of_names(alloc, names)?;
     make_flags(builder, names)
@@ -154,7 +154,7 @@ fn add_enum(
     names: &[Text],
 ) -> Result<InterfaceType, PushError>
     requires { IsReady builder.old.tables types.now (entry.Enum names.now) }
-    ensures { Adds builder.old builder.new types.now (entry.Enum names.now) result }
+    ensures { AddsEntry builder.old builder.new types.now (entry.Enum names.now) result }
 {
     let names = set_of_names(alloc, names)?;
     make_enum(builder, names)
@@ -167,7 +167,7 @@ fn add_fixed_list(
     count: u32,
 ) -> Result<InterfaceType, PushError>
     requires { IsReady builder.old.tables types.now (entry.FixedList element count) }
-    ensures { Adds builder.old builder.new types.now (entry.FixedList element count) result }
+    ensures { AddsEntry builder.old builder.new types.now (entry.FixedList element count) result }
 {
     make_fixed_length_list(builder, type_of(types, element), count)
 }

@@ -2,7 +2,7 @@
 
 ghost use Rattle.std.specs.Prelude.{◌≡◌, ◌<◌, ◌+◌, IfSome, OnOk, length, max};
 ghost use Rattle.fact_plan.specs.declared.plan.PlanType.TheVariants as entry;
-ghost use Rattle.fact_plan_types.specs.Adding.{Adds, AreFirst, IsReady, Pushes};
+ghost use Rattle.fact_plan_types.specs.Adding.{AddsEntry, AreFirst, IsReady, Pushes};
 ghost use Rattle.fact_plan_types.specs.PlanTypes.{tables_up_to};
 ghost use Rattle.fact_plan_types.specs.TypeRules.{table_in};
 
@@ -25,7 +25,7 @@ pub(crate) fn add_future(
     instance: u32,
 ) -> Result<InterfaceType, PushError>
     requires { IsReady builder.old.tables types.now (entry.Future payload instance) }
-    ensures { Adds builder.old builder.new types.now (entry.Future payload instance) result }
+    ensures { AddsEntry builder.old builder.new types.now (entry.Future payload instance) result }
 {
     builder.reveal();
     let payload = payload_of(types, payload);
@@ -44,7 +44,7 @@ pub(crate) fn add_stream(
     instance: u32,
 ) -> Result<InterfaceType, PushError>
     requires { IsReady builder.old.tables types.now (entry.Stream payload instance) }
-    ensures { Adds builder.old builder.new types.now (entry.Stream payload instance) result }
+    ensures { AddsEntry builder.old builder.new types.now (entry.Stream payload instance) result }
 {
     builder.reveal();
     let payload = payload_of(types, payload);
@@ -62,7 +62,7 @@ pub(crate) fn add_error_context(
     instance: u32,
 ) -> Result<InterfaceType, PushError>
     requires { IsReady builder.old.tables types.now (entry.ErrorContext instance) }
-    ensures { Adds builder.old builder.new types.now (entry.ErrorContext instance) result }
+    ensures { AddsEntry builder.old builder.new types.now (entry.ErrorContext instance) result }
 {
     let instance = RuntimeComponentInstanceIndex::from_u32(instance);
     let table = builder.add_error_context_table_type(TypeErrorContextTable { instance })?;

@@ -15,8 +15,8 @@ use Rattle.fact_types.specs.Tables.{Tables, Node, node_of, map_node, abi_at, Has
 use Rattle.fact_types.specs.Valid.{nesting}
 use Rattle.fact_types.proofs.ShapeLaws.{layouts_are, more, no_node, none_some, same_some}
 use Rattle.fact_plan_types.specs.TypeRules.{IsEntryPast, IsPast}
-use Rattle.fact_type_rules.specs.TypeFaults.{HasManyCases, IsBadKind, IsBadShape, IsFarHandle, IsLargeShape, IsLongList, IsLongShape}
-use Rattle.fact_type_rules.specs.Walk.{IsBadNode, IsLongEntry, IsLongNode}
+use Rattle.fact_type_rules.specs.TypeFaults.{AreManyCases, IsBadKind, IsBadShape, IsFarHandle, IsLargeShape, IsLongList, IsLongShape}
+use Rattle.fact_type_rules.specs.Walk.{IsBadNode, IsLongType, IsLongNode}
 
 along : {X : Type 0} (P : X → Type 0) (x y : X) → x ≡ y → P x ↔ P y
 along P x y e = (subst P e, subst P (sym e))
@@ -46,9 +46,9 @@ far_plain t (t_borrow i) h = refl
 far_plain t _ h = absurd h
 
 abbrev long : Kind → ℕ → Type 0
-long k n = IsLongList k n ⊎ HasManyCases k n
+long k n = IsLongList k n ⊎ AreManyCases k n
 
-pub long-entry : (t : Tables) (ty : InterfaceType) (s : Shape) → HasShape t ty s → IsLongEntry t ty ↔ IsLongShape s
+pub long-entry : (t : Tables) (ty : InterfaceType) (s : Shape) → HasShape t ty s → IsLongType t ty ↔ IsLongShape s
 long-entry t ty (s_plain p) h = (to, λ f. inl (subst IsFarHandle (sym h.0) f))
   where
     to : IsFarHandle ty ⊎ IsLongNode (node_of t ty) → IsFarHandle p
@@ -95,7 +95,7 @@ map-entry t k i e there w (s_node kd ms) h past = by kd h.2 past
     by k_map e past = not-past _ (subst IsWithin laid w) past
     by _ e past = past
 
-pub large-by-nesting : (t : Tables) (ty : InterfaceType) (s : Shape) (n : ℕ) → HasShape t ty s → IsWithin (layout_of s) → (IsEntryPast s → ⊥) → (IsLongEntry t ty → ⊥) → n ≡ min (nesting s) 101 → IsTrue (nat_lt 100 n) ↔ IsLargeShape s
+pub large-by-nesting : (t : Tables) (ty : InterfaceType) (s : Shape) (n : ℕ) → HasShape t ty s → IsWithin (layout_of s) → (IsEntryPast s → ⊥) → (IsLongType t ty → ⊥) → n ≡ min (nesting s) 101 → IsTrue (nat_lt 100 n) ↔ IsLargeShape s
 large-by-nesting t ty s n h w no_entry short told = (λ b. inr (inr (inr (deep b))), to)
   where
     deep : IsTrue (nat_lt 100 n) → 100 < nesting s

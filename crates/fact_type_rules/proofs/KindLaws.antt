@@ -27,7 +27,7 @@ use Rattle.fact_types.specs.Shapes.{k_tuple, k_flags}
 use Rattle.fact_types.specs.Tables.{Tables, Node, node_of, placed, record_node, tuple_node, flags_node, enum_node}
 use Rattle.fact_plan_types.specs.TypeRules.{IsRepeated, most_entries}
 use Rattle.fact_type_rules.specs.TypeFaults.{IsBadKind}
-use Rattle.fact_type_rules.specs.Walk.{IsBadNode, IsLongEntry, IsLongNode, types_in}
+use Rattle.fact_type_rules.specs.Walk.{IsBadNode, IsLongType, IsLongNode, types_in}
 
 abbrev pub Member : Type 0
 Member = List ℕ × Option InterfaceType
@@ -153,7 +153,7 @@ no-places t i e n there k = by-node (IsTrue (nat_eq n 0)) _ (tuple_node e) _ (ap
     to (inr (inl h)) = absurd h
     to (inr (inr h)) = absurd h
 
-pub long-tuple : (t : Tables) (i : Id TypeTuples) (e : TypeTuple) (n : ℕ) → slice_get t.tuples i.number ≡ Some e → n ≡ length e.types → IsTrue (nat_lt 268435456 n) ↔ IsLongEntry t (t_tuple i)
+pub long-tuple : (t : Tables) (i : Id TypeTuples) (e : TypeTuple) (n : ℕ) → slice_get t.tuples i.number ≡ Some e → n ≡ length e.types → IsTrue (nat_lt 268435456 n) ↔ IsLongType t (t_tuple i)
 long-tuple t i e n there k = (λ b. inr (subst IsLongNode (sym node) (inl (omega (arith, member_count 0 e.types, k, above-test 268435456 n b)))), to)
   where
     node : node_of t (t_tuple i) ≡ Some (tuple_node e)

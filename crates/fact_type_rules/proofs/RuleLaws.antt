@@ -20,11 +20,11 @@ use Rattle.fact_plan.specs.declared.plan.PlanType.TheVariants as entry
 use Rattle.fact_plan.specs.declared.plan.FusePlan.{FusePlan}
 use Rattle.fact_plan_types.specs.PlanShapes.{HandleTables, cases_of, entry_shape, fields_of, names_alone, places_of}
 use Rattle.fact_plan_types.specs.TypeRules.{IsEmpty, IsErrorContext, IsPast, IsRepeated, IsTooLarge, most_entries, names_in, list_length, table_in, types_in}
-use Rattle.fact_plan_types.specs.TypeRules.{HasManyCases as HasManyCasesIn, HasManyFlags as HasManyFlagsIn}
+use Rattle.fact_plan_types.specs.TypeRules.{AreManyCases as HasManyCasesIn, AreManyFlags as HasManyFlagsIn}
 use Rattle.fact_plan_types.proofs.AddLaws.{entry_not_past, entry_within_or_past, not_past, within_or_past}
 use Rattle.fact_plan_types.proofs.ValidLaws.{bare_names, case_names, distinct_where, field_names, head, one_name, option_names, result_names, two_names}
 use Rattle.fact_type_rules.specs.RuleLaws.{BadByShape, BreaksRule, LargeByShape, ValidBreaksNone}
-use Rattle.fact_type_rules.specs.TypeFaults.{AnyAmong, AnyIn, HasManyCases, HasManyFlags, HasRepeatedNames, IsBadKind, IsBadShape, IsEmptyKind, IsFarHandle, IsLargeShape, IsLongList, IsLongShape}
+use Rattle.fact_type_rules.specs.TypeFaults.{AnyAmong, AnyIn, AreManyCases, AreManyFlags, HasRepeatedNames, IsBadKind, IsBadShape, IsEmptyKind, IsFarHandle, IsLargeShape, IsLongList, IsLongShape}
 
 -- ---- names
 no_repeats : (names : List (List ℕ)) → AreDistinct names → IsRepeated names → ⊥
@@ -63,7 +63,7 @@ not_repeated k_flags names d r = no_repeats names d r
 not_repeated k_enum names d r = no_repeats names d r
 not_repeated k names d r = r
 
-few_flags : (k : Kind) (m n : ℕ) → AreEnough k m n → HasManyFlags k m → ⊥
+few_flags : (k : Kind) (m n : ℕ) → AreEnough k m n → AreManyFlags k m → ⊥
 few_flags k_flags m n a f = omega (arith, a.1, f)
 few_flags k m n a f = f
 
@@ -75,7 +75,7 @@ not_long k_flags m l b = omega (arith, l, b)
 not_long k_enum m l b = omega (arith, l, b)
 not_long k m l b = b
 
-few_cases : (k : Kind) (m n : ℕ) → AreEnough k m n → HasManyCases k m → ⊥
+few_cases : (k : Kind) (m n : ℕ) → AreEnough k m n → AreManyCases k m → ⊥
 few_cases k_variant m n a f = omega (arith, a.1, f)
 few_cases k m n a f = f
 
@@ -255,7 +255,7 @@ few_by (k_fixed count) xs m l = omega (arith, ap (λ (ys : List Member). length 
 few_by (k_future table instance) xs m l = omega (arith, ap (λ (ys : List Member). length (names_in_list ys)) m.1)
 few_by (k_stream table instance) xs m l = omega (arith, ap (λ (ys : List Member). length (names_in_list ys)) m.1)
 
-enough_by : (k : Kind) (t : Tables) (ms : Members) (xs : List Member) → HasMembers t xs ms → HasMembersOf k xs → (IsBadKind k (names_of ms) → ⊥) → (HasManyCases k (length (names_of ms)) → ⊥) → AreEnough k (length (layouts_of ms)) (length (payloads (layouts_of ms)))
+enough_by : (k : Kind) (t : Tables) (ms : Members) (xs : List Member) → HasMembers t xs ms → HasMembersOf k xs → (IsBadKind k (names_of ms) → ⊥) → (AreManyCases k (length (names_of ms)) → ⊥) → AreEnough k (length (layouts_of ms)) (length (payloads (layouts_of ms)))
 enough_by k_record t ms xs h m b c =
     let some : length (names_of ms) ≡ 0 → ⊥ = λ e. b (inl e) in omega (arith, some, typed_count t ms xs h m)
 enough_by k_tuple t ms xs h m b c =

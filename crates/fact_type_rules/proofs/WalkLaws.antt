@@ -19,7 +19,7 @@ use Rattle.fact_types.specs.Tables.{Tables, Node, node_of, IsLive, IsLiveMember,
 use Rattle.fact_types.proofs.ShapeLaws.{no_node, same_some, none_some, one_shape}
 use Rattle.fact_type_rules.specs.declared.rules.Rules.{Rules}
 use Rattle.fact_type_rules.specs.TypeFaults.{AnyIn, AnyAmong}
-use Rattle.fact_type_rules.specs.Walk.{Adds, Breaks, EndsAt, IsClean, IsFaulty, Looked, types_in}
+use Rattle.fact_type_rules.specs.Walk.{PutsBehind, BreaksRules, EndsAt, IsClean, IsFaulty, Looked, types_in}
 use Rattle.fact_type_rules.proofs.ListLaws.{all-contained, all-of, any-cases, any-contained, any-here, any-none, any-there, contains-at, contains-cases, contains-here, contains-none, contains-there}
 use Rattle.fact_type_rules.proofs.WeightLaws.{weight, weighs}
 
@@ -28,7 +28,7 @@ same_type = type_eq.ghosts.eq
 
 -- ---- types that are put behind others
 
-pub nothing-added : (clean old : List InterfaceType) → Adds clean old old []
+pub nothing-added : (clean old : List InterfaceType) → PutsBehind clean old old []
 nothing-added clean old = record {
   added = [];
   behind = sym (append-nil old);
@@ -38,7 +38,7 @@ nothing-added clean old = record {
 }
 
 -- one that is there already, or is clean
-pub known-added : (clean old new given : List InterfaceType) (ty : InterfaceType) → Adds clean old new given → Contains new ty ⊎ Contains clean ty → Adds clean old new (given ++ ty ∷ [])
+pub known-added : (clean old new given : List InterfaceType) (ty : InterfaceType) → PutsBehind clean old new given → Contains new ty ⊎ Contains clean ty → PutsBehind clean old new (given ++ ty ∷ [])
 known-added clean old new given ty a known = record {
   added = a.added;
   behind = a.behind;
@@ -52,7 +52,7 @@ known-added clean old new given ty a known = record {
     one x (inr h) = absurd (contains-none x h)
 
 -- a new one
-new-added : (clean old new given : List InterfaceType) (ty : InterfaceType) → Adds clean old new given → Adds clean old (new ++ ty ∷ []) (given ++ ty ∷ [])
+new-added : (clean old new given : List InterfaceType) (ty : InterfaceType) → PutsBehind clean old new given → PutsBehind clean old (new ++ ty ∷ []) (given ++ ty ∷ [])
 new-added clean old new given ty a = record {
   added = a.added ++ ty ∷ [];
   behind = ap (λ xs. xs ++ ty ∷ []) a.behind ∙ append_assoc old a.added (ty ∷ []);
@@ -65,15 +65,15 @@ new-added clean old new given ty a = record {
     before x (inl h) = inl (Contains-append_left new (ty ∷ []) x h)
     before x (inr h) = inr h
 
-pub one-added : (clean old new given : List InterfaceType) (ty : InterfaceType) → Adds clean old new given → Adds clean old (insert_key same_type new ty) (given ++ ty ∷ [])
+pub one-added : (clean old new given : List InterfaceType) (ty : InterfaceType) → PutsBehind clean old new given → PutsBehind clean old (insert_key same_type new ty) (given ++ ty ∷ [])
 one-added clean old new given ty a = by (list_any (same_type ty) new) refl
   where
-    by : (b : Bool) → list_any (same_type ty) new ≡ b → Adds clean old (insert_key same_type new ty) (given ++ ty ∷ [])
-    by true e = subst (λ ks. Adds clean old ks (given ++ ty ∷ [])) (sym (ap (λ c. if c then new else new ++ ty ∷ []) e)) (known-added clean old new given ty a (inl (Contains-from_any exact_type ty new e)))
-    by false e = subst (λ ks. Adds clean old ks (given ++ ty ∷ [])) (sym (ap (λ c. if c then new else new ++ ty ∷ []) e)) (new-added clean old new given ty a)
+    by : (b : Bool) → list_any (same_type ty) new ≡ b → PutsBehind clean old (insert_key same_type new ty) (given ++ ty ∷ [])
+    by true e = subst (λ ks. PutsBehind clean old ks (given ++ ty ∷ [])) (sym (ap (λ c. if c then new else new ++ ty ∷ []) e)) (known-added clean old new given ty a (inl (Contains-from_any exact_type ty new e)))
+    by false e = subst (λ ks. PutsBehind clean old ks (given ++ ty ∷ [])) (sym (ap (λ c. if c then new else new ++ ty ∷ []) e)) (new-added clean old new given ty a)
 
 -- each of them has a property that the old and the given ones have
-pub added-all : (P : InterfaceType → Type 0) (clean old new given : List InterfaceType) → Adds clean old new given → All P old → All P given → All P new
+pub added-all : (P : InterfaceType → Type 0) (clean old new given : List InterfaceType) → PutsBehind clean old new given → All P old → All P given → All P new
 added-all P clean old new given a h g = subst (All P) (sym a.behind) (All-append P old a.added h (all-of P a.added (λ x w. all-contained P given x g (a.of_given x w))))
 
 pub all-inserted : (P : InterfaceType → Type 0) (ks : List InterfaceType) (ty : InterfaceType) → All P ks → P ty → All P (insert_key same_type ks ty)
@@ -121,23 +121,23 @@ rises t r k ty l m c f = go (k.shaped ty l)
   where
     go : ((s : Shape) × HasShape t ty s × (depth s ≤ entries t)) → IsFaulty t r ty
     go (s_plain p, h, b) = absurd (contains-none m (subst (λ o. Contains (types_in o) m) (ap (node_of t) h.0 ∙ no_node t p h.1) c))
-    go (s_node kd ms, h, b) = (s_node kd ms, h, inr (among (Breaks r) t ms h.0.members m f.0 h.3 (subst (λ o. Contains (types_in o) m) h.1 c) f.1 f.2))
+    go (s_node kd ms, h, b) = (s_node kd ms, h, inr (among (BreaksRules r) t ms h.0.members m f.0 h.3 (subst (λ o. Contains (types_in o) m) h.1 c) f.1 f.2))
 
 any_here : (P : Shape → Type 0) (s : Shape) → P s → AnyIn P s
 any_here P (s_plain p) h = h
 any_here P (s_node k ms) h = inl h
 
-faulty_here : (t : Tables) (r : Rules) → IsSound t → (ty : InterfaceType) → IsLive t ty → ((s : Shape) → HasShape t ty s → Breaks r s) → IsFaulty t r ty
+faulty_here : (t : Tables) (r : Rules) → IsSound t → (ty : InterfaceType) → IsLive t ty → ((s : Shape) → HasShape t ty s → BreaksRules r s) → IsFaulty t r ty
 faulty_here t r k ty l f = go (k.shaped ty l)
   where
     go : ((s : Shape) × HasShape t ty s × (depth s ≤ entries t)) → IsFaulty t r ty
-    go (s, h, b) = (s, h, any_here (Breaks r) s (f s h))
+    go (s, h, b) = (s, h, any_here (BreaksRules r) s (f s h))
 
 -- ---- the walk
 
 -- a type was looked at, with all types in it met or clean
 pub record IsDone (t : Tables) (r : Rules) (met clean : List InterfaceType) (ty : InterfaceType) : Type 0 where
-  pub kept : (s : Shape) → HasShape t ty s → Breaks r s → ⊥
+  pub kept : (s : Shape) → HasShape t ty s → BreaksRules r s → ⊥
   pub reached : (m : InterfaceType) → Contains (types_in (node_of t ty)) m → Contains met m ⊎ Contains clean m
 
 -- a walk from some types has met types, and has looked at those before a place
@@ -206,7 +206,7 @@ walk-lighter t r met new clean at ty k live here looked =
     omega (arith, first, is, left, looked.adds.lighter (weight t), weighs t k ty (all-contained (IsLive t) met ty live (contains-at met at ty here)))
 
 pub walk-finds : (t : Tables) (r : Rules) (from met new clean : List InterfaceType) (at : ℕ) (ty : InterfaceType)
-    → IsSound t → IsWalk t r from met clean at → slice_get met at ≡ Some ty → ((s : Shape) → HasShape t ty s → Breaks r s) → Any (IsFaulty t r) from
+    → IsSound t → IsWalk t r from met clean at → slice_get met at ≡ Some ty → ((s : Shape) → HasShape t ty s → BreaksRules r s) → Any (IsFaulty t r) from
 walk-finds t r from met new clean at ty k w here f =
     let c = contains-at met at ty here in
     w.led ty c (faulty_here t r k ty (all-contained (IsLive t) met ty w.live c) f)
@@ -214,7 +214,7 @@ walk-finds t r from met new clean at ty k w here f =
 -- where all types that were met are looked at, none of them is faulty
 mutual
   all_clean : (t : Tables) (r : Rules) (met clean : List InterfaceType) → All (IsDone t r met clean) met → All (IsClean t r) clean
-      → (s : Shape) (ty : InterfaceType) → HasShape t ty s → Contains met ty ⊎ Contains clean ty → AnyIn (Breaks r) s → ⊥
+      → (s : Shape) (ty : InterfaceType) → HasShape t ty s → Contains met ty ⊎ Contains clean ty → AnyIn (BreaksRules r) s → ⊥
   all_clean t r met clean d c (s_plain p) ty h (inl w) a = (all-contained (IsDone t r met clean) met ty d w).kept (s_plain p) h a
   all_clean t r met clean d c (s_plain p) ty h (inr w) a = all-contained (IsClean t r) clean ty c w (s_plain p) h a
   all_clean t r met clean d c (s_node k ms) ty h (inr w) a = all-contained (IsClean t r) clean ty c w (s_node k ms) h a
@@ -223,7 +223,7 @@ mutual
       members_clean t r met clean d c ms h.0.members h.3 (λ m g. (all-contained (IsDone t r met clean) met ty d w).reached m (subst (λ o. Contains (types_in o) m) (sym h.1) g)) a
 
   members_clean : (t : Tables) (r : Rules) (met clean : List InterfaceType) → All (IsDone t r met clean) met → All (IsClean t r) clean
-      → (ms : Members) (xs : List (List ℕ × Option InterfaceType)) → HasMembers t xs ms → ((m : InterfaceType) → Contains (payloads (map (λ m. m.1) xs)) m → Contains met m ⊎ Contains clean m) → AnyAmong (Breaks r) ms → ⊥
+      → (ms : Members) (xs : List (List ℕ × Option InterfaceType)) → HasMembers t xs ms → ((m : InterfaceType) → Contains (payloads (map (λ m. m.1) xs)) m → Contains met m ⊎ Contains clean m) → AnyAmong (BreaksRules r) ms → ⊥
   members_clean t r met clean d c no_members xs h g a = a
   members_clean t r met clean d c (bare n ms) [] h g a = h
   members_clean t r met clean d c (bare n ms) ((y, None) ∷ xs) h g a = members_clean t r met clean d c ms xs h.2 g a
@@ -263,16 +263,16 @@ none-listed P t (x ∷ xs) (s ∷ ss) h c a = by (any-cases P s ss a) (none-list
     by (inr f) rest = rest f
 
 -- the answers of a walk that began with the types of a list that are not clean
-pub faulty-listed : (t : Tables) (r : Rules) (clean met given : List InterfaceType) → Adds clean [] met given → Any (IsFaulty t r) met
-    → (ss : List Shape) → HaveShapes t given ss → Any (AnyIn (Breaks r)) ss
+pub faulty-listed : (t : Tables) (r : Rules) (clean met given : List InterfaceType) → PutsBehind clean [] met given → Any (IsFaulty t r) met
+    → (ss : List Shape) → HaveShapes t given ss → Any (AnyIn (BreaksRules r)) ss
 faulty-listed t r clean met given a (i, ty, l, e, f) ss hs =
     let c : Contains met ty = (i, l, e) in
-    any-listed (AnyIn (Breaks r)) t given ss ty hs (a.of_given ty (subst (λ l. Contains l ty) a.behind c)) (λ z hz. subst (AnyIn (Breaks r)) (one_shape t f.0 z ty f.1 hz) f.2)
+    any-listed (AnyIn (BreaksRules r)) t given ss ty hs (a.of_given ty (subst (λ l. Contains l ty) a.behind c)) (λ z hz. subst (AnyIn (BreaksRules r)) (one_shape t f.0 z ty f.1 hz) f.2)
 
-pub clean-listed : (t : Tables) (r : Rules) (clean met end given : List InterfaceType) → Adds clean [] met given → All (IsClean t r) clean → EndsAt t r met end false
-    → (ss : List Shape) → HaveShapes t given ss → Any (AnyIn (Breaks r)) ss → ⊥
+pub clean-listed : (t : Tables) (r : Rules) (clean met end given : List InterfaceType) → PutsBehind clean [] met given → All (IsClean t r) clean → EndsAt t r met end false
+    → (ss : List Shape) → HaveShapes t given ss → Any (AnyIn (BreaksRules r)) ss → ⊥
 clean-listed t r clean met end given a c ends ss hs =
-    none-listed (AnyIn (Breaks r)) t given ss hs (all-of (IsClean t r) given (λ ty w. by ty (a.reached ty w)))
+    none-listed (AnyIn (BreaksRules r)) t given ss hs (all-of (IsClean t r) given (λ ty w. by ty (a.reached ty w)))
   where
     by : (ty : InterfaceType) → Contains met ty ⊎ Contains clean ty → IsClean t r ty
     by ty (inl w) = all-contained (IsClean t r) end ty ends.0 (ends.1 ty w)

@@ -42,13 +42,13 @@ HasRepeatedNames k_enum names = IsRepeated names
 HasRepeatedNames _ names = ⊥
 
 -- More than 32 flags.
-abbrev pub HasManyFlags : Kind → (members : ℕ) → Type 0
-HasManyFlags k_flags n = 32 < n
-HasManyFlags _ n = ⊥
+abbrev pub AreManyFlags : Kind → (members : ℕ) → Type 0
+AreManyFlags k_flags n = 32 < n
+AreManyFlags _ n = ⊥
 
 -- A kind of type is none with members of these names.
 abbrev pub IsBadKind : Kind → List (List ℕ) → Type 0
-IsBadKind k names = IsEmptyKind k (length names) ⊎ (HasRepeatedNames k names ⊎ HasManyFlags k (length names))
+IsBadKind k names = IsEmptyKind k (length names) ⊎ (HasRepeatedNames k names ⊎ AreManyFlags k (length names))
 
 -- A type is none, whatever the types in it are.
 abbrev pub IsBadShape : Shape → Type 0
@@ -73,13 +73,13 @@ IsLongList k_enum n = most_entries < n
 IsLongList _ n = ⊥
 
 -- More than 4,096 cases.
-abbrev pub HasManyCases : Kind → (members : ℕ) → Type 0
-HasManyCases k_variant n = 4096 < n
-HasManyCases _ n = ⊥
+abbrev pub AreManyCases : Kind → (members : ℕ) → Type 0
+AreManyCases k_variant n = 4096 < n
+AreManyCases _ n = ⊥
 
 abbrev pub IsLongShape : Shape → Type 0
 IsLongShape (s_plain p) = IsFarHandle p
-IsLongShape (s_node k ms) = IsLongList k (length (names_of ms)) ⊎ HasManyCases k (length (names_of ms))
+IsLongShape (s_node k ms) = IsLongList k (length (names_of ms)) ⊎ AreManyCases k (length (names_of ms))
 
 -- A type is too large by its table or its members, or its values are, or it nests too deep.
 abbrev pub IsLargeShape : Shape → Type 0

@@ -4,7 +4,7 @@ ghost use Rattle.std.specs.Prelude.{◌↔◌, IfOk, IsTrue, map};
 ghost use Rattle.fact_types.specs.Shapes.{k_record};
 ghost use Rattle.fact_types.specs.Tables.{IsLive, node_of};
 ghost use Rattle.fact_type_rules.specs.TypeFaults.{IsBadKind};
-ghost use Rattle.fact_type_rules.specs.Walk.{IsBadNode, IsLongEntry};
+ghost use Rattle.fact_type_rules.specs.Walk.{IsBadNode, IsLongType};
 
 use crate::names::have_repeated_names;
 use fact_entity::EntityRef;
@@ -56,7 +56,7 @@ fn is_bad_record(alloc: Global, ty: &TypeRecord) -> Result<bool, OutOfMemory>
 /// Whether a live type names a table past the most, or has more members than a type of its kind may have.
 pub(crate) fn is_long_entry(types: &ComponentTypes, ty: &InterfaceType) -> bool
     requires { IsLive types.now ty.now }
-    ensures { IsTrue result ↔ IsLongEntry types.now ty.now }
+    ensures { IsTrue result ↔ IsLongType types.now ty.now }
 {
     match *ty {
         InterfaceType::Own(i) | InterfaceType::Borrow(i) => i.as_u32() as usize >= MOST_ENTRIES,

@@ -7,7 +7,7 @@ ghost use Rattle.fact_types.specs.Tables.{IsLive};
 ghost use Rattle.fact_builder.specs.Handles.{has_borrow};
 ghost use Rattle.fact_plan_types.specs.TypeRules.{IsPast, IsRepeated, most_entries, tuple_layout};
 ghost use Rattle.fact_type_rules.specs.TypeFaults.{AnyIn, HasManyTypes, IsBadFunction, IsLargeFunction, IsLongFunction};
-ghost use Rattle.fact_type_rules.specs.Walk.{Breaks, IsClean};
+ghost use Rattle.fact_type_rules.specs.Walk.{BreaksRules, IsClean};
 
 use crate::entries::MOST_ENTRIES;
 use crate::names::are_repeated;
@@ -122,7 +122,7 @@ fn has_faulty_types(
     requires live { ty.number < length builder.now.tables.functions }
     requires clean { All (IsClean builder.now.tables rules) clean.old.keys }
     ensures clean { All (IsClean builder.now.tables rules) clean.new.keys }
-    ensures exact { IfOk result (λ found. (params results : List Shape) → HasSignature builder.now.tables ty params results → (IsTrue found ↔ (Any (AnyIn (Breaks rules)) params ⊎ Any (AnyIn (Breaks rules)) results))) }
+    ensures exact { IfOk result (λ found. (params results : List Shape) → HasSignature builder.now.tables ty params results → (IsTrue found ↔ (Any (AnyIn (BreaksRules rules)) params ⊎ Any (AnyIn (BreaksRules rules)) results))) }
 {
     if is_any_faulty(builder, rules, clean, params_of(builder, ty))? {
         return Ok(true);

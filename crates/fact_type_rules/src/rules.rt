@@ -5,7 +5,7 @@ ghost use Rattle.fact_types.specs.Shapes.{IsWithin, Shape};
 ghost use Rattle.fact_types.specs.Tables.{IsLive, HasShape};
 ghost use Rattle.fact_plan_types.specs.TypeRules.{IsEntryPast};
 ghost use Rattle.fact_type_rules.specs.TypeFaults.{IsBadShape, IsLargeShape};
-ghost use Rattle.fact_type_rules.specs.Walk.{Breaks};
+ghost use Rattle.fact_type_rules.specs.Walk.{BreaksRules};
 
 use crate::entries::{is_bad_entry, is_long_entry};
 use fact_builder::ComponentTypesBuilder;
@@ -32,7 +32,7 @@ impl Rules {
         ty: &InterfaceType,
     ) -> Result<bool, OutOfMemory>
         requires { IsLive builder.now.tables ty.now }
-        ensures { IfOk result (λ found. (s : Shape) → HasShape builder.now.tables ty.now s → (IsTrue found ↔ Breaks self s)) }
+        ensures { IfOk result (λ found. (s : Shape) → HasShape builder.now.tables ty.now s → (IsTrue found ↔ BreaksRules self s)) }
     {
         match self {
             Rules::OfKind => is_bad_type(alloc, builder, ty),

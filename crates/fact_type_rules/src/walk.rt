@@ -6,7 +6,7 @@ ghost use Rattle.fact_types.specs.Functions.{HaveShapes};
 ghost use Rattle.fact_types.specs.Shapes.{Shape};
 ghost use Rattle.fact_types.specs.Tables.{IsLive};
 ghost use Rattle.fact_type_rules.specs.TypeFaults.{AnyIn};
-ghost use Rattle.fact_type_rules.specs.Walk.{Adds, Breaks, EndsAt, IsClean, Looks};
+ghost use Rattle.fact_type_rules.specs.Walk.{PutsBehind, BreaksRules, EndsAt, IsClean, Looks};
 
 use crate::members::members_of;
 use crate::rules::Rules;
@@ -27,7 +27,7 @@ pub(crate) fn is_any_faulty(
     requires live { All (IsLive builder.now.tables) types.now }
     requires clean { All (IsClean builder.now.tables rules) clean.old.keys }
     ensures clean { All (IsClean builder.now.tables rules) clean.new.keys }
-    ensures exact { IfOk result (λ found. (ss : List Shape) → HaveShapes builder.now.tables types.now ss → (IsTrue found ↔ Any (AnyIn (Breaks rules)) ss)) }
+    ensures exact { IfOk result (λ found. (ss : List Shape) → HaveShapes builder.now.tables types.now ss → (IsTrue found ↔ Any (AnyIn (BreaksRules rules)) ss)) }
 {
     let mut met = IndexSet::new(*clean.allocator());
     add_unknown(clean, &mut met, types)?;
@@ -44,7 +44,7 @@ fn add_unknown(
     met: &mut IndexSet<InterfaceType>,
     types: &[InterfaceType],
 ) -> Result<(), OutOfMemory>
-    ensures { OnOk result (Adds clean.now.keys met.old.keys met.new.keys types.now) }
+    ensures { OnOk result (PutsBehind clean.now.keys met.old.keys met.new.keys types.now) }
 {
     for ty in types {
         if !clean.contains(ty) {

@@ -15,7 +15,7 @@ use Rattle.fact_wasm.specs.Grammar.{list, IsIndex, function_index}
 use Rattle.fact_wasm.specs.Ranges.{InRange, AreBodiesRanged, AreExportsNamed}
 use Rattle.fact_wasm.specs.Spelling.{func_type, IsFuncType, import_item, IsImport, is_function, imported_functions, export_item, IsExport, IsTyped, code_item, IsCode, function_section, export_section, code_section, header, section, Fits, Spells}
 use Rattle.fact_wasm.specs.Rebuild.{name_of}
-use Rattle.fact_wasm.specs.Owned.{IsFront, IsBack, IsOwnExport, IsOwnBody, IsOwnCode, IsOwn, code_of, type_of, body_of}
+use Rattle.fact_wasm.specs.Owned.{IsModuleFront, IsBack, IsOwnExport, IsOwnBody, IsOwnCode, IsOwn, code_of, type_of, body_of}
 use Rattle.fact_wasm.proofs.Rebuilt.{named-back, body_rebuilt}
 use Rattle.fact_wasm.proofs.Unique.{index_unique}
 use Rattle.fact_wasm.proofs.Parts.{split, func_type_unique, import_unique, export_unique, code_unique, section_unique}
@@ -86,7 +86,7 @@ funcs_same (f ∷ fs) (g ∷ gs) p q =
 pub rest_of : WasmModule → List ℕ
 rest_of m = section 0x03 (function_section m) ++ (section 0x07 (export_section m) ++ section 0x0A (code_section m))
 
-pub front_of : (bytes : List ℕ) (m : WasmModule) → Spells bytes m → IsFront bytes m.types m.imports (rest_of m)
+pub front_of : (bytes : List ℕ) (m : WasmModule) → Spells bytes m → IsModuleFront bytes m.types m.imports (rest_of m)
 unfolding rest_of
 front_of bytes m s = record {
   type_bytes = s.fits.type_bytes;
@@ -108,7 +108,7 @@ back_of n m e o f = rw e (record {
   spelled = rw (← types_list m, ← codes_list (imported_functions m) m.funcs) refl;
 })
 
-pub front_unique : (bytes : List ℕ) (ts us : List FuncType) (is js : List WasmImport) (r s : List ℕ) → IsFront bytes ts is r → IsFront bytes us js s → (ts ≡ us) × (is ≡ js) × (r ≡ s)
+pub front_unique : (bytes : List ℕ) (ts us : List FuncType) (is js : List WasmImport) (r s : List ℕ) → IsModuleFront bytes ts is r → IsModuleFront bytes us js s → (ts ≡ us) × (is ≡ js) × (r ≡ s)
 front_unique bytes ts us is js r s p q =
     let e = split header header (section 0x01 (list func_type ts) ++ (section 0x02 (list import_item is) ++ r)) (section 0x01 (list func_type us) ++ (section 0x02 (list import_item js) ++ s)) refl (sym p.spelled ∙ q.spelled) in
     let t = section_unique func_type IsFuncType func_type_unique 0x01 ts us (section 0x02 (list import_item is) ++ r) (section 0x02 (list import_item js) ++ s) p.type_bytes q.type_bytes p.types q.types e.1 in
@@ -136,7 +136,7 @@ bodies_back : (n : ℕ) (fs : List WasmFunc) → AllByRecursion (IsOwnCode n) (m
 bodies_back n [] p = (tt, tt)
 bodies_back n (f ∷ fs) p = let rest = bodies_back n fs p.1 in ((p.0.0, rest.0), (p.0.1, rest.1))
 
-pub module_back : (bytes rest : List ℕ) (n : ℕ) (m : WasmModule) → n ≡ imported_functions m → IsFront bytes m.types m.imports rest → IsBack n rest (map type_of m.funcs) m.exports (map body_of m.funcs) → IsOwn m × Spells bytes m
+pub module_back : (bytes rest : List ℕ) (n : ℕ) (m : WasmModule) → n ≡ imported_functions m → IsModuleFront bytes m.types m.imports rest → IsBack n rest (map type_of m.funcs) m.exports (map body_of m.funcs) → IsOwn m × Spells bytes m
 module_back bytes rest n m e f b = go (subst (λ (k : ℕ). IsBack k rest (map type_of m.funcs) m.exports (map body_of m.funcs)) e b)
   where
     go : IsBack (imported_functions m) rest (map type_of m.funcs) m.exports (map body_of m.funcs) → IsOwn m × Spells bytes m

@@ -39,7 +39,7 @@ pub record IsOwn (m : WasmModule) : Type 0 where
   pub bodies : AllByRecursion (λ f. IsOwnBody (imported_functions m) f.body) m.funcs
 
 -- the types and the imports at the front of the bytes of a module, and what follows them
-pub record IsFront (bytes : List ℕ) (ts : List FuncType) (is : List WasmImport) (rest : List ℕ) : Type 0 where
+pub record IsModuleFront (bytes : List ℕ) (ts : List FuncType) (is : List WasmImport) (rest : List ℕ) : Type 0 where
   pub type_bytes : length (list func_type ts) < 2 ^ 32
   pub import_bytes : length (list import_item is) < 2 ^ 32
   pub types : IsList IsFuncType ts

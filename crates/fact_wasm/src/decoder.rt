@@ -12,7 +12,7 @@ ghost use Rattle.fact_wasm.specs.Answers.{Answers};
 ghost use Rattle.fact_wasm.specs.Numbers.{unsigned};
 ghost use Rattle.fact_wasm.specs.Grammar.{val_type, IsIndex, list, IsList};
 ghost use Rattle.fact_wasm.specs.Spelling.{IsValueType, func_type, IsFuncType, name, IsName, mutability, memory_type, IsMemoryType, import_type, IsImportType, import_item, IsImport, locals_run, IsRun, export_item, header, Spells};
-ghost use Rattle.fact_wasm.specs.Owned.{IsFront, IsBack, IsOwnExport, IsOwnCode, IsOwn, code_of, type_of, body_of};
+ghost use Rattle.fact_wasm.specs.Owned.{IsModuleFront, IsBack, IsOwnExport, IsOwnCode, IsOwn, code_of, type_of, body_of};
 ghost use Rattle.fact_wasm.specs.Ranges.{InRange};
 ghost use Rattle.fact_wasm.specs.declared.error.DecodeError.TheVariants as DecodeError;
 
@@ -294,8 +294,8 @@ fn front_at(
     alloc: Global,
     bytes: &[u8],
 ) -> Result<(Seq<FuncType>, Seq<WasmImport>, &[u8]), DecodeError>
-    ensures found { IfOk result (λ x. IsFront bytes.now x.0 x.1 x.2.now) }
-    ensures only { (ts : List FuncType) (is : List WasmImport) (rest : List ℕ) → IsFront bytes.now ts is rest
+    ensures found { IfOk result (λ x. IsModuleFront bytes.now x.0 x.1 x.2.now) }
+    ensures only { (ts : List FuncType) (is : List WasmImport) (rest : List ℕ) → IsModuleFront bytes.now ts is rest
         → Answers result (λ x. (x.0 ≡ ts) × (x.1 ≡ is) × (x.2.now ≡ rest)) }
 {
     let rest = header_at(bytes)?;

@@ -5,7 +5,7 @@ use Rattle.fact_types.specs.Shapes.{k_tuple}
 use Rattle.fact_types.specs.Tables.{placed, HasMembers, IsLive}
 use Rattle.fact_making.specs.Makes.{Makes}
 use Rattle.fact_plan.specs.declared.plan.PlanType.TheVariants as entry
-use Rattle.fact_plan_types.specs.Adding.{Adds}
+use Rattle.fact_plan_types.specs.Adding.{AddsEntry}
 use Rattle.fact_plan_types.specs.PlanShapes.{places_of}
 use Rattle.fact_plan_types.proofs.AddLaws.{makes_adds}
 use Rattle.fact_plan_types.proofs.MemberLaws.{placed_members}
@@ -30,7 +30,7 @@ returns-in_err-made c =
     let e = entry.Tuple c.args.members.now in
     let p = err_from_is_err_and c.from_residual-in_err-made.result c.from_residual-in_err-made.ensures.1 in
     let m = subst (Makes c.args.builder.now c.make_tuple.new.builder k_tuple (placed 0 c.from_vec.result)) c.in_err-made.was c.make_tuple.ensures in
-    subst (Adds c.args.builder.now c.make_tuple.new.builder c.args.types.now e) (sym (p.1 ∙ ap Err p.2))
+    subst (AddsEntry c.args.builder.now c.make_tuple.new.builder c.args.types.now e) (sym (p.1 ∙ ap Err p.2))
     (makes_adds _ _ c.args.types.now e k_tuple _ (λ ss. places_of ss 0 c.args.members.now) _ m
     (λ ss h. subst (λ (xs : List InterfaceType). HasMembers t (placed 0 xs) (places_of ss 0 c.args.members.now)) (sym c.from_vec.ensures) (placed_members t ss 0 _ c.args.members.now (c.in_ok-members.ensures.shaped t ss h)))
     (λ ss h. refl) (λ ss h. refl) (λ ss. tt) tt)

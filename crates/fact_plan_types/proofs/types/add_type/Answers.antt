@@ -1,6 +1,6 @@
 use Rattle.std.proofs.Common.{◌∙◌, ap, inl, inr, subst, sym, Err, Option}
 use Rattle.std.specs.Prelude.{IfSome}
-use Rattle.fact_plan_types.specs.Adding.{Adds}
+use Rattle.fact_plan_types.specs.Adding.{AddsEntry}
 use Rattle.fact_plan_types.specs.PlanTypes.{IsFirstOfTypes}
 use Rattle.fact_plan_types.specs.Rule.{Breaks}
 use Rattle.fact_plan_types.specs.TypeRules.{table_in}
@@ -47,4 +47,4 @@ returns-in-Err-TooLarge-clause-refused c =
     let b = subst (Breaks c.args.plan.now c.args.k c.args.entry.now) c.in_default.is c.in_ok-rule.ensures in
     let refused = c.in-Err-TooLarge.is ∙ ap Err c.in-Err-TooLarge.field-0-is in
     wide_told c.args.plan.now c.args.k _ _ c.add_entry.new.builder _ c.args.entry.now c.requires.reached c.requires.here b c.in_ok-push_resource_tables.ensures.pushed
-    (subst (Adds c.push_resource_tables.new.builder c.add_entry.new.builder c.args.types.now c.args.entry.now) refused c.add_entry.ensures)
+    (subst (AddsEntry c.push_resource_tables.new.builder c.add_entry.new.builder c.args.types.now c.args.entry.now) refused c.add_entry.ensures)

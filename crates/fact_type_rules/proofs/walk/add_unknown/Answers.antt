@@ -3,7 +3,7 @@ use Rattle.std.proofs.Math.Seq.{take-suc}
 use Rattle.std.proofs.lemmas.Map.Views.{Contains-from_any}
 use Rattle.fact_types.specs.Exact.{exact_type}
 use Rattle.fact_types.specs.declared.interface.InterfaceType.TheVariants as ty
-use Rattle.fact_type_rules.specs.Walk.{Adds}
+use Rattle.fact_type_rules.specs.Walk.{PutsBehind}
 use Rattle.fact_type_rules.proofs.WalkLaws.{known-added, one-added}
 use Rattle.fact_type_rules.proofs.walk.add_unknown.Goals as goal
 use Rattle.fact_type_rules.proofs.walk.add_unknown.Goals.{then-not-contains+in_ok-insert, else-not-contains}
@@ -18,10 +18,10 @@ loop-ty-preserved c =
     let more : take i given ++ x ∷ [] ≡ take (i + 1) given = sym (ap (λ n. take n given) (add-one i) ∙ take-suc given i ty.Bool c.loop-ty-test.true) in
     elim c.if-not-contains.branch [
       | then-not-contains+in_ok-insert w ↦
-          subst (λ keys. Adds clean old keys (take (i + 1) given)) (sym (ap (λ s. s.keys) w.met-is ∙ w.in_ok-insert.ensures.keys))
-          (subst (Adds clean old _) more (one-added clean old c.loop-ty.met.keys (take i given) x c.loop-ty.invariant))
+          subst (λ keys. PutsBehind clean old keys (take (i + 1) given)) (sym (ap (λ s. s.keys) w.met-is ∙ w.in_ok-insert.ensures.keys))
+          (subst (PutsBehind clean old _) more (one-added clean old c.loop-ty.met.keys (take i given) x c.loop-ty.invariant))
       | else-not-contains w ↦
-          subst (λ keys. Adds clean old keys (take (i + 1) given)) (sym (ap (λ s. s.keys) w.met-is))
-          (subst (Adds clean old _) more (known-added clean old c.loop-ty.met.keys (take i given) x c.loop-ty.invariant
+          subst (λ keys. PutsBehind clean old keys (take (i + 1) given)) (sym (ap (λ s. s.keys) w.met-is))
+          (subst (PutsBehind clean old _) more (known-added clean old c.loop-ty.met.keys (take i given) x c.loop-ty.invariant
           (inr (Contains-from_any exact_type x clean (sym c.contains.ensures ∙ w.if-not-contains.false)))))
     ]
