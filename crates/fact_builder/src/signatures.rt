@@ -1,4 +1,4 @@
-//! Core signatures of the sides of an adapter (canonical ABI, `flatten_functype`).
+//! The types of functions, and the core signatures of the sides of an adapter (canonical ABI, `flatten_functype`).
 
 ghost use Rattle.std.specs.Prelude.{◌≡◌, ◌<◌, List, [], ◌∷◌, ◌++◌, length, map, option_map, slice_get, Some, All, IfOk, OnOk};
 ghost use Rattle.fact_types.specs.Flat.{val_type};
@@ -156,6 +156,26 @@ impl ComponentTypesBuilder {
             types[func.params].types.as_slice(),
             types[func.results].types.as_slice(),
         )
+    }
+
+    /// The types of the parameters of a live function.
+    pub fn params_of(&self, ty: TypeFuncIndex) -> &[InterfaceType]
+        requires { ty.number < length self.now.tables.functions }
+        ensures live { All (IsLive self.now.tables) result.now }
+        ensures shaped { (params results : List Shape) → HasSignature self.now.tables ty params results → HaveShapes self.now.tables result.now params }
+    {
+        let (params, _) = self.types_of(ty);
+        params
+    }
+
+    /// The types of the results of a live function.
+    pub fn results_of(&self, ty: TypeFuncIndex) -> &[InterfaceType]
+        requires { ty.number < length self.now.tables.functions }
+        ensures live { All (IsLive self.now.tables) result.now }
+        ensures shaped { (params results : List Shape) → HasSignature self.now.tables ty params results → HaveShapes self.now.tables result.now results }
+    {
+        let (_, results) = self.types_of(ty);
+        results
     }
 
     /// The core types of values of live types, or of a pointer to them where there are more than `max`.

@@ -21,5 +21,5 @@ pub use adapter::{Adapter, AdapterOptionsDfg};
 pub use checks::AdapterChecks;
 pub use fact_plan_types::{FuseError, Place};
 pub use fact_types::MemoryOption;
-pub use plan::{check_plan, linked_adapter, one_first_fault};
-pub use sides::{Candidate, params_of, results_of};
+pub use plan::{MOST_INSTANCE, check_plan, linked_adapter, one_first_fault};
+pub use sides::Candidate;

@@ -15,7 +15,7 @@ ghost use Rattle.fact_types.specs.Adapters.{LinkedAdapter, Side};
 ghost use Rattle.fact_checks.specs.Linked.{HasSides, IsSideOf, IsTyped};
 
 use crate::adapter::{Adapter, AdapterOptionsDfg};
-use crate::sides::{is_wide, params_of, params_tuple, results_of, results_tuple};
+use crate::sides::{is_wide, params_tuple, results_tuple};
 use fact_builder::ComponentTypesBuilder;
 use fact_types::{
     InterfaceType, MAX_FLAT_ASYNC_PARAMS, MAX_FLAT_PARAMS, MAX_FLAT_RESULTS, MemoryOption,
@@ -96,7 +96,7 @@ fn lower_params_by_pointer(
         builder,
         options,
         lower_limit(options),
-        params_of(builder, ty),
+        builder.params_of(ty),
     )
 }
 
@@ -105,7 +105,7 @@ fn has_results(builder: &ComponentTypesBuilder, ty: TypeFuncIndex) -> bool
     requires { ty.number < length builder.now.tables.functions }
     ensures { (params results : List Shape) → HasSignature builder.now.tables ty params results → (IsTrue result ↔ (results ≢ [])) }
 {
-    !results_of(builder, ty).is_empty()
+    !builder.results_of(ty).is_empty()
 }
 
 /// Whether the results of a function that is lowered stand behind a pointer.
@@ -120,7 +120,7 @@ fn lower_results_by_pointer(
     if options.async_ {
         return Ok(has_results(builder, ty));
     }
-    is_by_pointer(builder, options, MAX_FLAT_RESULTS, results_of(builder, ty))
+    is_by_pointer(builder, options, MAX_FLAT_RESULTS, builder.results_of(ty))
 }
 
 /// Whether the parameters of a function that is lifted stand behind a pointer.
@@ -132,7 +132,7 @@ fn lift_params_by_pointer(
     requires { ty.number < length builder.now.tables.functions }
     ensures { IfOk result (λ found. (s : Side) → IsSideOf builder.now ty options.now s → (IsTrue found ↔ LiftParamsByPointer s)) }
 {
-    is_by_pointer(builder, options, MAX_FLAT_PARAMS, params_of(builder, ty))
+    is_by_pointer(builder, options, MAX_FLAT_PARAMS, builder.params_of(ty))
 }
 
 /// Whether the results of a function that is lifted stand behind a pointer.
@@ -148,7 +148,7 @@ fn lift_results_by_pointer(
         builder,
         options,
         lift_results_limit(options),
-        results_of(builder, ty),
+        builder.results_of(ty),
     )
 }
 

@@ -16,14 +16,11 @@ use crate::checks::AdapterChecks;
 use crate::linking::{adapter_lacks, adapter_of};
 use crate::sides::Candidate;
 use fact_plan::{FusePlan, PlanAdapter};
-use fact_plan_types::{FuseError, Place, PlanTypes};
+use fact_plan_types::{FuseError, MOST_ENTRIES, Place, PlanTypes};
 use std::alloc::Global;
 
-/// The most entries of a list of a plan.
-const MOST_ENTRIES: usize = 268_435_456;
-
 /// The greatest number of an instance.
-const MOST_INSTANCE: u32 = 2_147_483_647;
+pub const MOST_INSTANCE: u32 = 2_147_483_647;
 
 /// Whether an adapter has too large a place or instance.
 fn is_large(k: usize, adapter: &PlanAdapter) -> bool

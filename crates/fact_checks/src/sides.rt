@@ -1,7 +1,7 @@
 //! The sides of an adapter, with their types looked up.
 
-ghost use Rattle.std.specs.Prelude.{◌≡◌, ◌<◌, List, All, length, slice_get, Some};
-ghost use Rattle.fact_types.specs.Functions.{HasSignature, HaveShapes};
+ghost use Rattle.std.specs.Prelude.{◌≡◌, ◌<◌, List, length};
+ghost use Rattle.fact_types.specs.Functions.{HasSignature};
 ghost use Rattle.fact_types.specs.Shapes.{Shape};
 ghost use Rattle.fact_types.specs.Tables.{HasShape, IsLive};
 ghost use Rattle.fact_types.specs.Adapters.{LinkedAdapter, is_async as is_async_adapter, is_crossing as is_crossing_adapter, is_wide as is_wide_memory};
@@ -18,30 +18,6 @@ pub struct Candidate<'a> {
     pub name: &'a str,
     pub transparent: bool,
     pub adapter: &'a Adapter,
-}
-
-/// The types of the parameters of a live function.
-pub fn params_of(builder: &ComponentTypesBuilder, ty: TypeFuncIndex) -> &[InterfaceType]
-    requires { ty.number < length builder.now.tables.functions }
-    ensures live { All (IsLive builder.now.tables) result.now }
-    ensures shaped { (params results : List Shape) → HasSignature builder.now.tables ty params results → HaveShapes builder.now.tables result.now params }
-{
-    builder.reveal();
-    builder.component_types().reveal();
-    let func = &builder[ty];
-    builder[func.params].types.as_slice()
-}
-
-/// The types of the results of a live function.
-pub fn results_of(builder: &ComponentTypesBuilder, ty: TypeFuncIndex) -> &[InterfaceType]
-    requires { ty.number < length builder.now.tables.functions }
-    ensures live { All (IsLive builder.now.tables) result.now }
-    ensures shaped { (params results : List Shape) → HasSignature builder.now.tables ty params results → HaveShapes builder.now.tables result.now results }
-{
-    builder.reveal();
-    builder.component_types().reveal();
-    let func = &builder[ty];
-    builder[func.results].types.as_slice()
 }
 
 /// The tuple of the parameters of a live function.

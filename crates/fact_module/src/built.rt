@@ -11,7 +11,7 @@ ghost use Rattle.fact_types.specs.Shapes.{Shape};
 
 use crate::tunables::{Tunables, WasmFeatures};
 use fact_builder::ComponentTypesBuilder;
-use fact_checks::{Adapter, AdapterOptionsDfg, Candidate, params_of, results_of};
+use fact_checks::{Adapter, AdapterOptionsDfg, Candidate};
 use fact_types::{InterfaceType, TypeFuncIndex};
 
 const MOST_PARAMS: usize = 16;
@@ -45,8 +45,8 @@ fn has_few_numbers(builder: &ComponentTypesBuilder, ty: TypeFuncIndex) -> bool
     requires { ty.number < length builder.now.tables.functions }
     ensures { (params results : List Shape) → HasSignature builder.now.tables ty params results → (IsTrue result ↔ (AreFewNumbers 16 params × AreFewNumbers 1 results)) }
 {
-    are_few_numbers(params_of(builder, ty), MOST_PARAMS)
-        && are_few_numbers(results_of(builder, ty), MOST_RESULTS)
+    are_few_numbers(builder.params_of(ty), MOST_PARAMS)
+        && are_few_numbers(builder.results_of(ty), MOST_RESULTS)
 }
 
 /// Whether a live function and the options of its side are sync.

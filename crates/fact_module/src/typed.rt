@@ -11,17 +11,12 @@ ghost use Rattle.fact_module.specs.Adapted.{IsBadFunctionType, IsLargeFunctionTy
 ghost use Rattle.fact_module.specs.Typed.{HasSoundTypes, TypesHaveFirst};
 
 use fact_builder::ComponentTypesBuilder;
-use fact_checks::{Adapter, FuseError, Place};
+use fact_checks::{Adapter, FuseError, MOST_INSTANCE, Place};
 use fact_entity::EntityRef;
+use fact_plan_types::MOST_ENTRIES;
 use fact_type_rules::FunctionTypes;
 use fact_types::{Lookup, TypeFuncIndex};
 use fact_wasm::OutOfMemory;
-
-/// The most adapters that are told apart by their numbers.
-const MOST_ENTRIES: u32 = 268_435_456;
-
-/// The greatest number of an instance.
-const MOST_INSTANCE: u32 = 2_147_483_647;
 
 /// Whether the function types and core types of an adapter are in a builder.
 fn is_typed(builder: &ComponentTypesBuilder, adapter: &Adapter) -> bool
@@ -39,7 +34,7 @@ fn is_typed(builder: &ComponentTypesBuilder, adapter: &Adapter) -> bool
 fn has_large_number(number: u32, adapter: &Adapter) -> bool
     ensures { IsTrue result ↔ ((most_entries ≤ number) ⊎ ((most_instance < adapter.now.lift_options.instance.number) ⊎ (most_instance < adapter.now.lower_options.instance.number))) }
 {
-    number >= MOST_ENTRIES
+    number as usize >= MOST_ENTRIES
         || adapter.lift_options.instance.as_u32() > MOST_INSTANCE
         || adapter.lower_options.instance.as_u32() > MOST_INSTANCE
 }

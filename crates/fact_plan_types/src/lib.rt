@@ -13,4 +13,6 @@ mod rules;
 mod types;
 
 pub use error::{FuseError, Place};
+pub use names::{are_repeated, is_repeated};
 pub use plan_types::PlanTypes;
+pub use rules::{MOST_CASES, MOST_ENTRIES, MOST_FLAGS};

@@ -9,7 +9,7 @@ use indexmap::IndexSet;
 use std::alloc::Global;
 
 /// Whether a name stands at two places.
-pub(crate) fn is_repeated(alloc: Global, names: &[&str]) -> Result<bool, OutOfMemory>
+pub fn is_repeated(alloc: Global, names: &[&str]) -> Result<bool, OutOfMemory>
     ensures { IfOk result (λ found. IsTrue found ↔ IsRepeated (map (λ n. n.now) names.now)) }
 {
     let mut seen = IndexSet::new(alloc);
@@ -59,6 +59,14 @@ fn names_of_texts<'a>(alloc: Global, texts: &'a [Text]) -> Result<Vec<&'a str>, 
         names.push(text.as_str())?;
     }
     Ok(names)
+}
+
+/// Whether one of some texts stands at two places.
+pub fn are_repeated(alloc: Global, texts: &[Text]) -> Result<bool, OutOfMemory>
+    ensures { IfOk result (λ found. IsTrue found ↔ IsRepeated texts.now) }
+{
+    let names = names_of_texts(alloc, texts)?;
+    is_repeated(alloc, names.as_slice())
 }
 
 /// The names of the fields, cases, flags or enum cases of an entry.

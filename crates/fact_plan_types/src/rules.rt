@@ -13,14 +13,14 @@ use fact_wasm::{OutOfMemory, Text};
 use indexmap::IndexSet;
 use std::alloc::Global;
 
-/// The most entries of a list of a plan.
-const MOST_ENTRIES: usize = 268_435_456;
+/// The most entries of a list of a plan, of a type or of a function, and the most resource tables.
+pub const MOST_ENTRIES: usize = 268_435_456;
 
 /// The most flags of a type.
-const MOST_FLAGS: usize = 32;
+pub const MOST_FLAGS: usize = 32;
 
 /// The most cases of a variant.
-const MOST_CASES: usize = 4096;
+pub const MOST_CASES: usize = 4096;
 
 /// The types of the members of an entry, and its payload.
 pub(crate) fn types_in(alloc: Global, entry: &PlanType) -> Result<Vec<PlanRef>, OutOfMemory>

@@ -8,18 +8,10 @@ ghost use Rattle.fact_type_rules.specs.Walk.{IsBadNode, IsLongType};
 
 use crate::names::have_repeated_names;
 use fact_entity::EntityRef;
+use fact_plan_types::{MOST_CASES, MOST_ENTRIES, MOST_FLAGS};
 use fact_types::{ComponentTypes, InterfaceType, TypeRecord};
 use fact_wasm::OutOfMemory;
 use std::alloc::Global;
-
-/// The most entries of a list of a type or of a function, and the most resource tables.
-pub(crate) const MOST_ENTRIES: usize = 268_435_456;
-
-/// The most flags of a type.
-const MOST_FLAGS: usize = 32;
-
-/// The most cases of a variant.
-const MOST_CASES: usize = 4096;
 
 /// Whether a live type is none, whatever the types of its members are. The names of cases and flags are told apart by the
 /// tables themselves.

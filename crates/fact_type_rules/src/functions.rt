@@ -9,11 +9,10 @@ ghost use Rattle.fact_plan_types.specs.TypeRules.{IsPast, IsRepeated, most_entri
 ghost use Rattle.fact_type_rules.specs.TypeFaults.{AnyIn, HasManyTypes, IsBadFunction, IsLargeFunction, IsLongFunction};
 ghost use Rattle.fact_type_rules.specs.Walk.{BreaksRules, IsClean};
 
-use crate::entries::MOST_ENTRIES;
-use crate::names::are_repeated;
 use crate::rules::Rules;
 use crate::walk::is_any_faulty;
 use fact_builder::ComponentTypesBuilder;
+use fact_plan_types::{MOST_ENTRIES, are_repeated};
 use fact_types::{InterfaceType, TypeFuncIndex};
 use fact_wasm::OutOfMemory;
 use indexmap::IndexSet;
@@ -66,7 +65,7 @@ impl<'a> FunctionTypes<'a> {
         if has_repeated_names(*self.of_kind.allocator(), builder, ty)? {
             return Ok(true);
         }
-        if is_any_borrow(builder, results_of(builder, ty)) {
+        if is_any_borrow(builder, builder.results_of(ty)) {
             return Ok(true);
         }
         has_faulty_types(builder, Rules::OfKind, &mut self.of_kind, ty)
@@ -88,30 +87,6 @@ impl<'a> FunctionTypes<'a> {
     }
 }
 
-/// The types of the parameters of a live function.
-fn params_of(builder: &ComponentTypesBuilder, ty: TypeFuncIndex) -> &[InterfaceType]
-    requires { ty.number < length builder.now.tables.functions }
-    ensures live { All (IsLive builder.now.tables) result.now }
-    ensures shaped { (params results : List Shape) → HasSignature builder.now.tables ty params results → HaveShapes builder.now.tables result.now params }
-{
-    builder.reveal();
-    builder.component_types().reveal();
-    let func = &builder[ty];
-    builder[func.params].types.as_slice()
-}
-
-/// The types of the results of a live function.
-fn results_of(builder: &ComponentTypesBuilder, ty: TypeFuncIndex) -> &[InterfaceType]
-    requires { ty.number < length builder.now.tables.functions }
-    ensures live { All (IsLive builder.now.tables) result.now }
-    ensures shaped { (params results : List Shape) → HasSignature builder.now.tables ty params results → HaveShapes builder.now.tables result.now results }
-{
-    builder.reveal();
-    builder.component_types().reveal();
-    let func = &builder[ty];
-    builder[func.results].types.as_slice()
-}
-
 /// Whether the type of a parameter or of a result of a live function, or a type in one, breaks one of the rules.
 fn has_faulty_types(
     builder: &ComponentTypesBuilder,
@@ -124,10 +99,10 @@ fn has_faulty_types(
     ensures clean { All (IsClean builder.now.tables rules) clean.new.keys }
     ensures exact { IfOk result (λ found. (params results : List Shape) → HasSignature builder.now.tables ty params results → (IsTrue found ↔ (Any (AnyIn (BreaksRules rules)) params ⊎ Any (AnyIn (BreaksRules rules)) results))) }
 {
-    if is_any_faulty(builder, rules, clean, params_of(builder, ty))? {
+    if is_any_faulty(builder, rules, clean, builder.params_of(ty))? {
         return Ok(true);
     }
-    is_any_faulty(builder, rules, clean, results_of(builder, ty))
+    is_any_faulty(builder, rules, clean, builder.results_of(ty))
 }
 
 /// Whether two parameters of a live function have one name.
@@ -176,7 +151,7 @@ fn has_many_types(builder: &ComponentTypesBuilder, ty: TypeFuncIndex) -> bool
     requires { ty.number < length builder.now.tables.functions }
     ensures { (params results : List Shape) → HasSignature builder.now.tables ty params results → (IsTrue result ↔ HasManyTypes params results) }
 {
-    params_of(builder, ty).len() > MOST_ENTRIES || results_of(builder, ty).len() > MOST_ENTRIES
+    builder.params_of(ty).len() > MOST_ENTRIES || builder.results_of(ty).len() > MOST_ENTRIES
 }
 
 /// Does nothing: it says that the parameters of a live function, as a tuple, take no more bytes than there can be, and so do its
