@@ -34,9 +34,9 @@ pub record AreLeft (t : Tables) (from to : InterfaceType) (p q : Option Interfac
   pub second_lower : over t q.0 ≤ height t from
   pub tells : (b : Bool) → TellsBoth t p q b → Tells t from to b
 
-abbrev pub Leaves : Tables → InterfaceType → InterfaceType → Comparison → Type 0
-Leaves t from to (Decided b) = Tells t from to b
-Leaves t from to (Records fs gs) = IsLeft t from to (of_fields fs.now) (of_fields gs.now) (TellsRecords t fs.now gs.now)
-Leaves t from to (Variants f g) = IsLeft t from to f.now.entries g.now.entries (TellsCases t f.now.entries g.now.entries)
-Leaves t from to (Tuples xs ys) = IsLeft t from to (placed 0 xs.now) (placed 0 ys.now) (TellsAll t xs.now ys.now)
-Leaves t from to (Payloads p q) = AreLeft t from to p q
+abbrev pub LeavesToTell : Tables → InterfaceType → InterfaceType → Comparison → Type 0
+LeavesToTell t from to (Decided b) = Tells t from to b
+LeavesToTell t from to (Records fs gs) = IsLeft t from to (of_fields fs.now) (of_fields gs.now) (TellsRecords t fs.now gs.now)
+LeavesToTell t from to (Variants f g) = IsLeft t from to f.now.entries g.now.entries (TellsCases t f.now.entries g.now.entries)
+LeavesToTell t from to (Tuples xs ys) = IsLeft t from to (placed 0 xs.now) (placed 0 ys.now) (TellsAll t xs.now ys.now)
+LeavesToTell t from to (Payloads p q) = AreLeft t from to p q

@@ -2,7 +2,7 @@
 
 ghost use Rattle.fact_types.specs.declared.interface.InterfaceType.TheVariants as ty;
 ghost use Rattle.fact_types.specs.Tables.{IsLive};
-ghost use Rattle.fact_agreement.specs.Left.{Leaves};
+ghost use Rattle.fact_agreement.specs.Left.{LeavesToTell};
 
 use fact_entity::{
     TypeEnumIndex, TypeFixedLengthListIndex, TypeFlagsIndex, TypeListIndex, TypeMapIndex,
@@ -38,7 +38,7 @@ pub(crate) fn left_to_compare<'a>(
 ) -> Comparison<'a>
     requires from_live { IsLive types.now from.now }
     requires to_live { IsLive types.now to.now }
-    ensures { Leaves types.now from.now to.now result }
+    ensures { LeavesToTell types.now from.now to.now result }
 {
     match *from {
         InterfaceType::Record(i) => of_record(types, i, to),
@@ -70,7 +70,7 @@ fn of_record<'a>(
 ) -> Comparison<'a>
     requires from_live { IsLive types.now (ty.Record i) }
     requires to_live { IsLive types.now to.now }
-    ensures { Leaves types.now (ty.Record i) to.now result }
+    ensures { LeavesToTell types.now (ty.Record i) to.now result }
 {
     types.reveal();
     match *to {
@@ -89,7 +89,7 @@ fn of_variant<'a>(
 ) -> Comparison<'a>
     requires from_live { IsLive types.now (ty.Variant i) }
     requires to_live { IsLive types.now to.now }
-    ensures { Leaves types.now (ty.Variant i) to.now result }
+    ensures { LeavesToTell types.now (ty.Variant i) to.now result }
 {
     types.reveal();
     match *to {
@@ -102,7 +102,7 @@ fn of_variant<'a>(
 fn of_tuple<'a>(types: &'a ComponentTypes, i: TypeTupleIndex, to: &InterfaceType) -> Comparison<'a>
     requires from_live { IsLive types.now (ty.Tuple i) }
     requires to_live { IsLive types.now to.now }
-    ensures { Leaves types.now (ty.Tuple i) to.now result }
+    ensures { LeavesToTell types.now (ty.Tuple i) to.now result }
 {
     types.reveal();
     match *to {
@@ -117,7 +117,7 @@ fn of_tuple<'a>(types: &'a ComponentTypes, i: TypeTupleIndex, to: &InterfaceType
 fn of_flags<'a>(types: &'a ComponentTypes, i: TypeFlagsIndex, to: &InterfaceType) -> Comparison<'a>
     requires from_live { IsLive types.now (ty.Flags i) }
     requires to_live { IsLive types.now to.now }
-    ensures { Leaves types.now (ty.Flags i) to.now result }
+    ensures { LeavesToTell types.now (ty.Flags i) to.now result }
 {
     match *to {
         InterfaceType::Flags(j) => {
@@ -131,7 +131,7 @@ fn of_flags<'a>(types: &'a ComponentTypes, i: TypeFlagsIndex, to: &InterfaceType
 fn of_enum<'a>(types: &'a ComponentTypes, i: TypeEnumIndex, to: &InterfaceType) -> Comparison<'a>
     requires from_live { IsLive types.now (ty.Enum i) }
     requires to_live { IsLive types.now to.now }
-    ensures { Leaves types.now (ty.Enum i) to.now result }
+    ensures { LeavesToTell types.now (ty.Enum i) to.now result }
 {
     match *to {
         InterfaceType::Enum(j) => {
@@ -145,7 +145,7 @@ fn of_enum<'a>(types: &'a ComponentTypes, i: TypeEnumIndex, to: &InterfaceType) 
 fn of_list<'a>(types: &'a ComponentTypes, i: TypeListIndex, to: &InterfaceType) -> Comparison<'a>
     requires from_live { IsLive types.now (ty.List i) }
     requires to_live { IsLive types.now to.now }
-    ensures { Leaves types.now (ty.List i) to.now result }
+    ensures { LeavesToTell types.now (ty.List i) to.now result }
 {
     types.reveal();
     match *to {
@@ -161,7 +161,7 @@ fn of_list<'a>(types: &'a ComponentTypes, i: TypeListIndex, to: &InterfaceType) 
 fn of_map<'a>(types: &'a ComponentTypes, i: TypeMapIndex, to: &InterfaceType) -> Comparison<'a>
     requires from_live { IsLive types.now (ty.Map i) }
     requires to_live { IsLive types.now to.now }
-    ensures { Leaves types.now (ty.Map i) to.now result }
+    ensures { LeavesToTell types.now (ty.Map i) to.now result }
 {
     types.reveal();
     match *to {
@@ -185,7 +185,7 @@ fn of_option<'a>(
 ) -> Comparison<'a>
     requires from_live { IsLive types.now (ty.Option i) }
     requires to_live { IsLive types.now to.now }
-    ensures { Leaves types.now (ty.Option i) to.now result }
+    ensures { LeavesToTell types.now (ty.Option i) to.now result }
 {
     types.reveal();
     match *to {
@@ -204,7 +204,7 @@ fn of_result<'a>(
 ) -> Comparison<'a>
     requires from_live { IsLive types.now (ty.Result i) }
     requires to_live { IsLive types.now to.now }
-    ensures { Leaves types.now (ty.Result i) to.now result }
+    ensures { LeavesToTell types.now (ty.Result i) to.now result }
 {
     types.reveal();
     match *to {
@@ -225,7 +225,7 @@ fn of_fixed_length_list<'a>(
 ) -> Comparison<'a>
     requires from_live { IsLive types.now (ty.FixedLengthList i) }
     requires to_live { IsLive types.now to.now }
-    ensures { Leaves types.now (ty.FixedLengthList i) to.now result }
+    ensures { LeavesToTell types.now (ty.FixedLengthList i) to.now result }
 {
     types.reveal();
     match *to {

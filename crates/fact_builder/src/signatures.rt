@@ -1,7 +1,7 @@
 //! The types of functions, and the core signatures of the sides of an adapter (canonical ABI, `flatten_functype`).
 
 ghost use Rattle.std.specs.Prelude.{◌≡◌, ◌<◌, List, [], ◌∷◌, ◌++◌, length, map, option_map, slice_get, Some, All, IfOk, OnOk};
-ghost use Rattle.fact_types.specs.Flat.{val_type};
+ghost use Rattle.fact_types.specs.Flat.{value_type};
 ghost use Rattle.fact_types.specs.Functions.{HaveShapes, HasSignature};
 ghost use Rattle.fact_types.specs.Shapes.{Shape};
 ghost use Rattle.fact_types.specs.Signatures.{width, address as address_of, flat_values, flat_params as flat_params_of, lower_signature as lower_signature_of, lift_signature as lift_signature_of, async_lower};
@@ -25,7 +25,7 @@ fn address(memory64: bool) -> ValType
 
 /// Appends the value types of flat types.
 fn push_flat(values: &mut Seq<ValType>, types: &[FlatType]) -> Result<(), OutOfMemory>
-    ensures { OnOk result (values.new ≡ values.old ++ map val_type types.now) }
+    ensures { OnOk result (values.new ≡ values.old ++ map value_type types.now) }
 {
     for ty in types {
         values.push(ValType::from(*ty))?;

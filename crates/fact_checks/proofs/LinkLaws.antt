@@ -16,7 +16,7 @@ use Rattle.fact_plan_types.specs.declared.plan_types.PlanTypes.{PlanTypes}
 use Rattle.fact_checks.specs.AdapterRules.{SideLacks}
 use Rattle.fact_types.specs.Adapters.{LinkedAdapter}
 use Rattle.fact_checks.specs.Adapters.{named_def, named_memory}
-use Rattle.fact_checks.specs.Linked.{HasSides, IsTyped}
+use Rattle.fact_checks.specs.Linked.{HasSides, NamesTypesOf}
 use Rattle.fact_checks.specs.Links.{LinksAdapter, LinksSide}
 use Rattle.fact_checks.specs.declared.adapter.Adapter.{Adapter}
 use Rattle.fact_checks.specs.declared.adapter.AdapterOptionsDfg.{AdapterOptionsDfg}
@@ -99,7 +99,7 @@ adapter-links p b x a callee lift lower = record {
 }
 
 -- what an adapter with sides names is in the builder
-pub sides-typed : (b : Builder) (a : Adapter) (linked : LinkedAdapter) → HasSides b a linked → IsTyped b a
+pub sides-typed : (b : Builder) (a : Adapter) (linked : LinkedAdapter) → HasSides b a linked → NamesTypesOf b a
 sides-typed b a linked h = record {
   lift = slice_get_within _ _ _ h.lift.signature.func_there;
   lower = slice_get_within _ _ _ h.lower.signature.func_there;

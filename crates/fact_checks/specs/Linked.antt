@@ -36,7 +36,7 @@ pub record IsLinked (b : Builder) (c : Candidate) (linked : LinkedAdapter) : Typ
   pub transparent : linked.transparent ≡ c.transparent
 
 -- The function types and core types that an adapter names are in a builder.
-pub record IsTyped (b : Builder) (a : Adapter) : Type 0 where
+pub record NamesTypesOf (b : Builder) (a : Adapter) : Type 0 where
   pub lift : a.lift_ty.number < length b.tables.functions
   pub lower : a.lower_ty.number < length b.tables.functions
   pub lift_core : a.lift_options.core_type.number < length b.module_types

@@ -7,7 +7,7 @@ ghost use Rattle.fact_uses.specs.Fronts.{IsFront};
 ghost use Rattle.fact_types.specs.Adapters.{LinkedAdapter};
 ghost use Rattle.fact_checks.specs.AdapterRules.{HasBadMemory, HasDuplicateName, HasImportConflict, export_names, memories_of, reallocs_of, uses_of, with};
 ghost use Rattle.fact_checks.specs.Binding.{AreAllDifferent};
-ghost use Rattle.fact_checks.specs.Linked.{HasSides, IsLinked, IsTyped};
+ghost use Rattle.fact_checks.specs.Linked.{HasSides, IsLinked, NamesTypesOf};
 
 use crate::adapter::Adapter;
 use crate::memories::cannot_use_memory;
@@ -76,7 +76,7 @@ pub(crate) fn has_bad_memory(
     bound_reallocs: &mut Bindings<u32>,
     adapter: &Adapter,
 ) -> Result<bool, OutOfMemory>
-    requires { IsTyped builder.now adapter.now }
+    requires { NamesTypesOf builder.now adapter.now }
     ensures exact { IfOk result (λ found. (before : List LinkedAdapter) (a : LinkedAdapter) → HasSides builder.now adapter.now a
         → Covers bound_memories.old (flat_map memories_of before) → Covers bound_reallocs.old (flat_map reallocs_of before) → (IsTrue found ↔ HasBadMemory before a)) }
     ensures memories { IfOk result (λ found. IsFalse found → (before : List LinkedAdapter) (a : LinkedAdapter) → HasSides builder.now adapter.now a
@@ -103,7 +103,7 @@ pub(crate) fn has_import_conflict(
     bound: &mut Bindings<Use>,
     adapter: &Adapter,
 ) -> Result<bool, OutOfMemory>
-    requires { IsTyped builder.now adapter.now }
+    requires { NamesTypesOf builder.now adapter.now }
     ensures exact { IfOk result (λ found. (before : List LinkedAdapter) (a : LinkedAdapter) → HasSides builder.now adapter.now a
         → Covers bound.old (flat_map uses_of before) → (IsTrue found ↔ HasImportConflict before a)) }
     ensures bound { IfOk result (λ found. IsFalse found → (before : List LinkedAdapter) (a : LinkedAdapter) → HasSides builder.now adapter.now a
@@ -125,7 +125,7 @@ pub(crate) fn has_duplicate_name(
     exported: &mut ExportNames,
     candidate: &Candidate<'_>,
 ) -> Result<bool, OutOfMemory>
-    requires { IsTyped builder.now candidate.now.adapter.now }
+    requires { NamesTypesOf builder.now candidate.now.adapter.now }
     ensures exact { IfOk result (λ found. (before : List LinkedAdapter) (a : LinkedAdapter) → IsLinked builder.now candidate.now a
         → exported.old ≡ flat_map export_names before → AreAllDifferent exported.old → (IsTrue found ↔ HasDuplicateName before a)) }
     ensures names { IfOk result (λ found. IsFalse found → (before : List LinkedAdapter) (a : LinkedAdapter) → IsLinked builder.now candidate.now a

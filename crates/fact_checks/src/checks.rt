@@ -5,7 +5,7 @@ ghost use Rattle.fact_plan_types.specs.PlanTypes.{told};
 ghost use Rattle.fact_plan_types.specs.declared.error.Place.TheVariants as place_at;
 ghost use Rattle.fact_uses.specs.Fronts.{IsFront};
 ghost use Rattle.fact_checks.specs.Checked.{IsFaultlessBehind, IsFirstOf, IsFirstOver, IsSoundNext, IsSoundOver};
-ghost use Rattle.fact_checks.specs.Linked.{IsTyped};
+ghost use Rattle.fact_checks.specs.Linked.{NamesTypesOf};
 
 use crate::bound::{Bound, has_bad_memory, has_duplicate_name, has_import_conflict};
 use crate::mismatch::has_type_mismatch;
@@ -30,7 +30,7 @@ fn check_behind(
     place: Place,
     candidate: &Candidate<'_>,
 ) -> Result<(), FuseError>
-    requires typed { IsTyped builder.now candidate.now.adapter.now }
+    requires typed { NamesTypesOf builder.now candidate.now.adapter.now }
     requires tables { agreement.old ≡ builder.now.tables }
     ensures same { agreement.new ≡ agreement.old }
     ensures sound { OnOk result (IsSoundOver builder.now concurrency bound.old bound.new candidate.now) }
@@ -116,7 +116,7 @@ impl<'a> AdapterChecks<'a> {
     /// Checks an adapter behind those that were found sound, and tells its first fault, with its number as place. Where it
     /// has none, it is one of those that the next one is checked behind; after an error nothing of it is kept.
     pub fn check(&mut self, number: u32, candidate: &Candidate<'_>) -> Result<(), FuseError>
-        requires { IsTyped self.old.builder candidate.now.adapter.now }
+        requires { NamesTypesOf self.old.builder candidate.now.adapter.now }
         ensures builder { self.new.builder ≡ self.old.builder }
         ensures concurrency { self.new.concurrency ≡ self.old.concurrency }
         ensures sound { OnOk result (IsSoundNext self.old self.new candidate.now) }
@@ -142,7 +142,7 @@ impl<'a> AdapterChecks<'a> {
     /// Tells the first fault of an adapter behind those that were found sound, as [`AdapterChecks::check`] does, and keeps
     /// nothing of it.
     pub fn judge(&mut self, number: u32, candidate: &Candidate<'_>) -> Result<(), FuseError>
-        requires { IsTyped self.old.builder candidate.now.adapter.now }
+        requires { NamesTypesOf self.old.builder candidate.now.adapter.now }
         ensures unchanged { self.new ≡ self.old }
         ensures faultless { OnOk result (IsFaultlessBehind self.old candidate.now) }
         ensures refused { IfErr result (λ e. IfSome (told e) (λ x. IsFirstOf self.old candidate.now x.0 × (x.1 ≡ place_at.Adapter number))) }

@@ -12,7 +12,7 @@ ghost use Rattle.fact_builder.specs.PointerPairs.{any_pointer_pair};
 ghost use Rattle.fact_checks.specs.declared.adapter.AdapterOptionsDfg.{AdapterOptionsDfg as Options};
 ghost use Rattle.fact_checks.specs.AdapterRules.{CannotUseMemory, HasOddMemory, HoldsPointer, IsByPointer, IsOdd, LacksMemory, LiftLacksMemory, LiftNeedsMemory, LiftNeedsRealloc, LiftParamsByPointer, LiftResultsByPointer, LowerLacksMemory, LowerNeedsMemory, LowerNeedsRealloc, LowerParamsByPointer, LowerResultsByPointer};
 ghost use Rattle.fact_types.specs.Adapters.{LinkedAdapter, Side};
-ghost use Rattle.fact_checks.specs.Linked.{HasSides, IsSideOf, IsTyped};
+ghost use Rattle.fact_checks.specs.Linked.{HasSides, IsSideOf, NamesTypesOf};
 
 use crate::adapter::{Adapter, AdapterOptionsDfg};
 use crate::sides::{is_wide, params_tuple, results_tuple};
@@ -267,7 +267,7 @@ fn lacks_needed_memory(
     builder: &ComponentTypesBuilder,
     adapter: &Adapter,
 ) -> Result<bool, OutOfMemory>
-    requires { IsTyped builder.now adapter.now }
+    requires { NamesTypesOf builder.now adapter.now }
     ensures { IfOk result (λ found. (linked : LinkedAdapter) → HasSides builder.now adapter.now linked → (IsTrue found ↔ LacksMemory linked)) }
 {
     if lift_lacks_memory(builder, adapter.lift_ty, &adapter.lift_options)? {
@@ -288,7 +288,7 @@ pub(crate) fn cannot_use_memory(
     builder: &ComponentTypesBuilder,
     adapter: &Adapter,
 ) -> Result<bool, OutOfMemory>
-    requires { IsTyped builder.now adapter.now }
+    requires { NamesTypesOf builder.now adapter.now }
     ensures { IfOk result (λ found. (linked : LinkedAdapter) → HasSides builder.now adapter.now linked → (IsTrue found ↔ CannotUseMemory linked)) }
 {
     if lacks_needed_memory(builder, adapter)? {

@@ -7,7 +7,7 @@ ghost use Rattle.fact_agreement.specs.Lists.{AgreeAll};
 ghost use Rattle.fact_checks.specs.declared.adapter.AdapterOptionsDfg.{AdapterOptionsDfg as Options};
 ghost use Rattle.fact_checks.specs.AdapterRules.{HasTypeMismatch, any_borrow};
 ghost use Rattle.fact_types.specs.Adapters.{LinkedAdapter, Side};
-ghost use Rattle.fact_checks.specs.Linked.{HasSides, IsSideOf, IsTyped};
+ghost use Rattle.fact_checks.specs.Linked.{HasSides, IsSideOf, NamesTypesOf};
 
 use crate::adapter::Adapter;
 use crate::sides::{params_tuple, results_tuple};
@@ -71,7 +71,7 @@ pub(crate) fn has_type_mismatch(
     agreement: &mut Agreement<'_>,
     adapter: &Adapter,
 ) -> Result<bool, OutOfMemory>
-    requires typed { IsTyped builder.now adapter.now }
+    requires typed { NamesTypesOf builder.now adapter.now }
     requires tables { agreement.old ≡ builder.now.tables }
     ensures same { agreement.new ≡ agreement.old }
     ensures exact { IfOk result (λ found. (linked : LinkedAdapter) → HasSides builder.now adapter.now linked → (IsTrue found ↔ HasTypeMismatch linked)) }

@@ -5,7 +5,7 @@ ghost use Rattle.fact_uses.specs.Fronts.{IsFront};
 ghost use Rattle.fact_checks.specs.AdapterRules.{export_names, part_names};
 ghost use Rattle.fact_types.specs.Adapters.{LinkedAdapter};
 ghost use Rattle.fact_checks.specs.Binding.{AddsNames};
-ghost use Rattle.fact_checks.specs.Linked.{IsLinked, IsTyped};
+ghost use Rattle.fact_checks.specs.Linked.{IsLinked, NamesTypesOf};
 
 use crate::sides::{Candidate, is_async, is_crossing};
 use fact_builder::ComponentTypesBuilder;
@@ -51,7 +51,7 @@ pub(crate) fn names(
     builder: &ComponentTypesBuilder,
     candidate: &Candidate<'_>,
 ) -> Result<Vec<Text>, OutOfMemory>
-    requires { IsTyped builder.now candidate.now.adapter.now }
+    requires { NamesTypesOf builder.now candidate.now.adapter.now }
     ensures { IfOk result (λ names. (linked : LinkedAdapter) → IsLinked builder.now candidate.now linked → names.items ≡ export_names linked) }
 {
     let adapter = candidate.adapter;

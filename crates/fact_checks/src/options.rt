@@ -3,7 +3,7 @@
 ghost use Rattle.std.specs.Prelude.{◌≡◌, ◌↔◌, ◌||◌, IsTrue};
 ghost use Rattle.fact_checks.specs.AdapterRules.{HasBadOptions, holds_handle as holds_handle_in};
 ghost use Rattle.fact_types.specs.Adapters.{LinkedAdapter};
-ghost use Rattle.fact_checks.specs.Linked.{HasSides, IsLinked, IsTyped};
+ghost use Rattle.fact_checks.specs.Linked.{HasSides, IsLinked, NamesTypesOf};
 
 use crate::adapter::Adapter;
 use crate::sides::{Candidate, is_async, is_crossing};
@@ -11,7 +11,7 @@ use fact_builder::ComponentTypesBuilder;
 
 /// Whether a parameter or a result of one of the two functions holds a handle.
 fn holds_handle(builder: &ComponentTypesBuilder, adapter: &Adapter) -> bool
-    requires { IsTyped builder.now adapter.now }
+    requires { NamesTypesOf builder.now adapter.now }
     ensures { (linked : LinkedAdapter) → HasSides builder.now adapter.now linked → result ≡ (holds_handle_in linked.lift || holds_handle_in linked.lower) }
 {
     builder.func_contains_any_handle(adapter.lift_ty)
@@ -25,7 +25,7 @@ pub(crate) fn has_bad_options(
     concurrency: bool,
     candidate: &Candidate<'_>,
 ) -> bool
-    requires { IsTyped builder.now candidate.now.adapter.now }
+    requires { NamesTypesOf builder.now candidate.now.adapter.now }
     ensures { (linked : LinkedAdapter) → IsLinked builder.now candidate.now linked → (IsTrue result ↔ HasBadOptions concurrency linked) }
 {
     let adapter = candidate.adapter;

@@ -5,7 +5,7 @@ ghost use Rattle.fact_types.specs.Functions.{HasSignature};
 ghost use Rattle.fact_types.specs.Shapes.{Shape};
 ghost use Rattle.fact_types.specs.Tables.{HasShape, IsLive};
 ghost use Rattle.fact_types.specs.Adapters.{LinkedAdapter, is_async as is_async_adapter, is_crossing as is_crossing_adapter, is_wide as is_wide_memory};
-ghost use Rattle.fact_checks.specs.Linked.{HasSides, IsTyped, sig_of};
+ghost use Rattle.fact_checks.specs.Linked.{HasSides, NamesTypesOf, sig_of};
 ghost use Rattle.fact_checks.specs.Tuples.{tuple_of};
 
 use crate::adapter::{Adapter, AdapterOptionsDfg};
@@ -66,7 +66,7 @@ pub(crate) fn side_sig(ty: TypeFuncIndex, options: &AdapterOptionsDfg) -> SideSi
 
 /// Whether an adapter is async: a side is, or a function type is marked so.
 pub(crate) fn is_async(builder: &ComponentTypesBuilder, adapter: &Adapter) -> bool
-    requires { IsTyped builder.now adapter.now }
+    requires { NamesTypesOf builder.now adapter.now }
     ensures { (linked : LinkedAdapter) → HasSides builder.now adapter.now linked → result ≡ is_async_adapter linked }
 {
     adapter.lift_options.async_

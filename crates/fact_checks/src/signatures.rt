@@ -4,7 +4,7 @@ ghost use Rattle.std.specs.Prelude.{◌≡◌, ◌↔◌, ◌<◌, IfOk, IsTrue,
 ghost use Rattle.fact_wasm.specs.CoreTypes.{signature as signature_type};
 ghost use Rattle.fact_checks.specs.AdapterRules.{Differs, HasBadSignature, lift_side_signature, lower_side_signature};
 ghost use Rattle.fact_types.specs.Adapters.{LinkedAdapter, Side};
-ghost use Rattle.fact_checks.specs.Linked.{HasSides, IsSideOf, IsTyped};
+ghost use Rattle.fact_checks.specs.Linked.{HasSides, IsSideOf, NamesTypesOf};
 
 use crate::adapter::{Adapter, AdapterOptionsDfg};
 use crate::sides::side_sig;
@@ -53,7 +53,7 @@ pub(crate) fn has_bad_signature(
     builder: &ComponentTypesBuilder,
     adapter: &Adapter,
 ) -> Result<bool, OutOfMemory>
-    requires { IsTyped builder.now adapter.now }
+    requires { NamesTypesOf builder.now adapter.now }
     ensures { IfOk result (λ found. (linked : LinkedAdapter) → HasSides builder.now adapter.now linked → (IsTrue found ↔ HasBadSignature linked)) }
 {
     if lift_differs(builder, adapter.lift_ty, &adapter.lift_options)? {

@@ -9,7 +9,7 @@ ghost use Rattle.fact_types.specs.ImportTypes.{callback_type as callback_type_of
 ghost use Rattle.fact_checks.specs.AdapterRules.{IsCalleeTwice, IsSameAs, bound, callee_uses, def_in, memories_of, memory_use as memory_use_of, reallocs_of, side_uses, uses_of};
 ghost use Rattle.fact_types.specs.Adapters.{LinkedAdapter, Side};
 ghost use Rattle.fact_checks.specs.Binding.{Binds};
-ghost use Rattle.fact_checks.specs.Linked.{HasSides, IsSideOf, IsTyped};
+ghost use Rattle.fact_checks.specs.Linked.{HasSides, IsSideOf, NamesTypesOf};
 
 use crate::adapter::{Adapter, AdapterOptionsDfg};
 use crate::sides::is_wide;
@@ -174,7 +174,7 @@ pub(crate) fn uses(
     builder: &ComponentTypesBuilder,
     adapter: &Adapter,
 ) -> Result<Vec<(CoreDef, Use)>, OutOfMemory>
-    requires { IsTyped builder.now adapter.now }
+    requires { NamesTypesOf builder.now adapter.now }
     ensures { IfOk result (λ pairs. (linked : LinkedAdapter) → HasSides builder.now adapter.now linked → pairs.items ≡ uses_of linked) }
 {
     let mut pairs = Vec::new(alloc);

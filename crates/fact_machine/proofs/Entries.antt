@@ -12,7 +12,7 @@ use Rattle.fact_machine.specs.declared.running.Entry.{Entry}
 use Rattle.fact_machine.specs.declared.running.Entry.TheVariants as entry
 use Rattle.fact_machine.specs.declared.running.Running.{Running}
 use Rattle.fact_machine.specs.Cut.{IsCut}
-use Rattle.fact_machine.specs.Machine.{Around, Bottom, Label, Breaks, leaving, have_types, next_of, next, Goes, Ends, At, branch, grab, or_stuck, block_arity, enter, Did}
+use Rattle.fact_machine.specs.Machine.{Around, Bottom, Label, Breaks, leaving, have_types, next_in, next, Goes, Ends, At, branch, grab, or_stuck, block_arity, enter, Did}
 use Rattle.fact_machine.specs.Running.{put, around_of, world_of, config_of, at, branching}
 use Rattle.fact_machine.proofs.Cuts.{cut_is_none, cut_is_some}
 
@@ -30,28 +30,28 @@ empty_of : {A : Type 0} → (xs : List A) → true ≡ (length xs == 0) → xs �
 empty_of [] h = refl
 empty_of (x ∷ xs) h = let e : suc (length xs) ≡ 0 = grind (arith, nat_tests, sym h) in absurd (omega arith)
 
-next_around : (r : Running) (k : Around) → true ≡ (length r.code.now == 0) → around_of r.around Bottom ≡ k → next (config_of r) ≡ next_of (world_of r) r.stack r.locals [] k
-next_around r k hc hk = ap (λ c. next_of (world_of r) r.stack r.locals c (around_of r.around Bottom)) (empty_of r.code.now hc) ∙ ap (λ x. next_of (world_of r) r.stack r.locals [] x) hk
+next_around : (r : Running) (k : Around) → true ≡ (length r.code.now == 0) → around_of r.around Bottom ≡ k → next (config_of r) ≡ next_in (world_of r) r.stack r.locals [] k
+next_around r k hc hk = ap (λ c. next_in (world_of r) r.stack r.locals c (around_of r.around Bottom)) (empty_of r.code.now hc) ∙ ap (λ x. next_in (world_of r) r.stack r.locals [] x) hk
 
 pub left_label : (r : Running) (us below : List CoreValue) (es : List Entry) (e : Entry) (a : ℕ) (to rest : Bor (List Instr)) (cs : Bor (List ℕ))
     → true ≡ (length r.code.now == 0) → r.around ≡ es ++ e ∷ [] → e ≡ entry.Label a below to rest cs → us ≡ r.stack ++ below
-    → next_of (world_of r) us r.locals rest.now (around_of es Bottom) ≡ next (config_of r)
+    → next_in (world_of r) us r.locals rest.now (around_of es Bottom) ≡ next (config_of r)
 left_label r us below es e a to rest cs hc ha he hu =
-    ap (λ v. next_of (world_of r) v r.locals rest.now (around_of es Bottom)) hu ∙ sym (next_around r _ hc (around_pop r es e (entry.Label a below to rest cs) ha he))
+    ap (λ v. next_in (world_of r) v r.locals rest.now (around_of es Bottom)) hu ∙ sym (next_around r _ hc (around_pop r es e (entry.Label a below to rest cs) ha he))
 
 -- the end of a call's body, which ended in these values
 frame_end : (r : Running) (below vs : List CoreValue) (ls : List (Option CoreValue)) (es : List Entry) (e : Entry) (ts : Bor (List ValType)) (rest : Bor (List Instr)) (b : Bool)
     → true ≡ (length r.code.now == 0) → r.around ≡ es ++ e ∷ [] → e ≡ entry.Frame ts ls below rest → vs ≡ reverse r.stack → b ≡ have_types vs ts.now
-    → next (config_of r) ≡ leaving b (world_of r) (next_of (world_of r) (r.stack ++ below) ls rest.now (around_of es Bottom))
+    → next (config_of r) ≡ leaving b (world_of r) (next_in (world_of r) (r.stack ++ below) ls rest.now (around_of es Bottom))
 frame_end r below vs ls es e ts rest b hc ha he hv hb =
     next_around r _ hc (around_pop r es e (entry.Frame ts ls below rest) ha he)
-    ∙ ap (λ b. leaving b (world_of r) (next_of (world_of r) (r.stack ++ below) ls rest.now (around_of es Bottom))) (sym (hb ∙ ap (λ us. have_types us ts.now) hv))
+    ∙ ap (λ b. leaving b (world_of r) (next_in (world_of r) (r.stack ++ below) ls rest.now (around_of es Bottom))) (sym (hb ∙ ap (λ us. have_types us ts.now) hv))
 
 pub left_frame : (r : Running) (us below vs : List CoreValue) (ls : List (Option CoreValue)) (es : List Entry) (e : Entry) (ts : Bor (List ValType)) (rest : Bor (List Instr))
     → true ≡ (length r.code.now == 0) → r.around ≡ es ++ e ∷ [] → e ≡ entry.Frame ts ls below rest → vs ≡ reverse r.stack → true ≡ have_types vs ts.now → us ≡ r.stack ++ below
-    → next_of (world_of r) us ls rest.now (around_of es Bottom) ≡ next (config_of r)
+    → next_in (world_of r) us ls rest.now (around_of es Bottom) ≡ next (config_of r)
 left_frame r us below vs ls es e ts rest hc ha he hv hb hu =
-    ap (λ v. next_of (world_of r) v ls rest.now (around_of es Bottom)) hu ∙ sym (frame_end r below vs ls es e ts rest true hc ha he hv hb)
+    ap (λ v. next_in (world_of r) v ls rest.now (around_of es Bottom)) hu ∙ sym (frame_end r below vs ls es e ts rest true hc ha he hv hb)
 
 pub broken_frame : (r : Running) (below vs : List CoreValue) (ls : List (Option CoreValue)) (es : List Entry) (e : Entry) (ts : Bor (List ValType)) (rest : Bor (List Instr))
     → true ≡ (length r.code.now == 0) → r.around ≡ es ++ e ∷ [] → e ≡ entry.Frame ts ls below rest → vs ≡ reverse r.stack → false ≡ have_types vs ts.now → Breaks (world_of r) ≡ next (config_of r)

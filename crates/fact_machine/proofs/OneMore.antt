@@ -10,7 +10,7 @@ use Rattle.fact_machine.specs.declared.types.Answer.TheVariants.{Returns, Traps,
 use Rattle.fact_machine.specs.declared.types.TraceEntry.{TraceEntry}
 use Rattle.fact_machine.specs.declared.types.End.TheVariants.{Lacks}
 use Rattle.fact_machine.specs.World.{World, log_of, asked}
-use Rattle.fact_machine.specs.Machine.{have_types, Around, Bottom, Label, Frame, Config, At, Did, Goes, Ends, Next, Begins, Finished, Breaks, leaving, on_res, throw, next_of, next, begin, at_rest, after, exec, act, start, run_of}
+use Rattle.fact_machine.specs.Machine.{have_types, Around, Bottom, Label, Frame, Config, At, Did, Goes, Ends, Next, Begins, Finished, Breaks, leaving, on_res, throw, next_in, next, begin, at_rest, after, exec, act, start, run_of}
 use Rattle.fact_machine.specs.Causes.{answers_of}
 use Rattle.fact_machine.proofs.Plans.{IsPlain, Leap, To, Stops, leaps, Plan, Leaps, Sets, Writes, Asks, does, world, Planned, throw_leaping, act_planned, start_planned}
 use Rattle.fact_machine.proofs.Worlds.{config_world, next_world}
@@ -73,7 +73,7 @@ leaving_beside : (b : Bool) (w : World) (a : Answer) (x y : Next) → x ≡ next
 leaving_beside true w a x y h = h
 leaving_beside false w a x y h = refl
 
-next_beside : (w : World) (vs : List CoreValue) (ls : List (Option CoreValue)) (code : List Instr) (k : Around) (a : Answer) → next_of (given a w) vs ls code k ≡ next_given a (next_of w vs ls code k)
+next_beside : (w : World) (vs : List CoreValue) (ls : List (Option CoreValue)) (code : List Instr) (k : Around) (a : Answer) → next_in (given a w) vs ls code k ≡ next_given a (next_in w vs ls code k)
 next_beside w vs ls (i ∷ rest) k a = refl
 next_beside w vs ls [] Bottom a = refl
 next_beside w vs ls [] (Label n below to rest cs k) a = next_beside w (vs ++ below) ls rest k a

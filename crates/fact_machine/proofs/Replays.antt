@@ -13,7 +13,7 @@ use Rattle.fact_machine.specs.declared.types.TraceEntry.{TraceEntry}
 use Rattle.fact_machine.specs.declared.types.TraceEntry.TheVariants.{Called, Stored, GlobalSet}
 use Rattle.fact_machine.specs.declared.types.Outcome.{Outcome}
 use Rattle.fact_machine.specs.World.{World, asked, bytes_of, put_at, with_number}
-use Rattle.fact_machine.specs.Machine.{Around, Config, At, Did, Goes, Ends, Next, Begins, Finished, Breaks, on_res, act, next, next_of, begin, start}
+use Rattle.fact_machine.specs.Machine.{Around, Config, At, Did, Goes, Ends, Next, Begins, Finished, Breaks, on_res, act, next, next_in, begin, start}
 use Rattle.fact_machine.specs.Trace.{reached_after, reach, run_reach, world_at, trace_of}
 use Rattle.fact_machine.specs.Replay.{replay_one, replay, SeesState, SeesReplay, Replays, WorldIsReplayed, RunIsReplayed, CallsSeeReplay, LaterIsReplayed}
 use Rattle.fact_machine.proofs.Laws.{run_is}
@@ -111,7 +111,7 @@ after_replays M n (Ends e w) h = replays_none w
 pub steps_replay : (M : WasmModule) (n : ℕ) (c : Config) → Replays (config_world c) (world_at M n c)
 steps_replay M zero c = replays_to (world_at_zero M (Goes c)) (replays_none (config_world c))
 steps_replay M (suc n) (At w vs ls code k) =
-    let x : Next = next_of w vs ls code k in
+    let x : Next = next_in w vs ls code k in
     replays_from (next_keeps w vs ls code k) (replays_on (begin_replays M x) (after_replays M n (begin M x) (steps_replay M n)))
 
 more_did : (M : WasmModule) (n m : ℕ) (d : Did) → ((c : Config) → Replays (world_at M n c) (world_at M (n + m) c)) → Replays (reached_after (reach M n) d).world (reached_after (reach M (n + m)) d).world

@@ -15,7 +15,7 @@ use Rattle.fact_machine.specs.declared.types.CoreValue.{CoreValue}
 use Rattle.fact_machine.specs.declared.types.CoreValue.TheVariants.{I32}
 use Rattle.fact_machine.specs.declared.types.End.TheVariants.{Going}
 use Rattle.fact_machine.specs.World.{World}
-use Rattle.fact_machine.specs.Machine.{Around, Label, Frame, At, Did, Goes, act, onto, grab, or_stuck, have_types, has_type, call_inside, enter, or_empty, throw, leaving, next_of}
+use Rattle.fact_machine.specs.Machine.{Around, Label, Frame, At, Did, Goes, act, onto, grab, or_stuck, have_types, has_type, call_inside, enter, or_empty, throw, leaving, next_in}
 use Rattle.fact_machine.specs.Trace.{Reached, reach, reached_after}
 use Rattle.fact_machine.specs.Exits.{Exit, Falls, Branches, Throws, Halts, leads, Leaves, Enters, or_halts, block_exit, catch_exit, try_exit, IsOut, nest, Calls, entry_locals, results_exit, call_exit}
 use Rattle.fact_machine.proofs.Laws.{same_next, reach_broken, leaves_whole, leaves_whole_going, leaves_as, leaves_early, leaves_steps}
@@ -250,8 +250,8 @@ call_inside_is M f w args vs ls rest k func ty h =
 
 frame_ends : (M : WasmModule) (j : ℕ) (w : World) (us : List CoreValue) (results : List ValType) (below : List CoreValue) (ls outer : List (Option CoreValue)) (rest : List Instr) (k : Around) (b : Bool)
     → have_types (reverse us) results ≡ b → reach M j (At w us ls [] (Frame results outer below rest k)) ≡ reached_after (reach M j) (leads (results_exit b w (Falls w (us ++ below) outer)) rest k)
-frame_ends M j w us results below ls outer rest k true h = same_next M j _ _ (ap (λ b. leaving b w (next_of w (us ++ below) outer rest k)) h)
-frame_ends M j w us results below ls outer rest k false h = reach_broken M j _ w (ap (λ b. leaving b w (next_of w (us ++ below) outer rest k)) h)
+frame_ends M j w us results below ls outer rest k true h = same_next M j _ _ (ap (λ b. leaving b w (next_in w (us ++ below) outer rest k)) h)
+frame_ends M j w us results below ls outer rest k false h = reach_broken M j _ w (ap (λ b. leaving b w (next_in w (us ++ below) outer rest k)) h)
 
 call_same : (M : WasmModule) (j : ℕ) (w : World) (o : Option (List CoreValue × List CoreValue)) (results : List ValType) (below : List CoreValue) (ls outer : List (Option CoreValue)) (rest : List Instr) (k : Around)
     → reached_after (reach M j) (or_stuck w o (λ p. Goes (At w (p.0 ++ []) ls [] (Frame results outer below rest k))))
@@ -263,7 +263,7 @@ call_same M j w (Some p) results below ls outer rest k =
 under_call : (M : WasmModule) (results : List ValType) (below : List CoreValue) (outer : List (Option CoreValue)) (x : Exit) (rest : List Instr) (k : Around) (j : ℕ)
     → reached_after (reach M j) (leads x [] (Label (length results) [] [] [] [] (Frame results outer below rest k))) ≡ reached_after (reach M j) (leads (call_exit results below outer x) rest k)
 under_call M results below outer (Falls w vs ls) rest k j =
-    same_next M j _ (At w vs ls [] (Frame results outer below rest k)) (ap (λ s. next_of w s ls [] (Frame results outer below rest k)) (append-nil vs))
+    same_next M j _ (At w vs ls [] (Frame results outer below rest k)) (ap (λ s. next_in w s ls [] (Frame results outer below rest k)) (append-nil vs))
     ∙ frame_ends M j w vs results below ls outer rest k _ refl
 under_call M results below outer (Branches w zero vs ls) rest k j = call_same M j w (grab (length results) vs) results below ls outer rest k
 under_call M results below outer (Branches w (suc l) vs ls) rest k j = refl

@@ -13,7 +13,7 @@ use Rattle.fact_machine.specs.declared.types.MachineState.{MachineState}
 use Rattle.fact_machine.specs.declared.types.Answer.{Answer}
 use Rattle.fact_machine.specs.declared.types.Answer.TheVariants.{Returns, Traps, Throws}
 use Rattle.fact_machine.specs.Machine.{has_type, page_bytes}
-use Rattle.fact_machine.specs.Typed.{IsBits, IsValue, FitsWidth, IsMemory, memory_type, global_type, TypedState, type_of_import, AreResults, TypedAnswer, is_bits, is_value, all_zip, fits_width, is_memory, are_memories, are_globals, is_typed_state, are_results, is_grown, is_typed_answer}
+use Rattle.fact_machine.specs.Typed.{IsBits, IsValue, FitsWidth, IsMemory, type_of_memory, type_of_global, TypedState, type_of_import, AreResults, TypedAnswer, is_bits, is_value, all_zip, fits_width, is_memory, are_memories, are_globals, is_typed_state, are_results, is_grown, is_typed_answer}
 
 always : {P : Type 0} → P → Decides true P
 always p = (λ e. p, λ p. refl)
@@ -86,7 +86,7 @@ state_decided m s =
     Decides-like (is_typed_state m s)
     (λ h. record { memories = h.0; globals = h.1 })
     (λ (t : TypedState m s). (t.memories, t.globals))
-    (Decides-and (are_memories (filter_map memory_type m.imports) s.memories) _ (memories_decided (filter_map memory_type m.imports) s.memories) (globals_decided (filter_map global_type m.imports) s.globals))
+    (Decides-and (are_memories (filter_map type_of_memory m.imports) s.memories) _ (memories_decided (filter_map type_of_memory m.imports) s.memories) (globals_decided (filter_map type_of_global m.imports) s.globals))
 
 -- ---- answers
 

@@ -11,7 +11,7 @@ use Rattle.fact_machine.specs.declared.types.Answer.{Answer}
 use Rattle.fact_machine.specs.declared.types.End.TheVariants.{Returned, Going, Stuck}
 use Rattle.fact_machine.specs.declared.types.Outcome.{Outcome}
 use Rattle.fact_machine.specs.World.{World}
-use Rattle.fact_machine.specs.Machine.{Around, Bottom, Label, Frame, At, Goes, Finished, leaving, next_of, have_types, grab, or_stuck, check, call_inside, after, exec, takes, start, run_of}
+use Rattle.fact_machine.specs.Machine.{Around, Bottom, Label, Frame, At, Goes, Finished, leaving, next_in, have_types, grab, or_stuck, check, call_inside, after, exec, takes, start, run_of}
 use Rattle.fact_machine.specs.Trace.{Reached, reached, reached_after, reach, run_reach, trace_of, outcome_of}
 use Rattle.fact_machine.specs.Exits.{Exit, Falls, Branches, Throws, Halts, leads, Leaves, Calls, entry_locals, first_world, returned, top_returned, run_exit}
 use Rattle.fact_machine.proofs.Laws.{IsOver, over_of, run_is, stays, one_end, reach_finished, reach_broken, same_next, leaves_whole, leaves_whole_going}
@@ -37,7 +37,7 @@ branch_returns M results j w (Some p) ls = ap (λ s. reach M j (At w s ls [] (Fr
 
 body_ends : (M : WasmModule) (results : List ValType) (j : ℕ) (x : Exit) → reached_after (reach M j) (leads x [] (outermost results)) ≡ run_exit results x
 body_ends M results j (Falls w vs ls) =
-    same_next M j _ (At w vs ls [] (Frame results [] [] [] Bottom)) (ap (λ s. next_of w s ls [] (Frame results [] [] [] Bottom)) (append-nil vs))
+    same_next M j _ (At w vs ls [] (Frame results [] [] [] Bottom)) (ap (λ s. next_in w s ls [] (Frame results [] [] [] Bottom)) (append-nil vs))
     ∙ frame_returns M results j w vs ls _ refl
 body_ends M results j (Branches w zero vs ls) = branch_returns M results j w (grab (length results) vs) ls
 body_ends M results j (Branches w (suc l) vs ls) = refl

@@ -4,7 +4,7 @@ use Rattle.fact_wasm.specs.declared.instr.Instr.{Instr}
 use Rattle.fact_wasm.specs.declared.module.WasmModule.{WasmModule}
 use Rattle.fact_machine.specs.declared.types.CoreValue.{CoreValue}
 use Rattle.fact_machine.specs.World.{World}
-use Rattle.fact_machine.specs.Machine.{Around, Bottom, Label, Frame, Config, At, Did, Goes, Ends, Next, Begins, Finished, Breaks, leaving, or_stuck, grab, have_types, branch, throw, next_of}
+use Rattle.fact_machine.specs.Machine.{Around, Bottom, Label, Frame, Config, At, Did, Goes, Ends, Next, Begins, Finished, Breaks, leaving, or_stuck, grab, have_types, branch, throw, next_in}
 use Rattle.fact_machine.specs.Trace.{reached_at_rest, reached_after, reach}
 
 -- ---- the world that a step leads to
@@ -48,11 +48,11 @@ leaving_keeps true w x h = h
 leaving_keeps false w x h = refl
 
 -- ends of bodies change nothing of the world
-pub next_keeps : (w : World) (vs : List CoreValue) (ls : List (Option CoreValue)) (code : List Instr) (k : Around) → next_world (next_of w vs ls code k) ≡ w
+pub next_keeps : (w : World) (vs : List CoreValue) (ls : List (Option CoreValue)) (code : List Instr) (k : Around) → next_world (next_in w vs ls code k) ≡ w
 next_keeps w vs ls (i ∷ rest) k = refl
 next_keeps w vs ls [] Bottom = refl
 next_keeps w vs ls [] (Label a below to rest c k) = next_keeps w (vs ++ below) ls rest k
-next_keeps w vs ls [] (Frame ts f below rest k) = leaving_keeps (have_types (reverse vs) ts) w (next_of w (vs ++ below) f rest k) (next_keeps w (vs ++ below) f rest k)
+next_keeps w vs ls [] (Frame ts f below rest k) = leaving_keeps (have_types (reverse vs) ts) w (next_in w (vs ++ below) f rest k) (next_keeps w (vs ++ below) f rest k)
 
 rest_world : (x : Next) → (reached_at_rest x).world ≡ next_world x
 rest_world (Begins w vs ls i rest k) = refl
@@ -61,5 +61,5 @@ rest_world (Breaks w) = refl
 
 -- no step changes nothing of the world
 pub world_at_zero : (M : WasmModule) (d : Did) → (reached_after (reach M 0) d).world ≡ did_world d
-world_at_zero M (Goes (At w vs ls code k)) = rest_world (next_of w vs ls code k) ∙ next_keeps w vs ls code k
+world_at_zero M (Goes (At w vs ls code k)) = rest_world (next_in w vs ls code k) ∙ next_keeps w vs ls code k
 world_at_zero M (Ends e w) = refl

@@ -351,14 +351,14 @@ abbrev pub leaving : Bool → World → Next → Next
 leaving true w x = x
 leaving false w x = Breaks w
 
-abbrev pub next_of : World → List CoreValue → List (Option CoreValue) → List Instr → Around → Next
-next_of w vs locals (i ∷ rest) k = Begins w vs locals i rest k
-next_of w vs locals [] Bottom = Finished w vs
-next_of w vs locals [] (Label a below to rest catches k) = next_of w (vs ++ below) locals rest k
-next_of w vs locals [] (Frame ts f below rest k) = leaving (have_types (reverse vs) ts) w (next_of w (vs ++ below) f rest k)
+abbrev pub next_in : World → List CoreValue → List (Option CoreValue) → List Instr → Around → Next
+next_in w vs locals (i ∷ rest) k = Begins w vs locals i rest k
+next_in w vs locals [] Bottom = Finished w vs
+next_in w vs locals [] (Label a below to rest catches k) = next_in w (vs ++ below) locals rest k
+next_in w vs locals [] (Frame ts f below rest k) = leaving (have_types (reverse vs) ts) w (next_in w (vs ++ below) f rest k)
 
 abbrev pub next : Config → Next
-next (At w vs locals code k) = next_of w vs locals code k
+next (At w vs locals code k) = next_in w vs locals code k
 
 abbrev pub begin : WasmModule → Next → Did
 begin M (Begins w vs locals i rest k) = act M (out-Instr i) w vs locals rest k

@@ -79,11 +79,11 @@ Row = World → List CoreValue → List (Option CoreValue) → List Instr → Ar
 
 -- a row at a running machine, whose code is what comes after the instruction
 abbrev pub at : Running → Row → Did
-at r row = row (world_of r) r.stack r.locals r.code.now (around_of r.around Bottom)
+at r plain_row = plain_row (world_of r) r.stack r.locals r.code.now (around_of r.around Bottom)
 
 -- an instruction that looks at no part of the module
-abbrev pub row : Instr-F Instr → Row
-row i w vs ls rest k = act (record { types = []; imports = []; funcs = []; exports = [] }) i w vs ls rest k
+abbrev pub plain_row : Instr-F Instr → Row
+plain_row i w vs ls rest k = act (record { types = []; imports = []; funcs = []; exports = [] }) i w vs ls rest k
 
 -- a local gets a value that is off the stack
 abbrev pub assign : ℕ → CoreValue → Row
@@ -218,8 +218,8 @@ abbrev pub loading : LoadKind → ℕ → ℕ → Row
 loading kind index address w vs ls rest k =
     or_stuck w (slice_get w.state.memories index) (λ bytes. on_res (read (load_length kind) bytes address w) ls k (λ number w'. Goes (At w' (load_value kind number ∷ vs) ls rest k)))
 
-abbrev pub stored : WasmModule → StoreKind → MemArg → Row
-stored M kind m w vs ls rest k = store M (store_length kind) (store_number kind) m w vs ls rest k
+abbrev pub store_row : WasmModule → StoreKind → MemArg → Row
+store_row M kind m w vs ls rest k = store M (store_length kind) (store_number kind) m w vs ls rest k
 
 -- a store with its operands off the stack
 abbrev pub storing : StoreKind → ℕ → ℕ → ℕ → Row

@@ -41,16 +41,16 @@ pub record IsMemory (wide : Bool) (page : Option ℕ) (bytes : List ℕ) : Type 
   pub whole : length bytes % page_bytes page ≡ 0
   pub fits : FitsWidth wide (length bytes) (length bytes / page_bytes page)
 
-abbrev pub memory_type : WasmImport → Option (Bool × Option ℕ)
-memory_type w = elim w.ty [ import.Func t ↦ None | import.Memory least wide page ↦ Some (wide, page) | import.Global t mutable ↦ None ]
+abbrev pub type_of_memory : WasmImport → Option (Bool × Option ℕ)
+type_of_memory w = elim w.ty [ import.Func t ↦ None | import.Memory least wide page ↦ Some (wide, page) | import.Global t mutable ↦ None ]
 
-abbrev pub global_type : WasmImport → Option ValType
-global_type w = elim w.ty [ import.Func t ↦ None | import.Memory least wide page ↦ None | import.Global t mutable ↦ Some t ]
+abbrev pub type_of_global : WasmImport → Option ValType
+type_of_global w = elim w.ty [ import.Func t ↦ None | import.Memory least wide page ↦ None | import.Global t mutable ↦ Some t ]
 
 -- one memory for each memory import, and one value for each global import
 pub record TypedState (m : WasmModule) (s : MachineState) : Type 0 where
-  pub memories : AllZip (λ t bytes. IsMemory t.0 t.1 bytes) (filter_map memory_type m.imports) s.memories
-  pub globals : AllZip (λ t v. IsValue v t) (filter_map global_type m.imports) s.globals
+  pub memories : AllZip (λ t bytes. IsMemory t.0 t.1 bytes) (filter_map type_of_memory m.imports) s.memories
+  pub globals : AllZip (λ t v. IsValue v t) (filter_map type_of_global m.imports) s.globals
 
 -- ---- answers
 
@@ -110,7 +110,7 @@ abbrev pub are_globals : List ValType → List CoreValue → Bool
 are_globals types globals = all_zip (λ t v. is_value v t) types globals
 
 abbrev pub is_typed_state : WasmModule → MachineState → Bool
-is_typed_state m s = are_memories (filter_map memory_type m.imports) s.memories && are_globals (filter_map global_type m.imports) s.globals
+is_typed_state m s = are_memories (filter_map type_of_memory m.imports) s.memories && are_globals (filter_map type_of_global m.imports) s.globals
 
 abbrev pub are_results : Option FuncType → List CoreValue → Bool
 are_results None vs = false

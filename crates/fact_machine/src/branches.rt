@@ -2,7 +2,7 @@
 
 ghost use Rattle.std.specs.Prelude.{◌≡◌, IfOk};
 ghost use Rattle.fact_wasm.specs.declared.instr.Instr.TheOpen as instr;
-ghost use Rattle.fact_machine.specs.Running.{did_of, at, row, branching, throwing};
+ghost use Rattle.fact_machine.specs.Running.{did_of, at, plain_row, branching, throwing};
 
 use crate::running::{Entry, Running, Step};
 use crate::stack::Stack;
@@ -51,7 +51,7 @@ fn branch_here(run: &mut Running) -> Step
 
 /// `br_if`.
 pub fn br_if(run: &mut Running, label: u32) -> Step
-    ensures { IfOk result (λ end. did_of end run.new ≡ at run.old (row (instr.BrIf label))) }
+    ensures { IfOk result (λ end. did_of end run.new ≡ at run.old (plain_row (instr.BrIf label))) }
 {
     match run.stack.pop() {
         Some(CoreValue::I32(0)) => Ok(None),
@@ -62,7 +62,7 @@ pub fn br_if(run: &mut Running, label: u32) -> Step
 
 /// `br_table`.
 pub fn br_table(run: &mut Running, labels: &[u32], last: u32) -> Step
-    ensures { IfOk result (λ end. did_of end run.new ≡ at run.old (row (instr.BrTable labels.now last))) }
+    ensures { IfOk result (λ end. did_of end run.new ≡ at run.old (plain_row (instr.BrTable labels.now last))) }
 {
     let Some(CoreValue::I32(i)) = run.stack.pop() else {
         return Ok(Some(End::Stuck));

@@ -3,7 +3,7 @@
 ghost use Rattle.std.specs.Prelude.{◌≡◌, ◌+◌, ◌-◌, ◌<◌, ◌≤◌, ◌/◌, ◌%◌, ◌^◌, length, slice_get, slice_set, IfOk, IfSome, IsSomeAnd, MatchOption};
 ghost use Rattle.fact_machine.specs.Machine.{memory_import as memory_import_of, page_bytes, size_value as size_value_of, memory_size as memory_size_of};
 ghost use Rattle.fact_machine.specs.World.{number_of, bytes_of, put_at};
-ghost use Rattle.fact_machine.specs.Running.{did_of, at, load_length, load_value, loaded, loading, store_length, store_number, stored, storing, addressed};
+ghost use Rattle.fact_machine.specs.Running.{did_of, at, load_length, load_value, loaded, loading, store_length, store_number, store_row, storing, addressed};
 
 use crate::numeric::{extend_8_s, extend_16_s};
 use crate::running::{Running, Step};
@@ -247,7 +247,7 @@ fn store_addressed(
 
 /// A store.
 pub fn store(run: &mut Running, module: &WasmModule, kind: StoreKind, arg: MemArg) -> Step
-    ensures { IfOk result (λ end. did_of end run.new ≡ at run.old (stored «module».now kind arg)) }
+    ensures { IfOk result (λ end. did_of end run.new ≡ at run.old (store_row «module».now kind arg)) }
 {
     let Some(value) = run.stack.pop() else {
         return Ok(Some(End::Stuck));

@@ -4,7 +4,7 @@ ghost use Rattle.std.specs.Prelude.{◌≡◌, ℕ, IfOk};
 ghost use Rattle.fact_machine.specs.Numerics.{truth as truth_of, extend_s};
 ghost use Rattle.fact_machine.specs.Operands.{binary_i32 as binary_i32_of, binary_i64 as binary_i64_of, unary_i32 as unary_i32_of, unary_i64 as unary_i64_of};
 ghost use Rattle.fact_wasm.specs.declared.instr.Instr.TheOpen as instr;
-ghost use Rattle.fact_machine.specs.Running.{did_of, at, row, operated, binary_meaning, unary_i32_meaning, unary_i64_meaning};
+ghost use Rattle.fact_machine.specs.Running.{did_of, at, plain_row, operated, binary_meaning, unary_i32_meaning, unary_i64_meaning};
 
 use crate::running::{Running, Step};
 use crate::types::{CoreValue, End};
@@ -182,7 +182,7 @@ pub fn unary_i64(run: &mut Running, op: UnaryI64) -> Step
 
 /// `i32.reinterpret_f32`.
 pub fn i32_reinterpret_f32(run: &mut Running) -> Step
-    ensures { IfOk result (λ end. did_of end run.new ≡ at run.old (row instr.I32ReinterpretF32)) }
+    ensures { IfOk result (λ end. did_of end run.new ≡ at run.old (plain_row instr.I32ReinterpretF32)) }
 {
     let Some(CoreValue::F32(i)) = run.stack.pop() else {
         return Ok(Some(End::Stuck));
@@ -193,7 +193,7 @@ pub fn i32_reinterpret_f32(run: &mut Running) -> Step
 
 /// `i64.reinterpret_f64`.
 pub fn i64_reinterpret_f64(run: &mut Running) -> Step
-    ensures { IfOk result (λ end. did_of end run.new ≡ at run.old (row instr.I64ReinterpretF64)) }
+    ensures { IfOk result (λ end. did_of end run.new ≡ at run.old (plain_row instr.I64ReinterpretF64)) }
 {
     let Some(CoreValue::F64(i)) = run.stack.pop() else {
         return Ok(Some(End::Stuck));

@@ -2,7 +2,7 @@
 
 ghost use Rattle.std.specs.Prelude.{◌≡◌, IfOk};
 ghost use Rattle.fact_wasm.specs.declared.instr.Instr.TheOpen as instr;
-ghost use Rattle.fact_machine.specs.Running.{did_of, at, row, pushing, assign as assigned};
+ghost use Rattle.fact_machine.specs.Running.{did_of, at, plain_row, pushing, assign as assigned};
 ghost use Rattle.fact_machine.specs.Operands.{alike as alike_of};
 
 use crate::running::{Running, Step};
@@ -19,7 +19,7 @@ pub fn constant(run: &mut Running, value: CoreValue) -> Step
 
 /// `drop`.
 pub fn drop_one(run: &mut Running) -> Option<End>
-    ensures { did_of result run.new ≡ at run.old (row instr.Drop) }
+    ensures { did_of result run.new ≡ at run.old (plain_row instr.Drop) }
 {
     match run.stack.pop() {
         Some(_) => None,
@@ -42,7 +42,7 @@ fn alike(u: CoreValue, v: CoreValue) -> bool
 
 /// `select`.
 pub fn select(run: &mut Running) -> Step
-    ensures { IfOk result (λ end. did_of end run.new ≡ at run.old (row instr.Select)) }
+    ensures { IfOk result (λ end. did_of end run.new ≡ at run.old (plain_row instr.Select)) }
 {
     let Some(CoreValue::I32(condition)) = run.stack.pop() else {
         return Ok(Some(End::Stuck));
@@ -62,7 +62,7 @@ pub fn select(run: &mut Running) -> Step
 
 /// `local.get`.
 pub fn local_get(run: &mut Running, n: u32) -> Step
-    ensures { IfOk result (λ end. did_of end run.new ≡ at run.old (row (instr.LocalGet n))) }
+    ensures { IfOk result (λ end. did_of end run.new ≡ at run.old (plain_row (instr.LocalGet n))) }
 {
     let Some(&Some(value)) = run.locals.get(n as usize) else {
         return Ok(Some(End::Stuck));
@@ -87,7 +87,7 @@ fn assign(run: &mut Running, n: u32, value: CoreValue) -> Option<End>
 
 /// `local.set`.
 pub fn local_set(run: &mut Running, n: u32) -> Option<End>
-    ensures { did_of result run.new ≡ at run.old (row (instr.LocalSet n)) }
+    ensures { did_of result run.new ≡ at run.old (plain_row (instr.LocalSet n)) }
 {
     let Some(value) = run.stack.pop() else {
         return Some(End::Stuck);
@@ -97,7 +97,7 @@ pub fn local_set(run: &mut Running, n: u32) -> Option<End>
 
 /// `local.tee`.
 pub fn local_tee(run: &mut Running, n: u32) -> Step
-    ensures { IfOk result (λ end. did_of end run.new ≡ at run.old (row (instr.LocalTee n))) }
+    ensures { IfOk result (λ end. did_of end run.new ≡ at run.old (plain_row (instr.LocalTee n))) }
 {
     let Some(value) = run.stack.pop() else {
         return Ok(Some(End::Stuck));
@@ -108,7 +108,7 @@ pub fn local_tee(run: &mut Running, n: u32) -> Step
 
 /// `global.get`.
 pub fn global_get(run: &mut Running, n: u32) -> Step
-    ensures { IfOk result (λ end. did_of end run.new ≡ at run.old (row (instr.GlobalGet n))) }
+    ensures { IfOk result (λ end. did_of end run.new ≡ at run.old (plain_row (instr.GlobalGet n))) }
 {
     let Some(&value) = run.state.globals.get(n as usize) else {
         return Ok(Some(End::Stuck));
@@ -119,7 +119,7 @@ pub fn global_get(run: &mut Running, n: u32) -> Step
 
 /// `global.set`.
 pub fn global_set(run: &mut Running, n: u32) -> Step
-    ensures { IfOk result (λ end. did_of end run.new ≡ at run.old (row (instr.GlobalSet n))) }
+    ensures { IfOk result (λ end. did_of end run.new ≡ at run.old (plain_row (instr.GlobalSet n))) }
 {
     let Some(value) = run.stack.pop() else {
         return Ok(Some(End::Stuck));

@@ -23,7 +23,7 @@ use Rattle.fact_module.specs.Built.{IsBuiltAdapter}
 use Rattle.fact_module.specs.Emitted.{Adds, Emitted, HasType, Imports, flags_import, function_import, functions_of, no_type, nothing_emitted}
 use Rattle.fact_module.specs.Holding.{AreBuilt, Holds, Lists, Placed, StandsInParts, numbered}
 use Rattle.fact_module.specs.Imports.{Callee, Flags, a_function, Mention, Role, adapter_mentions, imports_of, mentions, with_mentions}
-use Rattle.fact_module.specs.Order.{AreParts, Definition, Other, Part, defined_place, functions_in, items_in, with_numbers}
+use Rattle.fact_module.specs.Order.{AreParts, Definition, Other, Part, defined_place, functions_in, items_in, all_added_once}
 use Rattle.fact_module.proofs.Growth.{Grows, grows-function, grows-import, grows-on, grows-type, imports-more, keeps-flags, keeps-function, keeps-import, keeps-type}
 use Rattle.fact_module.proofs.Mentioned.{lengths, lists-def, lists-trap, lists-type, mentioned-step}
 use Rattle.fact_module.proofs.Named.{sort_for}
@@ -258,7 +258,7 @@ module _ (concurrency exceptions : Bool) (old new : Emitted) (adapters : List Li
             (is-part all was.parts a add.at add.ty_number a.lift.core_type defined.defs named.others (ap length (one-function concurrency exceptions a is_built))
             (subst (λ ms. with_mentions ms (adapter_mentions a) ≡ ms ++ defined.defs) mentioned defined.mentions)
             (needs-trap all add.at add.ty_number a.lift.core_type trap.CannotLeaveComponent a.callee (get-append (functions_of new) more _ _ last-placed.trap_is) (get-append (functions_of new) more _ _ last-placed.callee_is))
-            (subst (λ ns. with_numbers ns (add.at.trap ∷ []) ≡ ns ++ named.others) numbers named.numbers));
+            (subst (λ ns. all_added_once ns (add.at.trap ∷ []) ≡ ns ++ named.others) numbers named.numbers));
         imports = ap items_of add.is_last ∙ named.items ∙ ap (λ l. l ++ map Other named.others) before ∙ append_assoc (flat_map items_in was.parts) _ _ ∙ sym (flat_map-push items_in was.parts p);
         functions = ap (λ (s : Emitted). s.functions) add.is_last ∙ ap (λ fs. fs ++ f ∷ []) (keeps.functions ∙ was.functions) ∙ sym (flat_map-push functions_in was.parts p);
         exports = ap (λ (s : Emitted). filter_map (λ (e : WasmExport). defined_place e.func) s.exports) add.is_last ∙ filter_map-append (λ (e : WasmExport). defined_place e.func) add.trapped.exports (record { name = a.name; func = func.Defined (length add.trapped.functions) } ∷ [])

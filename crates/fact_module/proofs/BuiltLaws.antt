@@ -13,7 +13,7 @@ use Rattle.fact_types.specs.declared.signature.Signature.{Signature}
 use Rattle.fact_types.specs.Shapes.{Shape, s_plain, s_node}
 use Rattle.fact_types.specs.declared.flats.FlatType.{FlatType}
 use Rattle.fact_types.specs.declared.flats.FlatType.TheVariants as F
-use Rattle.fact_types.specs.Flat.{val_type}
+use Rattle.fact_types.specs.Flat.{value_type}
 use Rattle.fact_types.specs.FlatShapes.{flat_each}
 use Rattle.fact_types.specs.Signatures.{flat_values, width}
 use Rattle.fact_wasm.specs.declared.types.ValType.TheVariants as V
@@ -68,11 +68,11 @@ each-flat wide (t ∷ ts) h = one t h.0 (each-flat wide ts h.1)
     one t (inl e) rest = rw (e, rest) refl
     one t (inr e) rest = rw (e, rest) refl
 
-values-of : (ts : List InterfaceType) → AreNumbers ts → map val_type (map flat_of ts) ≡ map core_of ts
+values-of : (ts : List InterfaceType) → AreNumbers ts → map value_type (map flat_of ts) ≡ map core_of ts
 values-of [] h = refl
 values-of (t ∷ ts) h = one t h.0 (values-of ts h.1)
   where
-    one : (t : InterfaceType) → IsNumber t → map val_type (map flat_of ts) ≡ map core_of ts → map val_type (map flat_of (t ∷ ts)) ≡ map core_of (t ∷ ts)
+    one : (t : InterfaceType) → IsNumber t → map value_type (map flat_of ts) ≡ map core_of ts → map value_type (map flat_of (t ∷ ts)) ≡ map core_of (t ∷ ts)
     one t (inl e) rest = rw e (ap (λ l. V.I32 ∷ l) rest)
     one t (inr e) rest = rw e (ap (λ l. V.I64 ∷ l) rest)
 

@@ -36,7 +36,7 @@ use Rattle.fact_checks.specs.Adapters.{adapters_before}
 use Rattle.fact_checks.specs.AdapterRules.{AdapterHas, AdapterLacks, HasAdapterFault, LinkedHas}
 use Rattle.fact_checks.specs.FirstFault.{IsFaultlessPlan, IsFirstAt}
 use Rattle.fact_plan_types.specs.PlanTypes.{AreFaultless}
-use Rattle.fact_checks.specs.Linked.{IsTyped}
+use Rattle.fact_checks.specs.Linked.{NamesTypesOf}
 use Rattle.fact_checks.specs.Links.{IsFirstHere}
 use Rattle.fact_plan.specs.Built.{IsBuiltPlan}
 use Rattle.fact_plan_types.specs.Faults.{Fault, too_large}
@@ -205,7 +205,7 @@ module _ (p : FusePlan) (b : Builder) (old : Collected) (k : ℕ) (x : PlanAdapt
     transparent = links.transparent ∙ sym mark;
   }
 
-  pub typed-here : IsTyped old.builder c.adapter.now
+  pub typed-here : NamesTypesOf old.builder c.adapter.now
   typed-here = sides-typed _ _ links.linked is_linked.sides
 
   pub may-take : ((ty : InterfaceType) (s z : Shape) → HasShape b.tables ty s → HasShape b.tables ty z → s ≡ z) → IsBuiltPlan p → MayTake old c

@@ -8,7 +8,7 @@ use Rattle.fact_wasm.specs.declared.module.WasmImport.{WasmImport}
 use Rattle.fact_machine.specs.Machine.{func_import}
 use Rattle.fact_types.specs.declared.import.Import.{Import}
 use Rattle.fact_types.specs.declared.import.Import.TheVariants as known
-use Rattle.fact_module.specs.Imports.{AreNamed, Callback, Callee, Flags, IsFunction, IsNamed, Mention, PostReturn, Realloc, Role, Sort, StandsFor, Storage, a_function, a_global, a_memory, imported_type, imports_of, sort_of}
+use Rattle.fact_module.specs.Imports.{AreNamed, Callback, Callee, Flags, IsImportedFunction, IsNamed, Mention, PostReturn, Realloc, Role, Sort, StandsFor, Storage, a_function, a_global, a_memory, imported_type, imports_of, sort_of}
 use Rattle.fact_module.proofs.Sections.{get-append}
 
 pub named-lengths : (types : List FuncType) (ms : List Mention) (before ws : List WasmImport) (is : List Import) → AreNamed types ms before ws is → length ws ≡ length is
@@ -24,7 +24,7 @@ typed-more types more (import.Func k) t e = get-append types more k t e
 typed-more types more (import.Memory a b c) t e = cc
 typed-more types more (import.Global a b) t e = cc
 
-function-more : (types more : List FuncType) (w : WasmImport) (origin name : List ℕ) (ty : FuncType) → IsFunction types w origin name ty → IsFunction (types ++ more) w origin name ty
+function-more : (types more : List FuncType) (w : WasmImport) (origin name : List ℕ) (ty : FuncType) → IsImportedFunction types w origin name ty → IsImportedFunction (types ++ more) w origin name ty
 function-more types more w origin name ty h = record { is_from = h.is_from; is_named = h.is_named; is_typed = typed-more types more w.ty ty h.is_typed }
 
 stands-more : (types more : List FuncType) (before : List WasmImport) (r : Role) (w : WasmImport) → StandsFor types before r w → StandsFor (types ++ more) before r w

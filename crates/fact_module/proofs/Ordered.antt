@@ -19,7 +19,7 @@ use Rattle.fact_types.specs.declared.import.Import.TheVariants as known
 use Rattle.fact_module.specs.Emitted.{Emitted, HasType, Imports, functions_of, with_import}
 use Rattle.fact_module.specs.Holding.{Lists}
 use Rattle.fact_module.specs.Imports.{AreNamed, IsNamed, Mention, a_function, adapter_mentions, imports_of, is_mentioned, is_of, same_sort, sort_of, with_mentions}
-use Rattle.fact_module.specs.Order.{AreParts, Definition, IsPart, Item, Other, Part, functions_in, is_definition, item_of, items, items_in, own_places, with_numbers}
+use Rattle.fact_module.specs.Order.{AreParts, Definition, IsPart, Item, Other, Part, functions_in, is_definition, item_of, items, items_in, own_places, all_added_once}
 use Rattle.fact_module.proofs.Mentioned.{lengths}
 use Rattle.fact_module.proofs.Named.{function-sort}
 use Rattle.fact_module.proofs.Sections.{imports-append, last-or-before, there-get}
@@ -169,10 +169,10 @@ other-below types ms n before (w ∷ ws) (i ∷ is) h m t e =
 
 -- ---- numbers, each once
 
-number-in : (ns : List ℕ) (n m : ℕ) → slice_get ns m ≡ Some n → with_numbers ns (n ∷ []) ≡ ns
+number-in : (ns : List ℕ) (n m : ℕ) → slice_get ns m ≡ Some n → all_added_once ns (n ∷ []) ≡ ns
 number-in ns n m e = rw (any_passes_from_place (λ k. nat_eq k n) ns m n e (eq-eqb n n refl)) refl
 
-number-out : (ns : List ℕ) (n : ℕ) → ((m : ℕ) → slice_get ns m ≡ Some n → ⊥) → with_numbers ns (n ∷ []) ≡ ns ++ n ∷ []
+number-out : (ns : List ℕ) (n : ℕ) → ((m : ℕ) → slice_get ns m ≡ Some n → ⊥) → all_added_once ns (n ∷ []) ≡ ns ++ n ∷ []
 number-out ns n absent = by-cases (list_any (λ k. nat_eq k n) ns) refl
   where
     by-cases : (b : Bool) → list_any (λ k. nat_eq k n) ns ≡ b → cond b ns (ns ++ n ∷ []) ≡ ns ++ n ∷ []
@@ -212,7 +212,7 @@ defines-one old new ms r w e (inr anew) = record { defs = r ∷ []; mentions = r
 -- The function of this number is named, and imported behind the others where it is new.
 pub record Names (old new : Emitted) (ns : List ℕ) (t : ℕ) : Type 0 where
   pub others : List ℕ
-  pub numbers : with_numbers ns (t ∷ []) ≡ ns ++ others
+  pub numbers : all_added_once ns (t ∷ []) ≡ ns ++ others
   pub items : items_of new ≡ items_of old ++ map Other others
 
 pub names-trap : (old new : Emitted) (ms : List Mention) (w : WasmImport) (trap : Trap) (t : ℕ) → Lists old ms → sort_of w.ty ≡ a_function → Imports old new w (known.Trap trap)

@@ -39,7 +39,7 @@ use Rattle.fact_machine.proofs.RowLaws.{leaves_unreachable}
 use Rattle.fact_machine.proofs.OutsideCalls.{leaves_import, leaves_import_lacks, leaves_import_returns, leaves_import_traps, leaves_import_throws}
 use Rattle.fact_types.specs.declared.import.Import.{Import}
 use Rattle.fact_module.specs.declared.emit.Places.{Places}
-use Rattle.fact_module.specs.Body.{gets, enter, call, leave, body, has_result, saved}
+use Rattle.fact_module.specs.Body.{gets, entry_code, call_code, exit_code, body, has_result, saved}
 use Rattle.fact_module.specs.Imports.{same_def, imported_function}
 use Rattle.fact_module.specs.Plain.{core_of, core_type, IsPlain, IsPlainFunction, ImportsFlags}
 use Rattle.fact_module.specs.Runs.{is_def, is_transfer, is_trap, IsHonest, IsSet, flags_of, Carried, EndsSoon, Behaves}
@@ -63,8 +63,8 @@ flag-at (t ∷ ts) [] n h e = absurd h
 flag-at (t ∷ ts) (v ∷ gs) zero h e = let is : t ≡ val.I32 = cc in let x = i32-is v (rw is at h.0) in (x.0, ap Some x.1)
 flag-at (t ∷ ts) (v ∷ gs) (suc n) h e = flag-at ts gs n h.1 e
 
-joined : (at : Places) (n : ℕ) (result : Bool) → front at n ++ leave at n result ≡ body at n result
-joined at n result = append_assoc (enter at n) (gets 0 n ++ call at n) (leave at n result) ∙ ap (λ (t : List Instr). enter at n ++ t) (append_assoc (gets 0 n) (call at n) (leave at n result))
+joined : (at : Places) (n : ℕ) (result : Bool) → front at n ++ exit_code at n result ≡ body at n result
+joined at n result = append_assoc (entry_code at n) (gets 0 n ++ call_code at n) (exit_code at n result) ∙ ap (λ (t : List Instr). entry_code at n ++ t) (append_assoc (gets 0 n) (call_code at n) (exit_code at n result))
 
 entry-is : (args : List CoreValue) (ts : List ValType) → map some_of args ++ locals_of (saved ts) ≡ locals args 0 0 (result_local ts)
 entry-is args [] = refl
@@ -97,7 +97,7 @@ module _ (m : WasmModule) (is : List Import) (a : LinkedAdapter) (params results
     calls-callee : CallsImport m h.at.callee args
     calls-callee = record { type_at = h.callee.type_at; ty = core_type params results; import_is = h.callee.import_is; type_is = h.callee.type_is; typed = are-typed args _ typed }
 
-    called : Calls m k args (record { ty = h.ty; locals = saved (map core_of results); body = front h.at (length args) ++ leave h.at (length args) (has_result (map core_of results)) }) (core_type params results)
+    called : Calls m k args (record { ty = h.ty; locals = saved (map core_of results); body = front h.at (length args) ++ exit_code h.at (length args) (has_result (map core_of results)) }) (core_type params results)
     called =
         let func_of : List Instr → Option WasmFunc = λ code. Some (record { ty = h.ty; locals = saved (map core_of results); body = code }) in
         let sized : length (map core_of params) ≡ length args = sym (have_types_length args _ (are-typed args _ typed)) in
@@ -119,7 +119,7 @@ module _ (m : WasmModule) (is : List Import) (a : LinkedAdapter) (params results
       entered answers {t} {code} {x} p = subst (λ ls. Leaves m t code (world s answers []) [] ls x) (sym (entry-is args (map core_of results))) p
 
       abbrev rest : List Instr
-      rest = leave h.at (length args) (has_result (map core_of results))
+      rest = exit_code h.at (length args) (has_result (map core_of results))
 
       ends-so : (answers : List Answer) {t : ℕ} {x : Exit} → From answers t (front h.at (length args) ++ rest) x → Settles (run answers) (outcome_of (run_exit (map core_of results) x))
       ends-so answers p = settles (front h.at (length args)) rest s answers called (entered answers p)

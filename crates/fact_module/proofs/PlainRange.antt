@@ -7,7 +7,7 @@ use Rattle.fact_wasm.specs.declared.instr.Instr.{Instr, the_lemmas}
 use Rattle.fact_wasm.specs.Ranges.{points, IsPoint, AreRanged}
 use Rattle.fact_wasm.proofs.Ranged.{points-block, together, all-append}
 use Rattle.fact_module.specs.declared.emit.Places.{Places}
-use Rattle.fact_module.specs.Body.{guard, gets, enter, call, leave, body, function_of, has_result}
+use Rattle.fact_module.specs.Body.{guard, gets, entry_code, call_code, exit_code, body, function_of, has_result}
 
 -- ---- the code of an adapter
 
@@ -21,7 +21,7 @@ module _ (at : Places) (imports funcs : ℕ) (callee : at.callee < imports) (tra
   guard-ranged : (n : ℕ) → Ranged (guard at n)
   guard-ranged n = (simp the_lemmas tt, (simp the_lemmas tt, (simp the_lemmas tt, (simp the_lemmas (trap, tt), (simp the_lemmas tt, tt)))))
 
-  enter-ranged : (n : ℕ) → Ranged (enter at n)
+  enter-ranged : (n : ℕ) → Ranged (entry_code at n)
   enter-ranged n = (
     rw (points-block block.Empty (guard at n)) (together (IsPoint imports funcs) (guard at n) (guard-ranged n)),
     (simp the_lemmas tt, (simp the_lemmas tt, (simp the_lemmas tt, (simp the_lemmas tt, tt)))),
@@ -31,15 +31,15 @@ module _ (at : Places) (imports funcs : ℕ) (callee : at.callee < imports) (tra
   gets-ranged from zero = tt
   gets-ranged from (suc count) = (simp the_lemmas tt, gets-ranged (suc from) count)
 
-  call-ranged : (n : ℕ) → Ranged (call at n)
+  call-ranged : (n : ℕ) → Ranged (call_code at n)
   call-ranged n = (simp the_lemmas tt, (simp the_lemmas tt, (simp the_lemmas (callee, tt), tt)))
 
-  leave-ranged : (n : ℕ) (result : Bool) → Ranged (leave at n result)
+  leave-ranged : (n : ℕ) (result : Bool) → Ranged (exit_code at n result)
   leave-ranged n true = (simp the_lemmas tt, (simp the_lemmas tt, (simp the_lemmas tt, (simp the_lemmas tt, (simp the_lemmas tt, (simp the_lemmas tt, tt))))))
   leave-ranged n false = (simp the_lemmas tt, (simp the_lemmas tt, (simp the_lemmas tt, (simp the_lemmas tt, tt))))
 
   body-ranged : (n : ℕ) (result : Bool) → Ranged (body at n result)
-  body-ranged n result = appended (enter at n) _ (enter-ranged n) (appended (gets 0 n) _ (gets-ranged 0 n) (appended (call at n) _ (call-ranged n) (leave-ranged n result)))
+  body-ranged n result = appended (entry_code at n) _ (enter-ranged n) (appended (gets 0 n) _ (gets-ranged 0 n) (appended (call_code at n) _ (call-ranged n) (leave-ranged n result)))
 
 pub function-ranged : (at : Places) (ty : ℕ) (core : FuncType) (imports funcs : ℕ) → at.callee < imports → at.trap < imports → AreRanged imports funcs (function_of at ty core).body
 function-ranged at ty core imports funcs callee trap = body-ranged at imports funcs callee trap (length core.params) (has_result core.results)

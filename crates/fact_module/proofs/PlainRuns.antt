@@ -24,7 +24,7 @@ use Rattle.fact_machine.proofs.Structure.{enters_empty, leaves_block_target}
 use Rattle.fact_machine.proofs.RowLaws.{leaves_i32_const, leaves_local_get, leaves_local_set, leaves_local_tee, leaves_global_get, leaves_global_set, leaves_br_if_zero, leaves_br_if_taken}
 use Rattle.fact_machine.proofs.Pushes as pushes
 use Rattle.fact_module.specs.declared.emit.Places.{Places}
-use Rattle.fact_module.specs.Body.{guard, gets, enter, call, leave, has_result}
+use Rattle.fact_module.specs.Body.{guard, gets, entry_code, call_code, exit_code, has_result}
 
 -- ---- lists
 
@@ -109,7 +109,7 @@ module _ {M : WasmModule} {flag x : ℕ} (s : MachineState) (there : slice_get s
 -- ---- up to the callee's call
 
 abbrev pub front : Places → ℕ → List Instr
-front at n = enter at n ++ (gets 0 n ++ call at n)
+front at n = entry_code at n ++ (gets 0 n ++ call_code at n)
 
 module _ {M : WasmModule} (at : Places) (args : List CoreValue) (result : List (Option CoreValue)) (s : MachineState) (answers : List Answer)
     (lower : ℕ) (lower_is : slice_get s.globals at.lower_flag ≡ Some (I32 lower)) where
@@ -156,7 +156,7 @@ module _ (M : WasmModule) (at : Places) (args : List CoreValue) (s : MachineStat
 
   -- the results are left on the stack
   pub leave_runs : (rs : List CoreValue) (results : List ValType) → length results ≤ 1 → AllZip (λ v t. IsValue v t) rs results
-      → (steps : ℕ) × (ls : List (Option CoreValue)) × Leaves M steps (leave at (length args) (has_result results)) (world s answers trace) (reverse rs ++ []) (locals args lower lift (result_local results)) (Falls last (reverse rs) ls)
+      → (steps : ℕ) × (ls : List (Option CoreValue)) × Leaves M steps (exit_code at (length args) (has_result results)) (world s answers trace) (reverse rs ++ []) (locals args lower lift (result_local results)) (Falls last (reverse rs) ls)
   leave_runs [] [] few typed = (4, _, leaves_then {m = 2} {n = 2} (clear_runs s old_is trace) (set_runs s old_is trace (local_at args _ (length args) 0 (omega arith))))
   leave_runs (v ∷ []) (t ∷ []) few typed = (
     6,

@@ -8,7 +8,7 @@ use Rattle.fact_wasm.specs.declared.module.WasmImport.{WasmImport}
 use Rattle.fact_module.specs.declared.imported.ImportedFunction.{ImportedFunction}
 use Rattle.fact_module.specs.declared.imported.ImportedFunction.TheVariants as imported
 use Rattle.fact_types.specs.declared.import.Import.{Import}
-use Rattle.fact_wasm.specs.CoreTypes.{IsOnlyPlace}
+use Rattle.fact_wasm.specs.CoreTypes.{IsOnlyPlaceOfType}
 use Rattle.fact_wasm.specs.declared.types.FuncType.{FuncType}
 use Rattle.fact_module.specs.Emitted.{Emitted, HasType, Imports, flags, flags_import, function_import, with_import}
 use Rattle.fact_module.specs.Imported.{known_as}
@@ -43,7 +43,7 @@ module _ (s : Emitted) (instances : List (Id RuntimeComponentInstances)) (import
 -- ---- what a step leaves
 
 -- A list to which a type came, or in which it was, has it at one place.
-has-type : (s : Emitted) (types : List FuncType) (ty : FuncType) (place : ℕ) → IsOnlyPlace types ty place
+has-type : (s : Emitted) (types : List FuncType) (ty : FuncType) (place : ℕ) → IsOnlyPlaceOfType types ty place
     → ((k : ℕ) (t : FuncType) → slice_get s.types k ≡ Some t → slice_get types k ≡ Some t) → (types ≡ s.types) ⊎ (types ≡ s.types ++ ty ∷ []) → HasType s (record s { types = types }) ty
 has-type s types ty place is_at keeps (inl same) = inl (λ k. record s { types = same k })
 has-type s types ty place is_at keeps (inr more) = inr (absent, λ k. record s { types = more k })
@@ -56,7 +56,7 @@ has-type s types ty place is_at keeps (inr more) = inr (absent, λ k. record s {
         let last : length s.types ≡ place = is_at.only (length s.types) (ap (λ ts. slice_get ts (length s.types)) more ∙ get-last s.types ty) in
         omega (arith, first, last, slice_get_within s.types k ty at)
 
-pub type-there : {E : Type 0} (r : Result ℕ E) (s : Emitted) (types : List FuncType) (ty : FuncType) → IfOk r (λ place. IsOnlyPlace types ty place)
+pub type-there : {E : Type 0} (r : Result ℕ E) (s : Emitted) (types : List FuncType) (ty : FuncType) → IfOk r (λ place. IsOnlyPlaceOfType types ty place)
     → ((k : ℕ) (t : FuncType) → slice_get s.types k ≡ Some t → slice_get types k ≡ Some t) → OnOk r ((types ≡ s.types) ⊎ (types ≡ s.types ++ ty ∷ [])) → OnOk r (HasType s (record s { types = types }) ty)
 type-there (Ok place) s types ty is_at keeps list = has-type s types ty place is_at keeps list
 type-there (Err e) s types ty is_at keeps list = tt

@@ -28,7 +28,7 @@ use Rattle.fact_checks.specs.declared.sides.Candidate.{Candidate}
 use Rattle.fact_types.specs.Adapters.{LinkedAdapter, Side}
 use Rattle.fact_checks.specs.AdapterRules.{LinkedHas}
 use Rattle.fact_checks.specs.Checked.{AreBound, Checks, IsFirstOf, IsSoundNext}
-use Rattle.fact_checks.specs.Linked.{HasSides, IsLinked, IsSideOf, IsTyped}
+use Rattle.fact_checks.specs.Linked.{HasSides, IsLinked, IsSideOf, NamesTypesOf}
 use Rattle.fact_types.specs.declared.import.Import.{Import}
 use Rattle.fact_module.specs.declared.taken.TakenAdapter.{TakenAdapter}
 use Rattle.fact_module.specs.declared.tunables.Tunables.{Tunables}
@@ -97,14 +97,14 @@ side-of b sound ty o live core =
       },
     )
 
-pub sides-of : (b : Builder) → IsSoundTables b.tables → (adapter : Adapter) (name : List ℕ) (transparent : Bool) → IsTyped b adapter
+pub sides-of : (b : Builder) → IsSoundTables b.tables → (adapter : Adapter) (name : List ℕ) (transparent : Bool) → NamesTypesOf b adapter
     → (a : LinkedAdapter) × HasSides b adapter a × (a.name ≡ name) × (a.transparent ≡ transparent)
 sides-of b sound adapter name transparent typed =
     let (lift, lifts) = side-of b sound adapter.lift_ty adapter.lift_options typed.lift typed.lift_core in
     let (lower, lowers) = side-of b sound adapter.lower_ty adapter.lower_options typed.lower typed.lower_core in
     (record { name = name; callee = adapter.func; transparent = transparent; lift = lift; lower = lower }, record { lift = lifts; lower = lowers; callee = refl }, refl, refl)
 
-pub linked-of : (b : Builder) → IsSoundTables b.tables → (c : Candidate) → IsTyped b c.adapter.now → (a : LinkedAdapter) × IsLinked b c a
+pub linked-of : (b : Builder) → IsSoundTables b.tables → (c : Candidate) → NamesTypesOf b c.adapter.now → (a : LinkedAdapter) × IsLinked b c a
 linked-of b sound c typed =
     let (a, sides, name, transparent) = sides-of b sound c.adapter.now c.name.now c.transparent typed in
     (a, record { sides = sides; name = name; transparent = transparent })
@@ -140,7 +140,7 @@ plain-push adapters a h p k b e = elim (last-or-before adapters a k b e) [ inl t
 -- ---- one adapter more
 
 module _ (old : Collected) (checks checks' : Checks) (s s' : Emitted) (candidate : Candidate) (made : IsMade old checks s) (whole : old.whole ≡ true) (sound : IsSoundTables old.builder.tables)
-    (typed : IsTyped old.builder candidate.adapter.now) (may : MayTake old candidate) (checked : IsSoundNext checks checks' candidate) where
+    (typed : NamesTypesOf old.builder candidate.adapter.now) (may : MayTake old candidate) (checked : IsSoundNext checks checks' candidate) where
   linked : LinkedAdapter
   linked = (linked-of old.builder sound candidate typed).0
 
@@ -224,7 +224,7 @@ refused-behind old now checks s candidate number (Some x) same made whole h =
     (same, subst (λ c. IsFirstBehind c candidate x.0) same (first-behind old checks s candidate x.0 made (ap (λ c. c.whole) same ∙ whole) h.0), h.1)
 
 -- it is whole after it took one
-pub whole-after : (b : Builder) (s s' : Emitted) (candidate : Candidate) → IsTyped b candidate.adapter.now → s.whole ≡ true
+pub whole-after : (b : Builder) (s s' : Emitted) (candidate : Candidate) → NamesTypesOf b candidate.adapter.now → s.whole ≡ true
     → ((ty : FuncType) → slice_get b.module_types candidate.adapter.now.lift_options.core_type.number ≡ Some ty
     → Adds s s' candidate.name.now candidate.adapter.now.lift_options.instance candidate.adapter.now.lower_options.instance candidate.adapter.now.func ty) → s'.whole ≡ true
 whole-after b s s' candidate typed whole adds =
@@ -291,7 +291,7 @@ exported-on name (x ∷ es) more f e = step (bytes_eq x.name name) e (exported-o
     step false e rest = rest e
 
 -- with one adapter more it is extended
-pub extends-more : (b : Builder) (old new : Collected) (s s' : Emitted) (candidate : Candidate) → IsTyped b candidate.adapter.now → old.tree ≡ module_of s → old.imports ≡ s.imports → new.tree ≡ module_of s' → new.imports ≡ s'.imports
+pub extends-more : (b : Builder) (old new : Collected) (s s' : Emitted) (candidate : Candidate) → NamesTypesOf b candidate.adapter.now → old.tree ≡ module_of s → old.imports ≡ s.imports → new.tree ≡ module_of s' → new.imports ≡ s'.imports
     → ((ty : FuncType) → slice_get b.module_types candidate.adapter.now.lift_options.core_type.number ≡ Some ty
     → Adds s s' candidate.name.now candidate.adapter.now.lift_options.instance candidate.adapter.now.lower_options.instance candidate.adapter.now.func ty) → Extends old new
 extends-more b old new s s' candidate typed tree imports tree' imports' adds =

@@ -14,7 +14,7 @@ use Rattle.fact_type_rules.specs.TypeFaults.{IsBadFunction, IsLargeFunction}
 use Rattle.fact_checks.specs.declared.adapter.Adapter.{Adapter}
 use Rattle.fact_types.specs.Adapters.{LinkedAdapter}
 use Rattle.fact_checks.specs.AdapterRules.{most_instance}
-use Rattle.fact_checks.specs.Linked.{HasSides, IsTyped}
+use Rattle.fact_checks.specs.Linked.{HasSides, NamesTypesOf}
 use Rattle.fact_module.specs.Adapted.{IsBadFunctionType, IsLargeFunctionType, TypesHave}
 use Rattle.fact_module.specs.Typed.{HasSoundTypes}
 use Rattle.fact_module.proofs.TakeLaws.{signature-of}
@@ -37,7 +37,7 @@ module _ (b : Builder) (sound : IsSoundTables b.tables) (ty : Id TypeFuncs) (liv
 pub not-found : {P : Type 0} (found : Bool) → (IsTrue found ↔ P) → found ≡ false → P → ⊥
 not-found found h none p = true≢false (sym (h.1 p) ∙ none)
 
-pub sound-types : (b : Builder) (k : ℕ) (a : Adapter) → IsTyped b a → ((l : LinkedAdapter) × HasSides b a l) → (IsBadFunctionType b a.lift_ty ⊎ IsBadFunctionType b a.lower_ty → ⊥) → (IsLargeFunctionType b a.lift_ty ⊎ IsLargeFunctionType b a.lower_ty → ⊥)
+pub sound-types : (b : Builder) (k : ℕ) (a : Adapter) → NamesTypesOf b a → ((l : LinkedAdapter) × HasSides b a l) → (IsBadFunctionType b a.lift_ty ⊎ IsBadFunctionType b a.lower_ty → ⊥) → (IsLargeFunctionType b a.lift_ty ⊎ IsLargeFunctionType b a.lower_ty → ⊥)
     → ((most_entries ≤ k) ⊎ ((most_instance < a.lift_options.instance.number) ⊎ (most_instance < a.lower_options.instance.number)) → ⊥) → HasSoundTypes b k a
 sound-types b k a typed linked not_bad not_large small = record { typed = typed; linked = linked.0; sides = linked.1; sound = none }
   where

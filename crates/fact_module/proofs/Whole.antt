@@ -21,12 +21,12 @@ use Rattle.fact_wasm.specs.Spelling.{imported_functions, is_function}
 use Rattle.fact_types.specs.declared.outside.CoreDef.TheVariants as def
 use Rattle.fact_types.specs.declared.interface.InterfaceType.{InterfaceType}
 use Rattle.fact_uses.specs.Bindings.{AreConsistent}
-use Rattle.fact_machine.specs.Typed.{global_type}
+use Rattle.fact_machine.specs.Typed.{type_of_global}
 use Rattle.fact_types.specs.Adapters.{LinkedAdapter}
 use Rattle.fact_checks.specs.AdapterRules.{export_names, uses_of}
 use Rattle.fact_module.specs.Built.{IsBuiltAdapter}
 use Rattle.fact_module.specs.Emitted.{Emitted, functions_of as functions_in, module_of}
-use Rattle.fact_module.specs.Exports.{IsExport, Whole, callee_of, exported, exported_as, exported_functions_of}
+use Rattle.fact_module.specs.Exports.{IsExportOf, Whole, callee_of, exported, exported_as, exported_functions_of}
 use Rattle.fact_module.specs.Faithful.{Promised}
 use Rattle.fact_module.specs.Plain.{ImportsFlags, ImportsFunction, IsPlain, IsPlainFunction}
 use Rattle.fact_module.specs.Holding.{AreBuilt, ArePlain, Holds, numbered}
@@ -73,14 +73,14 @@ named-global types ms before w known.ExitSyncCall t mutable e h = absurd h
 named-global types ms before w (known.UnsafeIntrinsic a) t mutable e h = absurd h
 
 pub global-at : (types : List FuncType) (ms : List Mention) (before ws : List WasmImport) (is : List Import) (n : ℕ) (i : Import)
-    → AreNamed types ms before ws is → slice_get (imports_of a_global ws is) n ≡ Some i → slice_get (filter_map global_type ws) n ≡ Some val.I32
+    → AreNamed types ms before ws is → slice_get (imports_of a_global ws is) n ≡ Some i → slice_get (filter_map type_of_global ws) n ≡ Some val.I32
 global-at types ms before [] [] n i h e = cc
 global-at types ms before [] (j ∷ is) n i h e = absurd h
 global-at types ms before (v ∷ ws) [] n i h e = absurd h
 global-at types ms before (v ∷ ws) (j ∷ is) n i h e = step v.ty refl n e (λ m f. global-at types ms (before ++ v ∷ []) ws is m i h.1 f)
   where
     step : (ty : ImportType) → v.ty ≡ ty → (n : ℕ) → slice_get (imports_of a_global (v ∷ ws) (j ∷ is)) n ≡ Some i
-        → ((m : ℕ) → slice_get (imports_of a_global ws is) m ≡ Some i → slice_get (filter_map global_type ws) m ≡ Some val.I32) → slice_get (filter_map global_type (v ∷ ws)) n ≡ Some val.I32
+        → ((m : ℕ) → slice_get (imports_of a_global ws is) m ≡ Some i → slice_get (filter_map type_of_global ws) m ≡ Some val.I32) → slice_get (filter_map type_of_global (v ∷ ws)) n ≡ Some val.I32
     step (import.Func t) same n e rest = rw same (rest n (rw same at e))
     step (import.Memory a b c) same n e rest = rw same (rest n (rw same at e))
     step (import.Global t mutable) same zero e rest = rw same (ap Some (named-global types ms before v j t mutable same h.0))
@@ -241,7 +241,7 @@ module _ (concurrency exceptions : Bool) (s : Emitted) (adapters : List LinkedAd
       }
 
   exports-are : (n : ℕ) (rest : List LinkedAdapter) → ((j : ℕ) (a : LinkedAdapter) → slice_get rest j ≡ Some a → slice_get adapters (n + j) ≡ Some a)
-      → AllZip (IsExport (module_of s) s.imports) (numbered n rest) (map (λ a. Whole a.name a.lower.core_type) rest)
+      → AllZip (IsExportOf (module_of s) s.imports) (numbered n rest) (map (λ a. Whole a.name a.lower.core_type) rest)
   exports-are n [] at = tt
   exports-are n (a ∷ rest) at =
       let here : slice_get adapters n ≡ Some a = ap (slice_get adapters) (omega arith) ∙ at 0 a refl in

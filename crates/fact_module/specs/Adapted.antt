@@ -12,7 +12,7 @@ use Rattle.fact_plan_types.specs.TypeRules.{most_entries}
 use Rattle.fact_type_rules.specs.TypeFaults.{IsBadFunction, IsLargeFunction}
 use Rattle.fact_checks.specs.declared.adapter.Adapter.{Adapter}
 use Rattle.fact_checks.specs.AdapterRules.{most_instance}
-use Rattle.fact_checks.specs.Linked.{IsTyped}
+use Rattle.fact_checks.specs.Linked.{NamesTypesOf}
 use Rattle.fact_module.specs.declared.dfg.ComponentDfg.{ComponentDfg}
 use Rattle.fact_module.specs.declared.taken.TakenAdapter.{TakenAdapter}
 use Rattle.fact_module.specs.Collected.{Collected, HasLinkedFault, IsBuiltFor}
@@ -48,7 +48,7 @@ pub record IsLargeFunctionType (b : Builder) (ty : Id TypeFuncs) : Type 0 where
 
 -- The types of an adapter of this number are none or too large, or its numbers are.
 abbrev pub TypesHave : Builder → ℕ → Adapter → Fault → Type 0
-TypesHave b k a unknown_index = IsTyped b a → ⊥
+TypesHave b k a unknown_index = NamesTypesOf b a → ⊥
 TypesHave b k a bad_type = IsBadFunctionType b a.lift_ty ⊎ IsBadFunctionType b a.lower_ty
 TypesHave b k a too_large =
     (IsLargeFunctionType b a.lift_ty ⊎ IsLargeFunctionType b a.lower_ty)

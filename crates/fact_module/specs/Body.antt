@@ -22,21 +22,21 @@ gets from zero = []
 gets from (suc count) = LocalGet from ∷ gets (suc from) count
 
 -- the guard, and the lift flag saved and cleared
-abbrev pub enter : Places → ℕ → List Instr
-enter at n = Block block.Empty (guard at n) ∷ GlobalGet at.lift_flag ∷ LocalSet (n + 1) ∷ I32Const 0 ∷ GlobalSet at.lift_flag ∷ []
+abbrev pub entry_code : Places → ℕ → List Instr
+entry_code at n = Block block.Empty (guard at n) ∷ GlobalGet at.lift_flag ∷ LocalSet (n + 1) ∷ I32Const 0 ∷ GlobalSet at.lift_flag ∷ []
 
 -- the lift flag restored, and the callee called
-abbrev pub call : Places → ℕ → List Instr
-call at n = LocalGet (n + 1) ∷ GlobalSet at.lift_flag ∷ Call (func.Import at.callee) ∷ []
+abbrev pub call_code : Places → ℕ → List Instr
+call_code at n = LocalGet (n + 1) ∷ GlobalSet at.lift_flag ∷ Call (func.Import at.callee) ∷ []
 
 -- the result, where there is one, saved and given back while the lower flag is cleared, and that flag restored
-abbrev pub leave : Places → ℕ → Bool → List Instr
-leave at n true = LocalSet (n + 2) ∷ I32Const 0 ∷ GlobalSet at.lower_flag ∷ LocalGet (n + 2) ∷ LocalGet n ∷ GlobalSet at.lower_flag ∷ []
-leave at n false = I32Const 0 ∷ GlobalSet at.lower_flag ∷ LocalGet n ∷ GlobalSet at.lower_flag ∷ []
+abbrev pub exit_code : Places → ℕ → Bool → List Instr
+exit_code at n true = LocalSet (n + 2) ∷ I32Const 0 ∷ GlobalSet at.lower_flag ∷ LocalGet (n + 2) ∷ LocalGet n ∷ GlobalSet at.lower_flag ∷ []
+exit_code at n false = I32Const 0 ∷ GlobalSet at.lower_flag ∷ LocalGet n ∷ GlobalSet at.lower_flag ∷ []
 
 -- the body for so many parameters, with or without a result
 abbrev pub body : Places → ℕ → Bool → List Instr
-body at n result = enter at n ++ (gets 0 n ++ (call at n ++ leave at n result))
+body at n result = entry_code at n ++ (gets 0 n ++ (call_code at n ++ exit_code at n result))
 
 abbrev pub has_result : List ValType → Bool
 has_result [] = false

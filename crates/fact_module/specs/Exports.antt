@@ -33,22 +33,22 @@ callee_of a = if is_async a && is_crossing a then Callee (codes "[adapter-callee
 abbrev pub exported : List LinkedAdapter → List Exported
 exported adapters = flat_map exported_functions_of adapters ++ flat_map callee_of adapters
 
-abbrev pub type_of : WasmModule → Option WasmFunc → Option FuncType
-type_of m None = None
-type_of m (Some f) = slice_get m.types f.ty
+abbrev pub type_of_function : WasmModule → Option WasmFunc → Option FuncType
+type_of_function m None = None
+type_of_function m (Some f) = slice_get m.types f.ty
 
 -- the type of a function that the module defines; none of another
 abbrev pub defined_type : WasmModule → FuncName → Option FuncType
-defined_type m (func.Defined k) = type_of m (slice_get m.funcs k)
+defined_type m (func.Defined k) = type_of_function m (slice_get m.funcs k)
 defined_type m (func.Import k) = None
 
 abbrev pub IsDefined : WasmModule → FuncName → Type 0
 IsDefined m f = (ty : FuncType) × (defined_type m f ≡ Some ty)
 
-abbrev pub IsExport : WasmModule → List Import → WasmExport → Exported → Type 0
-IsExport m is e (Whole name ty) = (e.name ≡ name) × (defined_type m e.func ≡ Some ty)
-IsExport m is e (Part name) = (e.name ≡ name) × IsDefined m e.func
-IsExport m is e (Callee name d) = (e.name ≡ name) × (imported_function m is e.func ≡ Some (known.CoreDef d))
+abbrev pub IsExportOf : WasmModule → List Import → WasmExport → Exported → Type 0
+IsExportOf m is e (Whole name ty) = (e.name ≡ name) × (defined_type m e.func ≡ Some ty)
+IsExportOf m is e (Part name) = (e.name ≡ name) × IsDefined m e.func
+IsExportOf m is e (Callee name d) = (e.name ≡ name) × (imported_function m is e.func ≡ Some (known.CoreDef d))
 
 -- what is exported under a name
 abbrev pub exported_as : List ℕ → List WasmExport → Option FuncName

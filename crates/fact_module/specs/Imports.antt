@@ -109,7 +109,7 @@ imported_type types (import.Memory least wide page) = None
 imported_type types (import.Global t mutable) = None
 
 -- the import is a function with these names, of this type
-pub record IsFunction (types : List FuncType) (w : WasmImport) (origin name : List ℕ) (ty : FuncType) : Type 0 where
+pub record IsImportedFunction (types : List FuncType) (w : WasmImport) (origin name : List ℕ) (ty : FuncType) : Type 0 where
   pub is_from : w.module ≡ origin
   pub is_named : w.name ≡ name
   pub is_typed : imported_type types w.ty ≡ Some ty
@@ -123,11 +123,11 @@ abbrev pub StandsFor : List FuncType → List WasmImport → Role → WasmImport
 StandsFor types before (Flags i) w = w ≡ record { «module» = codes "flags"; name = codes "instance" ++ decimal i; ty = import.Global val.I32 true }
 StandsFor types before (Storage wide k) w = w ≡ record { «module» = codes "memory"; name = codes "m" ++ decimal (count_by (is_of a_memory) before); ty = import.Memory 0 wide (custom_page_size k) }
 StandsFor types before (Realloc wide) w =
-    IsFunction types w (codes "realloc") (codes "f" ++ decimal (count_by (is_of a_function) before)) (realloc_type wide)
+    IsImportedFunction types w (codes "realloc") (codes "f" ++ decimal (count_by (is_of a_function) before)) (realloc_type wide)
 StandsFor types before Callback w =
-    IsFunction types w (codes "callback") (codes "f" ++ decimal (count_by (is_of a_function) before)) callback_type
-StandsFor types before (Callee adapter ty) w = IsFunction types w (codes "callee") adapter ty
-StandsFor types before (PostReturn adapter results) w = IsFunction types w (codes "post_return") adapter (post_return_type results)
+    IsImportedFunction types w (codes "callback") (codes "f" ++ decimal (count_by (is_of a_function) before)) callback_type
+StandsFor types before (Callee adapter ty) w = IsImportedFunction types w (codes "callee") adapter ty
+StandsFor types before (PostReturn adapter results) w = IsImportedFunction types w (codes "post_return") adapter (post_return_type results)
 
 abbrev pub trap_number : Trap → ℕ
 trap_number trap.CannotLeaveComponent = 0
@@ -145,7 +145,7 @@ trap_number trap.DebugAssertStringEncodingFinished = 11
 trap_number trap.DebugAssertEqualCodeUnits = 12
 
 abbrev pub IsTrap : List FuncType → Trap → WasmImport → Type 0
-IsTrap types t w = IsFunction types w (codes "runtime") (codes "trap" ++ decimal (trap_number t)) trap_type
+IsTrap types t w = IsImportedFunction types w (codes "runtime") (codes "trap" ++ decimal (trap_number t)) trap_type
 
 -- The import, behind these others, has the names and the type of what it is: a core definition those of the role in which it is
 -- mentioned. Adapters that are built so far import nothing else.

@@ -16,13 +16,13 @@ use Rattle.fact_module.specs.Imports.{Mention, a_function, adapter_mentions, imp
 
 -- ---- numbers, each once
 
-abbrev pub with_number : List ℕ → ℕ → List ℕ
-with_number ns n = if list_any (λ k. nat_eq k n) ns then ns else ns ++ n ∷ []
+abbrev pub added_once : List ℕ → ℕ → List ℕ
+added_once ns n = if list_any (λ k. nat_eq k n) ns then ns else ns ++ n ∷ []
 
 -- numbers behind others, each where it is not there yet
-abbrev pub with_numbers : List ℕ → List ℕ → List ℕ
-with_numbers ns [] = ns
-with_numbers ns (x ∷ xs) = with_numbers (with_number ns x) xs
+abbrev pub all_added_once : List ℕ → List ℕ → List ℕ
+all_added_once ns [] = ns
+all_added_once ns (x ∷ xs) = all_added_once (added_once ns x) xs
 
 -- ---- what code names
 
@@ -64,15 +64,15 @@ abbrev pub others_named : List Import → WasmFunc → List ℕ
 others_named imported f = prepare_calls_last imported (others_among imported (names f))
 
 -- the functions from a number on that bodies name, each once, in the order in which they are first named
-abbrev pub asked : ℕ → List WasmFunc → List ℕ
-asked next fs = with_numbers [] (filter (nat_le next) (filter_map defined_place (flat_map names fs)))
+abbrev pub newly_asked : ℕ → List WasmFunc → List ℕ
+newly_asked next fs = all_added_once [] (filter (nat_le next) (filter_map defined_place (flat_map names fs)))
 
 -- Functions in the order in which their code is written, where these numbers wait and those from `next` on were not asked for:
 -- the last of those that wait comes first, and those that it is the first to ask for wait behind the others.
 pub data AreWritten (functions : List WasmFunc) : (waiting : List ℕ) → (next : ℕ) → (written : List WasmFunc) → Type 0 where
   NoneWaits : (next : ℕ) → AreWritten functions [] next []
   LastComes : (waiting : List ℕ) (next k : ℕ) (f : WasmFunc) (written : List WasmFunc) → slice_get functions k ≡ Some f
-      → AreWritten functions (waiting ++ asked next (f ∷ [])) (next + length (asked next (f ∷ []))) written
+      → AreWritten functions (waiting ++ newly_asked next (f ∷ [])) (next + length (newly_asked next (f ∷ []))) written
       → AreWritten functions (waiting ++ k ∷ []) next (f ∷ written)
 
 -- ---- the parts of a module
@@ -95,9 +95,9 @@ pub record IsPart (imported : List Import) (before : List Part) (a : LinkedAdapt
   pub next : ℕ
   pub next_is : next ≡ length (flat_map functions_in before) + length p.own
   pub written : List WasmFunc
-  pub are_written : AreWritten (flat_map functions_in before ++ functions_in p) (asked next p.own) (next + length (asked next p.own)) written
+  pub are_written : AreWritten (flat_map functions_in before ++ functions_in p) (newly_asked next p.own) (next + length (newly_asked next p.own)) written
   pub all_written : length written ≡ length p.helpers
-  pub others : with_numbers (flat_map (λ q. q.others) before) (flat_map (others_named imported) (p.own ++ written)) ≡ flat_map (λ q. q.others) before ++ p.others
+  pub others : all_added_once (flat_map (λ q. q.others) before) (flat_map (others_named imported) (p.own ++ written)) ≡ flat_map (λ q. q.others) before ++ p.others
 
 -- The parts, behind these others, are those of the adapters, one by one.
 abbrev pub AreParts : List Import → List Part → List LinkedAdapter → List Part → Type 0

@@ -11,7 +11,7 @@ use Rattle.fact_types.specs.declared.interface.InterfaceType.{InterfaceType}
 use Rattle.fact_types.specs.declared.interface.InterfaceType.TheVariants.{U32 as t_u32, U64 as t_u64}
 use Rattle.fact_types.specs.Shapes.{s_plain}
 use Rattle.fact_machine.specs.Machine.{func_import}
-use Rattle.fact_machine.specs.Typed.{global_type}
+use Rattle.fact_machine.specs.Typed.{type_of_global}
 use Rattle.fact_types.specs.Adapters.{LinkedAdapter, Side}
 use Rattle.fact_types.specs.declared.import.Import.{Import}
 use Rattle.fact_types.specs.declared.import.Import.TheVariants as known
@@ -64,7 +64,7 @@ pub record ImportsFunction (m : WasmModule) (n : ℕ) (ty : FuncType) : Type 0 w
 -- the flags of an instance are the nth imported global, of i32
 pub record ImportsFlags (m : WasmModule) (is : List Import) (instance n : ℕ) : Type 0 where
   pub place : flags_place instance (imports_of a_global m.imports is) ≡ Some n
-  pub typed : slice_get (filter_map global_type m.imports) n ≡ Some val.I32
+  pub typed : slice_get (filter_map type_of_global m.imports) n ≡ Some val.I32
 
 -- The function of a number is that of an adapter, over what its places name.
 pub record IsPlainFunction (m : WasmModule) (is : List Import) (a : LinkedAdapter) (params results : List InterfaceType) (k : ℕ) : Type 0 where

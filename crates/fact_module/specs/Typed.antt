@@ -5,12 +5,12 @@ use Rattle.fact_builder.specs.Builder.{Builder}
 use Rattle.fact_plan_types.specs.Faults.{Fault, rank}
 use Rattle.fact_checks.specs.declared.adapter.Adapter.{Adapter}
 use Rattle.fact_types.specs.Adapters.{LinkedAdapter}
-use Rattle.fact_checks.specs.Linked.{HasSides, IsTyped}
+use Rattle.fact_checks.specs.Linked.{HasSides, NamesTypesOf}
 use Rattle.fact_module.specs.Adapted.{TypesHave}
 
 -- It has no fault by its types or its numbers, and all that it names can be looked up.
 pub record HasSoundTypes (b : Builder) (k : ℕ) (a : Adapter) : Type 0 where
-  pub typed : IsTyped b a
+  pub typed : NamesTypesOf b a
   pub linked : LinkedAdapter
   pub sides : HasSides b a linked
   pub sound : (f : Fault) → TypesHave b k a f → ⊥

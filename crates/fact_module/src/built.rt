@@ -2,7 +2,7 @@
 
 ghost use Rattle.std.specs.Prelude.{◌≡◌, ◌↔◌, ◌<◌, ◌≤◌, false, IsTrue, List, length};
 ghost use Rattle.fact_types.specs.Adapters.{LinkedAdapter, Side};
-ghost use Rattle.fact_checks.specs.Linked.{HasSides, IsLinked, IsSideOf, IsTyped};
+ghost use Rattle.fact_checks.specs.Linked.{HasSides, IsLinked, IsSideOf, NamesTypesOf};
 ghost use Rattle.fact_module.specs.Built.{IsBuiltAdapter, IsBuiltSide};
 ghost use Rattle.fact_module.specs.Candidates.{AreFewNumbers, HasBuiltFunction, IsPlainCrossing, NamesNothing};
 ghost use Rattle.fact_module.specs.Plain.{AreNumbers, IsNumber};
@@ -92,7 +92,7 @@ fn is_built_side(
 }
 
 fn are_sides_built(builder: &ComponentTypesBuilder, adapter: &Adapter) -> bool
-    requires { IsTyped builder.now adapter.now }
+    requires { NamesTypesOf builder.now adapter.now }
     ensures { (a : LinkedAdapter) → HasSides builder.now adapter.now a → (IsTrue result ↔ (IsBuiltSide a.lift × IsBuiltSide a.lower)) }
 {
     is_built_side(builder, adapter.lift_ty, &adapter.lift_options)
@@ -117,7 +117,7 @@ pub fn is_built(
     features: WasmFeatures,
     candidate: &Candidate<'_>,
 ) -> bool
-    requires { IsTyped builder.now candidate.now.adapter.now }
+    requires { NamesTypesOf builder.now candidate.now.adapter.now }
     ensures { (a : LinkedAdapter) → IsLinked builder.now candidate.now a → (IsTrue result ↔ IsBuiltAdapter tunables.now.concurrency_support features.exceptions a) }
 {
     are_sides_built(builder, candidate.adapter) && is_plain_crossing(tunables, features, candidate)

@@ -34,7 +34,7 @@ fn emit_guard(alloc: Global, at: Places, params: u32) -> Result<Seq<Instr>, OutO
 /// The guard, and the callee's flag saved and cleared.
 fn emit_enter(alloc: Global, at: Places, params: u32) -> Result<Vec<Instr>, OutOfMemory>
     requires { params + 2 < 2 ^ 32 }
-    ensures { IfOk result (λ instrs. instrs.items ≡ code.enter at params) }
+    ensures { IfOk result (λ instrs. instrs.items ≡ code.entry_code at params) }
 {
     let guard = emit_guard(alloc, at, params)?;
     let instrs = vec![in alloc;
@@ -60,7 +60,7 @@ fn push_params(instrs: &mut Vec<Instr>, params: u32) -> Result<(), OutOfMemory>
 /// Restores the callee's flag, and calls the callee.
 fn push_call(instrs: &mut Vec<Instr>, at: Places, params: u32) -> Result<(), OutOfMemory>
     requires { params + 2 < 2 ^ 32 }
-    ensures { OnOk result (instrs.new.items ≡ instrs.old.items ++ code.call at params) }
+    ensures { OnOk result (instrs.new.items ≡ instrs.old.items ++ code.call_code at params) }
 {
     instrs.push(Instr::LocalGet(params + 1))?;
     instrs.push(Instr::GlobalSet(at.lift_flag))?;
@@ -76,7 +76,7 @@ fn emit_leave(
     returns: bool,
 ) -> Result<Vec<Instr>, OutOfMemory>
     requires { params + 2 < 2 ^ 32 }
-    ensures { IfOk result (λ instrs. instrs.items ≡ code.leave at params returns) }
+    ensures { IfOk result (λ instrs. instrs.items ≡ code.exit_code at params returns) }
 {
     if returns {
         let instrs = vec![in alloc;

@@ -6,7 +6,7 @@ ghost use Rattle.fact_wasm.specs.Ranges.{InRange};
 ghost use Rattle.fact_wasm.specs.Spelling.{Spells};
 ghost use Rattle.fact_plan_types.specs.PlanTypes.{told};
 ghost use Rattle.fact_plan_types.specs.declared.error.Place.TheVariants as place_at;
-ghost use Rattle.fact_checks.specs.Linked.{IsTyped};
+ghost use Rattle.fact_checks.specs.Linked.{NamesTypesOf};
 ghost use Rattle.fact_module.specs.Adapted.{IsFaultlessFor, IsFirst, MayAdapt, OfAdapter};
 ghost use Rattle.fact_module.specs.Collected.{AreTaken, Extends, HasTaken, KeepsSettings, KeepsPromises, no_tree, taken_of};
 ghost use Rattle.fact_types.specs.Adapters.{LinkedAdapter};
@@ -137,7 +137,7 @@ impl<'a> Module<'a> {
     /// fault, with its number as place. After a want of memory the module is whole no more.
     pub(crate) fn take(&mut self, number: u32, candidate: &Candidate<'_>) -> Result<(), FuseError>
         requires whole { self.old.whole ≡ true }
-        requires typed { IsTyped self.old.builder candidate.now.adapter.now }
+        requires typed { NamesTypesOf self.old.builder candidate.now.adapter.now }
         requires built { MayTake self.old candidate.now }
         ensures keeps { KeepsSettings self.old self.new }
         ensures taken { OnOk result (HasTaken self.old self.new (taken_of candidate.now)) }

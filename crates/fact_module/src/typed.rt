@@ -6,7 +6,7 @@ ghost use Rattle.fact_plan_types.specs.TypeRules.{most_entries};
 ghost use Rattle.fact_plan_types.specs.declared.error.Place.TheVariants as place_at;
 ghost use Rattle.fact_checks.specs.AdapterRules.{most_instance};
 ghost use Rattle.fact_types.specs.Adapters.{LinkedAdapter};
-ghost use Rattle.fact_checks.specs.Linked.{HasSides, IsTyped};
+ghost use Rattle.fact_checks.specs.Linked.{HasSides, NamesTypesOf};
 ghost use Rattle.fact_module.specs.Adapted.{IsBadFunctionType, IsLargeFunctionType};
 ghost use Rattle.fact_module.specs.Typed.{HasSoundTypes, TypesHaveFirst};
 
@@ -20,7 +20,7 @@ use fact_wasm::OutOfMemory;
 
 /// Whether the function types and core types of an adapter are in a builder.
 fn is_typed(builder: &ComponentTypesBuilder, adapter: &Adapter) -> bool
-    ensures { IsTrue result ↔ IsTyped builder.now adapter.now }
+    ensures { IsTrue result ↔ NamesTypesOf builder.now adapter.now }
 {
     let types = builder.component_types();
     let core_types = builder.module_types_builder();
@@ -78,7 +78,7 @@ fn has_bad_type(
     adapter: &Adapter,
 ) -> Result<bool, OutOfMemory>
     requires same { types.old ≡ builder.now }
-    requires typed { IsTyped builder.now adapter.now }
+    requires typed { NamesTypesOf builder.now adapter.now }
     ensures same { types.new ≡ types.old }
     ensures exact { IfOk result (λ found. IsTrue found ↔ (IsBadFunctionType builder.now adapter.now.lift_ty ⊎ IsBadFunctionType builder.now adapter.now.lower_ty)) }
 {
@@ -95,7 +95,7 @@ fn has_large_type(
     adapter: &Adapter,
 ) -> Result<bool, OutOfMemory>
     requires same { types.old ≡ builder.now }
-    requires typed { IsTyped builder.now adapter.now }
+    requires typed { NamesTypesOf builder.now adapter.now }
     ensures same { types.new ≡ types.old }
     ensures exact { IfOk result (λ found. IsTrue found ↔ (IsLargeFunctionType builder.now adapter.now.lift_ty ⊎ IsLargeFunctionType builder.now adapter.now.lower_ty)) }
 {
@@ -107,7 +107,7 @@ fn has_large_type(
 
 /// Does nothing: it says that all that a typed adapter names can be looked up.
 fn reveal_sides(builder: &ComponentTypesBuilder, adapter: &Adapter)
-    requires { IsTyped builder.now adapter.now }
+    requires { NamesTypesOf builder.now adapter.now }
     ensures { (a : LinkedAdapter) × HasSides builder.now adapter.now a }
 {
     builder.reveal();

@@ -11,7 +11,7 @@ use Rattle.fact_types.specs.declared.kinds.TypeTuple.{TypeTuple}
 use Rattle.fact_types.specs.Functions.{HaveShapes, HasSignature}
 use Rattle.fact_types.specs.Layout.{payloads, record_layout}
 use Rattle.fact_types.specs.Shapes.{Shape, layout_of, plain_layout, IsWithin}
-use Rattle.fact_types.specs.Tables.{Tables, abi_at, placed, stored, tuple_node, IsSound}
+use Rattle.fact_types.specs.Tables.{Tables, abi_at, placed, abi_of_node, tuple_node, IsSound}
 use Rattle.fact_types.proofs.ShapeLaws.{layout_is, more, same_some}
 use Rattle.fact_plan_types.specs.TypeRules.{IsPast, most_entries, tuple_layout}
 use Rattle.fact_type_rules.specs.TypeFaults.{HasManyTypes}
@@ -35,7 +35,7 @@ pub tuple-within : (t : Tables) → IsSound t → (i : Id TypeTuples) (e : TypeT
 tuple-within t k i e ss there h w past =
     let node = ap (option_map tuple_node) there in
     let laid : abi_at t (t_tuple i) ≡ tuple_layout ss =
-    ap (stored (plain_layout (t_tuple i))) node ∙ (k.stands (t_tuple i) (tuple_node e) node).laid ∙ ap record_layout (placed_layouts t k 0 e.types ss h) in
+    ap (abi_of_node (plain_layout (t_tuple i))) node ∙ (k.stands (t_tuple i) (tuple_node e) node).laid ∙ ap record_layout (placed_layouts t k 0 e.types ss h) in
     not-past (tuple_layout ss) (subst IsWithin laid w) past
 
 module _ (t : Tables) (k : IsSound t) (i : Id TypeFuncs) (f : TypeFunc) (there : slice_get t.functions i.number ≡ Some f) where

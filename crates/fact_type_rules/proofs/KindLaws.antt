@@ -27,7 +27,7 @@ use Rattle.fact_types.specs.Shapes.{k_tuple, k_flags}
 use Rattle.fact_types.specs.Tables.{Tables, Node, node_of, placed, record_node, tuple_node, flags_node, enum_node}
 use Rattle.fact_plan_types.specs.TypeRules.{IsRepeated, most_entries}
 use Rattle.fact_type_rules.specs.TypeFaults.{IsBadKind}
-use Rattle.fact_type_rules.specs.Walk.{IsBadNode, IsLongType, IsLongNode, types_in}
+use Rattle.fact_type_rules.specs.Walk.{IsBadNode, IsLongType, IsLongNode, types_of_node}
 
 abbrev pub Member : Type 0
 Member = List ℕ × Option InterfaceType
@@ -42,25 +42,25 @@ field_types : (fs : List RecordField) → payloads (map (λ (m : Member). m.1) (
 field_types [] = refl
 field_types (f ∷ fs) = ap (λ ts. f.ty ∷ ts) (field_types fs)
 
-pub record-types : (t : Tables) (i : Id TypeRecords) (e : TypeRecord) → slice_get t.records i.number ≡ Some e → map (λ f. f.ty) e.fields ≡ types_in (node_of t (t_record i))
-record-types t i e there = sym (ap (λ o. types_in (option_map record_node o)) there ∙ field_types e.fields)
+pub record-types : (t : Tables) (i : Id TypeRecords) (e : TypeRecord) → slice_get t.records i.number ≡ Some e → map (λ f. f.ty) e.fields ≡ types_of_node (node_of t (t_record i))
+record-types t i e there = sym (ap (λ o. types_of_node (option_map record_node o)) there ∙ field_types e.fields)
 
 place_types : (n : ℕ) (ys : List InterfaceType) → payloads (map (λ (m : Member). m.1) (placed n ys)) ≡ ys
 place_types n [] = refl
 place_types n (y ∷ ys) = ap (λ ts. y ∷ ts) (place_types (suc n) ys)
 
-pub tuple-types : (t : Tables) (i : Id TypeTuples) (e : TypeTuple) → slice_get t.tuples i.number ≡ Some e → e.types ≡ types_in (node_of t (t_tuple i))
-tuple-types t i e there = sym (ap (λ o. types_in (option_map tuple_node o)) there ∙ place_types 0 e.types)
+pub tuple-types : (t : Tables) (i : Id TypeTuples) (e : TypeTuple) → slice_get t.tuples i.number ≡ Some e → e.types ≡ types_of_node (node_of t (t_tuple i))
+tuple-types t i e there = sym (ap (λ o. types_of_node (option_map tuple_node o)) there ∙ place_types 0 e.types)
 
 bare_types : (names : List (List ℕ)) → payloads (map (λ (m : Member). m.1) (map bare_member names)) ≡ []
 bare_types [] = refl
 bare_types (n ∷ ns) = bare_types ns
 
-flags_types : (o : Option FlagsType) → types_in (option_map flags_node o) ≡ []
+flags_types : (o : Option FlagsType) → types_of_node (option_map flags_node o) ≡ []
 flags_types None = refl
 flags_types (Some e) = bare_types e.names
 
-enum_types : (o : Option EnumType) → types_in (option_map enum_node o) ≡ []
+enum_types : (o : Option EnumType) → types_of_node (option_map enum_node o) ≡ []
 enum_types None = refl
 enum_types (Some e) = bare_types e.names
 
@@ -76,7 +76,7 @@ pub no-types : (t : Tables) (p : InterfaceType)
     → ((x : Id TypeFixedLengthLists) → p ≡ t_fixed_length_list x → ⊥)
     → ((x : Id TypeFutureTables) → p ≡ t_future x → ⊥)
     → ((x : Id TypeStreamTables) → p ≡ t_stream x → ⊥)
-    → types_in (node_of t p) ≡ []
+    → types_of_node (node_of t p) ≡ []
 no-types t (t_record x) a b c d e f g h i j = absurd (a x refl)
 no-types t (t_variant x) a b c d e f g h i j = absurd (b x refl)
 no-types t (t_tuple x) a b c d e f g h i j = absurd (c x refl)

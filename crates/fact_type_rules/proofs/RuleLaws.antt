@@ -20,7 +20,7 @@ use Rattle.fact_plan.specs.declared.plan.PlanType.TheVariants as entry
 use Rattle.fact_plan.specs.declared.plan.FusePlan.{FusePlan}
 use Rattle.fact_plan_types.specs.PlanShapes.{HandleTables, cases_of, entry_shape, fields_of, names_alone, places_of}
 use Rattle.fact_plan_types.specs.TypeRules.{IsEmpty, IsErrorContext, IsPast, IsRepeated, IsTooLarge, most_entries, names_in, list_length, table_in, types_in}
-use Rattle.fact_plan_types.specs.TypeRules.{AreManyCases as HasManyCasesIn, AreManyFlags as HasManyFlagsIn}
+use Rattle.fact_plan_types.specs.TypeRules.{HasManyCases as HasManyCasesIn, HasManyFlags as HasManyFlagsIn}
 use Rattle.fact_plan_types.proofs.AddLaws.{entry_not_past, entry_within_or_past, not_past, within_or_past}
 use Rattle.fact_plan_types.proofs.ValidLaws.{bare_names, case_names, distinct_where, field_names, head, one_name, option_names, result_names, two_names}
 use Rattle.fact_type_rules.specs.RuleLaws.{BadByShape, BreaksRule, LargeByShape, ValidBreaksNone}

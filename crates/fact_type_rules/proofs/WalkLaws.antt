@@ -19,7 +19,7 @@ use Rattle.fact_types.specs.Tables.{Tables, Node, node_of, IsLive, IsLiveMember,
 use Rattle.fact_types.proofs.ShapeLaws.{no_node, same_some, none_some, one_shape}
 use Rattle.fact_type_rules.specs.declared.rules.Rules.{Rules}
 use Rattle.fact_type_rules.specs.TypeFaults.{AnyIn, AnyAmong}
-use Rattle.fact_type_rules.specs.Walk.{PutsBehind, BreaksRules, EndsAt, IsClean, IsFaulty, Looked, types_in}
+use Rattle.fact_type_rules.specs.Walk.{PutsBehind, BreaksRules, EndsAt, IsClean, IsFaulty, Looked, types_of_node}
 use Rattle.fact_type_rules.proofs.ListLaws.{all-contained, all-of, any-cases, any-contained, any-here, any-none, any-there, contains-at, contains-cases, contains-here, contains-none, contains-there}
 use Rattle.fact_type_rules.proofs.WeightLaws.{weight, weighs}
 
@@ -91,10 +91,10 @@ payloads_live t [] a = All-nil (IsLive t)
 payloads_live t ((n, None) ∷ xs) a = payloads_live t xs (λ k d l. a (suc k) d (omega (arith, l)))
 payloads_live t ((n, Some ty) ∷ xs) a = All-cons (IsLive t) ty _ (a 0 (n, Some ty) (omega arith)) (payloads_live t xs (λ k d l. a (suc k) d (omega (arith, l))))
 
-pub members_live : (t : Tables) → IsSound t → (ty : InterfaceType) → All (IsLive t) (types_in (node_of t ty))
+pub members_live : (t : Tables) → IsSound t → (ty : InterfaceType) → All (IsLive t) (types_of_node (node_of t ty))
 members_live t k ty = by (node_of t ty) refl
   where
-    by : (o : Option Node) → node_of t ty ≡ o → All (IsLive t) (types_in o)
+    by : (o : Option Node) → node_of t ty ≡ o → All (IsLive t) (types_of_node o)
     by None e = All-nil (IsLive t)
     by (Some n) e = payloads_live t n.members (k.stands ty n e).live
 
@@ -116,12 +116,12 @@ among P t (typed n s ms) ((y, Some ty) ∷ xs) m z h c k a = by (contains-cases 
         inl (subst (AnyIn P) (one_shape t z s m k (subst (λ ty. HasShape t ty s) is h.1.2)) a)
     by (inr d) rest = inr (rest d)
 
-pub rises : (t : Tables) (r : Rules) → IsSound t → (ty : InterfaceType) → IsLive t ty → (m : InterfaceType) → Contains (types_in (node_of t ty)) m → IsFaulty t r m → IsFaulty t r ty
+pub rises : (t : Tables) (r : Rules) → IsSound t → (ty : InterfaceType) → IsLive t ty → (m : InterfaceType) → Contains (types_of_node (node_of t ty)) m → IsFaulty t r m → IsFaulty t r ty
 rises t r k ty l m c f = go (k.shaped ty l)
   where
     go : ((s : Shape) × HasShape t ty s × (depth s ≤ entries t)) → IsFaulty t r ty
-    go (s_plain p, h, b) = absurd (contains-none m (subst (λ o. Contains (types_in o) m) (ap (node_of t) h.0 ∙ no_node t p h.1) c))
-    go (s_node kd ms, h, b) = (s_node kd ms, h, inr (among (BreaksRules r) t ms h.0.members m f.0 h.3 (subst (λ o. Contains (types_in o) m) h.1 c) f.1 f.2))
+    go (s_plain p, h, b) = absurd (contains-none m (subst (λ o. Contains (types_of_node o) m) (ap (node_of t) h.0 ∙ no_node t p h.1) c))
+    go (s_node kd ms, h, b) = (s_node kd ms, h, inr (among (BreaksRules r) t ms h.0.members m f.0 h.3 (subst (λ o. Contains (types_of_node o) m) h.1 c) f.1 f.2))
 
 any_here : (P : Shape → Type 0) (s : Shape) → P s → AnyIn P s
 any_here P (s_plain p) h = h
@@ -138,7 +138,7 @@ faulty_here t r k ty l f = go (k.shaped ty l)
 -- a type was looked at, with all types in it met or clean
 pub record IsDone (t : Tables) (r : Rules) (met clean : List InterfaceType) (ty : InterfaceType) : Type 0 where
   pub kept : (s : Shape) → HasShape t ty s → BreaksRules r s → ⊥
-  pub reached : (m : InterfaceType) → Contains (types_in (node_of t ty)) m → Contains met m ⊎ Contains clean m
+  pub reached : (m : InterfaceType) → Contains (types_of_node (node_of t ty)) m → Contains met m ⊎ Contains clean m
 
 -- a walk from some types has met types, and has looked at those before a place
 pub record IsWalk (t : Tables) (r : Rules) (from met clean : List InterfaceType) (at : ℕ) : Type 0 where
@@ -220,7 +220,7 @@ mutual
   all_clean t r met clean d c (s_node k ms) ty h (inr w) a = all-contained (IsClean t r) clean ty c w (s_node k ms) h a
   all_clean t r met clean d c (s_node k ms) ty h (inl w) (inl a) = (all-contained (IsDone t r met clean) met ty d w).kept (s_node k ms) h a
   all_clean t r met clean d c (s_node k ms) ty h (inl w) (inr a) =
-      members_clean t r met clean d c ms h.0.members h.3 (λ m g. (all-contained (IsDone t r met clean) met ty d w).reached m (subst (λ o. Contains (types_in o) m) (sym h.1) g)) a
+      members_clean t r met clean d c ms h.0.members h.3 (λ m g. (all-contained (IsDone t r met clean) met ty d w).reached m (subst (λ o. Contains (types_of_node o) m) (sym h.1) g)) a
 
   members_clean : (t : Tables) (r : Rules) (met clean : List InterfaceType) → All (IsDone t r met clean) met → All (IsClean t r) clean
       → (ms : Members) (xs : List (List ℕ × Option InterfaceType)) → HasMembers t xs ms → ((m : InterfaceType) → Contains (payloads (map (λ m. m.1) xs)) m → Contains met m ⊎ Contains clean m) → AnyAmong (BreaksRules r) ms → ⊥

@@ -23,9 +23,9 @@ abbrev pub IsClean : Tables → Rules → InterfaceType → Type 0
 IsClean t r ty = (s : Shape) → HasShape t ty s → AnyIn (BreaksRules r) s → ⊥
 
 -- The types of the members of an entry, and its payload.
-abbrev pub types_in : Option Node → List InterfaceType
-types_in None = []
-types_in (Some n) = payloads (map (λ m. m.1) n.members)
+abbrev pub types_of_node : Option Node → List InterfaceType
+types_of_node None = []
+types_of_node (Some n) = payloads (map (λ m. m.1) n.members)
 
 -- An entry is no type, whatever the types of its members are.
 abbrev pub IsBadNode : Option Node → Type 0
@@ -51,7 +51,7 @@ pub record PutsBehind (clean old new given : List InterfaceType) : Type 0 where
 -- A type was looked at: it breaks none of the rules, and the types of its members were added.
 pub record Looked (t : Tables) (r : Rules) (clean old new : List InterfaceType) (ty : InterfaceType) : Type 0 where
   pub kept : (s : Shape) → HasShape t ty s → BreaksRules r s → ⊥
-  pub adds : PutsBehind clean old new (types_in (node_of t ty))
+  pub adds : PutsBehind clean old new (types_of_node (node_of t ty))
 
 abbrev pub Looks : Tables → Rules → (clean old new : List InterfaceType) → InterfaceType → Bool → Type 0
 Looks t r clean old new ty true = (s : Shape) → HasShape t ty s → BreaksRules r s

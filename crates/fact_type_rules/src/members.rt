@@ -4,7 +4,7 @@ ghost use Rattle.std.specs.Prelude.{◌≡◌, ◌∷◌, [], IfOk, map};
 ghost use Rattle.fact_types.specs.Layout.{payloads};
 ghost use Rattle.fact_types.specs.Tables.{IsLive, node_of};
 ghost use Rattle.indexmap.specs.IndexMap.{values};
-ghost use Rattle.fact_type_rules.specs.Walk.{types_in};
+ghost use Rattle.fact_type_rules.specs.Walk.{types_of_node};
 
 use fact_types::{ComponentTypes, InterfaceType, RecordField};
 use fact_wasm::{OutOfMemory, Text};
@@ -18,7 +18,7 @@ pub(crate) fn members_of(
     ty: &InterfaceType,
 ) -> Result<Vec<InterfaceType>, OutOfMemory>
     requires { IsLive types.now ty.now }
-    ensures { IfOk result (λ members. members.items ≡ types_in (node_of types.now ty.now)) }
+    ensures { IfOk result (λ members. members.items ≡ types_of_node (node_of types.now ty.now)) }
 {
     types.reveal();
     match *ty {

@@ -6,7 +6,7 @@ use Rattle.fact_types.specs.declared.abi.CanonicalAbiInfo.{CanonicalAbiInfo}
 use Rattle.fact_types.specs.declared.interface.InterfaceType.{InterfaceType}
 use Rattle.fact_types.specs.declared.interface.InterfaceType.TheVariants.{Record as t_record, Variant as t_variant, List as t_list, Tuple as t_tuple, Map as t_map, Flags as t_flags, Enum as t_enum, Option as t_option, Result as t_result, Future as t_future, Stream as t_stream, FixedLengthList as t_fixed_length_list}
 use Rattle.fact_types.specs.Shapes.{Kind, Shape, s_plain, s_node, Members, no_members, bare, typed, plain_layout, layout_by, parts_by, layout_of, layouts_of, deepest}
-use Rattle.fact_types.specs.Tables.{Tables, Node, node_of, record_node, variant_node, tuple_node, flags_node, enum_node, option_node, result_node, list_node, map_node, fixed_length_list_node, future_node, stream_node, IsLive, IsLiveMember, is_plain, stored, abi_at, HasShape, HasMembers, Stands, IsSound, entries}
+use Rattle.fact_types.specs.Tables.{Tables, Node, node_of, record_node, variant_node, tuple_node, flags_node, enum_node, option_node, result_node, list_node, map_node, fixed_length_list_node, future_node, stream_node, IsLive, IsLiveMember, is_plain, abi_of_node, abi_at, HasShape, HasMembers, Stands, IsSound, entries}
 
 pub more : {X : Type 0} (x y : X) (xs ys : List X) → x ≡ y → xs ≡ ys → (x ∷ xs) ≡ (y ∷ ys)
 more x y xs ys e f = λ i. e i ∷ f i
@@ -57,8 +57,8 @@ live_plain t ty l h = refl
 -- ---- the layout in the tables is that of each shape of the type
 mutual
   pub layout_is : (t : Tables) → IsSound t → (s : Shape) (ty : InterfaceType) → HasShape t ty s → abi_at t ty ≡ layout_of s
-  layout_is t l (s_plain p) ty h = ap (abi_at t) h.0 ∙ ap (stored (plain_layout p)) (no_node t p h.1)
-  layout_is t l (s_node k ms) ty h = ap (stored (plain_layout ty)) h.1 ∙ (l.stands ty h.0 h.1).laid ∙ ap (layout_by h.0.kind) (layouts_are t l ms h.0.members h.3) ∙ ap (λ (k : Kind). layout_by k (layouts_of ms)) h.2
+  layout_is t l (s_plain p) ty h = ap (abi_at t) h.0 ∙ ap (abi_of_node (plain_layout p)) (no_node t p h.1)
+  layout_is t l (s_node k ms) ty h = ap (abi_of_node (plain_layout ty)) h.1 ∙ (l.stands ty h.0 h.1).laid ∙ ap (layout_by h.0.kind) (layouts_are t l ms h.0.members h.3) ∙ ap (λ (k : Kind). layout_by k (layouts_of ms)) h.2
 
   pub layouts_are : (t : Tables) → IsSound t → (ms : Members) (xs : List (List ℕ × Option InterfaceType)) → HasMembers t xs ms → map (λ m. option_map (abi_at t) m.1) xs ≡ layouts_of ms
   layouts_are t l no_members [] h = refl
@@ -88,9 +88,9 @@ mutual
   keeps_members t u g (typed n s ms) (x ∷ xs) h = (h.0, (h.1.0, h.1.1, keeps_shape t u g s h.1.0 h.1.2), keeps_members t u g ms xs h.2)
 
 -- the layout of a live type stays
-same_stored : (d : CanonicalAbiInfo) (a b : Option Node) → ((n : Node) → a ≡ Some n → b ≡ Some n) → (a ≡ None → b ≡ None) → stored d b ≡ stored d a
-same_stored d None b f g = ap (stored d) (g refl)
-same_stored d (Some n) b f g = ap (stored d) (f n refl)
+same_stored : (d : CanonicalAbiInfo) (a b : Option Node) → ((n : Node) → a ≡ Some n → b ≡ Some n) → (a ≡ None → b ≡ None) → abi_of_node d b ≡ abi_of_node d a
+same_stored d None b f g = ap (abi_of_node d) (g refl)
+same_stored d (Some n) b f g = ap (abi_of_node d) (f n refl)
 
 pub same_abi : (t u : Tables) → Grows t u → (ty : InterfaceType) → IsLive t ty → abi_at u ty ≡ abi_at t ty
 same_abi t u g ty l = same_stored (plain_layout ty) (node_of t ty) (node_of u ty) (g.nodes ty) (λ h. no_node u ty (live_plain t ty l h))

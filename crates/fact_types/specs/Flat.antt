@@ -48,8 +48,8 @@ join F32 I32 = I32
 join a b = I64
 
 -- The value type of a flat type.
-abbrev pub val_type : FlatType → ValType
-val_type I32 = V.I32
-val_type I64 = V.I64
-val_type F32 = V.F32
-val_type F64 = V.F64
+abbrev pub value_type : FlatType → ValType
+value_type I32 = V.I32
+value_type I64 = V.I64
+value_type F32 = V.F32
+value_type F64 = V.F64

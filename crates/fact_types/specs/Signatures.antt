@@ -8,7 +8,7 @@ use Rattle.fact_types.specs.declared.signature.Signature.{Signature}
 use Rattle.fact_types.specs.declared.signature.SideSig.{SideSig}
 use Rattle.fact_types.specs.declared.widths.MemoryWidth.{MemoryWidth}
 use Rattle.fact_types.specs.declared.widths.MemoryWidth.TheVariants.{Memory32, Memory64}
-use Rattle.fact_types.specs.Flat.{val_type}
+use Rattle.fact_types.specs.Flat.{value_type}
 use Rattle.fact_types.specs.FlatShapes.{pointer, flat_all}
 use Rattle.fact_types.specs.Shapes.{Shape}
 
@@ -18,7 +18,7 @@ width true = Memory64
 
 -- An address of the side's memory.
 abbrev pub address : Bool → ValType
-address memory64 = val_type (pointer (width memory64))
+address memory64 = value_type (pointer (width memory64))
 
 -- The value types of several types, none where they are more than a limit.
 abbrev pub flat_values : Bool → ℕ → List Shape → Option (List ValType)
@@ -26,7 +26,7 @@ flat_values memory64 limit ss = flat_of (flat_all (width memory64) limit ss)
   where
     flat_of : Option (List FlatType) → Option (List ValType)
     flat_of None = None
-    flat_of (Some fs) = Some (map val_type fs)
+    flat_of (Some fs) = Some (map value_type fs)
 
 -- Flat values, or else others.
 abbrev pub flat_or : List ValType → Option (List ValType) → List ValType

@@ -222,13 +222,13 @@ is_plain (t_fixed_length_list i) = false
 is_plain _ = true
 
 -- The layout of an entry, or another where there is none.
-abbrev pub stored : CanonicalAbiInfo → Option Node → CanonicalAbiInfo
-stored d None = d
-stored d (Some n) = n.abi
+abbrev pub abi_of_node : CanonicalAbiInfo → Option Node → CanonicalAbiInfo
+abi_of_node d None = d
+abi_of_node d (Some n) = n.abi
 
 -- The layout that stands in the tables for a type.
 abbrev pub abi_at : Tables → InterfaceType → CanonicalAbiInfo
-abi_at t ty = stored (plain_layout ty) (node_of t ty)
+abi_at t ty = abi_of_node (plain_layout ty) (node_of t ty)
 
 -- ---- live indices: those below the lengths of their tables
 abbrev pub IsLive : Tables → InterfaceType → Type 0

@@ -44,9 +44,9 @@ impl FlatType {
 }
 
 impl From<FlatType> for ValType {
-    ghost use Rattle.fact_types.specs.Flat.{val_type};
+    ghost use Rattle.fact_types.specs.Flat.{value_type};
 
-    ghost from_gives = { λ flat value. value ≡ val_type flat };
+    ghost from_gives = { λ flat value. value ≡ value_type flat };
 
     fn from(flat: FlatType) -> ValType {
         match flat {

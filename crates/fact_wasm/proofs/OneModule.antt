@@ -13,9 +13,9 @@ use Rattle.fact_wasm.specs.declared.decoder.CodeBody.{CodeBody}
 use Rattle.fact_wasm.specs.Numbers.{unsigned}
 use Rattle.fact_wasm.specs.Grammar.{list, IsIndex, function_index}
 use Rattle.fact_wasm.specs.Ranges.{InRange, AreBodiesRanged, AreExportsNamed}
-use Rattle.fact_wasm.specs.Spelling.{func_type, IsFuncType, import_item, IsImport, is_function, imported_functions, export_item, IsExport, IsTyped, code_item, IsCode, function_section, export_section, code_section, header, section, Fits, Spells}
+use Rattle.fact_wasm.specs.Spelling.{func_type, IsFuncType, import_item, IsImport, is_function, imported_functions, export_item, IsExport, HasTypeIndex, code_item, IsCode, function_section, export_section, code_section, header, section, Fits, Spells}
 use Rattle.fact_wasm.specs.Rebuild.{name_of}
-use Rattle.fact_wasm.specs.Owned.{IsModuleFront, IsBack, IsOwnExport, IsOwnBody, IsOwnCode, IsOwn, code_of, type_of, body_of}
+use Rattle.fact_wasm.specs.Owned.{IsModuleFront, IsBack, IsOwnExport, IsOwnBody, IsOwnCode, IsOwn, code_of, type_index, body_of}
 use Rattle.fact_wasm.proofs.Rebuilt.{named-back, body_rebuilt}
 use Rattle.fact_wasm.proofs.Unique.{index_unique}
 use Rattle.fact_wasm.proofs.Parts.{split, func_type_unique, import_unique, export_unique, code_unique, section_unique}
@@ -42,7 +42,7 @@ pub exports_fit : (n : ℕ) (es : List WasmExport) → AllByRecursion (IsExport 
 exports_fit n [] p q = tt
 exports_fit n (e ∷ es) p q = ((p.0, q.0), exports_fit n es p.1 q.1)
 
-pub types_fit : (fs : List WasmFunc) → AllByRecursion IsTyped fs → AllByRecursion IsIndex (map type_of fs)
+pub types_fit : (fs : List WasmFunc) → AllByRecursion HasTypeIndex fs → AllByRecursion IsIndex (map type_index fs)
 types_fit [] p = tt
 types_fit (f ∷ fs) p = (p.0, types_fit fs p.1)
 
@@ -62,20 +62,20 @@ module _ {A B : Type 0} (f : A → List ℕ) (g : B → List ℕ) (key : A → B
   list-key : (xs : List A) → list f xs ≡ list g (map key xs)
   list-key xs = rw (length-map xs key) (ap (λ (t : List ℕ). unsigned (length xs) ++ t) (flat_map-key xs))
 
-pub types_list : (m : WasmModule) → function_section m ≡ list unsigned (map type_of m.funcs)
-types_list m = list-key (λ f. unsigned f.ty) unsigned type_of (λ x. refl) m.funcs
+pub types_list : (m : WasmModule) → function_section m ≡ list unsigned (map type_index m.funcs)
+types_list m = list-key (λ f. unsigned f.ty) unsigned type_index (λ x. refl) m.funcs
 
 pub codes_list : (n : ℕ) (fs : List WasmFunc) → list (code_item n) fs ≡ list (code_of n) (map body_of fs)
 codes_list n fs = list-key (code_item n) (code_of n) body_of (λ x. refl) fs
 
-pub funcs_same : (fs gs : List WasmFunc) → map type_of fs ≡ map type_of gs → map body_of fs ≡ map body_of gs → fs ≡ gs
+pub funcs_same : (fs gs : List WasmFunc) → map type_index fs ≡ map type_index gs → map body_of fs ≡ map body_of gs → fs ≡ gs
 funcs_same [] [] p q = refl
 funcs_same [] (g ∷ gs) p q = absurd cc
 funcs_same (f ∷ fs) [] p q = absurd cc
 funcs_same (f ∷ fs) (g ∷ gs) p q =
     let ty : f.ty ≡ g.ty = cc in
     let body : body_of f ≡ body_of g = cc in
-    let types : map type_of fs ≡ map type_of gs = cc in
+    let types : map type_index fs ≡ map type_index gs = cc in
     let bodies : map body_of fs ≡ map body_of gs = cc in
     let rest = funcs_same fs gs types bodies in
     let head : f ≡ g = λ i. record { ty = ty i; locals = (body i).locals; body = (body i).body } in
@@ -96,13 +96,13 @@ front_of bytes m s = record {
   spelled = s.bytes_are;
 }
 
-pub back_of : (n : ℕ) (m : WasmModule) → n ≡ imported_functions m → IsOwn m → Fits m → IsBack n (rest_of m) (map type_of m.funcs) m.exports (map body_of m.funcs)
+pub back_of : (n : ℕ) (m : WasmModule) → n ≡ imported_functions m → IsOwn m → Fits m → IsBack n (rest_of m) (map type_index m.funcs) m.exports (map body_of m.funcs)
 unfolding rest_of
 back_of n m e o f = rw e (record {
   function_bytes = rw (← types_list m) f.function_bytes;
   export_bytes = f.export_bytes;
   code_bytes = rw (← codes_list (imported_functions m) m.funcs) f.code_bytes;
-  functions = (rw (length-map m.funcs type_of) f.functions.0, types_fit m.funcs f.functions.1);
+  functions = (rw (length-map m.funcs type_index) f.functions.0, types_fit m.funcs f.functions.1);
   exports = (f.exports.0, exports_fit (imported_functions m) m.exports f.exports.1 o.exports);
   bodies = (rw (length-map m.funcs body_of) f.bodies.0, bodies_fit (imported_functions m) m.funcs f.bodies.1 o.bodies);
   spelled = rw (← types_list m, ← codes_list (imported_functions m) m.funcs) refl;
@@ -128,7 +128,7 @@ exports_back : (n : ℕ) (es : List WasmExport) → AllByRecursion (IsOwnExport 
 exports_back n [] p = (tt, tt)
 exports_back n (e ∷ es) p = let rest = exports_back n es p.1 in ((p.0.0, rest.0), (p.0.1, rest.1))
 
-types_back : (fs : List WasmFunc) → AllByRecursion IsIndex (map type_of fs) → AllByRecursion IsTyped fs
+types_back : (fs : List WasmFunc) → AllByRecursion IsIndex (map type_index fs) → AllByRecursion HasTypeIndex fs
 types_back [] p = tt
 types_back (f ∷ fs) p = (p.0, types_back fs p.1)
 
@@ -136,10 +136,10 @@ bodies_back : (n : ℕ) (fs : List WasmFunc) → AllByRecursion (IsOwnCode n) (m
 bodies_back n [] p = (tt, tt)
 bodies_back n (f ∷ fs) p = let rest = bodies_back n fs p.1 in ((p.0.0, rest.0), (p.0.1, rest.1))
 
-pub module_back : (bytes rest : List ℕ) (n : ℕ) (m : WasmModule) → n ≡ imported_functions m → IsModuleFront bytes m.types m.imports rest → IsBack n rest (map type_of m.funcs) m.exports (map body_of m.funcs) → IsOwn m × Spells bytes m
-module_back bytes rest n m e f b = go (subst (λ (k : ℕ). IsBack k rest (map type_of m.funcs) m.exports (map body_of m.funcs)) e b)
+pub module_back : (bytes rest : List ℕ) (n : ℕ) (m : WasmModule) → n ≡ imported_functions m → IsModuleFront bytes m.types m.imports rest → IsBack n rest (map type_index m.funcs) m.exports (map body_of m.funcs) → IsOwn m × Spells bytes m
+module_back bytes rest n m e f b = go (subst (λ (k : ℕ). IsBack k rest (map type_index m.funcs) m.exports (map body_of m.funcs)) e b)
   where
-    go : IsBack (imported_functions m) rest (map type_of m.funcs) m.exports (map body_of m.funcs) → IsOwn m × Spells bytes m
+    go : IsBack (imported_functions m) rest (map type_index m.funcs) m.exports (map body_of m.funcs) → IsOwn m × Spells bytes m
     go b =
         let xs = exports_back (imported_functions m) m.exports b.exports.1 in
         let bs = bodies_back (imported_functions m) m.funcs b.bodies.1 in (
@@ -153,7 +153,7 @@ module_back bytes rest n m e f b = go (subst (λ (k : ℕ). IsBack k rest (map t
               code_bytes = rw codes_list b.code_bytes;
               types = f.types;
               imports = f.imports;
-              functions = (rw (length-map m.funcs type_of) at b.functions.0, types_back m.funcs b.functions.1);
+              functions = (rw (length-map m.funcs type_index) at b.functions.0, types_back m.funcs b.functions.1);
               exports = (b.exports.0, xs.0);
               bodies = (rw (length-map m.funcs body_of) at b.bodies.0, bs.0);
             };
@@ -168,7 +168,7 @@ one_module bytes m n om on sm sn =
     let k = imported_functions m in
     let f = front_unique bytes m.types n.types m.imports n.imports (rest_of m) (rest_of n) (front_of bytes m sm) (front_of bytes n sn) in
     let count : k ≡ imported_functions n = ap (count_by is_function) f.1 in
-    let b = back_unique k (rest_of m) (map type_of m.funcs) (map type_of n.funcs) m.exports n.exports (map body_of m.funcs) (map body_of n.funcs) (back_of k m refl om sm.fits) (subst (λ (r : List ℕ). IsBack k r (map type_of n.funcs) n.exports (map body_of n.funcs)) (sym f.2) (back_of k n count on sn.fits)) in
+    let b = back_unique k (rest_of m) (map type_index m.funcs) (map type_index n.funcs) m.exports n.exports (map body_of m.funcs) (map body_of n.funcs) (back_of k m refl om sm.fits) (subst (λ (r : List ℕ). IsBack k r (map type_index n.funcs) n.exports (map body_of n.funcs)) (sym f.2) (back_of k n count on sn.fits)) in
     let funcs = funcs_same m.funcs n.funcs b.0 b.2 in
     λ x. record { types = f.0 x; imports = f.1 x; funcs = funcs x; exports = b.1 x }
 

@@ -8,20 +8,20 @@ use Rattle.fact_wasm.specs.declared.instr.Instr.TheOpen as o
 use Rattle.fact_wasm.specs.declared.forms.LeafRow.{LeafRow}
 use Rattle.fact_wasm.specs.Answers.{IsEnd}
 use Rattle.fact_wasm.specs.Forms.{leaf_op, leaf_kinds, operands, IsLeafAt, IsInstrAt, IsBodyAt}
-use Rattle.fact_wasm.specs.Grammar.{Arg, Typ, Kind, ATyp, kind, block_type, args, IsBlockType, IsArg, Node, Leaf, Nest, Choice, Nodes, Nil, Cons, choice_end, code, codes, Flat, Body, Bodies, NoShape, shape, IsNode, AreNodes, node, body_nodes}
+use Rattle.fact_wasm.specs.Grammar.{Arg, Typ, ImmediateKind, ATyp, kind, block_type, args, IsBlockType, IsArg, InstrNode, Leaf, Nest, Choice, Nodes, Nil, Cons, choice_end, code, codes, Flat, Body, Bodies, NoShape, shape, IsNode, AreNodes, node, body_nodes}
 use Rattle.fact_wasm.specs.Rebuild.{instr_of, instrs_of}
 use Rattle.fact_wasm.proofs.Unique.{code-unique, code-begins}
 use Rattle.fact_wasm.proofs.Written.{args-one, goes_on}
 use Rattle.fact_wasm.proofs.Leaves.{a_type}
 
-pub flat : (i : Node) (op : ℕ) (tail rest : List ℕ) (ks : List Kind) → shape op ≡ Flat ks → IsNode i → op ∷ tail ≡ code i ++ rest
+pub flat : (i : InstrNode) (op : ℕ) (tail rest : List ℕ) (ks : List ImmediateKind) → shape op ≡ Flat ks → IsNode i → op ∷ tail ≡ code i ++ rest
     → (xs : List Arg) × (i ≡ Leaf op xs) × (map kind xs ≡ ks) × AllByRecursion IsArg xs × (tail ≡ args xs ++ rest)
 unfolding code IsNode
 flat (Leaf o xs) op tail rest ks s p e = (xs, (cc), (cc), p.1, (cc))
 flat (Nest o xs a) op tail rest ks s p e = absurd cc
 flat (Choice o xs a b) op tail rest ks s p e = absurd cc
 
-pub body : (i : Node) (op : ℕ) (tail rest : List ℕ) (ks : List Kind) → shape op ≡ Body ks → IsNode i → op ∷ tail ≡ code i ++ rest
+pub body : (i : InstrNode) (op : ℕ) (tail rest : List ℕ) (ks : List ImmediateKind) → shape op ≡ Body ks → IsNode i → op ∷ tail ≡ code i ++ rest
     → (xs : List Arg) × (a : Nodes) × (i ≡ Nest op xs a) × (map kind xs ≡ ks) × AllByRecursion IsArg xs × AreNodes a × (tail ≡ args xs ++ (codes a ++ 0x0B ∷ rest))
 unfolding code IsNode
 body (Leaf o xs) op tail rest ks s p e = absurd cc
@@ -30,7 +30,7 @@ body (Nest o xs a) op tail rest ks s p e =
     (xs, a, (cc), (cc), p.1, p.2, t ∙ append_assoc (args xs) (codes a ++ 0x0B ∷ []) rest ∙ ap (λ (r : List ℕ). args xs ++ r) (append_assoc (codes a) (0x0B ∷ []) rest))
 body (Choice o xs a b) op tail rest ks s p e = absurd cc
 
-pub bodies : (i : Node) (op : ℕ) (tail rest : List ℕ) (ks : List Kind) → shape op ≡ Bodies ks → IsNode i → op ∷ tail ≡ code i ++ rest
+pub bodies : (i : InstrNode) (op : ℕ) (tail rest : List ℕ) (ks : List ImmediateKind) → shape op ≡ Bodies ks → IsNode i → op ∷ tail ≡ code i ++ rest
     → (xs : List Arg) × (a : Nodes) × (b : Nodes) × (i ≡ Choice op xs a b) × (map kind xs ≡ ks) × AllByRecursion IsArg xs × AreNodes a × AreNodes b × (tail ≡ args xs ++ (codes a ++ (choice_end b (codes b) ++ rest)))
 unfolding code IsNode
 bodies (Leaf o xs) op tail rest ks s p e = absurd cc
@@ -39,20 +39,20 @@ bodies (Choice o xs a b) op tail rest ks s p e =
     let t : tail ≡ (args xs ++ (codes a ++ choice_end b (codes b))) ++ rest = cc in
     (xs, a, b, (cc), (cc), p.1, p.2, p.3, t ∙ append_assoc (args xs) (codes a ++ choice_end b (codes b)) rest ∙ ap (λ (r : List ℕ). args xs ++ r) (append_assoc (codes a) (choice_end b (codes b)) rest))
 
-pub nothing : (i : Node) (op : ℕ) (tail rest : List ℕ) → shape op ≡ NoShape → IsNode i → op ∷ tail ≡ code i ++ rest → ⊥
+pub nothing : (i : InstrNode) (op : ℕ) (tail rest : List ℕ) → shape op ≡ NoShape → IsNode i → op ∷ tail ≡ code i ++ rest → ⊥
 unfolding code IsNode
 nothing (Leaf o xs) op tail rest s p e = cc
 nothing (Nest o xs a) op tail rest s p e = cc
 nothing (Choice o xs a b) op tail rest s p e = cc
 
-pub some : (i : Node) (rest : List ℕ) → code i ++ rest ≡ [] → ⊥
+pub some : (i : InstrNode) (rest : List ℕ) → code i ++ rest ≡ [] → ⊥
 unfolding code
 some (Leaf o xs) rest e = cc
 some (Nest o xs a) rest e = cc
 some (Choice o xs a b) rest e = cc
 
 -- the first byte of an instruction
-pub first : (i : Node) → (op : ℕ) × (tail : List ℕ) × (code i ≡ op ∷ tail)
+pub first : (i : InstrNode) → (op : ℕ) × (tail : List ℕ) × (code i ≡ op ∷ tail)
 unfolding code
 first (Leaf o xs) = (o, args xs, refl)
 first (Nest o xs a) = (o, args xs ++ (codes a ++ 0x0B ∷ []), refl)
@@ -70,7 +70,7 @@ remaining (Cons d ds) (Cons i is) left b rest end p q e =
 
 -- bytes that don't begin with an end begin with an instruction
 pub next : (js : Nodes) (op b : ℕ) (tail rest : List ℕ) → (IsEnd op → ⊥) → IsEnd b → AreNodes js → op ∷ tail ≡ codes js ++ b ∷ rest
-    → (j : Node) × (more : List ℕ) × IsNode j × (op ∷ tail ≡ code j ++ more)
+    → (j : InstrNode) × (more : List ℕ) × IsNode j × (op ∷ tail ≡ code j ++ more)
 unfolding codes AreNodes
 next Nil op b tail rest not end p e = absurd (not (subst IsEnd (heads op b tail rest e) end))
   where
@@ -135,19 +135,19 @@ found_choice n bytes rest0 rest1 rest2 op t a b i e s h r p p2 q is o = record {
 }
 
 -- and is all that is
-pub only : (n : ℕ) (bytes rest1 : List ℕ) (i : Instr) → IsInstrAt n bytes i rest1 → (nd : Node) (rest : List ℕ) → IsNode nd → bytes ≡ code nd ++ rest → (node n i ≡ nd) × (rest1 ≡ rest)
+pub only : (n : ℕ) (bytes rest1 : List ℕ) (i : Instr) → IsInstrAt n bytes i rest1 → (nd : InstrNode) (rest : List ℕ) → IsNode nd → bytes ≡ code nd ++ rest → (node n i ≡ nd) × (rest1 ≡ rest)
 only n bytes rest1 i f nd rest p e = code-unique (node n i) nd rest1 rest f.fits p (sym f.spelled ∙ e)
 
 -- what stands behind the first byte
-pub after_flat : (i : Node) (op : ℕ) (bytes tail rest : List ℕ) (ks : List Kind) → shape op ≡ Flat ks → bytes ≡ op ∷ tail → IsNode i → bytes ≡ code i ++ rest
+pub after_flat : (i : InstrNode) (op : ℕ) (bytes tail rest : List ℕ) (ks : List ImmediateKind) → shape op ≡ Flat ks → bytes ≡ op ∷ tail → IsNode i → bytes ≡ code i ++ rest
     → (xs : List Arg) × (i ≡ Leaf op xs) × (map kind xs ≡ ks) × AllByRecursion IsArg xs × (tail ≡ args xs ++ rest)
 after_flat i op bytes tail rest ks s f p e = flat i op tail rest ks s p (sym f ∙ e)
 
-pub after_body : (i : Node) (op : ℕ) (bytes tail rest : List ℕ) (ks : List Kind) → shape op ≡ Body ks → bytes ≡ op ∷ tail → IsNode i → bytes ≡ code i ++ rest
+pub after_body : (i : InstrNode) (op : ℕ) (bytes tail rest : List ℕ) (ks : List ImmediateKind) → shape op ≡ Body ks → bytes ≡ op ∷ tail → IsNode i → bytes ≡ code i ++ rest
     → (xs : List Arg) × (a : Nodes) × (i ≡ Nest op xs a) × (map kind xs ≡ ks) × AllByRecursion IsArg xs × AreNodes a × (tail ≡ args xs ++ (codes a ++ 0x0B ∷ rest))
 after_body i op bytes tail rest ks s f p e = body i op tail rest ks s p (sym f ∙ e)
 
-pub after_bodies : (i : Node) (op : ℕ) (bytes tail rest : List ℕ) → shape op ≡ Bodies (ATyp ∷ []) → bytes ≡ op ∷ tail → IsNode i → bytes ≡ code i ++ rest
+pub after_bodies : (i : InstrNode) (op : ℕ) (bytes tail rest : List ℕ) → shape op ≡ Bodies (ATyp ∷ []) → bytes ≡ op ∷ tail → IsNode i → bytes ≡ code i ++ rest
     → (t : BlockType) × (a : Nodes) × (b : Nodes) × IsBlockType t × AreNodes a × AreNodes b × (i ≡ Choice op (Typ t ∷ []) a b) × (tail ≡ block_type t ++ (codes a ++ (choice_end b (codes b) ++ rest)))
 after_bodies i op bytes tail rest s f p e =
     let v = bodies i op tail rest (ATyp ∷ []) s p (sym f ∙ e) in
@@ -160,7 +160,7 @@ choice_begins Nil rest = (0x0B, rest, inr refl, refl)
 choice_begins (Cons i is) rest = (0x05, (codes (Cons i is) ++ 0x0B ∷ []) ++ rest, inl refl, refl)
 
 -- a choice whose first body ends by 0x05 has another body
-pub other-body : (b : Nodes) (rest more : List ℕ) → choice_end b (codes b) ++ rest ≡ 0x05 ∷ more → (i : Node) × (is : Nodes) × (b ≡ Cons i is) × (more ≡ codes b ++ 0x0B ∷ rest)
+pub other-body : (b : Nodes) (rest more : List ℕ) → choice_end b (codes b) ++ rest ≡ 0x05 ∷ more → (i : InstrNode) × (is : Nodes) × (b ≡ Cons i is) × (more ≡ codes b ++ 0x0B ∷ rest)
 other-body Nil rest more e = absurd cc
 other-body (Cons i is) rest more e = (i, is, refl, (cc) ∙ append_assoc (codes (Cons i is)) (0x0B ∷ []) rest)
 
@@ -172,7 +172,7 @@ pub no-end : (b : ℕ) → (b ≡ 0x05 → ⊥) → (b ≡ 0x0B → ⊥) → IsE
 no-end b p q (inl h) = p h
 no-end b p q (inr h) = q h
 
-pub empty-body : (n : ℕ) (is : List Instr) (j : Node) (js : Nodes) → length is ≡ 0 → body_nodes n is ≡ Cons j js → ⊥
+pub empty-body : (n : ℕ) (is : List Instr) (j : InstrNode) (js : Nodes) → length is ≡ 0 → body_nodes n is ≡ Cons j js → ⊥
 empty-body n [] j js h e = cc
 empty-body n (i ∷ is) j js h e = omega arith
 
@@ -181,7 +181,7 @@ unfolding codes
 begins Nil b rest = (b, rest, refl)
 begins (Cons j js) b rest = let f = first j in (f.0, (f.1 ++ codes js) ++ b ∷ rest, rw f.2 refl)
 
-pub code-longer : (i : Node) (rest : List ℕ) → length rest < length (code i ++ rest)
+pub code-longer : (i : InstrNode) (rest : List ℕ) → length rest < length (code i ++ rest)
 code-longer i rest = let f = first i in omega (arith, length-append (code i) rest, ap length f.2)
 
 pub choice-bytes : (n : ℕ) (is : List Instr) (end last : ℕ) (rest0 rest1 : List ℕ) → (length is ≡ 0 → ⊥) → end ≡ 0x05 → last ≡ 0x0B → rest0 ≡ codes (body_nodes n is) ++ last ∷ rest1

@@ -8,15 +8,15 @@ use Rattle.fact_wasm.specs.declared.instr.Instr.TheOpen as o
 use Rattle.fact_wasm.specs.declared.instr.Instr.TheOpen.{Instr-F}
 use Rattle.fact_wasm.specs.declared.instr.FuncName.{FuncName}
 use Rattle.fact_wasm.specs.declared.instr.FuncName.TheVariants as func
-use Rattle.fact_wasm.specs.Grammar.{Node, node, nodes, body_nodes, row, function_index}
-use Rattle.fact_wasm.specs.Ranges.{Point, IsPoint, IsFunction, points, points_row, AreRanged}
+use Rattle.fact_wasm.specs.Grammar.{InstrNode, node, nodes, body_nodes, instr_node, function_index}
+use Rattle.fact_wasm.specs.Ranges.{Point, IsPoint, HasFunction, points, points_row, AreRanged}
 use Rattle.fact_wasm.specs.Rebuild.{instr_of, instrs_of, name_of, other_of}
 use Rattle.fact_wasm.proofs.Ranged.{all-first, all-second}
 
 abbrev pub IsRebuilt : ℕ → ℕ → Instr → Type 0
 IsRebuilt n m i = AllByRecursion (IsPoint n m) (points i) → instr_of n (node n i) ≡ i
 
-pub named-back : (n m : ℕ) (f : FuncName) → IsFunction n m f → name_of n (function_index n f) ≡ f
+pub named-back : (n m : ℕ) (f : FuncName) → HasFunction n m f → name_of n (function_index n f) ≡ f
 named-back n m (func.Import k) h = rw (lt-ltb k n h) refl
 named-back n m (func.Defined k) h = let e : k + n - n ≡ k = omega arith in rw (le-ltb (k + n) n (omega arith), e) refl
 
@@ -34,7 +34,7 @@ module _ (n m : ℕ) {Z : Type 0} (f : Z → Instr) (each : (z : Z) → IsRebuil
       cc
 
   layer : (y : Instr-F Z) → AllByRecursion (IsPoint n m) (points_row (map-Instr Instr (List Point) points (map-Instr Z Instr f y)))
-      → instr_of n (row n (map-Instr Instr Node (node n) (map-Instr Z Instr f y))) ≡ roll-Instr (map-Instr Z Instr f y)
+      → instr_of n (instr_node n (map-Instr Instr InstrNode (node n) (map-Instr Z Instr f y))) ≡ roll-Instr (map-Instr Z Instr f y)
   unfolding instr_of
   layer (o.Block t body) p = ap (λ (b : List Instr). roll-Instr (o.Block t b)) (bodies_rebuilt body p)
   layer (o.Loop t body) p = ap (λ (b : List Instr). roll-Instr (o.Loop t b)) (bodies_rebuilt body p)
@@ -54,7 +54,7 @@ module _ (n m : ℕ) {Z : Type 0} (f : Z → Instr) (each : (z : Z) → IsRebuil
 pub rebuilt : (n m : ℕ) (i : Instr) → IsRebuilt n m i
 rebuilt n m = ind-Instr (IsRebuilt n m) (λ x y is. subst (λ (z : Instr-F Instr). IsRebuilt n m (roll-Instr z)) is (λ p.
     let z = map-Instr _ Instr (λ e. e.0) y in
-    ap (instr_of n) (fold-roll-Instr Node (row n) z) ∙ layer n m (λ e. e.0) (λ e. e.1) y (rw (fold-roll-Instr (List Point) points_row z) at p)))
+    ap (instr_of n) (fold-roll-Instr InstrNode (instr_node n) z) ∙ layer n m (λ e. e.0) (λ e. e.1) y (rw (fold-roll-Instr (List Point) points_row z) at p)))
 
 pub body_rebuilt : (n m : ℕ) (is : List Instr) → AreRanged n m is → instrs_of n (body_nodes n is) ≡ is
 unfolding instr_of

@@ -12,7 +12,7 @@ use Rattle.fact_wasm.specs.declared.instr.BlockType.{BlockType}
 use Rattle.fact_wasm.specs.declared.instr.BlockType.TheVariants as typ
 use Rattle.fact_wasm.specs.declared.instr.MemArg.{MemArg}
 use Rattle.fact_wasm.specs.Answers.{IsEnd}
-use Rattle.fact_wasm.specs.Grammar.{Arg, Index, Int32, Int64, Float32, Float64, Typ, Memory, Labels, Catches, kind, val_type, block_type, list, memarg, catch_all, arg, args, IsIndex, IsBlockType, IsMemArg, IsArg, Node, Leaf, Nest, Choice, Nodes, Nil, Cons, choice_end, code, codes, NoShape, shape, IsNode, AreNodes}
+use Rattle.fact_wasm.specs.Grammar.{Arg, Index, Int32, Int64, Float32, Float64, Typ, Memory, Labels, Catches, kind, val_type, block_type, list, memarg, catch_all, arg, args, IsIndex, IsBlockType, IsMemArg, IsArg, InstrNode, Leaf, Nest, Choice, Nodes, Nil, Cons, choice_end, code, codes, NoShape, shape, IsNode, AreNodes}
 use Rattle.fact_wasm.proofs.Signed.{even}
 use Rattle.fact_wasm.proofs.Groups.{last, more, groups-first, groups-some, unsigned-unique, groups-unique, needed-positive, needed-holds, count-positive, count-holds}
 
@@ -264,7 +264,7 @@ unfolding shape
 no_end op (inl e) = rw e refl
 no_end op (inr e) = rw e refl
 
-pub code-begins : (i : Node) (r t : List ℕ) (b : ℕ) → IsEnd b → IsNode i → code i ++ r ≡ b ∷ t → ⊥
+pub code-begins : (i : InstrNode) (r t : List ℕ) (b : ℕ) → IsEnd b → IsNode i → code i ++ r ≡ b ∷ t → ⊥
 unfolding code IsNode
 code-begins (Leaf op xs) r t b end p e = let n = no_end b end in cc
 code-begins (Nest op xs a) r t b end p e = let n = no_end b end in cc
@@ -292,7 +292,7 @@ choice-unique a b (Cons i is) (Cons j js) r s f g e =
 mutual
   unfolding code codes IsNode AreNodes
 
-  pub code-unique : (i j : Node) (r s : List ℕ) → IsNode i → IsNode j → code i ++ r ≡ code j ++ s → (i ≡ j) × (r ≡ s)
+  pub code-unique : (i j : InstrNode) (r s : List ℕ) → IsNode i → IsNode j → code i ++ r ≡ code j ++ s → (i ≡ j) × (r ≡ s)
   code-unique (Leaf op xs) (Leaf op2 ys) r s p q e =
       let u = args-unique xs ys r s (cc) p.1 q.1 (cc) in (cc (u.0), u.1)
   code-unique (Nest op xs a) (Nest op2 ys b) r s p q e =

@@ -8,7 +8,7 @@ abbrev pub signature : List ValType → List ValType → FuncType
 signature params results = record { params = params; results = results }
 
 -- the type stands at the place, and at no other
-pub record IsOnlyPlace (types : List FuncType) (ty : FuncType) (place : ℕ) : Type 0 where
+pub record IsOnlyPlaceOfType (types : List FuncType) (ty : FuncType) (place : ℕ) : Type 0 where
   pub holds : slice_get types place ≡ Some ty
   pub only : (k : ℕ) → slice_get types k ≡ Some ty → k ≡ place
 

@@ -17,7 +17,7 @@ use Rattle.fact_wasm.specs.declared.forms.BodyRow.TheVariants as nest
 use Rattle.fact_wasm.specs.declared.forms.Form.{Form}
 use Rattle.fact_wasm.specs.declared.forms.Form.TheVariants as form
 use Rattle.fact_wasm.specs.Answers.{IsEnd}
-use Rattle.fact_wasm.specs.Grammar.{Arg, Typ, Catches, Kind, AnIndex, AnInt32, AnInt64, AFloat32, AFloat64, ATyp, AMemory, SomeLabels, SomeCatches, kind, args, IsArg, Node, Leaf, Nest, Choice, Flat, Body, Bodies, NoShape, shape, node, body_nodes, code, codes, IsNode, AreNodes}
+use Rattle.fact_wasm.specs.Grammar.{Arg, Typ, Catches, ImmediateKind, AnIndex, AnInt32, AnInt64, AFloat32, AFloat64, ATyp, AMemory, SomeLabels, SomeCatches, kind, args, IsArg, InstrNode, Leaf, Nest, Choice, Flat, Body, Bodies, NoShape, shape, node, body_nodes, code, codes, IsNode, AreNodes}
 use Rattle.fact_wasm.specs.Rebuild.{instr_of, instrs_of}
 
 abbrev pub index_op : IndexRow → ℕ
@@ -60,7 +60,7 @@ leaf_op leaf.Float32 = 0x43
 leaf_op leaf.Float64 = 0x44
 leaf_op leaf.Labels = 0x0E
 
-abbrev pub leaf_kinds : LeafRow → List Kind
+abbrev pub leaf_kinds : LeafRow → List ImmediateKind
 leaf_kinds (leaf.Index r) = AnIndex ∷ []
 leaf_kinds (leaf.Func r) = AnIndex ∷ []
 leaf_kinds (leaf.Memory r) = AMemory ∷ []
@@ -75,7 +75,7 @@ body_op nest.Block = 0x02
 body_op nest.Loop = 0x03
 body_op nest.TryTable = 0x1F
 
-abbrev pub body_kinds : BodyRow → List Kind
+abbrev pub body_kinds : BodyRow → List ImmediateKind
 body_kinds nest.TryTable = ATyp ∷ SomeCatches ∷ []
 body_kinds nest.Block = ATyp ∷ []
 body_kinds nest.Loop = ATyp ∷ []
@@ -94,7 +94,7 @@ Formed op (form.Body r) = (shape op ≡ Body (body_kinds r)) × (body_op r ≡ o
 Formed op form.If = (shape op ≡ Bodies (ATyp ∷ [])) × (op ≡ 0x04)
 Formed op form.Unknown = shape op ≡ NoShape
 
-abbrev pub operands : Node → List Arg
+abbrev pub operands : InstrNode → List Arg
 operands (Leaf op xs) = xs
 operands (Nest op xs body) = xs
 operands (Choice op xs body other) = xs

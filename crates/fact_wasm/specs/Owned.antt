@@ -28,8 +28,8 @@ abbrev pub IsOwnCode : ℕ → CodeBody → Type 0
 IsOwnCode n b = IsBody n b.locals b.body × IsOwnBody n b.body
 
 -- a function's parts, of which the function section and the code section have one each
-abbrev pub type_of : WasmFunc → ℕ
-type_of f = f.ty
+abbrev pub type_index : WasmFunc → ℕ
+type_index f = f.ty
 
 abbrev pub body_of : WasmFunc → CodeBody
 body_of f = record { locals = f.locals; body = f.body }

@@ -8,15 +8,15 @@ use Rattle.fact_wasm.specs.declared.instr.MemArg.{MemArg}
 use Rattle.fact_wasm.specs.declared.instr.Instr.{Instr, roll-Instr}
 use Rattle.fact_wasm.specs.declared.instr.Instr.TheOpen as o
 use Rattle.fact_wasm.specs.declared.instr.Instr.TheOpen.{Instr-F}
-use Rattle.fact_wasm.specs.Grammar.{Arg, Index, Int32, Int64, Float32, Float64, Typ, Memory, Labels, Catches, Node, Leaf, Nest, Choice, Nodes, Nil, Cons}
+use Rattle.fact_wasm.specs.Grammar.{Arg, Index, Int32, Int64, Float32, Float64, Typ, Memory, Labels, Catches, InstrNode, Leaf, Nest, Choice, Nodes, Nil, Cons}
 
 -- the function of an index, where n functions are imported
 abbrev pub name_of : ℕ → ℕ → FuncName
 name_of n k = if nat_lt k n then func.Import k else func.Defined (k - n)
 
-abbrev pub find : {A : Type 0} → A → List (ℕ × A) → ℕ → A
-find default [] op = default
-find default (r ∷ rs) op = if nat_eq r.0 op then r.1 else find default rs op
+abbrev pub look_up : {A : Type 0} → A → List (ℕ × A) → ℕ → A
+look_up default [] op = default
+look_up default (r ∷ rs) op = if nat_eq r.0 op then r.1 else look_up default rs op
 
 abbrev pub plain_rows : List (ℕ × Instr-F Instr)
 plain_rows =
@@ -100,9 +100,9 @@ body_rows =
     ∷ []
 
 abbrev pub leaf_of : ℕ → ℕ → List Arg → Instr-F Instr
-leaf_of n op [] = find o.Unreachable plain_rows op
-leaf_of n op (Index k ∷ []) = find (λ n k. o.Unreachable) index_rows op n k
-leaf_of n op (Memory m ∷ []) = find (λ m. o.Unreachable) memory_rows op m
+leaf_of n op [] = look_up o.Unreachable plain_rows op
+leaf_of n op (Index k ∷ []) = look_up (λ n k. o.Unreachable) index_rows op n k
+leaf_of n op (Memory m ∷ []) = look_up (λ m. o.Unreachable) memory_rows op m
 leaf_of n op (Int32 x ∷ []) = o.I32Const x
 leaf_of n op (Int64 x ∷ []) = o.I64Const x
 leaf_of n op (Float32 x ∷ []) = o.F32Const x
@@ -111,7 +111,7 @@ leaf_of n op (Labels ls ∷ Index l ∷ []) = o.BrTable ls l
 leaf_of n op _ = o.Unreachable
 
 abbrev pub nest_of : ℕ → List Arg → List Instr → Instr-F Instr
-nest_of op (Typ t ∷ []) body = find (λ t body. o.Unreachable) body_rows op t body
+nest_of op (Typ t ∷ []) body = look_up (λ t body. o.Unreachable) body_rows op t body
 nest_of op (Typ t ∷ Catches ls ∷ []) body = o.TryTable t ls body
 nest_of op _ body = o.Unreachable
 
@@ -125,7 +125,7 @@ choice_of (Typ t ∷ []) body other = o.If t body (other_of other)
 choice_of _ body other = o.Unreachable
 
 unfoldable mutual
-  pub instr_of : ℕ → Node → Instr
+  pub instr_of : ℕ → InstrNode → Instr
   instr_of n (Leaf op xs) = roll-Instr (leaf_of n op xs)
   instr_of n (Nest op xs body) = roll-Instr (nest_of op xs (instrs_of n body))
   instr_of n (Choice op xs body other) = roll-Instr (choice_of xs (instrs_of n body) (instrs_of n other))

@@ -1,7 +1,7 @@
 //! The list of the function types of a module that is being made.
 
 ghost use Rattle.std.specs.Prelude.{◌≡◌, ◌⊎◌, ◌++◌, ◌∷◌, [], ℕ, None, position, slice_get, IfOk, IfSome, IfNone, OnOk, OnErr};
-ghost use Rattle.fact_wasm.specs.CoreTypes.{signature, IsOnlyPlace, HasNoTwins};
+ghost use Rattle.fact_wasm.specs.CoreTypes.{signature, IsOnlyPlaceOfType, HasNoTwins};
 
 use crate::OutOfMemory;
 use crate::copies::copy_list;
@@ -38,7 +38,7 @@ impl Model for CoreTypes {
 
 /// The key of a type, or `None` where it is not among them.
 fn key_of(places: &Places, ty: &FuncType) -> Option<ModuleInternedTypeIndex>
-    ensures found { IfSome result (λ k. IsOnlyPlace places.now ty.now k.number) }
+    ensures found { IfSome result (λ k. IsOnlyPlaceOfType places.now ty.now k.number) }
     ensures absent { IfNone result (position (⟦<FuncType as PartialEq>⟧.eq ty.now) places.now ≡ None) }
 {
     places.find(ty)
@@ -53,7 +53,7 @@ fn push_type(
     requires same { places.old ≡ section.old }
     requires apart { HasNoTwins section.old }
     requires absent { position (⟦<FuncType as PartialEq>⟧.eq ty) places.old ≡ None }
-    ensures place { IfOk result (λ place. IsOnlyPlace section.new ty place) }
+    ensures place { IfOk result (λ place. IsOnlyPlaceOfType section.new ty place) }
     ensures list { OnOk result (section.new ≡ section.old ++ ty ∷ []) }
     ensures distinct { HasNoTwins section.new }
     ensures same { places.new ≡ section.new }
@@ -109,7 +109,7 @@ impl CoreTypes {
     /// The index of the type of these parameters and results. Where there is none yet, it comes behind the last one. An
     /// index past a u32 is a want of memory. The types are unchanged after a refusal.
     pub fn function(&mut self, params: &[ValType], results: &[ValType]) -> Result<u32, OutOfMemory>
-        ensures place { IfOk result (λ place. IsOnlyPlace self.new (signature params.now results.now) place) }
+        ensures place { IfOk result (λ place. IsOnlyPlaceOfType self.new (signature params.now results.now) place) }
         ensures list { OnOk result ((self.new ≡ self.old) ⊎ (self.new ≡ self.old ++ signature params.now results.now ∷ [])) }
         ensures keeps { (k : ℕ) (ty : FuncType) → slice_get self.old k ≡ Some ty → slice_get self.new k ≡ Some ty }
         ensures distinct { HasNoTwins self.new }

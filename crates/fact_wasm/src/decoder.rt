@@ -12,7 +12,7 @@ ghost use Rattle.fact_wasm.specs.Answers.{Answers};
 ghost use Rattle.fact_wasm.specs.Numbers.{unsigned};
 ghost use Rattle.fact_wasm.specs.Grammar.{val_type, IsIndex, list, IsList};
 ghost use Rattle.fact_wasm.specs.Spelling.{IsValueType, func_type, IsFuncType, name, IsName, mutability, memory_type, IsMemoryType, import_type, IsImportType, import_item, IsImport, locals_run, IsRun, export_item, header, Spells};
-ghost use Rattle.fact_wasm.specs.Owned.{IsModuleFront, IsBack, IsOwnExport, IsOwnCode, IsOwn, code_of, type_of, body_of};
+ghost use Rattle.fact_wasm.specs.Owned.{IsModuleFront, IsBack, IsOwnExport, IsOwnCode, IsOwn, code_of, type_index, body_of};
 ghost use Rattle.fact_wasm.specs.Ranges.{InRange};
 ghost use Rattle.fact_wasm.specs.declared.error.DecodeError.TheVariants as DecodeError;
 
@@ -255,8 +255,8 @@ fn funcs_of(
     types: &[u32],
     bodies: Seq<CodeBody>,
 ) -> Result<Seq<WasmFunc>, DecodeError>
-    ensures found { IfOk result (λ fs. (map type_of fs ≡ types.now) × (map body_of fs ≡ bodies)) }
-    ensures only { (fs : List WasmFunc) → map type_of fs ≡ types.now → map body_of fs ≡ bodies → Answers result (λ x. x ≡ fs) }
+    ensures found { IfOk result (λ fs. (map type_index fs ≡ types.now) × (map body_of fs ≡ bodies)) }
+    ensures only { (fs : List WasmFunc) → map type_index fs ≡ types.now → map body_of fs ≡ bodies → Answers result (λ x. x ≡ fs) }
 {
     let mut funcs = Seq::new(alloc);
     let mut left = types;

@@ -5,7 +5,7 @@ ghost use Rattle.fact_wasm.specs.Numbers.{unsigned};
 ghost use Rattle.fact_wasm.specs.Grammar.{list, IsList, val_type, AreNodes, body_nodes};
 ghost use Rattle.fact_wasm.specs.Encode.{ArePlaced};
 ghost use Rattle.fact_wasm.specs.Ranges.{InRange};
-ghost use Rattle.fact_wasm.specs.Spelling.{value_types, func_type, name, import_type, import_item, is_function, imported_functions, locals_run, func_body, sized, section, export_item, type_section, import_section, function_section, export_section, code_section, Spells, IsValueType, IsFuncType, IsName, code_item, IsCode, IsImport, IsImportType, IsExport, IsRun, IsBody, IsTyped};
+ghost use Rattle.fact_wasm.specs.Spelling.{value_types, func_type, name, import_type, import_item, is_function, imported_functions, locals_run, func_body, sized, section, export_item, type_section, import_section, function_section, export_section, code_section, Spells, IsValueType, IsFuncType, IsName, code_item, IsCode, IsImport, IsImportType, IsExport, IsRun, IsBody, HasTypeIndex};
 
 use crate::OutOfMemory;
 use crate::code::{push_body, push_function, value_type_byte};
@@ -143,7 +143,7 @@ struct Functions;
 impl Item<WasmFunc> for Functions {
     ghost code = { λ n f. unsigned f.ty };
 
-    ghost fits = { λ n f. IsTyped f };
+    ghost fits = { λ n f. HasTypeIndex f };
 
     fn push(
         _alloc: Global,

@@ -2,7 +2,7 @@
 
 ghost use Rattle.std.specs.Prelude.{◌≡◌, ◌↔◌, ℕ, ◌<◌, IsTrue, count_by};
 ghost use Rattle.std.specs.List.{AllByRecursion};
-ghost use Rattle.fact_wasm.specs.Ranges.{IsFunction, IsPoint, AreRanged, AreBodiesRanged, AreExportsNamed, InRange, points};
+ghost use Rattle.fact_wasm.specs.Ranges.{HasFunction, IsPoint, AreRanged, AreBodiesRanged, AreExportsNamed, InRange, points};
 ghost use Rattle.fact_wasm.specs.Spelling.{is_function};
 
 use crate::instr::{FuncName, Instr};
@@ -10,7 +10,7 @@ use crate::module::{ImportType, WasmExport, WasmFunc, WasmImport, WasmModule};
 
 /// Whether the function is there, where so many are imported and so many defined.
 fn names_function(imports: usize, funcs: usize, func: FuncName) -> bool
-    ensures { IsTrue result ↔ IsFunction imports funcs func }
+    ensures { IsTrue result ↔ HasFunction imports funcs func }
 {
     match func {
         FuncName::Import(n) => (n as usize) < imports,

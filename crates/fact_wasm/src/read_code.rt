@@ -8,7 +8,7 @@ ghost use Rattle.fact_wasm.specs.declared.instr.MemArg.{MemArg};
 ghost use Rattle.fact_wasm.specs.Answers.{Answers, IsEnd};
 ghost use Rattle.fact_wasm.specs.Numbers.{unsigned};
 ghost use Rattle.fact_wasm.specs.Forms.{leaf_kinds, leaf_op, body_kinds, body_op, head_args, IsLeafAt, IsInstrAt, IsBodyAt};
-ghost use Rattle.fact_wasm.specs.Grammar.{Arg, kind, args, IsArg, val_type, block_type, IsBlockType, memarg, IsMemArg, catch_all, IsIndex, Node, Leaf, Nodes, node, body_nodes, code, codes, IsNode, AreNodes};
+ghost use Rattle.fact_wasm.specs.Grammar.{Arg, kind, args, IsArg, val_type, block_type, IsBlockType, memarg, IsMemArg, catch_all, IsIndex, InstrNode, Leaf, Nodes, node, body_nodes, code, codes, IsNode, AreNodes};
 
 use crate::error::DecodeError;
 use crate::forms::{
@@ -196,7 +196,7 @@ fn head_at(
 #[cycle(read)]
 fn instr_at(alloc: Global, imports: u32, bytes: &[u8]) -> Result<(Instr, &[u8]), DecodeError>
     ensures found { IfOk result (λ x. IsInstrAt imports bytes.now x.0 x.1.now) }
-    ensures only { (i : Node) (rest : List ℕ) → IsNode i → bytes.now ≡ code i ++ rest → Answers result (λ x. (node imports x.0 ≡ i) × (x.1.now ≡ rest)) }
+    ensures only { (i : InstrNode) (rest : List ℕ) → IsNode i → bytes.now ≡ code i ++ rest → Answers result (λ x. (node imports x.0 ≡ i) × (x.1.now ≡ rest)) }
 {
     let (op, rest) = byte_at(bytes)?;
     match form_of(op) {
