@@ -38,18 +38,7 @@ const U32: Nested = (Kind::Plain(InterfaceType::U32), 0);
 fn is_live(builder: &Builder, ty: &InterfaceType) -> bool
     ensures { IsTrue result → IsLive builder.now.tables ty.now }
 {
-    let types = builder.component_types();
-    match *ty {
-        InterfaceType::Bool | InterfaceType::U32 | InterfaceType::U64 | InterfaceType::String =>
-            true,
-        InterfaceType::Record(i) => types.get(i).is_some(),
-        InterfaceType::Variant(i) => types.get(i).is_some(),
-        InterfaceType::Enum(i) => types.get(i).is_some(),
-        InterfaceType::Flags(i) => types.get(i).is_some(),
-        InterfaceType::Option(i) => types.get(i).is_some(),
-        InterfaceType::Own(i) => types.get(i).is_some(),
-        _ => false,
-    }
+    builder.component_types().is_live(*ty)
 }
 
 fn are_live(builder: &Builder, types: &[InterfaceType]) -> bool
