@@ -1,11 +1,12 @@
 -- The immediates of a row, by its kinds.
-use Rattle.std.proofs.Common.{rules, ◌≡◌, ℕ, ◌<◌, ◌^◌, List, [], ◌∷◌, ◌++◌, map, refl, sym, ap, ◌∙◌, append_assoc}
+use Rattle.std.proofs.Common.{◌≡◌, ℕ, ◌<◌, ◌^◌, List, [], ◌∷◌, ◌++◌, map, refl, sym, ap, ◌∙◌, append_assoc}
 use Rattle.std.specs.List.{AllByRecursion}
 use Rattle.std.specs.Int.{w32, w64, cast_signed, to_le_bytes}
 use Rattle.fact_wasm.specs.declared.instr.BlockType.{BlockType}
 use Rattle.fact_wasm.specs.declared.instr.MemArg.{MemArg}
-use Rattle.fact_wasm.specs.declared.instr.Instr.{Instr, the_lemmas}
+use Rattle.fact_wasm.specs.declared.instr.Instr.{Instr}
 use Rattle.fact_wasm.specs.declared.instr.Instr.TheVariants.{I32Const, I64Const, F32Const, F64Const, BrTable}
+use Rattle.fact_wasm.specs.declared.instr.Instr.TheVariants as v
 use Rattle.fact_wasm.specs.declared.forms.LeafRow.{LeafRow}
 use Rattle.fact_wasm.specs.Numbers.{unsigned, signed}
 use Rattle.fact_wasm.specs.declared.forms.BodyRow.{BodyRow}
@@ -14,6 +15,7 @@ use Rattle.fact_wasm.specs.Forms.{body_kinds, leaf_op, leaf_kinds, operands, IsL
 use Rattle.fact_wasm.specs.Grammar.{Arg, Index, Int32, Int64, Float32, Float64, Typ, Memory, Labels, Catches, AnIndex, AnInt32, AnInt64, AFloat32, AFloat64, ATyp, AMemory, SomeLabels, SomeCatches, kind, arg, args, list, catch_all, block_type, memarg, IsArg, IsIndex, IsList, IsBlockType, IsMemArg, Leaf, node}
 use Rattle.fact_wasm.specs.Rebuild.{instr_of}
 use Rattle.fact_wasm.proofs.Written.{args-one, args-two}
+use Rattle.fact_wasm.proofs.Layers.{node-layer}
 use Rattle.fact_wasm.proofs.Unique.{args-unique}
 
 -- ---- what one or two immediates of given kinds are
@@ -99,36 +101,36 @@ leaf_only n r bytes rest i f ys more k h b =
     (f.row ∙ ap (Leaf (leaf_op r)) u.0, u.1)
 
 pub node-I32Const : (n x : ℕ) → node n (I32Const x) ≡ Leaf 0x41 (Int32 x ∷ [])
-node-I32Const n x = search (rules, the_lemmas)
+node-I32Const n x = node-layer _ _ (v.rolls-I32Const x) n
 
 pub node-I64Const : (n x : ℕ) → node n (I64Const x) ≡ Leaf 0x42 (Int64 x ∷ [])
-node-I64Const n x = search (rules, the_lemmas)
+node-I64Const n x = node-layer _ _ (v.rolls-I64Const x) n
 
 pub node-F32Const : (n x : ℕ) → node n (F32Const x) ≡ Leaf 0x43 (Float32 x ∷ [])
-node-F32Const n x = search (rules, the_lemmas)
+node-F32Const n x = node-layer _ _ (v.rolls-F32Const x) n
 
 pub node-F64Const : (n x : ℕ) → node n (F64Const x) ≡ Leaf 0x44 (Float64 x ∷ [])
-node-F64Const n x = search (rules, the_lemmas)
+node-F64Const n x = node-layer _ _ (v.rolls-F64Const x) n
 
 pub node-BrTable : (n : ℕ) (ls : List ℕ) (l : ℕ) → node n (BrTable ls l) ≡ Leaf 0x0E (Labels ls ∷ Index l ∷ [])
-node-BrTable n ls l = search (rules, the_lemmas)
+node-BrTable n ls l = node-layer _ _ (v.rolls-BrTable ls l) n
 
 pub own-I32Const : (n x : ℕ) → instr_of n (Leaf 0x41 (Int32 x ∷ [])) ≡ I32Const x
 unfolding instr_of
-own-I32Const n x = search (rules, the_lemmas)
+own-I32Const n x = v.rolls-I32Const x
 
 pub own-I64Const : (n x : ℕ) → instr_of n (Leaf 0x42 (Int64 x ∷ [])) ≡ I64Const x
 unfolding instr_of
-own-I64Const n x = search (rules, the_lemmas)
+own-I64Const n x = v.rolls-I64Const x
 
 pub own-F32Const : (n x : ℕ) → instr_of n (Leaf 0x43 (Float32 x ∷ [])) ≡ F32Const x
 unfolding instr_of
-own-F32Const n x = search (rules, the_lemmas)
+own-F32Const n x = v.rolls-F32Const x
 
 pub own-F64Const : (n x : ℕ) → instr_of n (Leaf 0x44 (Float64 x ∷ [])) ≡ F64Const x
 unfolding instr_of
-own-F64Const n x = search (rules, the_lemmas)
+own-F64Const n x = v.rolls-F64Const x
 
 pub own-BrTable : (n : ℕ) (ls : List ℕ) (l : ℕ) → instr_of n (Leaf 0x0E (Labels ls ∷ Index l ∷ [])) ≡ BrTable ls l
 unfolding instr_of
-own-BrTable n ls l = search (rules, the_lemmas)
+own-BrTable n ls l = v.rolls-BrTable ls l
