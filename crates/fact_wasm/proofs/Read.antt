@@ -1,15 +1,17 @@
 -- What bytes begin with, by the first byte.
-use Rattle.std.proofs.Common.{rules, ◌≡◌, ◌⊎◌, ℕ, ◌<◌, List, [], ◌∷◌, ◌++◌, length, map, Option, Some, None, arith, refl, sym, ap, ◌∙◌, subst, append_assoc, append-nil, length-append, inl, inr}
+use Rattle.std.proofs.Common.{◌≡◌, ◌⊎◌, ℕ, ◌<◌, List, [], ◌∷◌, ◌++◌, length, map, Option, Some, None, arith, refl, sym, ap, ◌∙◌, subst, append_assoc, append-nil, length-append, inl, inr}
 use Rattle.std.specs.List.{AllByRecursion}
 use Rattle.fact_wasm.specs.declared.instr.BlockType.{BlockType}
-use Rattle.fact_wasm.specs.declared.instr.Instr.{Instr, roll-Instr, the_lemmas}
+use Rattle.fact_wasm.specs.declared.instr.Instr.{Instr, roll-Instr}
 use Rattle.fact_wasm.specs.declared.instr.Instr.TheVariants.{If}
+use Rattle.fact_wasm.specs.declared.instr.Instr.TheVariants as v
 use Rattle.fact_wasm.specs.declared.instr.Instr.TheOpen as o
 use Rattle.fact_wasm.specs.declared.forms.LeafRow.{LeafRow}
 use Rattle.fact_wasm.specs.Answers.{IsEnd}
 use Rattle.fact_wasm.specs.Forms.{leaf_op, leaf_kinds, operands, IsLeafAt, IsInstrAt, IsBodyAt}
 use Rattle.fact_wasm.specs.Grammar.{Arg, Typ, ImmediateKind, ATyp, kind, block_type, args, IsBlockType, IsArg, InstrNode, Leaf, Nest, Choice, Nodes, Nil, Cons, choice_end, code, codes, Flat, Body, Bodies, NoShape, shape, IsNode, AreNodes, node, body_nodes}
 use Rattle.fact_wasm.specs.Rebuild.{instr_of, instrs_of}
+use Rattle.fact_wasm.proofs.Layers.{node-layer}
 use Rattle.fact_wasm.proofs.Unique.{code-unique, code-begins}
 use Rattle.fact_wasm.proofs.Written.{args-one, goes_on}
 use Rattle.fact_wasm.proofs.Leaves.{a_type}
@@ -199,7 +201,7 @@ is-end b (inr h) = inr h.1
 
 -- a choice that was read, back from its tree
 roll-if : (t : BlockType) (is : List Instr) (x : Option (List Instr)) → roll-Instr (o.If t is x) ≡ If t is x
-roll-if t is x = search (rules, the_lemmas)
+roll-if t is x = v.rolls-If t is x
 
 pub own_choice : (n op : ℕ) (t : BlockType) (is js : List Instr) → instrs_of n (body_nodes n is) ≡ is → instrs_of n (body_nodes n js) ≡ js → (length js ≡ 0 → ⊥)
     → instr_of n (Choice op (Typ t ∷ []) (body_nodes n is) (body_nodes n js)) ≡ If t is (Some js)
@@ -213,7 +215,7 @@ unfolding instr_of
 own_if n op t is p = ap (λ (x : List Instr). roll-Instr (o.If t x None)) p ∙ roll-if t is None
 
 pub node-if : (n : ℕ) (t : BlockType) (is : List Instr) → node n (If t is None) ≡ Choice 0x04 (Typ t ∷ []) (body_nodes n is) Nil
-node-if n t is = search (rules, the_lemmas)
+node-if n t is = node-layer _ _ (v.rolls-If t is None) n
 
 pub node-else : (n : ℕ) (t : BlockType) (is js : List Instr) → node n (If t is (Some js)) ≡ Choice 0x04 (Typ t ∷ []) (body_nodes n is) (body_nodes n js)
-node-else n t is js = search (rules, the_lemmas)
+node-else n t is js = node-layer _ _ (v.rolls-If t is (Some js)) n
