@@ -10,7 +10,7 @@ use Rattle.fact_wasm.specs.Owned.{IsOwnExport, IsOwnCode, code_of}
 use Rattle.fact_wasm.proofs.Groups.{unsigned-unique}
 use Rattle.fact_wasm.proofs.Unique.{IsPrefixFree, lists-unique, index_unique, val_type-unique, codes-unique}
 
-heads : (a b : ℕ) (x y : List ℕ) → a ∷ x ≡ b ∷ y → (a ≡ b) × (x ≡ y)
+pub heads : (a b : ℕ) (x y : List ℕ) → a ∷ x ≡ b ∷ y → (a ≡ b) × (x ≡ y)
 heads a b x y e = (cc, cc)
 
 pub split : (x y r s : List ℕ) → length x ≡ length y → x ++ r ≡ y ++ s → (x ≡ y) × (r ≡ s)

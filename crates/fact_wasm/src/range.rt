@@ -38,22 +38,21 @@ fn is_ranged(imports: usize, funcs: usize, instr: &Instr) -> bool
                 are_ranged(imports, funcs, other.as_slice())
             }
         },
-        Instr::Call(func) => names_function(imports, funcs, *func),
-        Instr::RefFunc(func) => names_function(imports, funcs, *func),
-        Instr::I32Load(place) => place.align < 64,
-        Instr::I64Load(place) => place.align < 64,
-        Instr::F32Load(place) => place.align < 64,
-        Instr::F64Load(place) => place.align < 64,
-        Instr::I32Load8S(place) => place.align < 64,
-        Instr::I32Load8U(place) => place.align < 64,
-        Instr::I32Load16S(place) => place.align < 64,
-        Instr::I32Load16U(place) => place.align < 64,
-        Instr::I32Store(place) => place.align < 64,
-        Instr::I64Store(place) => place.align < 64,
-        Instr::F32Store(place) => place.align < 64,
-        Instr::F64Store(place) => place.align < 64,
-        Instr::I32Store8(place) => place.align < 64,
-        Instr::I32Store16(place) => place.align < 64,
+        Instr::Call(func) | Instr::RefFunc(func) => names_function(imports, funcs, *func),
+        Instr::I32Load(place)
+        | Instr::I64Load(place)
+        | Instr::F32Load(place)
+        | Instr::F64Load(place)
+        | Instr::I32Load8S(place)
+        | Instr::I32Load8U(place)
+        | Instr::I32Load16S(place)
+        | Instr::I32Load16U(place)
+        | Instr::I32Store(place)
+        | Instr::I64Store(place)
+        | Instr::F32Store(place)
+        | Instr::F64Store(place)
+        | Instr::I32Store8(place)
+        | Instr::I32Store16(place) => place.align < 64,
         _ => true,
     }
 }

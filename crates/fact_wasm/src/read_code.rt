@@ -5,6 +5,7 @@ ghost use Rattle.std.specs.List.{AllByRecursion};
 ghost use Rattle.fact_wasm.specs.declared.types.ValType.{ValType};
 ghost use Rattle.fact_wasm.specs.declared.instr.BlockType.{BlockType};
 ghost use Rattle.fact_wasm.specs.declared.instr.MemArg.{MemArg};
+ghost use Rattle.fact_wasm.specs.declared.forms.LeafRow.TheVariants as LeafRow;
 ghost use Rattle.fact_wasm.specs.Answers.{Answers, IsEnd};
 ghost use Rattle.fact_wasm.specs.Numbers.{unsigned};
 ghost use Rattle.fact_wasm.specs.Forms.{leaf_kinds, leaf_op, body_kinds, body_op, head_args, IsLeafAt, IsInstrAt, IsBodyAt};
@@ -121,6 +122,17 @@ impl ReadItem<u32> for Catches {
     }
 }
 
+/// The labels of `br_table`, as an instruction of a module that imports so many functions.
+fn labels_at(alloc: Global, imports: u32, bytes: &[u8]) -> Result<(Instr, &[u8]), DecodeError>
+    ensures found { IfOk result (λ x. IsLeafAt imports LeafRow.Labels bytes.now x.0 x.1.now) }
+    ensures only { (xs : List Arg) (rest : List ℕ) → map kind xs ≡ leaf_kinds LeafRow.Labels → AllByRecursion IsArg xs → bytes.now ≡ args xs ++ rest
+        → Answers result (λ x. (node imports x.0 ≡ Leaf (leaf_op LeafRow.Labels) xs) × (x.1.now ≡ rest)) }
+{
+    let (labels, rest) = list_at::<Labels, u32>(alloc, imports, bytes)?;
+    let (last, rest) = u32_at(rest)?;
+    Ok((Instr::BrTable(labels, last), rest))
+}
+
 /// The immediates of a row without bodies, as an instruction of a module that imports so many functions.
 fn leaf_at(
     alloc: Global,
@@ -161,11 +173,7 @@ fn leaf_at(
             let (x, rest) = float64_at(bytes)?;
             Ok((Instr::F64Const(x), rest))
         }
-        LeafRow::Labels => {
-            let (labels, rest) = list_at::<Labels, u32>(alloc, imports, bytes)?;
-            let (last, rest) = u32_at(rest)?;
-            Ok((Instr::BrTable(labels, last), rest))
-        }
+        LeafRow::Labels => labels_at(alloc, imports, bytes),
     }
 }
 

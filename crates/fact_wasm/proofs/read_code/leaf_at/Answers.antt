@@ -1,13 +1,12 @@
-use Rattle.std.proofs.Common.{ℕ, ◌++◌, [], ◌∷◌, List, refl, sym, ap, ◌∙◌, append_assoc}
+use Rattle.std.proofs.Common.{ℕ, ◌++◌, [], ◌∷◌, List, refl, sym, ap, ◌∙◌}
 use Rattle.std.proofs.lemmas.Result.{err_from_is_err_and}
 use Rattle.fact_wasm.specs.declared.forms.LeafRow.TheVariants as leaf
-use Rattle.fact_wasm.specs.declared.instr.Instr.TheVariants.{I32Const, I64Const, F32Const, F64Const, BrTable}
-use Rattle.fact_wasm.specs.Grammar.{Index, Int32, Int64, Float32, Float64, Memory, Labels, list, Leaf}
-use Rattle.fact_wasm.specs.Numbers.{unsigned}
+use Rattle.fact_wasm.specs.declared.instr.Instr.TheVariants.{I32Const, I64Const, F32Const, F64Const}
+use Rattle.fact_wasm.specs.Grammar.{Index, Int32, Int64, Float32, Float64, Memory, Leaf}
 use Rattle.fact_wasm.specs.Forms.{leaf_op, leaf_kinds}
-use Rattle.fact_wasm.proofs.Written.{args-one, args-two}
+use Rattle.fact_wasm.proofs.Written.{args-one}
 use Rattle.fact_wasm.proofs.Items.{passes}
-use Rattle.fact_wasm.proofs.Leaves.{an_index, a_memory, an_int32, an_int64, a_float32, a_float64, some_labels, leaf_found, leaf_only, node-I32Const, node-I64Const, node-F32Const, node-F64Const, node-BrTable, own-I32Const, own-I64Const, own-F32Const, own-F64Const, own-BrTable}
+use Rattle.fact_wasm.proofs.Leaves.{an_index, a_memory, an_int32, an_int64, a_float32, a_float64, leaf_found, leaf_only, node-I32Const, node-I64Const, node-F32Const, node-F64Const, own-I32Const, own-I64Const, own-F32Const, own-F64Const}
 use Rattle.fact_wasm.proofs.read_code.leaf_at.Goals as goal
 
 pub returns-in_err-n-in-Index-clause-only : goal.returns-in_err-n-in-Index-clause-only
@@ -108,27 +107,8 @@ returns-in_ok-x-in-Float64-clause-found c =
 pub returns-in_ok-x-in-Float64-clause-only : goal.returns-in_ok-x-in-Float64-clause-only
 returns-in_ok-x-in-Float64-clause-only c = leaf_only c.args.imports c.args.row c.args.bytes.now c.in_ok-x-in-Float64.rest.now (F64Const c.in_ok-x-in-Float64.x) (returns-in_ok-x-in-Float64-clause-found c)
 
-pub returns-in_err-labels-in-Labels-clause-only : goal.returns-in_err-labels-in-Labels-clause-only
-returns-in_err-labels-in-Labels-clause-only c xs rest k h e =
-    let q = err_from_is_err_and c.from_residual-in_err-labels-in-Labels.result c.from_residual-in_err-labels-in-Labels.ensures.1 in
-    let a = some_labels c.args.bytes.now rest xs (k ∙ ap leaf_kinds c.in-Labels.is) h e in
-    rw (q.1, q.2) (passes c.in_err-labels-in-Labels.field-0.0 _ _ (c.in_err-labels-in-Labels.ensures.only a.0 (unsigned a.1 ++ rest) a.2 a.4))
+pub returns-in-Labels-clause-found : goal.returns-in-Labels-clause-found
+returns-in-Labels-clause-found c = rw c.in-Labels.is c.labels_at.ensures.found
 
-pub returns-in_err-last-in-Labels-clause-only : goal.returns-in_err-last-in-Labels-clause-only
-returns-in_err-last-in-Labels-clause-only c xs rest k h e =
-    let q = err_from_is_err_and c.from_residual-in_err-last-in-Labels.result c.from_residual-in_err-last-in-Labels.ensures.1 in
-    let a = some_labels c.args.bytes.now rest xs (k ∙ ap leaf_kinds c.in-Labels.is) h e in
-    let o = c.in_ok-labels-in-Labels.ensures.only a.0 (unsigned a.1 ++ rest) a.2 a.4 in
-    rw (q.1, q.2) (passes c.in_err-last-in-Labels.field-0.0 _ _ (c.in_err-last-in-Labels.ensures.only a.1 rest a.3 o.1))
-
-pub returns-in_ok-last-in-Labels-clause-found : goal.returns-in_ok-last-in-Labels-clause-found
-returns-in_ok-last-in-Labels-clause-found c =
-    let ls = c.in_ok-labels-in-Labels.labels in
-    let l = c.in_ok-last-in-Labels.last in
-    let f = c.in_ok-labels-in-Labels.ensures.found in
-    let g = c.in_ok-last-in-Labels.ensures.found in
-    let spelled = f.1 ∙ ap (λ (t : List ℕ). list unsigned ls ++ t) g.1 ∙ sym (append_assoc (list unsigned ls) (unsigned l) c.in_ok-last-in-Labels.rest.now) in
-    rw c.in-Labels.is (leaf_found c.args.imports leaf.Labels c.args.bytes.now c.in_ok-last-in-Labels.rest.now (BrTable ls l) (Labels ls ∷ Index l ∷ []) (node-BrTable c.args.imports ls l) (own-BrTable c.args.imports ls l) refl (f.0, (g.0, tt)) (rw args-two spelled))
-
-pub returns-in_ok-last-in-Labels-clause-only : goal.returns-in_ok-last-in-Labels-clause-only
-returns-in_ok-last-in-Labels-clause-only c = leaf_only c.args.imports c.args.row c.args.bytes.now c.in_ok-last-in-Labels.rest.now (BrTable c.in_ok-labels-in-Labels.labels c.in_ok-last-in-Labels.last) (returns-in_ok-last-in-Labels-clause-found c)
+pub returns-in-Labels-clause-only : goal.returns-in-Labels-clause-only
+returns-in-Labels-clause-only c = rw c.in-Labels.is c.labels_at.ensures.only
