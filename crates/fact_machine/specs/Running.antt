@@ -1,12 +1,13 @@
 -- Cited by private clauses alone.
 -- The configuration that a running machine stands for, and what its functions do to it. The public clauses cite `Machine` and
 -- `World`.
-use Rattle.std.specs.Prelude.{◌≡◌, ◌≢◌, ℕ, Bool, bit_and, bit_or, bit_xor, slice_get, List, [], ◌∷◌, ◌++◌, length, map, reverse, Option, Some, None}
+use Rattle.std.specs.Prelude.{◌≡◌, ◌≢◌, ℕ, Bool, true, false, bit_and, bit_or, bit_xor, slice_get, List, [], ◌∷◌, ◌++◌, length, map, reverse, Option, Some, None}
 use Rattle.fact_wasm.specs.declared.types.ValType.{ValType}
 use Rattle.fact_wasm.specs.declared.types.FuncType.{FuncType}
 use Rattle.fact_wasm.specs.declared.instr.BlockType.{BlockType}
 use Rattle.fact_wasm.specs.declared.instr.MemArg.{MemArg}
 use Rattle.fact_wasm.specs.declared.instr.Instr.{Instr}
+use Rattle.fact_wasm.specs.declared.instr.Instr.TheOpen as instr
 use Rattle.fact_wasm.specs.declared.instr.Instr.TheOpen.{Instr-F}
 use Rattle.fact_wasm.specs.declared.module.WasmFunc.{WasmFunc}
 use Rattle.fact_wasm.specs.declared.module.WasmModule.{WasmModule}
@@ -229,3 +230,61 @@ storing kind index address value w vs ls rest k =
 -- a store with the number off the stack
 abbrev pub addressed : Bool → (ℕ → Row) → Row
 addressed memory64 go w vs ls rest k = with_address memory64 w vs (λ base us. go base w us ls rest k)
+
+-- the loads and the stores
+abbrev pub is_access : Instr-F Instr → Bool
+is_access (instr.I32Load m) = true
+is_access (instr.I64Load m) = true
+is_access (instr.F32Load m) = true
+is_access (instr.F64Load m) = true
+is_access (instr.I32Load8S m) = true
+is_access (instr.I32Load8U m) = true
+is_access (instr.I32Load16S m) = true
+is_access (instr.I32Load16U m) = true
+is_access (instr.I32Store m) = true
+is_access (instr.I64Store m) = true
+is_access (instr.F32Store m) = true
+is_access (instr.F64Store m) = true
+is_access (instr.I32Store8 m) = true
+is_access (instr.I32Store16 m) = true
+is_access _ = false
+
+-- the numeric instructions
+abbrev pub is_numeric : Instr-F Instr → Bool
+is_numeric instr.I32Eqz = true
+is_numeric instr.I32Eq = true
+is_numeric instr.I32Ne = true
+is_numeric instr.I32LtU = true
+is_numeric instr.I32GtU = true
+is_numeric instr.I32GeU = true
+is_numeric instr.I64Eqz = true
+is_numeric instr.I64Eq = true
+is_numeric instr.I64Ne = true
+is_numeric instr.I64LtU = true
+is_numeric instr.I64GtU = true
+is_numeric instr.I64GeU = true
+is_numeric instr.I32Add = true
+is_numeric instr.I32Sub = true
+is_numeric instr.I32Mul = true
+is_numeric instr.I32And = true
+is_numeric instr.I32Or = true
+is_numeric instr.I32Xor = true
+is_numeric instr.I32Shl = true
+is_numeric instr.I32ShrU = true
+is_numeric instr.I64Add = true
+is_numeric instr.I64Sub = true
+is_numeric instr.I64Mul = true
+is_numeric instr.I64And = true
+is_numeric instr.I64Or = true
+is_numeric instr.I64Xor = true
+is_numeric instr.I64Shl = true
+is_numeric instr.I64ShrU = true
+is_numeric instr.I32WrapI64 = true
+is_numeric instr.I64ExtendI32U = true
+is_numeric instr.I32ReinterpretF32 = true
+is_numeric instr.I64ReinterpretF64 = true
+is_numeric instr.F32ReinterpretI32 = true
+is_numeric instr.F64ReinterpretI64 = true
+is_numeric instr.I32Extend8S = true
+is_numeric instr.I32Extend16S = true
+is_numeric _ = false
