@@ -73,8 +73,7 @@ fn push_sized(out: &mut Vec<u8>, content: &[u8]) -> Result<(), OutOfMemory>
 fn push_name(out: &mut Vec<u8>, text: &Text) -> Result<(), OutOfMemory>
     ensures { OnOk result (IsName text.now × (out.new.items ≡ out.old.items ++ name text.now)) }
 {
-    push_sized(out, text.as_str().as_bytes())?;
-    Ok(())
+    push_sized(out, text.as_str().as_bytes())
 }
 
 fn push_import_type(out: &mut Vec<u8>, ty: &ImportType) -> Result<(), OutOfMemory>
@@ -83,35 +82,27 @@ fn push_import_type(out: &mut Vec<u8>, ty: &ImportType) -> Result<(), OutOfMemor
     match ty {
         ImportType::Func(index) => {
             out.push(0x00)?;
-            push_unsigned(out, *index as u64)?;
-            Ok(())
+            push_unsigned(out, *index as u64)
         }
         ImportType::Memory {
             minimum,
             memory64,
             page_size_log2: None,
         } => {
-            out.push(0x02)?;
-            out.push(if *memory64 { 4 } else { 0 })?;
-            push_unsigned(out, *minimum)?;
-            Ok(())
+            out.extend_from_slice(&[0x02, if *memory64 { 4 } else { 0 }])?;
+            push_unsigned(out, *minimum)
         }
         ImportType::Memory {
             minimum,
             memory64,
             page_size_log2: Some(log2),
         } => {
-            out.push(0x02)?;
-            out.push(if *memory64 { 12 } else { 8 })?;
+            out.extend_from_slice(&[0x02, if *memory64 { 12 } else { 8 }])?;
             push_unsigned(out, *minimum)?;
-            push_unsigned(out, *log2 as u64)?;
-            Ok(())
+            push_unsigned(out, *log2 as u64)
         }
         ImportType::Global { ty, mutable } => {
-            out.push(0x03)?;
-            out.push(value_type_byte(*ty))?;
-            out.push(if *mutable { 1 } else { 0 })?;
-            Ok(())
+            out.extend_from_slice(&[0x03, value_type_byte(*ty), if *mutable { 1 } else { 0 }])
         }
     }
 }
@@ -132,8 +123,7 @@ impl Item<WasmImport> for Imports {
     ) -> Result<(), OutOfMemory> {
         push_name(out, &import.module)?;
         push_name(out, &import.name)?;
-        push_import_type(out, &import.ty)?;
-        Ok(())
+        push_import_type(out, &import.ty)
     }
 }
 
@@ -151,8 +141,7 @@ impl Item<WasmFunc> for Functions {
         _imports: u32,
         func: &WasmFunc,
     ) -> Result<(), OutOfMemory> {
-        push_unsigned(out, func.ty as u64)?;
-        Ok(())
+        push_unsigned(out, func.ty as u64)
     }
 }
 
@@ -172,8 +161,7 @@ impl Item<WasmExport> for Exports {
     ) -> Result<(), OutOfMemory> {
         push_name(out, &export.name)?;
         out.push(0x00)?;
-        push_function(out, imports, export.func)?;
-        Ok(())
+        push_function(out, imports, export.func)
     }
 }
 
