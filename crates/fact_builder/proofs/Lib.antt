@@ -1,5 +1,4 @@
 pub mod BalanceLaws
-pub mod EntryLaws
 pub mod FlatLaws
 pub mod FlattenLaws
 pub mod GrowthLaws
@@ -10,5 +9,4 @@ pub mod KeptLaws
 pub mod MemberLaws
 pub mod PlainLaws
 pub mod PointerLaws
-pub mod PopLaws
 pub mod SplitLaws

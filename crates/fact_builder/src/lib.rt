@@ -4,6 +4,7 @@
 
 mod adds;
 mod builder;
+mod entry;
 mod facts;
 mod flat_list;
 mod index;

@@ -1,15 +1,17 @@
-//! New entries of tables of which it is known what flat types their types have and what these hold.
-//!
-//! Each call puts an entry behind the last one of its table, where there is room. The tables are unchanged after a refusal.
+//! The types that stand in their tables once, and tables of the handles of resources: what is known of an entry is kept with
+//! it, where it has members.
 
-ghost use Rattle.std.specs.Prelude.{◌≡◌, ◌↔◌, ◌<◌, ◌++◌, ◌∷◌, [], length, IfOk, IfErr, OnOk, OnErr, Err};
+ghost use Rattle.std.specs.Prelude.{◌≡◌, ◌↔◌, ◌<◌, ◌++◌, ◌∷◌, [], length, refl, IfOk, OnOk, OnErr, Err};
+ghost use Rattle.fact_types.specs.Exact.{exact_variant, exact_flags, exact_enum};
 ghost use Rattle.fact_types.specs.Tables.{Stands, record_node, flags_node, tuple_node, fixed_length_list_node, variant_node, enum_node, option_node, result_node, list_node, map_node, IsLiveMember, IsLiveFunc};
+ghost use Rattle.fact_builder.specs.ExactEntries.{exact_func, exact_record, exact_tuple, exact_fixed_length_list, exact_option_type, exact_result, exact_list_type, exact_map, exact_future, exact_future_table, exact_stream, exact_stream_table, exact_error_context_table};
 ghost use Rattle.fact_builder.specs.Keeps.{Keeps};
 
+use crate::entry::Entry;
 use crate::information::TypeInformation;
 use crate::known::{keep, known, product_of_fields, product_of_types, sum_of_cases, with_payload};
 use crate::known_types::KnownTypes;
-use fact_entity::PushError;
+use fact_entity::{OutOfMemory, PushError};
 use fact_types::{
     InterfaceType, TypeComponentLocalErrorContextTableIndex, TypeEnum, TypeEnumIndex,
     TypeErrorContextTable, TypeFixedLengthList, TypeFixedLengthListIndex, TypeFlags,
@@ -20,323 +22,509 @@ use fact_types::{
     TypeStreamTableIndex, TypeTuple, TypeTupleIndex, TypeVariant, TypeVariantIndex,
 };
 
-impl KnownTypes {
-    /// Appends a function type. Its tuples are live.
-    pub(crate) fn push_func(&mut self, ty: TypeFunc) -> Result<TypeFuncIndex, PushError>
-        requires stands { IsLiveFunc self.old ty }
-        requires room { length self.old.functions < 4294967295 }
-        ensures table { OnOk result (self.new ≡ record self.old { functions = self.old.functions ++ ty ∷ [] }) }
-        ensures refused { OnErr result (self.new ≡ self.old) }
-        ensures keeps { Keeps self.old self.new }
-        ensures cause { IfErr result (λ e. e ≡ PushError.OutOfMemory) }
-    {
-        self.types.push_func(ty)
+impl Entry for TypeFunc {
+    type Index = TypeFuncIndex;
+
+    ghost entries = { λ t. t.functions };
+
+    ghost with_entries = { λ t es. record t { functions = es } };
+
+    ghost stands = { λ t e. IsLiveFunc t e };
+
+    ghost entries_of_with = { λ _ _. refl };
+
+    ghost with_its_entries = { λ _. refl };
+
+    ghost exact = { exact_func };
+
+    fn copied(&self) -> Result<TypeFunc, OutOfMemory> {
+        self.try_clone()
     }
 
-    /// Appends a record type. Its fields have live types, and its layout is that of the fields.
-    pub(crate) fn push_record(
-        &mut self,
-        key: TypeRecordIndex,
-        ty: TypeRecord,
-    ) -> Result<TypeRecordIndex, PushError>
-        requires stands { Stands self.old (record_node ty) }
-        requires key { key.number ≡ length self.old.records }
-        requires room { length self.old.records < 4294967295 }
-        ensures table { OnOk result (self.new ≡ record self.old { records = self.old.records ++ ty ∷ [] }) }
-        ensures refused { OnErr result (self.new ≡ self.old) }
-        ensures keeps { Keeps self.old self.new }
-        ensures cause { IfErr result (λ e. e ≡ PushError.OutOfMemory) }
-    {
-        self.types.reveal();
-        let information = product_of_fields(&self.kept, ty.fields.as_slice());
-        keep(&mut self.kept, InterfaceType::Record(key), information)?;
-        self.types.push_record(ty)
+    fn push(self, types: &mut KnownTypes, _: TypeFuncIndex) -> Result<TypeFuncIndex, PushError> {
+        types.types.push_func(self)
+    }
+}
+
+impl Entry for TypeRecord {
+    type Index = TypeRecordIndex;
+
+    ghost entries = { λ t. t.records };
+
+    ghost with_entries = { λ t es. record t { records = es } };
+
+    ghost stands = { λ t e. Stands t (record_node e) };
+
+    ghost entries_of_with = { λ _ _. refl };
+
+    ghost with_its_entries = { λ _. refl };
+
+    ghost exact = { exact_record };
+
+    fn copied(&self) -> Result<TypeRecord, OutOfMemory> {
+        self.try_clone()
     }
 
-    /// Appends a flags type. Its layout is that of its names.
-    pub(crate) fn push_flags(
-        &mut self,
-        key: TypeFlagsIndex,
-        ty: TypeFlags,
-    ) -> Result<TypeFlagsIndex, PushError>
-        requires stands { Stands self.old (flags_node ty) }
-        requires key { key.number ≡ length self.old.flags }
-        requires room { length self.old.flags < 4294967295 }
-        ensures table { OnOk result (self.new ≡ record self.old { flags = self.old.flags ++ ty ∷ [] }) }
-        ensures refused { OnErr result (self.new ≡ self.old) }
-        ensures keeps { Keeps self.old self.new }
-        ensures cause { IfErr result (λ e. e ≡ PushError.OutOfMemory) }
-    {
-        self.types.reveal();
+    fn push(
+        self,
+        types: &mut KnownTypes,
+        index: TypeRecordIndex,
+    ) -> Result<TypeRecordIndex, PushError> {
+        types.types.reveal();
+        let information = product_of_fields(&types.kept, self.fields.as_slice());
+        keep(&mut types.kept, InterfaceType::Record(index), information)?;
+        types.types.push_record(self)
+    }
+}
+
+impl Entry for TypeFlags {
+    type Index = TypeFlagsIndex;
+
+    ghost entries = { λ t. t.flags };
+
+    ghost with_entries = { λ t es. record t { flags = es } };
+
+    ghost stands = { λ t e. Stands t (flags_node e) };
+
+    ghost entries_of_with = { λ _ _. refl };
+
+    ghost with_its_entries = { λ _. refl };
+
+    ghost exact = { exact_flags };
+
+    fn copied(&self) -> Result<TypeFlags, OutOfMemory> {
+        self.try_clone()
+    }
+
+    fn push(
+        self,
+        types: &mut KnownTypes,
+        index: TypeFlagsIndex,
+    ) -> Result<TypeFlagsIndex, PushError> {
+        types.types.reveal();
         let information = TypeInformation::new().with_words(usize::from(
-            ty.abi.flat_count.unwrap_or(0),
+            self.abi.flat_count.unwrap_or(0),
         ));
-        keep(&mut self.kept, InterfaceType::Flags(key), information)?;
-        self.types.push_flags(ty)
+        keep(&mut types.kept, InterfaceType::Flags(index), information)?;
+        types.types.push_flags(self)
+    }
+}
+
+impl Entry for TypeTuple {
+    type Index = TypeTupleIndex;
+
+    ghost entries = { λ t. t.tuples };
+
+    ghost with_entries = { λ t es. record t { tuples = es } };
+
+    ghost stands = { λ t e. Stands t (tuple_node e) };
+
+    ghost entries_of_with = { λ _ _. refl };
+
+    ghost with_its_entries = { λ _. refl };
+
+    ghost exact = { exact_tuple };
+
+    fn copied(&self) -> Result<TypeTuple, OutOfMemory> {
+        self.try_clone()
     }
 
-    /// Appends a tuple type. Its members have live types, and its layout is that of the members.
-    pub(crate) fn push_tuple(
-        &mut self,
-        key: TypeTupleIndex,
-        ty: TypeTuple,
-    ) -> Result<TypeTupleIndex, PushError>
-        requires stands { Stands self.old (tuple_node ty) }
-        requires key { key.number ≡ length self.old.tuples }
-        requires room { length self.old.tuples < 4294967295 }
-        ensures table { OnOk result (self.new ≡ record self.old { tuples = self.old.tuples ++ ty ∷ [] }) }
-        ensures refused { OnErr result (self.new ≡ self.old) }
-        ensures keeps { Keeps self.old self.new }
-        ensures cause { IfErr result (λ e. e ≡ PushError.OutOfMemory) }
-    {
-        self.types.reveal();
-        let information = product_of_types(&self.kept, ty.types.as_slice());
-        keep(&mut self.kept, InterfaceType::Tuple(key), information)?;
-        self.types.push_tuple(ty)
+    fn push(
+        self,
+        types: &mut KnownTypes,
+        index: TypeTupleIndex,
+    ) -> Result<TypeTupleIndex, PushError> {
+        types.types.reveal();
+        let information = product_of_types(&types.kept, self.types.as_slice());
+        keep(&mut types.kept, InterfaceType::Tuple(index), information)?;
+        types.types.push_tuple(self)
+    }
+}
+
+impl Entry for TypeFixedLengthList {
+    type Index = TypeFixedLengthListIndex;
+
+    ghost entries = { λ t. t.fixed_length_lists };
+
+    ghost with_entries = { λ t es. record t { fixed_length_lists = es } };
+
+    ghost stands = { λ t e. Stands t (fixed_length_list_node e) };
+
+    ghost entries_of_with = { λ _ _. refl };
+
+    ghost with_its_entries = { λ _. refl };
+
+    ghost exact = { exact_fixed_length_list };
+
+    fn copied(&self) -> Result<TypeFixedLengthList, OutOfMemory> {
+        Ok(*self)
     }
 
-    /// Appends a type of lists of fixed length. Its elements have a live type, and its layout is that of the elements.
-    pub(crate) fn push_fixed_length_list(
-        &mut self,
-        key: TypeFixedLengthListIndex,
-        ty: TypeFixedLengthList,
-    ) -> Result<TypeFixedLengthListIndex, PushError>
-        requires stands { Stands self.old (fixed_length_list_node ty) }
-        requires key { key.number ≡ length self.old.fixed_length_lists }
-        requires room { length self.old.fixed_length_lists < 4294967295 }
-        ensures table { OnOk result (self.new ≡ record self.old { fixed_length_lists = self.old.fixed_length_lists ++ ty ∷ [] }) }
-        ensures refused { OnErr result (self.new ≡ self.old) }
-        ensures keeps { Keeps self.old self.new }
-        ensures cause { IfErr result (λ e. e ≡ PushError.OutOfMemory) }
-    {
-        self.types.reveal();
+    fn push(
+        self,
+        types: &mut KnownTypes,
+        index: TypeFixedLengthListIndex,
+    ) -> Result<TypeFixedLengthListIndex, PushError> {
+        types.types.reveal();
         let information = TypeInformation::new()
-            .followed_by(&known(&self.kept, &ty.element))
-            .repeated(ty.size);
+            .followed_by(&known(&types.kept, &self.element))
+            .repeated(self.size);
         keep(
-            &mut self.kept,
-            InterfaceType::FixedLengthList(key),
+            &mut types.kept,
+            InterfaceType::FixedLengthList(index),
             information,
         )?;
-        self.types.push_fixed_length_list(ty)
+        types.types.push_fixed_length_list(self)
+    }
+}
+
+impl Entry for TypeVariant {
+    type Index = TypeVariantIndex;
+
+    ghost entries = { λ t. t.variants };
+
+    ghost with_entries = { λ t es. record t { variants = es } };
+
+    ghost stands = { λ t e. Stands t (variant_node e) };
+
+    ghost entries_of_with = { λ _ _. refl };
+
+    ghost with_its_entries = { λ _. refl };
+
+    ghost exact = { exact_variant };
+
+    fn copied(&self) -> Result<TypeVariant, OutOfMemory> {
+        self.try_clone()
     }
 
-    /// Appends a variant type. Its payloads have live types, and its layout and places are those of the cases.
-    pub(crate) fn push_variant(
-        &mut self,
-        key: TypeVariantIndex,
-        ty: TypeVariant,
-    ) -> Result<TypeVariantIndex, PushError>
-        requires stands { Stands self.old (variant_node ty) }
-        requires key { key.number ≡ length self.old.variants }
-        requires room { length self.old.variants < 4294967295 }
-        ensures table { OnOk result (self.new ≡ record self.old { variants = self.old.variants ++ ty ∷ [] }) }
-        ensures refused { OnErr result (self.new ≡ self.old) }
-        ensures keeps { Keeps self.old self.new }
-        ensures cause { IfErr result (λ e. e ≡ PushError.OutOfMemory) }
-    {
-        self.types.reveal();
-        let information = sum_of_cases(&self.kept, &ty.cases).tagged();
-        keep(&mut self.kept, InterfaceType::Variant(key), information)?;
-        self.types.push_variant(ty)
+    fn push(
+        self,
+        types: &mut KnownTypes,
+        index: TypeVariantIndex,
+    ) -> Result<TypeVariantIndex, PushError> {
+        types.types.reveal();
+        let information = sum_of_cases(&types.kept, &self.cases).tagged();
+        keep(&mut types.kept, InterfaceType::Variant(index), information)?;
+        types.types.push_variant(self)
+    }
+}
+
+impl Entry for TypeEnum {
+    type Index = TypeEnumIndex;
+
+    ghost entries = { λ t. t.enums };
+
+    ghost with_entries = { λ t es. record t { enums = es } };
+
+    ghost stands = { λ t e. Stands t (enum_node e) };
+
+    ghost entries_of_with = { λ _ _. refl };
+
+    ghost with_its_entries = { λ _. refl };
+
+    ghost exact = { exact_enum };
+
+    fn copied(&self) -> Result<TypeEnum, OutOfMemory> {
+        self.try_clone()
     }
 
-    /// Appends an enum type. Its layout and places are those of its names.
-    pub(crate) fn push_enum(
-        &mut self,
-        key: TypeEnumIndex,
-        ty: TypeEnum,
-    ) -> Result<TypeEnumIndex, PushError>
-        requires stands { Stands self.old (enum_node ty) }
-        requires key { key.number ≡ length self.old.enums }
-        requires room { length self.old.enums < 4294967295 }
-        ensures table { OnOk result (self.new ≡ record self.old { enums = self.old.enums ++ ty ∷ [] }) }
-        ensures refused { OnErr result (self.new ≡ self.old) }
-        ensures keeps { Keeps self.old self.new }
-        ensures cause { IfErr result (λ e. e ≡ PushError.OutOfMemory) }
-    {
-        self.types.reveal();
+    fn push(
+        self,
+        types: &mut KnownTypes,
+        index: TypeEnumIndex,
+    ) -> Result<TypeEnumIndex, PushError> {
+        types.types.reveal();
         let information = TypeInformation::new().with_words(1);
-        keep(&mut self.kept, InterfaceType::Enum(key), information)?;
-        self.types.push_enum(ty)
+        keep(&mut types.kept, InterfaceType::Enum(index), information)?;
+        types.types.push_enum(self)
+    }
+}
+
+impl Entry for TypeOption {
+    type Index = TypeOptionIndex;
+
+    ghost entries = { λ t. t.options };
+
+    ghost with_entries = { λ t es. record t { options = es } };
+
+    ghost stands = { λ t e. Stands t (option_node e) };
+
+    ghost entries_of_with = { λ _ _. refl };
+
+    ghost with_its_entries = { λ _. refl };
+
+    ghost exact = { exact_option_type };
+
+    fn copied(&self) -> Result<TypeOption, OutOfMemory> {
+        Ok(*self)
     }
 
-    /// Appends an option type. Its payload has a live type, and its layout and places are those of the cases.
-    pub(crate) fn push_option(
-        &mut self,
-        key: TypeOptionIndex,
-        ty: TypeOption,
-    ) -> Result<TypeOptionIndex, PushError>
-        requires stands { Stands self.old (option_node ty) }
-        requires key { key.number ≡ length self.old.options }
-        requires room { length self.old.options < 4294967295 }
-        ensures table { OnOk result (self.new ≡ record self.old { options = self.old.options ++ ty ∷ [] }) }
-        ensures refused { OnErr result (self.new ≡ self.old) }
-        ensures keeps { Keeps self.old self.new }
-        ensures cause { IfErr result (λ e. e ≡ PushError.OutOfMemory) }
-    {
-        self.types.reveal();
-        let information = with_payload(&self.kept, TypeInformation::new(), Some(ty.ty)).tagged();
-        keep(&mut self.kept, InterfaceType::Option(key), information)?;
-        self.types.push_option(ty)
+    fn push(
+        self,
+        types: &mut KnownTypes,
+        index: TypeOptionIndex,
+    ) -> Result<TypeOptionIndex, PushError> {
+        types.types.reveal();
+        let information = with_payload(&types.kept, TypeInformation::new(), Some(self.ty)).tagged();
+        keep(&mut types.kept, InterfaceType::Option(index), information)?;
+        types.types.push_option(self)
+    }
+}
+
+impl Entry for TypeResult {
+    type Index = TypeResultIndex;
+
+    ghost entries = { λ t. t.results };
+
+    ghost with_entries = { λ t es. record t { results = es } };
+
+    ghost stands = { λ t e. Stands t (result_node e) };
+
+    ghost entries_of_with = { λ _ _. refl };
+
+    ghost with_its_entries = { λ _. refl };
+
+    ghost exact = { exact_result };
+
+    fn copied(&self) -> Result<TypeResult, OutOfMemory> {
+        Ok(*self)
     }
 
-    /// Appends a result type. Its payloads have live types, and its layout and places are those of the cases.
-    pub(crate) fn push_result(
-        &mut self,
-        key: TypeResultIndex,
-        ty: TypeResult,
-    ) -> Result<TypeResultIndex, PushError>
-        requires stands { Stands self.old (result_node ty) }
-        requires key { key.number ≡ length self.old.results }
-        requires room { length self.old.results < 4294967295 }
-        ensures table { OnOk result (self.new ≡ record self.old { results = self.old.results ++ ty ∷ [] }) }
-        ensures refused { OnErr result (self.new ≡ self.old) }
-        ensures keeps { Keeps self.old self.new }
-        ensures cause { IfErr result (λ e. e ≡ PushError.OutOfMemory) }
-    {
-        self.types.reveal();
+    fn push(
+        self,
+        types: &mut KnownTypes,
+        index: TypeResultIndex,
+    ) -> Result<TypeResultIndex, PushError> {
+        types.types.reveal();
         let information = with_payload(
-            &self.kept,
-            with_payload(&self.kept, TypeInformation::new(), ty.ok),
-            ty.err,
+            &types.kept,
+            with_payload(&types.kept, TypeInformation::new(), self.ok),
+            self.err,
         )
         .tagged();
-        keep(&mut self.kept, InterfaceType::Result(key), information)?;
-        self.types.push_result(ty)
+        keep(&mut types.kept, InterfaceType::Result(index), information)?;
+        types.types.push_result(self)
+    }
+}
+
+impl Entry for TypeList {
+    type Index = TypeListIndex;
+
+    ghost entries = { λ t. t.lists };
+
+    ghost with_entries = { λ t es. record t { lists = es } };
+
+    ghost stands = { λ t e. Stands t (list_node e) };
+
+    ghost entries_of_with = { λ _ _. refl };
+
+    ghost with_its_entries = { λ _. refl };
+
+    ghost exact = { exact_list_type };
+
+    fn copied(&self) -> Result<TypeList, OutOfMemory> {
+        Ok(*self)
     }
 
-    /// Appends a list type. Its elements have a live type.
-    pub(crate) fn push_list(
-        &mut self,
-        key: TypeListIndex,
-        ty: TypeList,
-    ) -> Result<TypeListIndex, PushError>
-        requires stands { Stands self.old (list_node ty) }
-        requires key { key.number ≡ length self.old.lists }
-        requires room { length self.old.lists < 4294967295 }
-        ensures table { OnOk result (self.new ≡ record self.old { lists = self.old.lists ++ ty ∷ [] }) }
-        ensures refused { OnErr result (self.new ≡ self.old) }
-        ensures keeps { Keeps self.old self.new }
-        ensures cause { IfErr result (λ e. e ≡ PushError.OutOfMemory) }
-    {
-        self.types.reveal();
+    fn push(
+        self,
+        types: &mut KnownTypes,
+        index: TypeListIndex,
+    ) -> Result<TypeListIndex, PushError> {
+        types.types.reveal();
         let information = with_payload(
-            &self.kept,
+            &types.kept,
             TypeInformation::new(),
-            Some(ty.element),
+            Some(self.element),
         ).with_pointer_pair();
-        keep(&mut self.kept, InterfaceType::List(key), information)?;
-        self.types.push_list(ty)
+        keep(&mut types.kept, InterfaceType::List(index), information)?;
+        types.types.push_list(self)
+    }
+}
+
+impl Entry for TypeMap {
+    type Index = TypeMapIndex;
+
+    ghost entries = { λ t. t.maps };
+
+    ghost with_entries = { λ t es. record t { maps = es } };
+
+    ghost stands = { λ t e. Stands t (map_node e) };
+
+    ghost entries_of_with = { λ _ _. refl };
+
+    ghost with_its_entries = { λ _. refl };
+
+    ghost exact = { exact_map };
+
+    fn copied(&self) -> Result<TypeMap, OutOfMemory> {
+        Ok(*self)
     }
 
-    /// Appends a map type. Its keys and values have live types, and the layout of its entries is that of key and value.
-    pub(crate) fn push_map(
-        &mut self,
-        key: TypeMapIndex,
-        ty: TypeMap,
-    ) -> Result<TypeMapIndex, PushError>
-        requires stands { Stands self.old (map_node ty) }
-        requires key { key.number ≡ length self.old.maps }
-        requires room { length self.old.maps < 4294967295 }
-        ensures table { OnOk result (self.new ≡ record self.old { maps = self.old.maps ++ ty ∷ [] }) }
-        ensures refused { OnErr result (self.new ≡ self.old) }
-        ensures keeps { Keeps self.old self.new }
-        ensures cause { IfErr result (λ e. e ≡ PushError.OutOfMemory) }
-    {
-        self.types.reveal();
+    fn push(self, types: &mut KnownTypes, index: TypeMapIndex) -> Result<TypeMapIndex, PushError> {
+        types.types.reveal();
         let information = with_payload(
-            &self.kept,
-            with_payload(&self.kept, TypeInformation::new(), Some(ty.key)),
-            Some(ty.value),
+            &types.kept,
+            with_payload(&types.kept, TypeInformation::new(), Some(self.key)),
+            Some(self.value),
         )
         .with_pointer_pair();
-        keep(&mut self.kept, InterfaceType::Map(key), information)?;
-        self.types.push_map(ty)
+        keep(&mut types.kept, InterfaceType::Map(index), information)?;
+        types.types.push_map(self)
+    }
+}
+
+impl Entry for TypeFuture {
+    type Index = TypeFutureIndex;
+
+    ghost entries = { λ t. t.futures };
+
+    ghost with_entries = { λ t es. record t { futures = es } };
+
+    ghost stands = { λ t e. IsLiveMember t e.payload };
+
+    ghost entries_of_with = { λ _ _. refl };
+
+    ghost with_its_entries = { λ _. refl };
+
+    ghost exact = { exact_future };
+
+    fn copied(&self) -> Result<TypeFuture, OutOfMemory> {
+        Ok(*self)
     }
 
-    /// Appends a future type. Its payload has a live type.
-    pub(crate) fn push_future(&mut self, ty: TypeFuture) -> Result<TypeFutureIndex, PushError>
-        requires stands { IsLiveMember self.old ty.payload }
-        requires room { length self.old.futures < 4294967295 }
-        ensures table { OnOk result (self.new ≡ record self.old { futures = self.old.futures ++ ty ∷ [] }) }
-        ensures refused { OnErr result (self.new ≡ self.old) }
-        ensures keeps { Keeps self.old self.new }
-        ensures cause { IfErr result (λ e. e ≡ PushError.OutOfMemory) }
-    {
-        self.types.reveal();
-        self.types.push_future(ty)
+    fn push(
+        self,
+        types: &mut KnownTypes,
+        _: TypeFutureIndex,
+    ) -> Result<TypeFutureIndex, PushError> {
+        types.types.reveal();
+        types.types.push_future(self)
+    }
+}
+
+impl Entry for TypeFutureTable {
+    type Index = TypeFutureTableIndex;
+
+    ghost entries = { λ t. t.future_tables };
+
+    ghost with_entries = { λ t es. record t { future_tables = es } };
+
+    ghost stands = { λ t e. e.ty.number < length t.futures };
+
+    ghost entries_of_with = { λ _ _. refl };
+
+    ghost with_its_entries = { λ _. refl };
+
+    ghost exact = { exact_future_table };
+
+    fn copied(&self) -> Result<TypeFutureTable, OutOfMemory> {
+        Ok(*self)
     }
 
-    /// Appends a table of futures. Its future type is live.
-    pub(crate) fn push_future_table(
-        &mut self,
-        key: TypeFutureTableIndex,
-        ty: TypeFutureTable,
-    ) -> Result<TypeFutureTableIndex, PushError>
-        requires stands { ty.ty.number < length self.old.futures }
-        requires key { key.number ≡ length self.old.future_tables }
-        requires room { length self.old.future_tables < 4294967295 }
-        ensures table { OnOk result (self.new ≡ record self.old { future_tables = self.old.future_tables ++ ty ∷ [] }) }
-        ensures refused { OnErr result (self.new ≡ self.old) }
-        ensures keeps { Keeps self.old self.new }
-        ensures cause { IfErr result (λ e. e ≡ PushError.OutOfMemory) }
-    {
-        self.types.reveal();
-        let payload = self.types[ty.ty].payload;
-        let information = with_payload(&self.kept, TypeInformation::new(), payload).as_handle();
-        keep(&mut self.kept, InterfaceType::Future(key), information)?;
-        self.types.push_future_table(ty)
+    fn push(
+        self,
+        types: &mut KnownTypes,
+        index: TypeFutureTableIndex,
+    ) -> Result<TypeFutureTableIndex, PushError> {
+        types.types.reveal();
+        let payload = types.types[self.ty].payload;
+        let information = with_payload(&types.kept, TypeInformation::new(), payload).as_handle();
+        keep(&mut types.kept, InterfaceType::Future(index), information)?;
+        types.types.push_future_table(self)
+    }
+}
+
+impl Entry for TypeStream {
+    type Index = TypeStreamIndex;
+
+    ghost entries = { λ t. t.streams };
+
+    ghost with_entries = { λ t es. record t { streams = es } };
+
+    ghost stands = { λ t e. IsLiveMember t e.payload };
+
+    ghost entries_of_with = { λ _ _. refl };
+
+    ghost with_its_entries = { λ _. refl };
+
+    ghost exact = { exact_stream };
+
+    fn copied(&self) -> Result<TypeStream, OutOfMemory> {
+        Ok(*self)
     }
 
-    /// Appends a stream type. Its payload has a live type.
-    pub(crate) fn push_stream(&mut self, ty: TypeStream) -> Result<TypeStreamIndex, PushError>
-        requires stands { IsLiveMember self.old ty.payload }
-        requires room { length self.old.streams < 4294967295 }
-        ensures table { OnOk result (self.new ≡ record self.old { streams = self.old.streams ++ ty ∷ [] }) }
-        ensures refused { OnErr result (self.new ≡ self.old) }
-        ensures keeps { Keeps self.old self.new }
-        ensures cause { IfErr result (λ e. e ≡ PushError.OutOfMemory) }
-    {
-        self.types.reveal();
-        self.types.push_stream(ty)
+    fn push(
+        self,
+        types: &mut KnownTypes,
+        _: TypeStreamIndex,
+    ) -> Result<TypeStreamIndex, PushError> {
+        types.types.reveal();
+        types.types.push_stream(self)
+    }
+}
+
+impl Entry for TypeStreamTable {
+    type Index = TypeStreamTableIndex;
+
+    ghost entries = { λ t. t.stream_tables };
+
+    ghost with_entries = { λ t es. record t { stream_tables = es } };
+
+    ghost stands = { λ t e. e.ty.number < length t.streams };
+
+    ghost entries_of_with = { λ _ _. refl };
+
+    ghost with_its_entries = { λ _. refl };
+
+    ghost exact = { exact_stream_table };
+
+    fn copied(&self) -> Result<TypeStreamTable, OutOfMemory> {
+        Ok(*self)
     }
 
-    /// Appends a table of streams. Its stream type is live.
-    pub(crate) fn push_stream_table(
-        &mut self,
-        key: TypeStreamTableIndex,
-        ty: TypeStreamTable,
-    ) -> Result<TypeStreamTableIndex, PushError>
-        requires stands { ty.ty.number < length self.old.streams }
-        requires key { key.number ≡ length self.old.stream_tables }
-        requires room { length self.old.stream_tables < 4294967295 }
-        ensures table { OnOk result (self.new ≡ record self.old { stream_tables = self.old.stream_tables ++ ty ∷ [] }) }
-        ensures refused { OnErr result (self.new ≡ self.old) }
-        ensures keeps { Keeps self.old self.new }
-        ensures cause { IfErr result (λ e. e ≡ PushError.OutOfMemory) }
-    {
-        self.types.reveal();
-        let payload = self.types[ty.ty].payload;
-        let information = with_payload(&self.kept, TypeInformation::new(), payload).as_handle();
-        keep(&mut self.kept, InterfaceType::Stream(key), information)?;
-        self.types.push_stream_table(ty)
+    fn push(
+        self,
+        types: &mut KnownTypes,
+        index: TypeStreamTableIndex,
+    ) -> Result<TypeStreamTableIndex, PushError> {
+        types.types.reveal();
+        let payload = types.types[self.ty].payload;
+        let information = with_payload(&types.kept, TypeInformation::new(), payload).as_handle();
+        keep(&mut types.kept, InterfaceType::Stream(index), information)?;
+        types.types.push_stream_table(self)
+    }
+}
+
+impl Entry for TypeErrorContextTable {
+    type Index = TypeComponentLocalErrorContextTableIndex;
+
+    ghost entries = { λ t. t.error_context_tables };
+
+    ghost with_entries = { λ t es. record t { error_context_tables = es } };
+
+    ghost stands = { λ t e. Unit {0} };
+
+    ghost entries_of_with = { λ _ _. refl };
+
+    ghost with_its_entries = { λ _. refl };
+
+    ghost exact = { exact_error_context_table };
+
+    fn copied(&self) -> Result<TypeErrorContextTable, OutOfMemory> {
+        Ok(*self)
     }
 
-    /// Appends a table of error contexts.
-    pub(crate) fn push_error_context_table(
-        &mut self,
-        ty: TypeErrorContextTable,
-    ) -> Result<TypeComponentLocalErrorContextTableIndex, PushError>
-        requires room { length self.old.error_context_tables < 4294967295 }
-        ensures table { OnOk result (self.new ≡ record self.old { error_context_tables = self.old.error_context_tables ++ ty ∷ [] }) }
-        ensures refused { OnErr result (self.new ≡ self.old) }
-        ensures keeps { Keeps self.old self.new }
-        ensures cause { IfErr result (λ e. e ≡ PushError.OutOfMemory) }
-    {
-        self.types.push_error_context_table(ty)
+    fn push(
+        self,
+        types: &mut KnownTypes,
+        _: TypeComponentLocalErrorContextTableIndex,
+    ) -> Result<TypeComponentLocalErrorContextTableIndex, PushError> {
+        types.types.push_error_context_table(self)
     }
+}
 
+impl KnownTypes {
     /// Appends a table of the handles of a resource.
     pub(crate) fn push_resource_table(
         &mut self,
