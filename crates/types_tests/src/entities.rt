@@ -1,12 +1,38 @@
 //! Tables and their keys.
 
 use fact_entity::{
-    ComponentAnyTypeId, ComponentDefinedTypeId, EntityRef, Id, Interner, OutOfMemory, PrimaryMap,
-    PushError, ResourceId, TypeRecordIndex, TypeVariantIndex,
+    ComponentAnyTypeId, ComponentDefinedTypeId, EntityRef, Id, Interner, PrimaryMap, PushError,
+    ResourceId, TypeRecordIndex, TypeVariantIndex,
 };
 use fact_index::{OptionsIndex, TableIndex};
 use std::alloc::{AllocError, Global};
-use std::test::Fail;
+
+/// Whether a key that was made of a number and copied has that number.
+fn has_number<K: EntityRef>(number: u32) -> bool {
+    let key = K::from_u32(number);
+    let copy = key;
+    copy.as_u32() == number
+}
+
+/// Whether a key and its clone have a number, and the key comes before another one just where that is said.
+fn is_placed<Table>(key: Id<Table>, number: u32, other: Id<Table>, before: bool) -> bool {
+    match key.try_clone() {
+        Ok(clone) => {
+            key.as_u32() == number && clone.as_u32() == number && (key < other) == before
+        }
+        Err(_) => false,
+    }
+}
+
+#[test]
+fn keys_are_numbers(rt: HostRuntime) {
+    let (key, other) = (TypeRecordIndex::from_u32(7), TypeRecordIndex::from_u32(8));
+    assert!(rt; is_placed(key, 7, other, true));
+    assert!(rt; is_placed(TableIndex::from_u32(3), 3, TableIndex::from_u32(3), false));
+    assert!(rt; has_number::<TypeVariantIndex>(0));
+    assert!(rt; has_number::<OptionsIndex>(u32::MAX));
+    assert!(rt; has_number::<ResourceId>(9));
+}
 
 /// The numbers of the keys of a table with their entries, in order.
 fn numbered<K: EntityRef>(
@@ -19,86 +45,104 @@ fn numbered<K: EntityRef>(
         .collect(alloc)
 }
 
-/// The number of a key that was made of a number and copied.
-fn copied<K: EntityRef>(n: u32) -> u32 {
-    let key = K::from_u32(n);
-    let copy = key;
-    copy.as_u32()
+/// Whether a table has two entries, in order.
+fn has_two(alloc: Global, table: &PrimaryMap<TypeRecordIndex, u64>) -> Result<bool, AllocError> {
+    let entries = numbered(alloc, table)?;
+    Ok(table.len() == 2 && entries.as_slice() == [(0, 40), (1, 50)].as_slice())
 }
 
-/// The numbers of a key and of its clone, and whether a key comes before another one.
-fn compared<Table>(key: Id<Table>, other: Id<Table>) -> Result<(u32, u32, bool), OutOfMemory> {
-    Ok((key.as_u32(), key.try_clone()?.as_u32(), key < other))
-}
-
-#[test]
-fn keys_are_numbers(rt: HostRuntime) -> Result<(), Fail> {
-    let (key, other) = (TypeRecordIndex::from_u32(7), TypeRecordIndex::from_u32(8));
-    assert!(rt; compared(key, other)? == (7, 7, true));
-    assert!(rt; compared(TableIndex::from_u32(3), TableIndex::from_u32(3))? == (3, 3, false));
-    assert_eq!(rt; copied::<TypeVariantIndex>(0), 0);
-    assert_eq!(rt; copied::<OptionsIndex>(u32::MAX), u32::MAX);
-    assert_eq!(rt; copied::<ResourceId>(9), 9);
-    Ok(())
-}
-
-#[test]
-fn tables_answer_places(rt: HostRuntime) -> Result<(), Fail> {
-    let mut table = PrimaryMap::<TypeRecordIndex, u64>::new(rt.alloc());
+/// Whether two entries stand where they are put, with nothing behind them.
+fn puts_two(table: &mut PrimaryMap<TypeRecordIndex, u64>) -> Result<bool, PushError> {
     let first = table.push(40)?;
     let second = table.push(50)?;
-    assert_eq!(rt;
-        (first.as_u32(), second.as_u32(), table.next_key().as_u32()),
-        (0, 1, 2)
-    );
-    assert_eq!(rt; (table[first], table.get(second)), (40, Some(&50)));
-    assert_eq!(rt; table.get(TypeRecordIndex::from_u32(2)), None);
-    assert_eq!(rt; table.len(), 2);
-    assert_eq!(rt;
-        numbered(rt.alloc(), &table)?.as_slice(),
-        [(0, 40), (1, 50)].as_slice()
-    );
-    Ok(())
+    let next = table.next_key();
+    Ok(
+        first.as_u32() == 0
+            && second.as_u32() == 1
+            && next.as_u32() == 2
+            && table[first] == 40
+            && table.get(second) == Some(&50)
+            && table.get(next).is_none(),
+    )
 }
 
 #[test]
-fn equal_values_have_one_key(rt: HostRuntime) -> Result<(), Fail> {
+fn tables_answer_places(rt: HostRuntime) {
+    let mut table = PrimaryMap::new(rt.alloc());
+    let put = puts_two(&mut table);
+    let read = has_two(rt.alloc(), &table);
+    drop(table);
+    assert!(rt; matches!(put, Ok(true)));
+    assert!(rt; matches!(read, Ok(true)));
+}
+
+type Ids = Interner<TypeVariantIndex, ComponentAnyTypeId>;
+
+/// Whether a value gets the key of a number.
+fn is_added(table: &mut Ids, value: ComponentAnyTypeId, number: u32) -> bool {
+    matches!(table.add(value), Ok(key) if key.as_u32() == number)
+}
+
+/// Whether a value stands under the key of a number.
+fn is_found(table: &Ids, value: ComponentAnyTypeId, number: u32) -> bool {
+    match table.find(&value) {
+        Some(key) => {
+            key.as_u32() == number && table[key] == value && table.get(key) == Some(&value)
+        }
+        None => false,
+    }
+}
+
+/// Whether the last value of a table is this one, and then stands nowhere and is put anew, as the second.
+fn is_last(table: &mut Ids, value: ComponentAnyTypeId) -> bool {
+    if table.pop() != Some(value) {
+        return false;
+    }
+    match table.find(&value) {
+        Some(_) => false,
+        None => matches!(table.add_new(value), Ok(key) if key.as_u32() == 1),
+    }
+}
+
+#[test]
+fn equal_values_have_one_key(rt: HostRuntime) {
     let resource = ComponentAnyTypeId::Resource(ResourceId::from_u32(0));
     let defined = ComponentAnyTypeId::Defined(ComponentDefinedTypeId::from_u32(0));
-    let mut table = Interner::<TypeVariantIndex, ComponentAnyTypeId>::new(rt.alloc());
-    let first = table.add(resource)?;
-    let second = table.add(defined)?;
-    let again = table.add(resource)?;
-    assert_eq!(rt;
-        (first.as_u32(), second.as_u32(), again.as_u32()),
-        (0, 1, 0)
-    );
-    assert_eq!(rt; table.len(), 2);
-    assert!(rt; table[second] == defined);
-    assert!(rt; table.get(first) == Some(&resource));
-    assert!(rt; table.find(&defined) == Some(second));
-    assert!(rt; table.pop() == Some(defined));
-    assert!(rt; table.find(&defined).is_none());
-    assert_eq!(rt; table.add_new(defined)?.as_u32(), 1);
-    Ok(())
+    let mut table = Ids::new(rt.alloc());
+    let first = is_added(&mut table, resource, 0);
+    let second = is_added(&mut table, defined, 1);
+    let again = is_added(&mut table, resource, 0);
+    let found = is_found(&table, resource, 0) && is_found(&table, defined, 1);
+    let two = table.len() == 2;
+    let last = is_last(&mut table, defined);
+    drop(table);
+    assert!(rt; first && second && again);
+    assert!(rt; found && two && last);
+}
+
+/// Whether an error is shown in these words.
+fn is_shown(alloc: Global, error: PushError, words: &str) -> Result<bool, AllocError> {
+    let shown = format!(in alloc; "{error}")?;
+    Ok(shown.as_str() == words)
+}
+
+/// Whether a key is shown as a number.
+fn is_key_shown(alloc: Global) -> Result<bool, AllocError> {
+    let key = TypeRecordIndex::from_u32(7);
+    let shown = format!(in alloc; "{key:?}")?;
+    Ok(shown.as_str() == "Id { number: 7, .. }")
 }
 
 #[test]
-fn errors_and_keys_are_shown(rt: HostRuntime) -> Result<(), Fail> {
+fn errors_and_keys_are_shown(rt: HostRuntime) {
     let refused = PushError::from(AllocError);
-    assert_eq!(rt; refused, PushError::OutOfMemory);
-    let key = TypeRecordIndex::from_u32(7);
-    assert_eq!(rt;
-        format!(in rt.alloc(); "{refused}")?.as_str(),
-        "out of memory"
+    assert!(rt; refused == PushError::OutOfMemory);
+    assert!(rt; matches!(is_shown(rt.alloc(), refused, "out of memory"), Ok(true)));
+    assert!(rt;
+        matches!(
+            is_shown(rt.alloc(), PushError::TooLarge, "table too large"),
+            Ok(true)
+        )
     );
-    assert_eq!(rt;
-        format!(in rt.alloc(); "{}", PushError::TooLarge)?.as_str(),
-        "table too large"
-    );
-    assert_eq!(rt;
-        format!(in rt.alloc(); "{key:?}")?.as_str(),
-        "Id { number: 7, .. }"
-    );
-    Ok(())
+    assert!(rt; matches!(is_key_shown(rt.alloc()), Ok(true)));
 }

@@ -10,50 +10,16 @@ use fact_types::{
     TypeDef, TypeModule, TypeResourceTable,
 };
 use fact_wasm::{Text, ValType};
+use indexmap::IndexMap;
 use std::alloc::{AllocError, Global};
-use std::test::Fail;
 
 /// A value and a copy of it.
 fn twice<T: Copy>(value: T) -> (T, T) {
     (value, value)
 }
 
-/// What is said of an import or export, with two texts.
-fn data(
-    alloc: Global,
-    implements: &str,
-    external_id: &str,
-) -> Result<ComponentExternData, AllocError> {
-    Ok(ComponentExternData {
-        implements: Some(Text::from_str(alloc, implements)?),
-        external_id: Some(Text::from_str(alloc, external_id)?),
-    })
-}
-
-/// Whether what is said beside a type is copied.
-fn is_data_copied(alloc: Global) -> Result<bool, AllocError> {
-    let first = data(alloc, "a:b/c", "d")?;
-    let copy = first.try_clone()?;
-    Ok(copy.implements == first.implements && copy.external_id == first.external_id)
-}
-
-/// Whether an import or export is copied.
-fn is_extern_copied(alloc: Global) -> Result<bool, AllocError> {
-    let extern_data = data(alloc, "a:b/c", "d")?;
-    let ty = TypeDef::Interface(InterfaceType::Char);
-    let first = ComponentExtern { extern_data, ty };
-    let copy = first.try_clone()?;
-    Ok(
-        copy.extern_data.implements == first.extern_data.implements
-            && copy.extern_data.external_id == first.extern_data.external_id
-            && matches!(copy.ty, TypeDef::Interface(InterfaceType::Char)),
-    )
-}
-
 #[test]
-fn imports_and_exports_are_copied(rt: HostRuntime) {
-    assert!(rt; matches!(is_data_copied(rt.alloc()), Ok(true)));
-    assert!(rt; matches!(is_extern_copied(rt.alloc()), Ok(true)));
+fn items_and_types_are_copied(rt: HostRuntime) {
     let id = ComponentAnyTypeId::Defined(ComponentDefinedTypeId::from_u32(3));
     let items = twice(ComponentItem::AnyType(id));
     assert!(rt;
@@ -71,6 +37,53 @@ fn imports_and_exports_are_copied(rt: HostRuntime) {
     assert!(rt; matches!(defs.1, TypeDef::Interface(InterfaceType::Char)));
 }
 
+/// What is said of an import or export, with two texts.
+fn data(alloc: Global) -> Result<ComponentExternData, AllocError> {
+    Ok(ComponentExternData {
+        implements: Some(Text::from_str(alloc, "a:b/c")?),
+        external_id: Some(Text::from_str(alloc, "d")?),
+    })
+}
+
+/// Whether the same is said.
+fn is_same(first: &ComponentExternData, second: &ComponentExternData) -> bool {
+    first.implements == second.implements && first.external_id == second.external_id
+}
+
+/// Whether what is said beside a type is copied.
+fn is_data_copied(alloc: Global) -> Result<bool, AllocError> {
+    let first = data(alloc)?;
+    let copy = first.try_clone()?;
+    Ok(is_same(&copy, &first))
+}
+
+/// An import or export of a type of characters.
+fn character(alloc: Global) -> Result<ComponentExtern, AllocError> {
+    Ok(ComponentExtern {
+        extern_data: data(alloc)?,
+        ty: TypeDef::Interface(InterfaceType::Char),
+    })
+}
+
+/// Whether an import or export is of a type of characters, and says what another one says.
+fn is_copy(copy: &ComponentExtern, first: &ComponentExtern) -> bool {
+    matches!(copy.ty, TypeDef::Interface(InterfaceType::Char))
+        && is_same(&copy.extern_data, &first.extern_data)
+}
+
+/// Whether an import or export is copied.
+fn is_extern_copied(alloc: Global) -> Result<bool, AllocError> {
+    let first = character(alloc)?;
+    let copy = first.try_clone()?;
+    Ok(is_copy(&copy, &first))
+}
+
+#[test]
+fn imports_and_exports_are_copied(rt: HostRuntime) {
+    assert!(rt; matches!(is_data_copied(rt.alloc()), Ok(true)));
+    assert!(rt; matches!(is_extern_copied(rt.alloc()), Ok(true)));
+}
+
 #[test]
 fn what_is_exported_has_a_word(rt: HostRuntime) {
     let rows = [
@@ -86,7 +99,7 @@ fn what_is_exported_has_a_word(rt: HostRuntime) {
         (TypeDef::Resource(EntityRef::from_u32(0)), "resource"),
     ];
     for (ty, word) in rows {
-        assert_eq!(rt; ty.desc(), word);
+        assert!(rt; ty.desc() == word);
     }
 }
 
@@ -102,9 +115,8 @@ fn tables_of_handles_have_parts(rt: HostRuntime) {
     assert!(rt; general.concrete().is_none());
 }
 
-/// A core module that imports a memory, and exports two functions in this order.
-fn module(alloc: Global, names: [&str; 2]) -> Result<TypeModule, AllocError> {
-    let mut module = TypeModule::new(alloc);
+/// Puts an import of a memory under two names.
+fn import_memory(alloc: Global, module: &mut TypeModule) -> Result<(), AllocError> {
     let memory = EntityType::Memory {
         minimum: 1,
         maximum: None,
@@ -112,43 +124,57 @@ fn module(alloc: Global, names: [&str; 2]) -> Result<TypeModule, AllocError> {
         memory64: true,
         page_size_log2: 16,
     };
-    let key = (
-        Text::from_str(alloc, "env")?,
-        Text::from_str(alloc, "memory")?,
-    );
+    let name = Text::from_str(alloc, "env")?;
+    let key = (name, Text::from_str(alloc, "memory")?);
     module.imports.insert(key, memory)?;
+    Ok(())
+}
+
+/// Puts an export of a function behind those that stand.
+fn export_function(alloc: Global, module: &mut TypeModule, name: &str) -> Result<(), AllocError> {
     let func = EntityType::Function(EngineOrModuleTypeIndex::Engine(7));
-    for name in names {
-        module.exports.insert(Text::from_str(alloc, name)?, func)?;
-    }
-    Ok(module)
-}
-
-#[test]
-fn modules_keep_the_order_of_exports(rt: HostRuntime) -> Result<(), Fail> {
-    let module = module(rt.alloc(), ["z", "a"])?;
-    assert_eq!(rt; (module.imports.len(), module.exports.len()), (1, 2));
-    let names = module.exports.keys().as_slice();
-    assert!(rt; names.first().map(|name| name.as_str()) == Some("z"));
+    module.exports.insert(Text::from_str(alloc, name)?, func)?;
     Ok(())
 }
 
-/// An instance with one export.
-fn instance(alloc: Global, name: &str) -> Result<TypeComponentInstance, AllocError> {
-    let mut instance = TypeComponentInstance::new(alloc);
-    let extern_data = data(alloc, "i", "e")?;
-    let ty = TypeDef::Interface(InterfaceType::Char);
-    let exported = ComponentExtern { extern_data, ty };
-    instance
-        .exports
-        .insert(Text::from_str(alloc, name)?, exported)?;
-    Ok(instance)
+/// Whether a module has an import and two exports, of which the first has a name.
+fn has_parts(module: &TypeModule, name: &str) -> bool {
+    module.imports.len() == 1
+        && module.exports.len() == 2
+        && matches!(module.exports.keys().as_slice(), [first, _] if first.as_str() == name)
 }
 
 #[test]
-fn components_begin_empty(rt: HostRuntime) -> Result<(), Fail> {
+fn modules_keep_the_order_of_exports(rt: HostRuntime) {
+    let mut module = TypeModule::new(rt.alloc());
+    let imported = import_memory(rt.alloc(), &mut module);
+    let last = export_function(rt.alloc(), &mut module, "z");
+    let first = export_function(rt.alloc(), &mut module, "a");
+    let held = has_parts(&module, "z");
+    drop(module);
+    assert!(rt; imported.is_ok() && last.is_ok() && first.is_ok());
+    assert!(rt; held);
+}
+
+/// Puts an export of a type of characters under a name.
+fn export_character(
+    alloc: Global,
+    exports: &mut IndexMap<Text, ComponentExtern>,
+) -> Result<(), AllocError> {
+    let exported = character(alloc)?;
+    exports.insert(Text::from_str(alloc, "x")?, exported)?;
+    Ok(())
+}
+
+#[test]
+fn components_begin_empty(rt: HostRuntime) {
     let component = TypeComponent::new(rt.alloc());
-    assert!(rt; component.imports.is_empty() && component.exports.is_empty());
-    assert_eq!(rt; instance(rt.alloc(), "x")?.exports.len(), 1);
-    Ok(())
+    let empty = component.imports.is_empty() && component.exports.is_empty();
+    drop(component);
+    assert!(rt; empty);
+    let mut instance = TypeComponentInstance::new(rt.alloc());
+    let put = export_character(rt.alloc(), &mut instance.exports);
+    let one = instance.exports.len() == 1;
+    drop(instance);
+    assert!(rt; put.is_ok() && one);
 }

@@ -2,119 +2,54 @@
 
 use fact_types::{CanonicalAbiInfo, DiscriminantSize, FlagsSize, FlatType, FlatTypes, VariantInfo};
 use fact_wasm::ValType;
-use std::process::Abort;
-use std::test::Fail;
+use std::alloc::{AllocError, Global};
 
-const SCALAR1: CanonicalAbiInfo = CanonicalAbiInfo::SCALAR1;
-
-const SCALAR2: CanonicalAbiInfo = CanonicalAbiInfo::SCALAR2;
-
-const SCALAR4: CanonicalAbiInfo = CanonicalAbiInfo::SCALAR4;
-
-const SCALAR8: CanonicalAbiInfo = CanonicalAbiInfo::SCALAR8;
-
-const POINTER_PAIR: CanonicalAbiInfo = CanonicalAbiInfo::POINTER_PAIR;
-
-/// Sizes and alignments in 32-bit and in 64-bit memories, and the number of flat types.
-fn is_laid_out(
-    abi: &CanonicalAbiInfo,
-    memory32: (u32, u32),
-    memory64: (u32, u32),
-    flat_count: Option<u8>,
-) -> bool {
-    let (size32, align32) = memory32;
-    let (size64, align64) = memory64;
-    *abi == CanonicalAbiInfo {
-        size32,
-        align32,
-        size64,
-        align64,
-        flat_count,
-    }
-}
-
-fn record(rt: &impl Abort, fields: &[CanonicalAbiInfo]) -> CanonicalAbiInfo {
-    assert!(rt; CanonicalAbiInfo::record_fits(fields));
-    let abi = CanonicalAbiInfo::record(fields);
-    assert!(rt; abi == CanonicalAbiInfo::record_static(fields));
-    abi
-}
-
-fn variant(rt: &impl Abort, cases: &[Option<CanonicalAbiInfo>]) -> (VariantInfo, CanonicalAbiInfo) {
-    assert!(rt; CanonicalAbiInfo::variant_fits(cases));
-    let (info, abi) = VariantInfo::new(cases);
-    assert!(rt; info == VariantInfo::new_static(cases));
-    assert!(rt; abi == CanonicalAbiInfo::variant_static(cases));
-    (info, abi)
-}
-
-fn fixed_list(rt: &impl Abort, element: &CanonicalAbiInfo, count: usize) -> CanonicalAbiInfo {
-    assert!(rt; CanonicalAbiInfo::fixed_length_list_fits(element, count));
-    CanonicalAbiInfo::fixed_length_list_static(element, count)
-}
-
-fn flags(rt: &impl Abort, count: usize) -> CanonicalAbiInfo {
-    assert!(rt; CanonicalAbiInfo::flags_fits(count));
-    CanonicalAbiInfo::flags(count)
-}
-
-fn enumeration(rt: &impl Abort, cases: usize) -> CanonicalAbiInfo {
-    assert!(rt; CanonicalAbiInfo::enum_fits(cases));
-    CanonicalAbiInfo::enum_(cases)
-}
-
-#[test]
-fn types_are_laid_out(rt: HostRuntime) -> Result<(), Fail> {
-    let rows = [
-        (record(&rt, &[SCALAR1, SCALAR4]), (8, 4), (8, 4), Some(2)),
-        (
-            record(&rt, &[SCALAR1, POINTER_PAIR]),
-            (12, 4),
-            (24, 8),
-            Some(3),
-        ),
-        (record(&rt, &[]), (0, 1), (0, 1), Some(0)),
-        (record(&rt, &[SCALAR4; 16]), (64, 4), (64, 4), Some(16)),
-        (record(&rt, &[SCALAR4; 17]), (68, 4), (68, 4), None),
-        (
-            variant(&rt, &[None, Some(SCALAR8)]).1,
-            (16, 8),
-            (16, 8),
-            Some(2),
-        ),
-        (
-            variant(&rt, &[None, Some(POINTER_PAIR)]).1,
-            (12, 4),
-            (24, 8),
-            Some(3),
-        ),
-        (fixed_list(&rt, &SCALAR2, 3), (6, 2), (6, 2), Some(3)),
-        (fixed_list(&rt, &SCALAR2, 17), (34, 2), (34, 2), None),
-        (enumeration(&rt, 256), (1, 1), (1, 1), Some(1)),
-        (enumeration(&rt, 257), (2, 2), (2, 2), Some(1)),
-        (flags(&rt, 8), (1, 1), (1, 1), Some(1)),
-        (flags(&rt, 9), (2, 2), (2, 2), Some(1)),
-        (flags(&rt, 17), (4, 4), (4, 4), Some(1)),
-        (flags(&rt, 33), (8, 4), (8, 4), Some(2)),
-    ];
-    for (abi, memory32, memory64, flat_count) in rows {
-        assert!(rt; is_laid_out(&abi, memory32, memory64, flat_count));
-    }
-    Ok(())
-}
-
-#[test]
-fn payloads_are_placed(rt: HostRuntime) {
-    let rows = [
-        (variant(&rt, &[None, Some(SCALAR8)]).0, 8, 8),
-        (variant(&rt, &[None, Some(POINTER_PAIR)]).0, 4, 8),
-    ];
-    for (info, payload_offset32, payload_offset64) in rows {
-        assert!(rt; info.size == DiscriminantSize::Size1);
-        assert_eq!(rt; info.payload_offset32, payload_offset32);
-        assert_eq!(rt; info.payload_offset64, payload_offset64);
-    }
-}
+/// What is laid out, and its sizes and alignments in memories of 32 bits and of 64 bits with its number of flat types, or
+/// that it does not fit: a record of fields, a variant of payloads, a list of an element and so many, flags or an enum of
+/// so many names. A member is a scalar of so many bytes, a pointer pair, what takes no byte, or so many bytes at an
+/// alignment.
+const LAYOUTS: &str = "
+record 1 4 = 8 4 8 4 Some(2)
+record 1 pair = 12 4 24 8 Some(3)
+record = 0 1 0 1 Some(0)
+record 4 4 4 4 4 4 4 4 4 4 4 4 4 4 4 4 = 64 4 64 4 Some(16)
+record 4 4 4 4 4 4 4 4 4 4 4 4 4 4 4 4 4 = 68 4 68 4 None
+record 4294967294@1 1 = 4294967295 1 4294967295 1 None
+record 4294967295@1 1 = no
+record 4294967292@4 = 4294967292 4 4294967292 4 None
+record 4294967292@4 1 = no
+record 3@3 = no
+variant none 8 = 16 8 16 8 Some(2)
+variant none pair = 12 4 24 8 Some(3)
+variant 4294967294@1 none = 4294967295 1 4294967295 1 None
+variant 4294967295@1 = no
+variant 4294967288@4 = 4294967292 4 4294967292 4 None
+variant 4294967292@4 = no
+variant none 3@3 = no
+list 2 3 = 6 2 6 2 Some(3)
+list 2 17 = 34 2 34 2 None
+list 8 536870911 = 4294967288 8 4294967288 8 None
+list 8 536870912 = no
+list empty 4294967295 = 0 1 0 1 Some(0)
+list empty 4294967296 = no
+enum 0 = 1 1 1 1 Some(1)
+enum 256 = 1 1 1 1 Some(1)
+enum 257 = 2 2 2 2 Some(1)
+enum 65536 = 2 2 2 2 Some(1)
+enum 65537 = 4 4 4 4 Some(1)
+enum 4294967295 = 4 4 4 4 Some(1)
+enum 4294967296 = no
+flags 0 = 0 1 0 1 Some(0)
+flags 1 = 1 1 1 1 Some(1)
+flags 8 = 1 1 1 1 Some(1)
+flags 9 = 2 2 2 2 Some(1)
+flags 16 = 2 2 2 2 Some(1)
+flags 17 = 4 4 4 4 Some(1)
+flags 32 = 4 4 4 4 Some(1)
+flags 33 = 8 4 8 4 Some(2)
+flags 8160 = 1020 4 1020 4 Some(255)
+flags 8161 = no
+";
 
 /// A layout of so many bytes at an alignment in both memories.
 fn block(size: u32, align: u32) -> CanonicalAbiInfo {
@@ -127,119 +62,221 @@ fn block(size: u32, align: u32) -> CanonicalAbiInfo {
     }
 }
 
-#[test]
-fn what_does_not_fit_is_told(rt: HostRuntime) {
-    let most = u32::MAX as usize;
-    let bytes = block(u32::MAX, 1);
-    let less = block(u32::MAX - 1, 1);
-    let words = block(u32::MAX - 3, 4);
-    let odd = block(3, 3);
-    let rows = [
-        (CanonicalAbiInfo::record_fits(&[less, SCALAR1]), true),
-        (CanonicalAbiInfo::record_fits(&[bytes, SCALAR1]), false),
-        (CanonicalAbiInfo::record_fits(&[words]), true),
-        (CanonicalAbiInfo::record_fits(&[words, SCALAR1]), false),
-        (CanonicalAbiInfo::record_fits(&[odd]), false),
-        (CanonicalAbiInfo::variant_fits(&[Some(less), None]), true),
-        (CanonicalAbiInfo::variant_fits(&[Some(bytes)]), false),
-        (
-            CanonicalAbiInfo::variant_fits(&[Some(block(u32::MAX - 7, 4))]),
-            true,
-        ),
-        (CanonicalAbiInfo::variant_fits(&[Some(words)]), false),
-        (CanonicalAbiInfo::variant_fits(&[None, Some(odd)]), false),
-        (
-            CanonicalAbiInfo::fixed_length_list_fits(&SCALAR8, 536_870_911),
-            true,
-        ),
-        (
-            CanonicalAbiInfo::fixed_length_list_fits(&SCALAR8, 536_870_912),
-            false,
-        ),
-        (
-            CanonicalAbiInfo::fixed_length_list_fits(&CanonicalAbiInfo::ZERO, most),
-            true,
-        ),
-        (
-            CanonicalAbiInfo::fixed_length_list_fits(&CanonicalAbiInfo::ZERO, most + 1),
-            false,
-        ),
-        (CanonicalAbiInfo::flags_fits(8_160), true),
-        (CanonicalAbiInfo::flags_fits(8_161), false),
-        (CanonicalAbiInfo::enum_fits(most), true),
-        (CanonicalAbiInfo::enum_fits(most + 1), false),
-        (SCALAR4.next_field32_fits(u32::MAX - 7), true),
-        (SCALAR4.next_field32_fits(u32::MAX - 6), false),
-        (POINTER_PAIR.next_field64_fits(u32::MAX - 23), true),
-        (POINTER_PAIR.next_field64_fits(u32::MAX - 22), false),
-        (odd.next_field32_fits(0), false),
-    ];
-    for (row, (fits, wanted)) in rows.iter().enumerate() {
-        assert_eq!(rt; fits, wanted, "row {row}");
+/// So many bytes at an alignment, by a word.
+fn block_of(word: &str) -> Option<CanonicalAbiInfo> {
+    let (size, align) = word.split_once('@')?;
+    Some(block(size.parse().ok()?, align.parse().ok()?))
+}
+
+/// The layout of a member, or `None` where a case has no payload.
+fn member(word: &str) -> Option<CanonicalAbiInfo> {
+    match word {
+        "1" => Some(CanonicalAbiInfo::SCALAR1),
+        "2" => Some(CanonicalAbiInfo::SCALAR2),
+        "4" => Some(CanonicalAbiInfo::SCALAR4),
+        "8" => Some(CanonicalAbiInfo::SCALAR8),
+        "pair" => Some(CanonicalAbiInfo::POINTER_PAIR),
+        "empty" => Some(CanonicalAbiInfo::ZERO),
+        _ => block_of(word),
     }
+}
+
+/// The layout of a record, where it fits.
+fn record_of(fields: &[CanonicalAbiInfo]) -> Option<CanonicalAbiInfo> {
+    if !CanonicalAbiInfo::record_fits(fields) {
+        return None;
+    }
+    let abi = CanonicalAbiInfo::record(fields);
+    (abi == CanonicalAbiInfo::record_static(fields)).then_some(abi)
+}
+
+/// The layout of a record of members.
+fn record(alloc: Global, words: &str) -> Result<Option<CanonicalAbiInfo>, AllocError> {
+    let mut fields = Vec::new(alloc);
+    for word in words.split_whitespace() {
+        if let Some(field) = member(word) {
+            fields.push(field)?;
+        }
+    }
+    Ok(record_of(fields.as_slice()))
+}
+
+/// Where the parts of a variant stand, and its layout, where it fits.
+fn variant_of(cases: &[Option<CanonicalAbiInfo>]) -> Option<(VariantInfo, CanonicalAbiInfo)> {
+    if !CanonicalAbiInfo::variant_fits(cases) {
+        return None;
+    }
+    let (info, abi) = VariantInfo::new(cases);
+    let same = info == VariantInfo::new_static(cases)
+        && abi == CanonicalAbiInfo::variant_static(cases);
+    same.then_some((info, abi))
+}
+
+/// The layout of a variant of members.
+fn variant(alloc: Global, words: &str) -> Result<Option<CanonicalAbiInfo>, AllocError> {
+    let mut cases = Vec::new(alloc);
+    for word in words.split_whitespace() {
+        cases.push(member(word))?;
+    }
+    Ok(variant_of(cases.as_slice()).map(|made| made.1))
+}
+
+/// The layout of a list of a member and so many.
+fn list(words: &str) -> Option<CanonicalAbiInfo> {
+    let (word, count) = words.split_once(' ')?;
+    let element = member(word)?;
+    let count = count.parse::<usize>().ok()?;
+    if !CanonicalAbiInfo::fixed_length_list_fits(&element, count) {
+        return None;
+    }
+    Some(CanonicalAbiInfo::fixed_length_list_static(&element, count))
+}
+
+/// The layout of an enum of so many names, whose discriminant has as many bytes.
+fn enumeration(count: &str) -> Option<CanonicalAbiInfo> {
+    let count = count.parse::<usize>().ok()?;
+    if !CanonicalAbiInfo::enum_fits(count) {
+        return None;
+    }
+    let abi = CanonicalAbiInfo::enum_(count);
+    let size = DiscriminantSize::from_count(count)?;
+    let same = size.byte_size() == abi.size32
+        && u32::from(size) == abi.size32
+        && DiscriminantSize::from_bytes(abi.size32) == Some(size);
+    same.then_some(abi)
+}
+
+/// The bytes of flags.
+fn flag_bytes(size: FlagsSize) -> u32 {
+    match size {
+        FlagsSize::Size0 => 0,
+        FlagsSize::Size1 => 1,
+        FlagsSize::Size2 => 2,
+        FlagsSize::Size4Plus(words) => 4 * u32::from(words),
+    }
+}
+
+/// The layout of flags of so many names, whose size has as many bytes.
+fn flags(count: &str) -> Option<CanonicalAbiInfo> {
+    let count = count.parse::<usize>().ok()?;
+    if !CanonicalAbiInfo::flags_fits(count) {
+        return None;
+    }
+    let abi = CanonicalAbiInfo::flags(count);
+    (flag_bytes(FlagsSize::from_count(count)) == abi.size32).then_some(abi)
+}
+
+/// The layout of what a row names.
+fn made(alloc: Global, kind: &str, words: &str) -> Result<Option<CanonicalAbiInfo>, AllocError> {
+    match kind {
+        "record" => record(alloc, words),
+        "variant" => variant(alloc, words),
+        "list" => Ok(list(words)),
+        "enum" => Ok(enumeration(words)),
+        _ => Ok(flags(words)),
+    }
+}
+
+/// A layout, as a row tells it.
+fn told(alloc: Global, abi: &CanonicalAbiInfo) -> Result<String, AllocError> {
+    format!(in alloc;
+        "{} {} {} {} {:?}",
+        abi.size32, abi.align32, abi.size64, abi.align64, abi.flat_count
+    )
+}
+
+/// Whether what a row names is laid out as it tells.
+fn is_laid_out(alloc: Global, call: &str, answer: &str) -> Result<bool, AllocError> {
+    let (kind, words) = call.split_once(' ').unwrap_or((call, ""));
+    match made(alloc, kind, words)? {
+        Some(abi) => Ok(told(alloc, &abi)?.as_str() == answer),
+        None => Ok(answer == "no"),
+    }
+}
+
+/// Whether a row tells the truth.
+fn is_row_true(alloc: Global, row: &str) -> bool {
+    match row.split_once(" = ") {
+        Some((call, answer)) => matches!(is_laid_out(alloc, call, answer), Ok(true)),
+        None => false,
+    }
+}
+
+#[test]
+fn types_are_laid_out(rt: HostRuntime) {
+    for row in LAYOUTS.trim().lines() {
+        assert!(rt; is_row_true(rt.alloc(), row), "{row}");
+    }
+}
+
+/// Whether the discriminant of a variant takes a byte, and its payload stands at these places.
+fn is_payload_at(cases: &[Option<CanonicalAbiInfo>], place32: u32, place64: u32) -> bool {
+    let info = VariantInfo {
+        size: DiscriminantSize::Size1,
+        payload_offset32: place32,
+        payload_offset64: place64,
+    };
+    matches!(variant_of(cases), Some((placed, _)) if placed == info)
+}
+
+#[test]
+fn payloads_are_placed(rt: HostRuntime) {
+    assert!(rt; is_payload_at(&[None, Some(CanonicalAbiInfo::SCALAR8)], 8, 8));
+    assert!(rt; is_payload_at(&[None, Some(CanonicalAbiInfo::POINTER_PAIR)], 4, 8));
+}
+
+/// The place of a field behind an offset in a 32-bit memory, and its end, where they fit.
+fn placed32(abi: &CanonicalAbiInfo, offset: u32) -> Option<(u32, u32)> {
+    if !abi.next_field32_fits(offset) {
+        return None;
+    }
+    let (mut end, mut end_size) = (offset, offset as usize);
+    let place = abi.next_field32(&mut end);
+    let place_size = abi.next_field32_size(&mut end_size);
+    (place as usize == place_size && end as usize == end_size).then_some((place, end))
+}
+
+/// The place of a field behind an offset in a 64-bit memory, and its end, where they fit.
+fn placed64(abi: &CanonicalAbiInfo, offset: u32) -> Option<(u32, u32)> {
+    if !abi.next_field64_fits(offset) {
+        return None;
+    }
+    let (mut end, mut end_size) = (offset, offset as usize);
+    let place = abi.next_field64(&mut end);
+    let place_size = abi.next_field64_size(&mut end_size);
+    (place as usize == place_size && end as usize == end_size).then_some((place, end))
 }
 
 #[test]
 fn fields_are_placed(rt: HostRuntime) {
-    let mut offset = 1;
-    assert!(rt; SCALAR4.next_field32_fits(offset));
-    assert_eq!(rt; SCALAR4.next_field32(&mut offset), 4);
-    assert_eq!(rt; offset, 8);
-    assert!(rt; POINTER_PAIR.next_field64_fits(offset));
-    assert_eq!(rt; POINTER_PAIR.next_field64(&mut offset), 8);
-    assert_eq!(rt; offset, 24);
-    let mut offset = 1;
-    assert!(rt; POINTER_PAIR.next_field32_fits(1));
-    assert_eq!(rt; POINTER_PAIR.next_field32_size(&mut offset), 4);
-    assert_eq!(rt; offset, 12);
-    let mut offset = 12;
-    assert!(rt; POINTER_PAIR.next_field64_fits(12));
-    assert_eq!(rt; POINTER_PAIR.next_field64_size(&mut offset), 16);
-    assert_eq!(rt; offset, 32);
+    let (word, pair) = (CanonicalAbiInfo::SCALAR4, CanonicalAbiInfo::POINTER_PAIR);
+    let rows32 = [
+        (word, 1, Some((4, 8))),
+        (pair, 1, Some((4, 12))),
+        (word, 4_294_967_288, Some((4_294_967_288, 4_294_967_292))),
+        (word, 4_294_967_289, None),
+        (block(3, 3), 0, None),
+    ];
+    for (abi, offset, place) in rows32 {
+        assert!(rt; placed32(&abi, offset) == place);
+    }
+    let rows64 = [
+        (8, Some((8, 24))),
+        (12, Some((16, 32))),
+        (4_294_967_272, Some((4_294_967_272, 4_294_967_288))),
+        (4_294_967_273, None),
+    ];
+    for (offset, place) in rows64 {
+        assert!(rt; placed64(&pair, offset) == place);
+    }
 }
 
 #[test]
 fn sizes_are_told(rt: HostRuntime) {
-    let rows = [
-        (0, FlagsSize::Size0),
-        (1, FlagsSize::Size1),
-        (8, FlagsSize::Size1),
-        (9, FlagsSize::Size2),
-        (16, FlagsSize::Size2),
-        (17, FlagsSize::Size4Plus(1)),
-        (32, FlagsSize::Size4Plus(1)),
-        (33, FlagsSize::Size4Plus(2)),
-        (8_160, FlagsSize::Size4Plus(255)),
-    ];
-    for (count, size) in rows {
-        assert!(rt; CanonicalAbiInfo::flags_fits(count) && FlagsSize::from_count(count) == size);
-    }
-    let rows = [
-        (0, Some(DiscriminantSize::Size1)),
-        (256, Some(DiscriminantSize::Size1)),
-        (257, Some(DiscriminantSize::Size2)),
-        (65_536, Some(DiscriminantSize::Size2)),
-        (65_537, Some(DiscriminantSize::Size4)),
-        (4_294_967_295, Some(DiscriminantSize::Size4)),
-        (4_294_967_296, None),
-    ];
-    for (count, size) in rows {
-        assert!(rt; DiscriminantSize::from_count(count) == size);
-    }
-    let rows = [
-        (DiscriminantSize::Size1, 1),
-        (DiscriminantSize::Size2, 2),
-        (DiscriminantSize::Size4, 4),
-    ];
-    for (size, bytes) in rows {
-        assert!(rt; DiscriminantSize::from_bytes(bytes) == Some(size));
-        assert_eq!(rt; (size.byte_size(), u32::from(size)), (bytes, bytes));
-    }
     assert!(rt; DiscriminantSize::from_bytes(3).is_none());
-    assert_eq!(rt;
-        (POINTER_PAIR.flat_count(2), POINTER_PAIR.flat_count(1)),
-        (Some(2), None)
-    );
+    assert!(rt; DiscriminantSize::from_count(4_294_967_296).is_none());
+    assert!(rt; CanonicalAbiInfo::POINTER_PAIR.flat_count(2) == Some(2));
+    assert!(rt; CanonicalAbiInfo::POINTER_PAIR.flat_count(1).is_none());
     assert!(rt; CanonicalAbiInfo::default() == CanonicalAbiInfo::ZERO);
 }
 
@@ -255,5 +292,5 @@ fn flat_types_are_joined(rt: HostRuntime) {
         memory32: &[FlatType::I32, FlatType::I32],
         memory64: &[FlatType::I64, FlatType::I64],
     };
-    assert_eq!(rt; types.len(), 2);
+    assert!(rt; types.len() == 2);
 }

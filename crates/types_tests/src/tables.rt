@@ -8,77 +8,94 @@ use fact_types::{
 };
 use fact_wasm::ValType;
 use std::alloc::Global;
-use std::process::Abort;
 
 /// Whether an index is the first of its table, and the table has no second entry.
 fn is_only<T: Lookup<I>, I: EntityRef>(table: &T, index: I) -> bool {
     index.as_u32() == 0 && table.get(index).is_some() && table.get(I::from_u32(1)).is_none()
 }
 
-/// Pushes a type of core modules, one of components and one of instances.
-fn push_externs(
-    rt: &impl Abort,
-    alloc: Global,
-    types: &mut ComponentTypes,
-) -> Result<(), PushError> {
-    let module = types.push_module(TypeModule::new(alloc))?;
-    assert!(rt; is_only(types, module) && types[module].exports.is_empty());
-    let component = types.push_component(TypeComponent::new(alloc))?;
-    assert!(rt; is_only(types, component) && types[component].imports.is_empty());
-    let instance = types.push_component_instance(TypeComponentInstance::new(alloc))?;
-    assert!(rt; is_only(types, instance) && types[instance].exports.is_empty());
-    types.reveal();
-    Ok(())
+/// Whether a type of core modules stands where it is put.
+fn puts_module(alloc: Global, types: &mut ComponentTypes) -> Result<bool, PushError> {
+    let index = types.push_module(TypeModule::new(alloc))?;
+    Ok(types[index].exports.is_empty() && is_only(types, index))
+}
+
+/// Whether a type of components stands where it is put.
+fn puts_component(alloc: Global, types: &mut ComponentTypes) -> Result<bool, PushError> {
+    let index = types.push_component(TypeComponent::new(alloc))?;
+    Ok(types[index].imports.is_empty() && is_only(types, index))
+}
+
+/// Whether a type of instances stands where it is put.
+fn puts_instance(alloc: Global, types: &mut ComponentTypes) -> Result<bool, PushError> {
+    let index = types.push_component_instance(TypeComponentInstance::new(alloc))?;
+    Ok(types[index].exports.is_empty() && is_only(types, index))
 }
 
 #[test]
-fn tables_hold_what_is_pushed(rt: HostRuntime) -> Result<(), PushError> {
+fn tables_hold_what_is_pushed(rt: HostRuntime) {
     let mut types = ComponentTypes::new(rt.alloc());
-    let said = push_externs(&rt, rt.alloc(), &mut types);
+    let module = puts_module(rt.alloc(), &mut types);
+    let component = puts_component(rt.alloc(), &mut types);
+    let instance = puts_instance(rt.alloc(), &mut types);
+    types.reveal();
     drop(types);
-    said
+    assert!(rt; matches!(module, Ok(true)));
+    assert!(rt; matches!(component, Ok(true)));
+    assert!(rt; matches!(instance, Ok(true)));
 }
 
-/// Interns a type of one i32, the same once more, and one of nothing.
-fn intern_types(
-    rt: &impl Abort,
+/// Whether the type of core functions of these parameters gets the index of a number.
+fn is_interned(
     alloc: Global,
     builder: &mut ModuleTypesBuilder,
-) -> Result<(), PushError> {
-    let rows: [(&[ValType], u32); 3] = [(&[ValType::I32], 0), (&[ValType::I32], 0), (&[], 1)];
-    for (params, number) in rows {
-        let ty = signature(alloc, params)?;
-        assert_eq!(rt; builder.intern(ty)?.as_u32(), number);
-    }
-    assert_eq!(rt; builder.len(), 2);
-    assert!(rt; builder.get(EntityRef::from_u32(2)).is_none());
-    Ok(())
+    params: &[ValType],
+    number: u32,
+) -> Result<bool, PushError> {
+    let index = builder.intern(signature(alloc, params)?)?;
+    Ok(index.as_u32() == number)
 }
 
-/// Says that module types are one of a parameter and one of none.
-fn are_two(rt: &impl Abort, module_types: &ModuleTypes) {
-    assert_eq!(rt; module_types.len(), 2);
-    assert_eq!(rt; module_types[EntityRef::from_u32(0)].params.len(), 1);
-    assert!(rt; module_types.get(EntityRef::from_u32(1)).is_some());
-    assert!(rt; module_types.get(EntityRef::from_u32(2)).is_none());
+/// Whether a builder holds two types.
+fn holds_two(builder: &ModuleTypesBuilder) -> bool {
+    builder.len() == 2 && builder.get(EntityRef::from_u32(2)).is_none()
 }
 
-/// Sets the module types, and reads them back.
-fn set_types(rt: &impl Abort, types: &mut ComponentTypes, module_types: ModuleTypes) {
-    assert!(rt; types.module_types_opt().is_none());
+/// Whether module types are one of a parameter and one of none.
+fn are_two(module_types: &ModuleTypes) -> bool {
+    module_types.len() == 2
+        && module_types[EntityRef::from_u32(0)].params.len() == 1
+        && module_types.get(EntityRef::from_u32(1)).is_some()
+        && module_types.get(EntityRef::from_u32(2)).is_none()
+}
+
+/// Whether module types that are set are those that are read.
+fn are_set(types: &mut ComponentTypes, module_types: ModuleTypes) -> bool {
+    let unset = types.module_types_opt().is_none();
     types.set_module_types(module_types);
-    are_two(rt, types.module_types());
-    are_two(rt, types.module_types_mut());
-    assert!(rt; types.module_types_opt().is_some());
-    assert!(rt; types.get(ModuleInternedTypeIndex::from_u32(1)).is_some());
+    let set = types.module_types_opt().is_some();
+    let read = are_two(types.module_types());
+    unset && set && read && are_two(types.module_types_mut())
+}
+
+/// Whether module types have a second one.
+fn has_second(types: &ComponentTypes) -> bool {
+    types.get(ModuleInternedTypeIndex::from_u32(1)).is_some()
 }
 
 #[test]
-fn module_types_stand_once(rt: HostRuntime) -> Result<(), PushError> {
+fn module_types_stand_once(rt: HostRuntime) {
     let mut builder = ModuleTypesBuilder::new(rt.alloc(), 7);
-    let said = intern_types(&rt, rt.alloc(), &mut builder);
+    let first = is_interned(rt.alloc(), &mut builder, &[ValType::I32], 0);
+    let again = is_interned(rt.alloc(), &mut builder, &[ValType::I32], 0);
+    let other = is_interned(rt.alloc(), &mut builder, &[], 1);
+    let two = holds_two(&builder);
     let mut types = ComponentTypes::new(rt.alloc());
-    set_types(&rt, &mut types, builder.finish());
+    let set = are_set(&mut types, builder.finish());
+    let second = has_second(&types);
     drop(types);
-    said
+    assert!(rt; matches!(first, Ok(true)));
+    assert!(rt; matches!(again, Ok(true)));
+    assert!(rt; matches!(other, Ok(true)));
+    assert!(rt; two && set && second);
 }

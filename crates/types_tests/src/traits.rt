@@ -2,7 +2,7 @@
 
 use fact_entity::{
     ComponentAnyTypeId, ComponentFuncTypeId, EntityRef, FuncIndex, Interner, OutOfMemory,
-    PushError, ResourceIndex, RuntimeComponentInstanceIndex, RuntimeInstanceIndex, TrampolineIndex,
+    ResourceIndex, RuntimeComponentInstanceIndex, RuntimeInstanceIndex, TrampolineIndex,
     TypeFutureIndex, TypeRecordIndex, TypeStreamIndex, TypeTupleIndex,
 };
 use fact_types::{
@@ -25,75 +25,110 @@ const INFO: VariantInfo = VariantInfo {
     payload_offset64: 1,
 };
 
+/// Whether a table gives a value the key of a number.
+fn has_key<T: Eq + Hash + Drop>(
+    table: &mut Interner<TypeRecordIndex, T>,
+    value: T,
+    number: u32,
+) -> bool {
+    matches!(table.add(value), Ok(key) if key.as_u32() == number)
+}
+
 /// Whether a value is equal to one value and not to another, and a table of distinct values gives it the key of the one
 /// and the other the next key.
-fn are_told_apart<T: Eq + Hash + Drop>(
+fn are_told_apart<T: Eq + Hash + Drop>(alloc: Global, value: T, equal: T, other: T) -> bool {
+    let told = value == equal && value != other;
+    let mut table = Interner::new(alloc);
+    let first = has_key(&mut table, value, 0);
+    let second = has_key(&mut table, equal, 0);
+    let third = has_key(&mut table, other, 1);
+    drop(table);
+    told && first && second && third
+}
+
+/// As `are_told_apart`, where memory was there for the values.
+fn are_made_apart<T: Eq + Hash + Drop>(
     alloc: Global,
     value: T,
-    equal: T,
-    other: T,
-) -> Result<bool, PushError> {
-    let told = value == equal && value != other;
-    let mut table = Interner::<TypeRecordIndex, T>::new(alloc);
-    let first = table.add(value)?;
-    let second = table.add(equal)?;
-    let third = table.add(other)?;
-    Ok(told && (first.as_u32(), second.as_u32(), third.as_u32()) == (0, 0, 1))
+    equal: Result<T, OutOfMemory>,
+    other: Result<T, OutOfMemory>,
+) -> bool {
+    match (equal, other) {
+        (Ok(equal), Ok(other)) => are_told_apart(alloc, value, equal, other),
+        _ => false,
+    }
 }
 
 /// Whether a value and a copy of it are equal, and told apart from another one.
-fn is_copied<T: Copy + Eq + Hash>(alloc: Global, value: T, other: T) -> Result<bool, PushError> {
+fn is_copied<T: Copy + Eq + Hash>(alloc: Global, value: T, other: T) -> bool {
     let copy = value;
     are_told_apart(alloc, value, copy, other)
 }
 
 /// As `is_copied`, by a clone.
-fn is_cloned<T: Clone + Eq + Hash + Drop>(
-    alloc: Global,
-    value: T,
-    other: T,
-) -> Result<bool, PushError> {
-    let copy = value.clone()?;
-    are_told_apart(alloc, value, copy, other)
+fn is_cloned<T: Clone + Eq + Hash + Drop>(alloc: Global, value: T, other: T) -> bool {
+    let copy: Result<T, _> = value.clone();
+    are_made_apart(alloc, value, copy, Ok(other))
+}
+
+/// Whether keys are copied.
+fn are_keys_copied(alloc: Global) -> bool {
+    let ids = is_copied(
+        alloc,
+        ComponentFuncTypeId::from_u32(0),
+        ComponentFuncTypeId::from_u32(1),
+    );
+    let any = is_copied(
+        alloc,
+        ComponentAnyTypeId::Resource(EntityRef::from_u32(0)),
+        ComponentAnyTypeId::Func(EntityRef::from_u32(0)),
+    );
+    let functions = is_copied(
+        alloc,
+        EngineOrModuleTypeIndex::Engine(0),
+        EngineOrModuleTypeIndex::Module(EntityRef::from_u32(0)),
+    );
+    let places = is_copied(alloc, FuncIndex::from_u32(0), FuncIndex::from_u32(1));
+    ids && any && functions && places
+}
+
+/// Whether words for types are copied.
+fn are_types_copied(alloc: Global) -> bool {
+    let types = is_copied(
+        alloc,
+        InterfaceType::Own(EntityRef::from_u32(0)),
+        InterfaceType::Borrow(EntityRef::from_u32(0)),
+    );
+    let flat = is_copied(alloc, FlatType::I32, FlatType::F32);
+    let core = is_copied(alloc, ValType::I32, ValType::FuncRef);
+    let cases = is_copied(alloc, DiscriminantSize::Size1, DiscriminantSize::Size4);
+    let flags = is_copied(alloc, FlagsSize::Size4Plus(1), FlagsSize::Size4Plus(2));
+    types && flat && core && cases && flags
+}
+
+/// Whether words for texts and for functions of the runtime are copied.
+fn are_words_copied(alloc: Global) -> bool {
+    let texts = is_copied(alloc, StringEncoding::Utf8, StringEncoding::CompactUtf16);
+    let bytes = is_copied(alloc, FixedEncoding::Utf8, FixedEncoding::Latin1);
+    let transcodes = is_copied(
+        alloc,
+        Transcode::Copy(FixedEncoding::Utf8),
+        Transcode::Latin1ToUtf8,
+    );
+    let traps = is_copied(alloc, Trap::InvalidChar, Trap::InvalidDiscriminant);
+    let intrinsics = is_copied(
+        alloc,
+        UnsafeIntrinsic::ContextGetI32_0,
+        UnsafeIntrinsic::ContextGetI32_1,
+    );
+    texts && bytes && transcodes && traps && intrinsics
 }
 
 #[test]
 fn keys_and_words_are_copied(rt: HostRuntime) {
-    let alloc = rt.alloc();
-    let resource = ComponentAnyTypeId::Resource(EntityRef::from_u32(0));
-    let func = ComponentAnyTypeId::Func(EntityRef::from_u32(0));
-    let engine = EngineOrModuleTypeIndex::Engine(0);
-    let module = EngineOrModuleTypeIndex::Module(EntityRef::from_u32(0));
-    let own = InterfaceType::Own(EntityRef::from_u32(0));
-    let borrow = InterfaceType::Borrow(EntityRef::from_u32(0));
-    let (id, other_id) = (
-        ComponentFuncTypeId::from_u32(0),
-        ComponentFuncTypeId::from_u32(1),
-    );
-    let get0 = UnsafeIntrinsic::ContextGetI32_0;
-    let rows = [
-        is_copied(alloc, FuncIndex::from_u32(0), FuncIndex::from_u32(1)),
-        is_copied(alloc, id, other_id),
-        is_copied(alloc, resource, func),
-        is_copied(alloc, engine, module),
-        is_copied(alloc, own, borrow),
-        is_copied(alloc, FlatType::I32, FlatType::F32),
-        is_copied(alloc, ValType::I32, ValType::FuncRef),
-        is_copied(alloc, DiscriminantSize::Size1, DiscriminantSize::Size4),
-        is_copied(alloc, FlagsSize::Size4Plus(1), FlagsSize::Size4Plus(2)),
-        is_copied(alloc, StringEncoding::Utf8, StringEncoding::CompactUtf16),
-        is_copied(alloc, FixedEncoding::Utf8, FixedEncoding::Latin1),
-        is_copied(
-            alloc,
-            Transcode::Copy(FixedEncoding::Utf8),
-            Transcode::Latin1ToUtf8,
-        ),
-        is_copied(alloc, Trap::InvalidChar, Trap::InvalidDiscriminant),
-        is_copied(alloc, get0, UnsafeIntrinsic::ContextGetI32_1),
-    ];
-    for (row, told) in rows.iter().enumerate() {
-        assert!(rt; matches!(told, Ok(true)), "row {row}");
-    }
+    assert!(rt; are_keys_copied(rt.alloc()));
+    assert!(rt; are_types_copied(rt.alloc()));
+    assert!(rt; are_words_copied(rt.alloc()));
 }
 
 /// An option.
@@ -135,41 +170,42 @@ fn bytes(size: u32) -> TypeFixedLengthList {
     }
 }
 
-#[test]
-fn entries_are_cloned(rt: HostRuntime) {
-    let alloc = rt.alloc();
+/// Whether layouts, options and results are cloned.
+fn are_sums_cloned(alloc: Global) -> bool {
     let (ty, other) = (InterfaceType::U8, InterfaceType::Char);
-    let (payload, no_payload) = (Some(ty), None);
     let moved = VariantInfo {
         payload_offset64: 8,
         ..INFO
     };
-    let rows = [
-        is_cloned(alloc, ZERO, CanonicalAbiInfo::SCALAR1),
-        is_cloned(alloc, INFO, moved),
-        is_cloned(alloc, option(ty), option(other)),
-        is_cloned(alloc, result(ty), result(other)),
-        is_cloned(alloc, TypeList { element: ty }, TypeList { element: other }),
-        is_cloned(alloc, map(ty), map(other)),
-        is_cloned(alloc, bytes(2), bytes(3)),
-        is_cloned(
-            alloc,
-            TypeFuture { payload },
-            TypeFuture {
-                payload: no_payload,
-            },
-        ),
-        is_cloned(
-            alloc,
-            TypeStream { payload },
-            TypeStream {
-                payload: no_payload,
-            },
-        ),
-    ];
-    for (row, told) in rows.iter().enumerate() {
-        assert!(rt; matches!(told, Ok(true)), "row {row}");
-    }
+    let layouts = is_cloned(alloc, ZERO, CanonicalAbiInfo::SCALAR1);
+    let places = is_cloned(alloc, INFO, moved);
+    let options = is_cloned(alloc, option(ty), option(other));
+    let results = is_cloned(alloc, result(ty), result(other));
+    layouts && places && options && results
+}
+
+/// Whether lists, maps, futures and streams are cloned.
+fn are_sequences_cloned(alloc: Global) -> bool {
+    let (ty, other) = (InterfaceType::U8, InterfaceType::Char);
+    let (payload, no_payload) = (Some(ty), None);
+    let lists = is_cloned(alloc, TypeList { element: ty }, TypeList { element: other });
+    let maps = is_cloned(alloc, map(ty), map(other));
+    let fixed = is_cloned(alloc, bytes(2), bytes(3));
+    let futures = is_cloned(
+        alloc,
+        TypeFuture { payload },
+        TypeFuture {
+            payload: no_payload,
+        },
+    );
+    let streams = is_cloned(
+        alloc,
+        TypeStream { payload },
+        TypeStream {
+            payload: no_payload,
+        },
+    );
+    lists && maps && fixed && futures && streams
 }
 
 /// A table of the futures of an instance.
@@ -188,9 +224,8 @@ fn streams(instance: RuntimeComponentInstanceIndex) -> TypeStreamTable {
     }
 }
 
-#[test]
-fn tables_of_handles_are_cloned(rt: HostRuntime) {
-    let alloc = rt.alloc();
+/// Whether tables of handles are cloned.
+fn are_tables_cloned(alloc: Global) -> bool {
     let instance = RuntimeComponentInstanceIndex::from_u32(0);
     let other = RuntimeComponentInstanceIndex::from_u32(1);
     let concrete = TypeResourceTable::Concrete {
@@ -198,83 +233,99 @@ fn tables_of_handles_are_cloned(rt: HostRuntime) {
         instance,
     };
     let general = TypeResourceTable::Abstract(EntityRef::from_u32(0));
-    let errors = TypeErrorContextTable { instance };
-    let rows = [
-        is_cloned(alloc, futures(instance), futures(other)),
-        is_cloned(alloc, streams(instance), streams(other)),
-        is_cloned(alloc, errors, TypeErrorContextTable { instance: other }),
-        is_cloned(alloc, concrete, general),
-    ];
-    for (row, told) in rows.iter().enumerate() {
-        assert!(rt; matches!(told, Ok(true)), "row {row}");
-    }
+    let futures = is_cloned(alloc, futures(instance), futures(other));
+    let streams = is_cloned(alloc, streams(instance), streams(other));
+    let errors = is_cloned(
+        alloc,
+        TypeErrorContextTable { instance },
+        TypeErrorContextTable { instance: other },
+    );
+    let resources = is_cloned(alloc, concrete, general);
+    futures && streams && errors && resources
 }
 
-/// A set of these names, in this order.
-fn names(alloc: Global, list: &[&str]) -> Result<IndexSet<Text>, OutOfMemory> {
-    let mut set = IndexSet::new(alloc);
+#[test]
+fn entries_are_cloned(rt: HostRuntime) {
+    assert!(rt; are_sums_cloned(rt.alloc()));
+    assert!(rt; are_sequences_cloned(rt.alloc()));
+    assert!(rt; are_tables_cloned(rt.alloc()));
+}
+
+/// Puts names into a set, in this order.
+fn put_names(alloc: Global, set: &mut IndexSet<Text>, list: &[&str]) -> Result<(), OutOfMemory> {
     for name in list {
         set.insert(Text::from_str(alloc, name)?)?;
     }
-    Ok(set)
-}
-
-/// A variant of two cases.
-fn variant(alloc: Global, cases: [(&str, InterfaceType); 2]) -> Result<TypeVariant, OutOfMemory> {
-    let mut map = IndexMap::new(alloc);
-    for (name, ty) in cases {
-        map.insert(Text::from_str(alloc, name)?, Some(ty))?;
-    }
-    Ok(TypeVariant {
-        cases: map,
-        abi: ZERO,
-        info: INFO,
-    })
+    Ok(())
 }
 
 /// Flags of these names.
 fn flags(alloc: Global, list: &[&str]) -> Result<TypeFlags, OutOfMemory> {
-    Ok(TypeFlags {
-        names: names(alloc, list)?,
-        abi: ZERO,
-    })
+    let mut names = IndexSet::new(alloc);
+    put_names(alloc, &mut names, list)?;
+    Ok(TypeFlags { names, abi: ZERO })
 }
 
 /// An enum of these names.
 fn enumeration(alloc: Global, list: &[&str]) -> Result<TypeEnum, OutOfMemory> {
+    let mut names = IndexSet::new(alloc);
+    put_names(alloc, &mut names, list)?;
     Ok(TypeEnum {
-        names: names(alloc, list)?,
+        names,
         abi: ZERO,
         info: INFO,
     })
 }
 
+/// Puts a case into a variant.
+fn put_case(
+    alloc: Global,
+    variant: &mut TypeVariant,
+    case: (&str, InterfaceType),
+) -> Result<(), OutOfMemory> {
+    let name = Text::from_str(alloc, case.0)?;
+    variant.cases.insert(name, Some(case.1))?;
+    Ok(())
+}
+
+/// A variant of two cases.
+fn variant(
+    alloc: Global,
+    first: (&str, InterfaceType),
+    second: (&str, InterfaceType),
+) -> Result<TypeVariant, OutOfMemory> {
+    let mut variant = TypeVariant {
+        cases: IndexMap::new(alloc),
+        abi: ZERO,
+        info: INFO,
+    };
+    put_case(alloc, &mut variant, first)?;
+    put_case(alloc, &mut variant, second)?;
+    Ok(variant)
+}
+
 /// Whether variants of two cases are cloned, and told apart by the order of the cases.
-fn variants_have_order(alloc: Global) -> Result<bool, PushError> {
+fn variants_have_order(alloc: Global) -> Result<bool, OutOfMemory> {
     let number = ("n", InterfaceType::U32);
     let text = ("s", InterfaceType::String);
-    let first = variant(alloc, [number, text])?;
-    let copy = first.try_clone()?;
-    are_told_apart(alloc, first, copy, variant(alloc, [text, number])?)
+    let first = variant(alloc, number, text)?;
+    let copy = first.try_clone();
+    Ok(are_made_apart(alloc, first, copy, variant(alloc, text, number)))
 }
 
 /// Whether flags are cloned, and told apart by the order of the names.
-fn flags_have_order(alloc: Global) -> Result<bool, PushError> {
+fn flags_have_order(alloc: Global) -> Result<bool, OutOfMemory> {
     let first = flags(alloc, &["a", "b", "c"])?;
-    let copy = first.try_clone()?;
-    are_told_apart(alloc, first, copy, flags(alloc, &["c", "b", "a"])?)
+    let copy = first.try_clone();
+    Ok(are_made_apart(alloc, first, copy, flags(alloc, &["c", "b", "a"])))
 }
 
 /// Whether enums are cloned, and told apart by the order of the names.
-fn enums_have_order(alloc: Global) -> Result<bool, PushError> {
+fn enums_have_order(alloc: Global) -> Result<bool, OutOfMemory> {
     let first = enumeration(alloc, &["red", "green", "blue"])?;
-    let copy = first.try_clone()?;
-    are_told_apart(
-        alloc,
-        first,
-        copy,
-        enumeration(alloc, &["blue", "green", "red"])?,
-    )
+    let copy = first.try_clone();
+    let other = enumeration(alloc, &["blue", "green", "red"]);
+    Ok(are_made_apart(alloc, first, copy, other))
 }
 
 /// A field of a record.
@@ -288,14 +339,10 @@ fn field(alloc: Global, name: &str, ty: InterfaceType) -> Result<RecordField, Ou
 /// A record of two bytes.
 fn record(alloc: Global, names: [&str; 2]) -> Result<TypeRecord, OutOfMemory> {
     let [first, second] = names;
-    let fields = vec![in alloc;
-        field(alloc, first, InterfaceType::U8)?,
-        field(alloc, second, InterfaceType::U8)?,
-    ]?;
-    Ok(TypeRecord {
-        fields: Seq::from_vec(fields),
-        abi: ZERO,
-    })
+    let mut fields = Seq::new(alloc);
+    fields.push(field(alloc, first, InterfaceType::U8)?)?;
+    fields.push(field(alloc, second, InterfaceType::U8)?)?;
+    Ok(TypeRecord { fields, abi: ZERO })
 }
 
 /// A tuple of two members.
@@ -307,15 +354,14 @@ fn tuple(alloc: Global, types: [InterfaceType; 2]) -> Result<TypeTuple, OutOfMem
 }
 
 /// An async function of two parameters.
-pub fn func(alloc: Global, names: [&str; 2]) -> Result<TypeFunc, OutOfMemory> {
+fn func(alloc: Global, names: [&str; 2]) -> Result<TypeFunc, OutOfMemory> {
     let [first, second] = names;
-    let names = vec![in alloc;
-        Text::from_str(alloc, first)?,
-        Text::from_str(alloc, second)?,
-    ]?;
+    let mut param_names = Seq::new(alloc);
+    param_names.push(Text::from_str(alloc, first)?)?;
+    param_names.push(Text::from_str(alloc, second)?)?;
     Ok(TypeFunc {
         async_: true,
-        param_names: Seq::from_vec(names),
+        param_names,
         params: TypeTupleIndex::from_u32(0),
         results: TypeTupleIndex::from_u32(1),
     })
@@ -337,68 +383,6 @@ pub fn signature(alloc: Global, params: &[ValType]) -> Result<FuncType, OutOfMem
     })
 }
 
-/// Whether fields are cloned, and told apart by their types.
-fn fields_are_cloned(alloc: Global) -> Result<bool, PushError> {
-    let first = field(alloc, "x", InterfaceType::U8)?;
-    let copies = (first.try_clone()?, first.clone()?);
-    are_told_apart(
-        alloc,
-        copies.0,
-        copies.1,
-        field(alloc, "x", InterfaceType::S8)?,
-    )
-}
-
-/// Whether records are cloned, and told apart by the order of the fields.
-fn records_are_cloned(alloc: Global) -> Result<bool, PushError> {
-    let first = record(alloc, ["x", "y"])?;
-    let copy = first.try_clone()?;
-    are_told_apart(alloc, first, copy, record(alloc, ["y", "x"])?)
-}
-
-/// Whether tuples are cloned, and told apart by the order of the members.
-fn tuples_are_cloned(alloc: Global) -> Result<bool, PushError> {
-    let first = tuple(alloc, [InterfaceType::U8, InterfaceType::Char])?;
-    let copy = first.try_clone()?;
-    let second = tuple(alloc, [InterfaceType::Char, InterfaceType::U8])?;
-    are_told_apart(alloc, first, copy, second)
-}
-
-/// Whether functions are cloned, and told apart by the names of the parameters.
-fn funcs_are_cloned(alloc: Global) -> Result<bool, PushError> {
-    let first = func(alloc, ["x", "y"])?;
-    let copy = first.try_clone()?;
-    are_told_apart(alloc, first, copy, func(alloc, ["x", "z"])?)
-}
-
-/// Whether exports of core instances are cloned, and told apart by their names.
-fn exports_are_cloned(alloc: Global) -> Result<bool, PushError> {
-    let first = export(alloc, "run")?;
-    let copy = first.try_clone()?;
-    are_told_apart(alloc, first, copy, export(alloc, "stop")?)
-}
-
-/// Whether core items that are no exports are cloned, and told apart.
-fn core_items_are_cloned(alloc: Global) -> Result<bool, PushError> {
-    let flags = CoreDef::InstanceFlags(RuntimeComponentInstanceIndex::from_u32(4));
-    let trampoline = CoreDef::Trampoline(TrampolineIndex::from_u32(4));
-    are_told_apart(alloc, flags.try_clone()?, flags, trampoline.try_clone()?)
-}
-
-/// Whether texts are cloned, and told apart.
-fn texts_are_cloned(alloc: Global) -> Result<bool, PushError> {
-    let first = Text::from_str(alloc, "f0")?;
-    let copies = (first.try_clone()?, first.clone()?);
-    are_told_apart(alloc, copies.0, copies.1, Text::from_str(alloc, "f1")?)
-}
-
-/// Whether core function types are told apart by their parameters.
-fn func_types_are_told_apart(alloc: Global) -> Result<bool, PushError> {
-    let first = signature(alloc, &[ValType::I32])?;
-    let second = signature(alloc, &[ValType::I32])?;
-    are_told_apart(alloc, first, second, signature(alloc, &[ValType::I64])?)
-}
-
 /// The core signature of a side without parameters.
 fn side(alloc: Global, results: &[ValType]) -> Result<Signature, OutOfMemory> {
     Ok(Signature {
@@ -407,39 +391,100 @@ fn side(alloc: Global, results: &[ValType]) -> Result<Signature, OutOfMemory> {
     })
 }
 
+/// Whether fields are cloned in both ways, and told apart by their types.
+fn fields_are_cloned(alloc: Global) -> Result<bool, OutOfMemory> {
+    let first = field(alloc, "x", InterfaceType::U8)?.try_clone()?;
+    let copy: Result<_, _> = first.clone();
+    let other = field(alloc, "x", InterfaceType::S8);
+    Ok(are_made_apart(alloc, first, copy, other))
+}
+
+/// Whether records are cloned, and told apart by the order of the fields.
+fn records_are_cloned(alloc: Global) -> Result<bool, OutOfMemory> {
+    let first = record(alloc, ["x", "y"])?;
+    let copy = first.try_clone();
+    Ok(are_made_apart(alloc, first, copy, record(alloc, ["y", "x"])))
+}
+
+/// Whether tuples are cloned, and told apart by the order of the members.
+fn tuples_are_cloned(alloc: Global) -> Result<bool, OutOfMemory> {
+    let first = tuple(alloc, [InterfaceType::U8, InterfaceType::Char])?;
+    let copy = first.try_clone();
+    let other = tuple(alloc, [InterfaceType::Char, InterfaceType::U8]);
+    Ok(are_made_apart(alloc, first, copy, other))
+}
+
+/// Whether functions are cloned, and told apart by the names of the parameters.
+fn funcs_are_cloned(alloc: Global) -> Result<bool, OutOfMemory> {
+    let first = func(alloc, ["x", "y"])?;
+    let copy = first.try_clone();
+    Ok(are_made_apart(alloc, first, copy, func(alloc, ["x", "z"])))
+}
+
+/// Whether exports of core instances are cloned, and told apart by their names.
+fn exports_are_cloned(alloc: Global) -> Result<bool, OutOfMemory> {
+    let first = export(alloc, "run")?;
+    let copy = first.try_clone();
+    Ok(are_made_apart(alloc, first, copy, export(alloc, "stop")))
+}
+
+/// Whether core items that are no exports are cloned, and told apart.
+fn core_items_are_cloned(alloc: Global) -> bool {
+    let flags = CoreDef::InstanceFlags(RuntimeComponentInstanceIndex::from_u32(4));
+    let trampoline = CoreDef::Trampoline(TrampolineIndex::from_u32(4));
+    let copy = flags.try_clone();
+    let other = trampoline.try_clone();
+    drop(trampoline);
+    are_made_apart(alloc, flags, copy, other)
+}
+
+/// Whether texts are cloned in both ways, and told apart.
+fn texts_are_cloned(alloc: Global) -> Result<bool, OutOfMemory> {
+    let first = Text::from_str(alloc, "f0")?.try_clone()?;
+    let copy: Result<_, _> = first.clone();
+    Ok(are_made_apart(alloc, first, copy, Text::from_str(alloc, "f1")))
+}
+
+/// Whether core function types are told apart by their parameters.
+fn func_types_are_told_apart(alloc: Global) -> Result<bool, OutOfMemory> {
+    let first = signature(alloc, &[ValType::I32])?;
+    let second = signature(alloc, &[ValType::I32]);
+    let other = signature(alloc, &[ValType::I64]);
+    Ok(are_made_apart(alloc, first, second, other))
+}
+
 /// Whether core signatures of sides are told apart by their results.
-fn signatures_are_told_apart(alloc: Global) -> Result<bool, PushError> {
+fn signatures_are_told_apart(alloc: Global) -> Result<bool, OutOfMemory> {
     let first = side(alloc, &[])?;
-    let second = side(alloc, &[])?;
-    are_told_apart(alloc, first, second, side(alloc, &[ValType::I32])?)
+    let second = side(alloc, &[]);
+    let other = side(alloc, &[ValType::I32]);
+    Ok(are_made_apart(alloc, first, second, other))
 }
 
 /// Whether lists are cloned, and told apart by their items.
-fn lists_are_cloned(alloc: Global) -> Result<bool, PushError> {
+fn lists_are_cloned(alloc: Global) -> Result<bool, OutOfMemory> {
     let first = Seq::from_vec([ValType::F32].to_vec(alloc)?);
-    let copy = first.clone()?;
-    are_told_apart(alloc, first, copy, Seq::new(alloc))
+    let copy: Result<_, _> = first.clone();
+    Ok(are_made_apart(alloc, first, copy, Ok(Seq::new(alloc))))
 }
 
 #[test]
 fn what_has_members_is_cloned(rt: HostRuntime) {
-    let alloc = rt.alloc();
-    let rows = [
-        variants_have_order(alloc),
-        flags_have_order(alloc),
-        enums_have_order(alloc),
-        fields_are_cloned(alloc),
-        records_are_cloned(alloc),
-        tuples_are_cloned(alloc),
-        funcs_are_cloned(alloc),
-        exports_are_cloned(alloc),
-        core_items_are_cloned(alloc),
-        texts_are_cloned(alloc),
-        func_types_are_told_apart(alloc),
-        signatures_are_told_apart(alloc),
-        lists_are_cloned(alloc),
-    ];
-    for (row, told) in rows.iter().enumerate() {
-        assert!(rt; matches!(told, Ok(true)), "row {row}");
-    }
+    assert!(rt; matches!(variants_have_order(rt.alloc()), Ok(true)));
+    assert!(rt; matches!(flags_have_order(rt.alloc()), Ok(true)));
+    assert!(rt; matches!(enums_have_order(rt.alloc()), Ok(true)));
+    assert!(rt; matches!(fields_are_cloned(rt.alloc()), Ok(true)));
+    assert!(rt; matches!(records_are_cloned(rt.alloc()), Ok(true)));
+    assert!(rt; matches!(tuples_are_cloned(rt.alloc()), Ok(true)));
+    assert!(rt; matches!(funcs_are_cloned(rt.alloc()), Ok(true)));
+}
+
+#[test]
+fn what_adapters_name_is_cloned(rt: HostRuntime) {
+    assert!(rt; matches!(exports_are_cloned(rt.alloc()), Ok(true)));
+    assert!(rt; core_items_are_cloned(rt.alloc()));
+    assert!(rt; matches!(texts_are_cloned(rt.alloc()), Ok(true)));
+    assert!(rt; matches!(func_types_are_told_apart(rt.alloc()), Ok(true)));
+    assert!(rt; matches!(signatures_are_told_apart(rt.alloc()), Ok(true)));
+    assert!(rt; matches!(lists_are_cloned(rt.alloc()), Ok(true)));
 }
