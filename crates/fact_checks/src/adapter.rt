@@ -5,7 +5,7 @@ use fact_types::{CoreDef, MemoryOption, StringEncoding};
 
 /// The options of one side of an adapter (canonical ABI, "Canonical ABI options"), its component instance, and the core
 /// type of its function.
-#[derive(Debug, Drop, PartialEq, Eq, Hash)]
+#[derive(Drop)]
 pub struct AdapterOptionsDfg {
     pub instance: RuntimeComponentInstanceIndex,
     pub string_encoding: StringEncoding,
@@ -18,7 +18,7 @@ pub struct AdapterOptionsDfg {
 }
 
 /// An adapter: the core definition `func`, lifted with the type `lift_ty` and lowered with the type `lower_ty`.
-#[derive(Debug, Drop, PartialEq, Eq, Hash)]
+#[derive(Drop)]
 pub struct Adapter {
     pub lift_ty: TypeFuncIndex,
     pub lift_options: AdapterOptionsDfg,

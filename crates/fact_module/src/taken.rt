@@ -9,7 +9,7 @@ use fact_wasm::{OutOfMemory, Text};
 use std::alloc::Global;
 
 /// An adapter that a module took, under its name.
-#[derive(Debug, Drop)]
+#[derive(Drop)]
 pub struct TakenAdapter {
     pub name: Text,
     pub transparent: bool,

@@ -7,7 +7,7 @@ use fact_entity::{RuntimeComponentInstanceIndex, RuntimeInstanceIndex, Trampolin
 use fact_wasm::Text;
 
 /// How a side holds its texts (canonical ABI, "Canonical ABI options", `string-encoding`).
-#[derive(Clone, Copy, Debug, PartialEq, Eq, Hash)]
+#[derive(Clone, Copy, PartialEq, Eq, Hash)]
 pub enum StringEncoding {
     Utf8,
     Utf16,
@@ -64,7 +64,7 @@ impl CoreDef {
 
 /// A memory of a side: its core definition, whether its addresses have 64 bits, whether it is shared, and the exponent of
 /// its page size in bytes.
-#[derive(Debug, Drop, PartialEq, Eq, Hash)]
+#[derive(Drop)]
 pub struct MemoryOption {
     pub def: CoreDef,
     pub memory64: bool,
