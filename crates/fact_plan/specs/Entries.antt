@@ -51,6 +51,15 @@ handle_by_key d =
     (at_or (codes "stream") (pair_in (nullable ref_in) u32_in) (λ p. ty.Stream p.0 p.1) d
     (at_or (codes "error-context") u32_in ty.ErrorContext d (Err (Missing []))))))
 
+-- what follows the options among the entries, by the first of its keys that is there
+unfoldable pub later_by_key : Data → Result PlanType PlanFault
+later_by_key d =
+    at_or (codes "map") (pair_in ref_in ref_in) (λ p. ty.Map p.0 p.1) d
+    (at_or (codes "result") (pair_in (nullable ref_in) (nullable ref_in)) (λ p. ty.Result p.0 p.1) d
+    (at_or (codes "flags") (list_in text_in) ty.Flags d
+    (at_or (codes "enum") (list_in text_in) ty.Enum d
+    (at_or (codes "fixed-list") (pair_in ref_in u32_in) (λ p. ty.FixedList p.0 p.1) d (handle_by_key d)))))
+
 -- an entry, by the first of the keys that is there
 unfoldable pub entry_by_key : Data → Result PlanType PlanFault
 entry_by_key d =

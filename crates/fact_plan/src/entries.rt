@@ -1,7 +1,7 @@
 //! Objects of exactly one key: the entries of a plan's types, and core definitions.
 ghost use Rattle.serde_json.specs.View.{view};
 ghost use Rattle.fact_plan.specs.Fault.{Gives};
-ghost use Rattle.fact_plan.specs.Entries.{def_by_key, core_def_in, entry_by_key, entry_in, handle_by_key, one_key};
+ghost use Rattle.fact_plan.specs.Entries.{def_by_key, core_def_in, entry_by_key, entry_in, handle_by_key, later_by_key, one_key};
 
 use crate::fault::PlanFault;
 use crate::parts::{FromJson, check_known, read_member};
@@ -45,7 +45,7 @@ fn check_one_key(alloc: Global, value: &Value) -> Result<(), PlanFault>
     }
 }
 
-#[tactic(auto, unfolding(crate::specs::Entries::entry_by_key))]
+#[tactic(auto, unfolding(crate::specs::Entries::entry_by_key, crate::specs::Entries::later_by_key))]
 fn entry_by_key(alloc: Global, value: &Value) -> Result<PlanType, PlanFault>
     ensures { Gives (entry_by_key (view value.now)) result }
 {
@@ -64,6 +64,13 @@ fn entry_by_key(alloc: Global, value: &Value) -> Result<PlanType, PlanFault>
     if let Some(inner) = value.get("option") {
         return Ok(PlanType::Option(read_member(alloc, "option", inner)?));
     }
+    later_by_key(alloc, value)
+}
+
+#[tactic(auto, unfolding(crate::specs::Entries::later_by_key))]
+fn later_by_key(alloc: Global, value: &Value) -> Result<PlanType, PlanFault>
+    ensures { Gives (later_by_key (view value.now)) result }
+{
     if let Some(inner) = value.get("map") {
         let (key, value) = read_member(alloc, "map", inner)?;
         return Ok(PlanType::Map(key, value));

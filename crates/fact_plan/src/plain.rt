@@ -1,7 +1,7 @@
 //! The plain types that plans are made of.
 
 /// A scalar type, text, or an error context (Component Model, "Type Definitions", `primvaltype`).
-#[derive(Clone, Copy, Debug, Drop, PartialEq, Eq, Hash)]
+#[derive(Clone, Copy, Drop)]
 pub enum PrimitiveValType {
     Bool,
     S8,

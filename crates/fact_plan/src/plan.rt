@@ -8,7 +8,7 @@ use fact_types::{CoreDef, StringEncoding};
 use fact_wasm::{FuncType, Seq, Text};
 
 /// A type: a word, or the number of an entry of the plan's types. No word of JSON is `ErrorContext`, which has an entry.
-#[derive(Clone, Copy, Debug, Drop, PartialEq, Eq, Hash)]
+#[derive(Clone, Copy, Drop)]
 pub enum PlanRef {
     Word(PrimitiveValType),
     Entry(u32),
@@ -16,7 +16,7 @@ pub enum PlanRef {
 
 /// An entry of the plan's types (Component Model, "Type Definitions", `defvaltype`). An `Own` or a `Borrow` names its
 /// resource table; the number of a `Future`, a `Stream` or an `ErrorContext` is its component instance.
-#[derive(Debug, Drop)]
+#[derive(Drop)]
 pub enum PlanType {
     Record(Seq<(Text, PlanRef)>),
     Variant(Seq<(Text, Option<PlanRef>)>),
@@ -36,7 +36,7 @@ pub enum PlanType {
 }
 
 /// A function type: parameters with their names, and results.
-#[derive(Debug, Drop)]
+#[derive(Drop)]
 pub struct PlanFunc {
     pub params: Seq<(Text, PlanRef)>,
     pub results: Seq<PlanRef>,
@@ -44,7 +44,7 @@ pub struct PlanFunc {
 }
 
 /// A memory: its core definition, whether its addresses have 64 bits, and the exponent of its page size in bytes.
-#[derive(Clone, Copy, Debug, Drop, PartialEq, Eq, Hash)]
+#[derive(Clone, Copy, Drop)]
 pub struct PlanMemory {
     pub def: u32,
     pub memory64: bool,
@@ -54,7 +54,7 @@ pub struct PlanMemory {
 
 /// One side of an adapter (canonical ABI, "Canonical ABI options"): the numbers of its function type, its component
 /// instance and its core type, and the core definitions that it uses.
-#[derive(Clone, Copy, Debug, Drop, PartialEq, Eq, Hash)]
+#[derive(Clone, Copy, Drop)]
 pub struct PlanSide {
     pub ty: u32,
     pub instance: u32,
@@ -69,7 +69,7 @@ pub struct PlanSide {
 
 /// An adapter: the core definition `func`, lifted as `lift` says and lowered as `lower` says. `transparent` is the mark
 /// of thread transparency, which is taken as given.
-#[derive(Debug, Drop)]
+#[derive(Drop)]
 pub struct PlanAdapter {
     pub name: Text,
     pub func: u32,
@@ -80,7 +80,7 @@ pub struct PlanAdapter {
 
 /// What the adapters may use, and the fuel of a function: how much translation it may hold before parts of it become
 /// helpers.
-#[derive(Clone, Copy, Debug, Drop, PartialEq, Eq, Hash)]
+#[derive(Clone, Copy, Drop)]
 pub struct PlanTunables {
     pub concurrency: bool,
     pub exceptions: bool,
@@ -89,7 +89,7 @@ pub struct PlanTunables {
 }
 
 /// A plan. `instances` counts the component instances; a resource table is the number of a resource and of an instance.
-#[derive(Debug, Drop)]
+#[derive(Drop)]
 pub struct FusePlan {
     pub instances: u32,
     pub types: Seq<PlanType>,
