@@ -24,16 +24,6 @@ fn is_placed<Table>(key: Id<Table>, number: u32, other: Id<Table>, before: bool)
     }
 }
 
-#[test]
-fn keys_are_numbers(rt: HostRuntime) {
-    let (key, other) = (TypeRecordIndex::from_u32(7), TypeRecordIndex::from_u32(8));
-    assert!(rt; is_placed(key, 7, other, true));
-    assert!(rt; is_placed(TableIndex::from_u32(3), 3, TableIndex::from_u32(3), false));
-    assert!(rt; has_number::<TypeVariantIndex>(0));
-    assert!(rt; has_number::<OptionsIndex>(u32::MAX));
-    assert!(rt; has_number::<ResourceId>(9));
-}
-
 /// The numbers of the keys of a table with their entries, in order.
 fn numbered<K: EntityRef>(
     alloc: Global,
@@ -104,20 +94,25 @@ fn is_last(table: &mut Ids, value: ComponentAnyTypeId) -> bool {
     }
 }
 
-#[test]
-fn equal_values_have_one_key(rt: HostRuntime) {
+/// Whether a table of two values gives each one key.
+fn have_one_key(table: &mut Ids) -> bool {
     let resource = ComponentAnyTypeId::Resource(ResourceId::from_u32(0));
     let defined = ComponentAnyTypeId::Defined(ComponentDefinedTypeId::from_u32(0));
+    is_added(table, resource, 0)
+        && is_added(table, defined, 1)
+        && is_added(table, resource, 0)
+        && is_found(table, resource, 0)
+        && is_found(table, defined, 1)
+        && table.len() == 2
+        && is_last(table, defined)
+}
+
+#[test]
+fn equal_values_have_one_key(rt: HostRuntime) {
     let mut table = Ids::new(rt.alloc());
-    let first = is_added(&mut table, resource, 0);
-    let second = is_added(&mut table, defined, 1);
-    let again = is_added(&mut table, resource, 0);
-    let found = is_found(&table, resource, 0) && is_found(&table, defined, 1);
-    let two = table.len() == 2;
-    let last = is_last(&mut table, defined);
+    let held = have_one_key(&mut table);
     drop(table);
-    assert!(rt; first && second && again);
-    assert!(rt; found && two && last);
+    assert!(rt; held);
 }
 
 /// Whether an error is shown in these words.
@@ -134,15 +129,24 @@ fn is_key_shown(alloc: Global) -> Result<bool, AllocError> {
 }
 
 #[test]
-fn errors_and_keys_are_shown(rt: HostRuntime) {
-    let refused = PushError::from(AllocError);
-    assert!(rt; refused == PushError::OutOfMemory);
-    assert!(rt; matches!(is_shown(rt.alloc(), refused, "out of memory"), Ok(true)));
+fn keys_are_numbers(rt: HostRuntime) {
+    let (key, other) = (TypeRecordIndex::from_u32(7), TypeRecordIndex::from_u32(8));
+    assert!(rt; is_placed(key, 7, other, true));
+    assert!(rt; is_placed(TableIndex::from_u32(3), 3, TableIndex::from_u32(3), false));
+    assert!(rt; has_number::<TypeVariantIndex>(0));
+    assert!(rt; has_number::<OptionsIndex>(u32::MAX));
+    assert!(rt; has_number::<ResourceId>(9));
+    assert!(rt; matches!(is_key_shown(rt.alloc()), Ok(true)));
+    assert!(rt;
+        matches!(
+            is_shown(rt.alloc(), PushError::from(AllocError), "out of memory"),
+            Ok(true)
+        )
+    );
     assert!(rt;
         matches!(
             is_shown(rt.alloc(), PushError::TooLarge, "table too large"),
             Ok(true)
         )
     );
-    assert!(rt; matches!(is_key_shown(rt.alloc()), Ok(true)));
 }

@@ -6,11 +6,10 @@ use fact_entity::{
 };
 use fact_types::{
     AbstractResourceIndex, ComponentExtern, ComponentExternData, ComponentItem,
-    EngineOrModuleTypeIndex, EntityType, InterfaceType, TypeComponent, TypeComponentInstance,
-    TypeDef, TypeModule, TypeResourceTable,
+    EngineOrModuleTypeIndex, EntityType, InterfaceType, TypeComponentInstance, TypeDef, TypeModule,
+    TypeResourceTable,
 };
 use fact_wasm::{Text, ValType};
-use indexmap::IndexMap;
 use std::alloc::{AllocError, Global};
 
 /// A value and a copy of it.
@@ -18,23 +17,21 @@ fn twice<T: Copy>(value: T) -> (T, T) {
     (value, value)
 }
 
-#[test]
-fn items_and_types_are_copied(rt: HostRuntime) {
+/// Whether items and types are copied.
+fn are_copied() -> bool {
     let id = ComponentAnyTypeId::Defined(ComponentDefinedTypeId::from_u32(3));
-    let items = twice(ComponentItem::AnyType(id));
-    assert!(rt;
-        matches!(
-            items,
-            (ComponentItem::AnyType(_), ComponentItem::AnyType(_))
-        )
-    );
     let global = EntityType::Global {
         ty: ValType::I32,
         mutable: true,
     };
-    assert!(rt; matches!(twice(global).1, EntityType::Global { mutable: true, .. }));
-    let defs = twice(TypeDef::Interface(InterfaceType::Char));
-    assert!(rt; matches!(defs.1, TypeDef::Interface(InterfaceType::Char)));
+    matches!(
+        twice(ComponentItem::AnyType(id)).1,
+        ComponentItem::AnyType(_)
+    ) && matches!(twice(global).1, EntityType::Global { mutable: true, .. })
+        && matches!(
+            twice(TypeDef::Interface(InterfaceType::Char)).1,
+            TypeDef::Interface(InterfaceType::Char)
+        )
 }
 
 /// What is said of an import or export, with two texts.
@@ -78,62 +75,60 @@ fn is_extern_copied(alloc: Global) -> Result<bool, AllocError> {
     Ok(is_copy(&copy, &first))
 }
 
-#[test]
-fn imports_and_exports_are_copied(rt: HostRuntime) {
-    assert!(rt; matches!(is_data_copied(rt.alloc()), Ok(true)));
-    assert!(rt; matches!(is_extern_copied(rt.alloc()), Ok(true)));
+/// Whether the words for what is exported are those of a user.
+fn are_described() -> bool {
+    TypeDef::Component(EntityRef::from_u32(0)).desc() == "component"
+        && TypeDef::ComponentInstance(EntityRef::from_u32(0)).desc() == "instance"
+        && TypeDef::ComponentFunc(EntityRef::from_u32(0)).desc() == "function"
+        && TypeDef::Interface(InterfaceType::U8).desc() == "type"
+        && TypeDef::Module(EntityRef::from_u32(0)).desc() == "core module"
+        && TypeDef::CoreFunc(EntityRef::from_u32(0)).desc() == "core function"
+        && TypeDef::Resource(EntityRef::from_u32(0)).desc() == "resource"
 }
 
-#[test]
-fn what_is_exported_has_a_word(rt: HostRuntime) {
-    let rows = [
-        (TypeDef::Component(EntityRef::from_u32(0)), "component"),
-        (
-            TypeDef::ComponentInstance(EntityRef::from_u32(0)),
-            "instance",
-        ),
-        (TypeDef::ComponentFunc(EntityRef::from_u32(0)), "function"),
-        (TypeDef::Interface(InterfaceType::U8), "type"),
-        (TypeDef::Module(EntityRef::from_u32(0)), "core module"),
-        (TypeDef::CoreFunc(EntityRef::from_u32(0)), "core function"),
-        (TypeDef::Resource(EntityRef::from_u32(0)), "resource"),
-    ];
-    for (ty, word) in rows {
-        assert!(rt; ty.desc() == word);
-    }
-}
-
-#[test]
-fn tables_of_handles_have_parts(rt: HostRuntime) {
+/// Whether a concrete table of handles has parts, and an abstract one has none.
+fn have_parts() -> bool {
     let ty = ResourceIndex::from_u32(3);
     let instance = RuntimeComponentInstanceIndex::from_u32(1);
     let table = TypeResourceTable::Concrete { ty, instance };
-    assert!(rt; table.concrete() == Some((ty, instance)));
-    assert!(rt; table.unwrap_concrete_ty() == ty);
-    assert!(rt; table.unwrap_concrete_instance() == instance);
     let general = TypeResourceTable::Abstract(AbstractResourceIndex::from_u32(1));
-    assert!(rt; general.concrete().is_none());
+    table.concrete() == Some((ty, instance))
+        && table.unwrap_concrete_ty() == ty
+        && table.unwrap_concrete_instance() == instance
+        && general.concrete().is_none()
 }
 
-/// Puts an import of a memory under two names.
-fn import_memory(alloc: Global, module: &mut TypeModule) -> Result<(), AllocError> {
-    let memory = EntityType::Memory {
-        minimum: 1,
-        maximum: None,
-        shared: false,
-        memory64: true,
-        page_size_log2: 16,
-    };
+#[test]
+fn imports_and_exports_are_told(rt: HostRuntime) {
+    assert!(rt; matches!(is_data_copied(rt.alloc()), Ok(true)));
+    assert!(rt; matches!(is_extern_copied(rt.alloc()), Ok(true)));
+    assert!(rt; are_copied());
+    assert!(rt; are_described());
+    assert!(rt; have_parts());
+}
+
+/// A memory of pages of 65,536 bytes.
+const MEMORY: EntityType = EntityType::Memory {
+    minimum: 1,
+    maximum: None,
+    shared: false,
+    memory64: true,
+    page_size_log2: 16,
+};
+
+/// A function of an engine.
+const FUNCTION: EntityType = EntityType::Function(EngineOrModuleTypeIndex::Engine(7));
+
+/// Puts an import of a memory, and two exports of functions in this order.
+fn put(alloc: Global, module: &mut TypeModule, names: [&str; 2]) -> Result<(), AllocError> {
     let name = Text::from_str(alloc, "env")?;
     let key = (name, Text::from_str(alloc, "memory")?);
-    module.imports.insert(key, memory)?;
-    Ok(())
-}
-
-/// Puts an export of a function behind those that stand.
-fn export_function(alloc: Global, module: &mut TypeModule, name: &str) -> Result<(), AllocError> {
-    let func = EntityType::Function(EngineOrModuleTypeIndex::Engine(7));
-    module.exports.insert(Text::from_str(alloc, name)?, func)?;
+    module.imports.insert(key, MEMORY)?;
+    for name in names {
+        module
+            .exports
+            .insert(Text::from_str(alloc, name)?, FUNCTION)?;
+    }
     Ok(())
 }
 
@@ -147,33 +142,25 @@ fn has_parts(module: &TypeModule, name: &str) -> bool {
 #[test]
 fn modules_keep_the_order_of_exports(rt: HostRuntime) {
     let mut module = TypeModule::new(rt.alloc());
-    let imported = import_memory(rt.alloc(), &mut module);
-    let last = export_function(rt.alloc(), &mut module, "z");
-    let first = export_function(rt.alloc(), &mut module, "a");
+    let put = put(rt.alloc(), &mut module, ["z", "a"]);
     let held = has_parts(&module, "z");
     drop(module);
-    assert!(rt; imported.is_ok() && last.is_ok() && first.is_ok());
-    assert!(rt; held);
+    assert!(rt; put.is_ok() && held);
 }
 
-/// Puts an export of a type of characters under a name.
-fn export_character(
-    alloc: Global,
-    exports: &mut IndexMap<Text, ComponentExtern>,
-) -> Result<(), AllocError> {
+/// Puts an export of a type of characters.
+fn put_character(alloc: Global, instance: &mut TypeComponentInstance) -> Result<(), AllocError> {
     let exported = character(alloc)?;
-    exports.insert(Text::from_str(alloc, "x")?, exported)?;
+    instance
+        .exports
+        .insert(Text::from_str(alloc, "x")?, exported)?;
     Ok(())
 }
 
 #[test]
-fn components_begin_empty(rt: HostRuntime) {
-    let component = TypeComponent::new(rt.alloc());
-    let empty = component.imports.is_empty() && component.exports.is_empty();
-    drop(component);
-    assert!(rt; empty);
+fn instances_hold_what_is_put(rt: HostRuntime) {
     let mut instance = TypeComponentInstance::new(rt.alloc());
-    let put = export_character(rt.alloc(), &mut instance.exports);
+    let put = put_character(rt.alloc(), &mut instance);
     let one = instance.exports.len() == 1;
     drop(instance);
     assert!(rt; put.is_ok() && one);

@@ -219,12 +219,6 @@ fn is_payload_at(cases: &[Option<CanonicalAbiInfo>], place32: u32, place64: u32)
     matches!(variant_of(cases), Some((placed, _)) if placed == info)
 }
 
-#[test]
-fn payloads_are_placed(rt: HostRuntime) {
-    assert!(rt; is_payload_at(&[None, Some(CanonicalAbiInfo::SCALAR8)], 8, 8));
-    assert!(rt; is_payload_at(&[None, Some(CanonicalAbiInfo::POINTER_PAIR)], 4, 8));
-}
-
 /// The place of a field behind an offset in a 32-bit memory, and its end, where they fit.
 fn placed32(abi: &CanonicalAbiInfo, offset: u32) -> Option<(u32, u32)> {
     if !abi.next_field32_fits(offset) {
@@ -247,47 +241,51 @@ fn placed64(abi: &CanonicalAbiInfo, offset: u32) -> Option<(u32, u32)> {
     (place as usize == place_size && end as usize == end_size).then_some((place, end))
 }
 
-#[test]
-fn fields_are_placed(rt: HostRuntime) {
+/// Whether fields are placed in 32-bit memories, as far as they fit.
+fn are_placed32() -> bool {
     let (word, pair) = (CanonicalAbiInfo::SCALAR4, CanonicalAbiInfo::POINTER_PAIR);
-    let rows32 = [
-        (word, 1, Some((4, 8))),
-        (pair, 1, Some((4, 12))),
-        (word, 4_294_967_288, Some((4_294_967_288, 4_294_967_292))),
-        (word, 4_294_967_289, None),
-        (block(3, 3), 0, None),
-    ];
-    for (abi, offset, place) in rows32 {
-        assert!(rt; placed32(&abi, offset) == place);
-    }
-    let rows64 = [
-        (8, Some((8, 24))),
-        (12, Some((16, 32))),
-        (4_294_967_272, Some((4_294_967_272, 4_294_967_288))),
-        (4_294_967_273, None),
-    ];
-    for (offset, place) in rows64 {
-        assert!(rt; placed64(&pair, offset) == place);
-    }
+    placed32(&word, 1) == Some((4, 8))
+        && placed32(&pair, 1) == Some((4, 12))
+        && placed32(&word, 4_294_967_288) == Some((4_294_967_288, 4_294_967_292))
+        && placed32(&word, 4_294_967_289).is_none()
+        && placed32(&block(3, 3), 0).is_none()
+}
+
+/// Whether fields are placed in 64-bit memories, as far as they fit.
+fn are_placed64() -> bool {
+    let pair = CanonicalAbiInfo::POINTER_PAIR;
+    placed64(&pair, 8) == Some((8, 24))
+        && placed64(&pair, 12) == Some((16, 32))
+        && placed64(&pair, 4_294_967_272) == Some((4_294_967_272, 4_294_967_288))
+        && placed64(&pair, 4_294_967_273).is_none()
+}
+
+/// Whether sizes are told, and none where there is none.
+fn are_sizes_told() -> bool {
+    let pair = CanonicalAbiInfo::POINTER_PAIR;
+    DiscriminantSize::from_bytes(3).is_none()
+        && DiscriminantSize::from_count(4_294_967_296).is_none()
+        && pair.flat_count(2) == Some(2)
+        && pair.flat_count(1).is_none()
+        && CanonicalAbiInfo::default() == CanonicalAbiInfo::ZERO
+}
+
+/// Whether a flat type becomes one that can hold both.
+fn is_joined(first: FlatType, second: FlatType, both: FlatType, core: ValType) -> bool {
+    let mut flat = first;
+    flat.join(second);
+    flat == both && ValType::from(flat) == core
 }
 
 #[test]
-fn sizes_are_told(rt: HostRuntime) {
-    assert!(rt; DiscriminantSize::from_bytes(3).is_none());
-    assert!(rt; DiscriminantSize::from_count(4_294_967_296).is_none());
-    assert!(rt; CanonicalAbiInfo::POINTER_PAIR.flat_count(2) == Some(2));
-    assert!(rt; CanonicalAbiInfo::POINTER_PAIR.flat_count(1).is_none());
-    assert!(rt; CanonicalAbiInfo::default() == CanonicalAbiInfo::ZERO);
-}
-
-#[test]
-fn flat_types_are_joined(rt: HostRuntime) {
-    let mut flat = FlatType::F32;
-    flat.join(FlatType::I32);
-    assert!(rt; flat == FlatType::I32);
-    flat.join(FlatType::F64);
-    assert!(rt; flat == FlatType::I64);
-    assert!(rt; ValType::from(flat) == ValType::I64);
+fn parts_are_told(rt: HostRuntime) {
+    assert!(rt; is_payload_at(&[None, Some(CanonicalAbiInfo::SCALAR8)], 8, 8));
+    assert!(rt; is_payload_at(&[None, Some(CanonicalAbiInfo::POINTER_PAIR)], 4, 8));
+    assert!(rt; are_placed32());
+    assert!(rt; are_placed64());
+    assert!(rt; are_sizes_told());
+    assert!(rt; is_joined(FlatType::F32, FlatType::I32, FlatType::I32, ValType::I32));
+    assert!(rt; is_joined(FlatType::I32, FlatType::F64, FlatType::I64, ValType::I64));
     let types = FlatTypes {
         memory32: &[FlatType::I32, FlatType::I32],
         memory64: &[FlatType::I64, FlatType::I64],

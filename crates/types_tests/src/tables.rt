@@ -17,13 +17,13 @@ fn is_only<T: Lookup<I>, I: EntityRef>(table: &T, index: I) -> bool {
 /// Whether a type of core modules stands where it is put.
 fn puts_module(alloc: Global, types: &mut ComponentTypes) -> Result<bool, PushError> {
     let index = types.push_module(TypeModule::new(alloc))?;
-    Ok(types[index].exports.is_empty() && is_only(types, index))
+    Ok(types[index].imports.is_empty() && types[index].exports.is_empty() && is_only(types, index))
 }
 
 /// Whether a type of components stands where it is put.
 fn puts_component(alloc: Global, types: &mut ComponentTypes) -> Result<bool, PushError> {
     let index = types.push_component(TypeComponent::new(alloc))?;
-    Ok(types[index].imports.is_empty() && is_only(types, index))
+    Ok(types[index].imports.is_empty() && types[index].exports.is_empty() && is_only(types, index))
 }
 
 /// Whether a type of instances stands where it is put.
@@ -51,14 +51,20 @@ fn is_interned(
     builder: &mut ModuleTypesBuilder,
     params: &[ValType],
     number: u32,
-) -> Result<bool, PushError> {
-    let index = builder.intern(signature(alloc, params)?)?;
-    Ok(index.as_u32() == number)
+) -> bool {
+    match signature(alloc, params) {
+        Ok(ty) => matches!(builder.intern(ty), Ok(index) if index.as_u32() == number),
+        Err(_) => false,
+    }
 }
 
-/// Whether a builder holds two types.
-fn holds_two(builder: &ModuleTypesBuilder) -> bool {
-    builder.len() == 2 && builder.get(EntityRef::from_u32(2)).is_none()
+/// Whether a type of one i32 is interned, the same once more under its index, and one of nothing behind it.
+fn are_interned(alloc: Global, builder: &mut ModuleTypesBuilder) -> bool {
+    is_interned(alloc, builder, &[ValType::I32], 0)
+        && is_interned(alloc, builder, &[ValType::I32], 0)
+        && is_interned(alloc, builder, &[], 1)
+        && builder.len() == 2
+        && builder.get(EntityRef::from_u32(2)).is_none()
 }
 
 /// Whether module types are one of a parameter and one of none.
@@ -75,27 +81,16 @@ fn are_set(types: &mut ComponentTypes, module_types: ModuleTypes) -> bool {
     types.set_module_types(module_types);
     let set = types.module_types_opt().is_some();
     let read = are_two(types.module_types());
-    unset && set && read && are_two(types.module_types_mut())
-}
-
-/// Whether module types have a second one.
-fn has_second(types: &ComponentTypes) -> bool {
-    types.get(ModuleInternedTypeIndex::from_u32(1)).is_some()
+    let second = types.get(ModuleInternedTypeIndex::from_u32(1)).is_some();
+    unset && set && read && second && are_two(types.module_types_mut())
 }
 
 #[test]
 fn module_types_stand_once(rt: HostRuntime) {
     let mut builder = ModuleTypesBuilder::new(rt.alloc(), 7);
-    let first = is_interned(rt.alloc(), &mut builder, &[ValType::I32], 0);
-    let again = is_interned(rt.alloc(), &mut builder, &[ValType::I32], 0);
-    let other = is_interned(rt.alloc(), &mut builder, &[], 1);
-    let two = holds_two(&builder);
+    let interned = are_interned(rt.alloc(), &mut builder);
     let mut types = ComponentTypes::new(rt.alloc());
     let set = are_set(&mut types, builder.finish());
-    let second = has_second(&types);
     drop(types);
-    assert!(rt; matches!(first, Ok(true)));
-    assert!(rt; matches!(again, Ok(true)));
-    assert!(rt; matches!(other, Ok(true)));
-    assert!(rt; two && set && second);
+    assert!(rt; interned && set);
 }

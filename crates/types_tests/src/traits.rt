@@ -7,7 +7,7 @@ use fact_entity::{
 };
 use fact_types::{
     CanonicalAbiInfo, CoreDef, DiscriminantSize, EngineOrModuleTypeIndex, FixedEncoding, FlagsSize,
-    FlatType, InterfaceType, RecordField, Signature, StringEncoding, Transcode, Trap, TypeEnum,
+    FlatType, InterfaceType, RecordField, StringEncoding, Transcode, Trap, TypeEnum,
     TypeErrorContextTable, TypeFixedLengthList, TypeFlags, TypeFunc, TypeFuture, TypeFutureTable,
     TypeList, TypeMap, TypeOption, TypeRecord, TypeResourceTable, TypeResult, TypeStream,
     TypeStreamTable, TypeTuple, TypeVariant, UnsafeIntrinsic, VariantInfo,
@@ -124,130 +124,119 @@ fn are_words_copied(alloc: Global) -> bool {
     texts && bytes && transcodes && traps && intrinsics
 }
 
-#[test]
-fn keys_and_words_are_copied(rt: HostRuntime) {
-    assert!(rt; are_keys_copied(rt.alloc()));
-    assert!(rt; are_types_copied(rt.alloc()));
-    assert!(rt; are_words_copied(rt.alloc()));
-}
-
-/// An option.
-fn option(ty: InterfaceType) -> TypeOption {
-    TypeOption {
-        ty,
-        abi: ZERO,
-        info: INFO,
-    }
-}
-
-/// A result whose error has no payload.
-fn result(ok: InterfaceType) -> TypeResult {
-    TypeResult {
-        ok: Some(ok),
-        err: None,
-        abi: ZERO,
-        info: INFO,
-    }
-}
-
-/// A map with keys of a byte.
-fn map(value: InterfaceType) -> TypeMap {
-    TypeMap {
-        key: InterfaceType::U8,
-        value,
-        entry_abi: ZERO,
-        value_offset32: 1,
-        value_offset64: 1,
-    }
-}
-
-/// Bytes of a fixed number.
-fn bytes(size: u32) -> TypeFixedLengthList {
-    TypeFixedLengthList {
-        element: InterfaceType::U8,
-        size,
-        abi: ZERO,
-    }
-}
-
 /// Whether layouts, options and results are cloned.
 fn are_sums_cloned(alloc: Global) -> bool {
-    let (ty, other) = (InterfaceType::U8, InterfaceType::Char);
+    let layouts = is_cloned(alloc, ZERO, CanonicalAbiInfo::SCALAR1);
     let moved = VariantInfo {
         payload_offset64: 8,
         ..INFO
     };
-    let layouts = is_cloned(alloc, ZERO, CanonicalAbiInfo::SCALAR1);
     let places = is_cloned(alloc, INFO, moved);
-    let options = is_cloned(alloc, option(ty), option(other));
-    let results = is_cloned(alloc, result(ty), result(other));
+    let option = TypeOption {
+        ty: InterfaceType::U8,
+        abi: ZERO,
+        info: INFO,
+    };
+    let other = TypeOption {
+        ty: InterfaceType::Char,
+        ..option
+    };
+    let options = is_cloned(alloc, option, other);
+    let result = TypeResult {
+        ok: Some(InterfaceType::U8),
+        err: None,
+        abi: ZERO,
+        info: INFO,
+    };
+    let results = is_cloned(alloc, result, TypeResult { ok: None, ..result });
     layouts && places && options && results
 }
 
-/// Whether lists, maps, futures and streams are cloned.
-fn are_sequences_cloned(alloc: Global) -> bool {
-    let (ty, other) = (InterfaceType::U8, InterfaceType::Char);
-    let (payload, no_payload) = (Some(ty), None);
-    let lists = is_cloned(alloc, TypeList { element: ty }, TypeList { element: other });
-    let maps = is_cloned(alloc, map(ty), map(other));
-    let fixed = is_cloned(alloc, bytes(2), bytes(3));
-    let futures = is_cloned(
-        alloc,
-        TypeFuture { payload },
-        TypeFuture {
-            payload: no_payload,
-        },
-    );
-    let streams = is_cloned(
-        alloc,
-        TypeStream { payload },
-        TypeStream {
-            payload: no_payload,
-        },
-    );
-    lists && maps && fixed && futures && streams
+/// Whether lists and maps are cloned.
+fn are_lists_cloned(alloc: Global) -> bool {
+    let element = InterfaceType::U8;
+    let other = TypeList {
+        element: InterfaceType::Char,
+    };
+    let lists = is_cloned(alloc, TypeList { element }, other);
+    let map = TypeMap {
+        key: element,
+        value: element,
+        entry_abi: ZERO,
+        value_offset32: 1,
+        value_offset64: 1,
+    };
+    let other = TypeMap {
+        value: InterfaceType::Char,
+        ..map
+    };
+    let maps = is_cloned(alloc, map, other);
+    let bytes = TypeFixedLengthList {
+        element,
+        size: 2,
+        abi: ZERO,
+    };
+    let fixed = is_cloned(alloc, bytes, TypeFixedLengthList { size: 3, ..bytes });
+    lists && maps && fixed
 }
 
-/// A table of the futures of an instance.
-fn futures(instance: RuntimeComponentInstanceIndex) -> TypeFutureTable {
-    TypeFutureTable {
-        ty: TypeFutureIndex::from_u32(0),
-        instance,
-    }
-}
-
-/// A table of the streams of an instance.
-fn streams(instance: RuntimeComponentInstanceIndex) -> TypeStreamTable {
-    TypeStreamTable {
-        ty: TypeStreamIndex::from_u32(0),
-        instance,
-    }
-}
-
-/// Whether tables of handles are cloned.
-fn are_tables_cloned(alloc: Global) -> bool {
+/// Whether futures, streams and the tables of them in an instance are cloned.
+fn are_ends_cloned(alloc: Global) -> bool {
+    let payload = Some(InterfaceType::U8);
     let instance = RuntimeComponentInstanceIndex::from_u32(0);
     let other = RuntimeComponentInstanceIndex::from_u32(1);
+    let futures = is_cloned(alloc, TypeFuture { payload }, TypeFuture { payload: None });
+    let streams = is_cloned(alloc, TypeStream { payload }, TypeStream { payload: None });
+    let table = TypeFutureTable {
+        ty: TypeFutureIndex::from_u32(0),
+        instance,
+    };
+    let of_futures = is_cloned(
+        alloc,
+        table,
+        TypeFutureTable {
+            instance: other,
+            ..table
+        },
+    );
+    let table = TypeStreamTable {
+        ty: TypeStreamIndex::from_u32(0),
+        instance,
+    };
+    let of_streams = is_cloned(
+        alloc,
+        table,
+        TypeStreamTable {
+            instance: other,
+            ..table
+        },
+    );
+    futures && streams && of_futures && of_streams
+}
+
+/// Whether tables of error contexts and of resources are cloned.
+fn are_tables_cloned(alloc: Global) -> bool {
+    let instance = RuntimeComponentInstanceIndex::from_u32(0);
+    let other = TypeErrorContextTable {
+        instance: RuntimeComponentInstanceIndex::from_u32(1),
+    };
+    let errors = is_cloned(alloc, TypeErrorContextTable { instance }, other);
     let concrete = TypeResourceTable::Concrete {
         ty: ResourceIndex::from_u32(0),
         instance,
     };
     let general = TypeResourceTable::Abstract(EntityRef::from_u32(0));
-    let futures = is_cloned(alloc, futures(instance), futures(other));
-    let streams = is_cloned(alloc, streams(instance), streams(other));
-    let errors = is_cloned(
-        alloc,
-        TypeErrorContextTable { instance },
-        TypeErrorContextTable { instance: other },
-    );
-    let resources = is_cloned(alloc, concrete, general);
-    futures && streams && errors && resources
+    errors && is_cloned(alloc, concrete, general)
 }
 
 #[test]
-fn entries_are_cloned(rt: HostRuntime) {
+fn plain_values_are_copied(rt: HostRuntime) {
+    assert!(rt; are_keys_copied(rt.alloc()));
+    assert!(rt; are_types_copied(rt.alloc()));
+    assert!(rt; are_words_copied(rt.alloc()));
     assert!(rt; are_sums_cloned(rt.alloc()));
-    assert!(rt; are_sequences_cloned(rt.alloc()));
+    assert!(rt; are_lists_cloned(rt.alloc()));
+    assert!(rt; are_ends_cloned(rt.alloc()));
     assert!(rt; are_tables_cloned(rt.alloc()));
 }
 
@@ -383,14 +372,6 @@ pub fn signature(alloc: Global, params: &[ValType]) -> Result<FuncType, OutOfMem
     })
 }
 
-/// The core signature of a side without parameters.
-fn side(alloc: Global, results: &[ValType]) -> Result<Signature, OutOfMemory> {
-    Ok(Signature {
-        params: Seq::new(alloc),
-        results: Seq::from_vec(results.to_vec(alloc)?),
-    })
-}
-
 /// Whether fields are cloned in both ways, and told apart by their types.
 fn fields_are_cloned(alloc: Global) -> Result<bool, OutOfMemory> {
     let first = field(alloc, "x", InterfaceType::U8)?.try_clone()?;
@@ -438,36 +419,6 @@ fn core_items_are_cloned(alloc: Global) -> bool {
     are_made_apart(alloc, flags, copy, other)
 }
 
-/// Whether texts are cloned in both ways, and told apart.
-fn texts_are_cloned(alloc: Global) -> Result<bool, OutOfMemory> {
-    let first = Text::from_str(alloc, "f0")?.try_clone()?;
-    let copy: Result<_, _> = first.clone();
-    Ok(are_made_apart(alloc, first, copy, Text::from_str(alloc, "f1")))
-}
-
-/// Whether core function types are told apart by their parameters.
-fn func_types_are_told_apart(alloc: Global) -> Result<bool, OutOfMemory> {
-    let first = signature(alloc, &[ValType::I32])?;
-    let second = signature(alloc, &[ValType::I32]);
-    let other = signature(alloc, &[ValType::I64]);
-    Ok(are_made_apart(alloc, first, second, other))
-}
-
-/// Whether core signatures of sides are told apart by their results.
-fn signatures_are_told_apart(alloc: Global) -> Result<bool, OutOfMemory> {
-    let first = side(alloc, &[])?;
-    let second = side(alloc, &[]);
-    let other = side(alloc, &[ValType::I32]);
-    Ok(are_made_apart(alloc, first, second, other))
-}
-
-/// Whether lists are cloned, and told apart by their items.
-fn lists_are_cloned(alloc: Global) -> Result<bool, OutOfMemory> {
-    let first = Seq::from_vec([ValType::F32].to_vec(alloc)?);
-    let copy: Result<_, _> = first.clone();
-    Ok(are_made_apart(alloc, first, copy, Ok(Seq::new(alloc))))
-}
-
 #[test]
 fn what_has_members_is_cloned(rt: HostRuntime) {
     assert!(rt; matches!(variants_have_order(rt.alloc()), Ok(true)));
@@ -477,14 +428,6 @@ fn what_has_members_is_cloned(rt: HostRuntime) {
     assert!(rt; matches!(records_are_cloned(rt.alloc()), Ok(true)));
     assert!(rt; matches!(tuples_are_cloned(rt.alloc()), Ok(true)));
     assert!(rt; matches!(funcs_are_cloned(rt.alloc()), Ok(true)));
-}
-
-#[test]
-fn what_adapters_name_is_cloned(rt: HostRuntime) {
     assert!(rt; matches!(exports_are_cloned(rt.alloc()), Ok(true)));
     assert!(rt; core_items_are_cloned(rt.alloc()));
-    assert!(rt; matches!(texts_are_cloned(rt.alloc()), Ok(true)));
-    assert!(rt; matches!(func_types_are_told_apart(rt.alloc()), Ok(true)));
-    assert!(rt; matches!(signatures_are_told_apart(rt.alloc()), Ok(true)));
-    assert!(rt; matches!(lists_are_cloned(rt.alloc()), Ok(true)));
 }
