@@ -4,6 +4,7 @@ use Rattle.serde_json.specs.Data.{Data}
 use Rattle.fact_wasm.specs.declared.types.FuncType.{FuncType}
 use Rattle.fact_types.specs.declared.outside.StringEncoding.TheVariants.{Utf8}
 use Rattle.fact_plan.specs.declared.plan.PlanFunc.{PlanFunc}
+use Rattle.fact_plan.specs.declared.plan.PlanType.{PlanType}
 use Rattle.fact_plan.specs.declared.plan.PlanMemory.{PlanMemory}
 use Rattle.fact_plan.specs.declared.plan.PlanSide.{PlanSide}
 use Rattle.fact_plan.specs.declared.plan.PlanAdapter.{PlanAdapter}
@@ -130,6 +131,15 @@ required_plan_keys = codes "instances" ∷ codes "types" ∷ codes "tables" ∷ 
 
 abbrev pub plan_keys : List (List ℕ)
 plan_keys = codes "instances" ∷ codes "types" ∷ codes "tables" ∷ codes "funcs" ∷ codes "core_types" ∷ codes "core_defs" ∷ codes "adapters" ∷ codes "tunables" ∷ []
+
+-- a plan, when its instances, types, tables and functions are read
+unfoldable pub rest_of_plan : ℕ → List PlanType → List (ℕ × ℕ) → List PlanFunc → Data → Result FusePlan PlanFault
+rest_of_plan instances types tables funcs d = do
+  core_types ← field (list_in core_type_in) (codes "core_types") d
+  core_defs ← field (list_in core_def_in) (codes "core_defs") d
+  adapters ← field (list_in adapter_in) (codes "adapters") d
+  tunables ← field_or tunables_in default_tunables (codes "tunables") d
+  Ok (record { instances = instances; types = types; tables = tables; funcs = funcs; core_types = core_types; core_defs = core_defs; adapters = adapters; tunables = tunables })
 
 -- a plan, by default with all tunables off, or a fault whose path begins below it
 unfoldable pub plan_in : Data → Result FusePlan PlanFault

@@ -1,13 +1,13 @@
 //! The objects of a plan, and the plan itself.
 ghost use Rattle.serde_json.specs.View.{view};
 ghost use Rattle.fact_plan.specs.Fault.{Gives};
-ghost use Rattle.fact_plan.specs.Plan.{adapter_in, core_type_in, func_in, memory_in, plan_in, plan_of, side_in, tunables_in};
+ghost use Rattle.fact_plan.specs.Plan.{adapter_in, core_type_in, func_in, memory_in, plan_in, plan_of, rest_of_plan, side_in, tunables_in};
 
 use crate::fault::PlanFault;
 use crate::parts::{FromJson, check_known, check_required, field, field_or};
-use crate::plan::{FusePlan, PlanAdapter, PlanFunc, PlanMemory, PlanSide, PlanTunables};
+use crate::plan::{FusePlan, PlanAdapter, PlanFunc, PlanMemory, PlanSide, PlanTunables, PlanType};
 use fact_types::StringEncoding;
-use fact_wasm::FuncType;
+use fact_wasm::{FuncType, Seq};
 use serde_json::Value;
 use std::alloc::Global;
 
@@ -197,7 +197,7 @@ impl FromJson for PlanTunables {
 impl FromJson for FusePlan {
     ghost reads = { plan_in };
 
-    #[tactic(auto, unfolding(crate::specs::Plan::plan_in))]
+    #[tactic(auto, unfolding(crate::specs::Plan::plan_in, crate::specs::Plan::rest_of_plan))]
     fn from_json(alloc: Global, value: &Value) -> Result<FusePlan, PlanFault> {
         check_known(alloc, value, &PLAN_KEYS)?;
         check_required(alloc, value, &REQUIRED_PLAN_KEYS)?;
@@ -205,21 +205,36 @@ impl FromJson for FusePlan {
         let types = field(alloc, value, "types")?;
         let tables = field(alloc, value, "tables")?;
         let funcs = field(alloc, value, "funcs")?;
-        let core_types = field(alloc, value, "core_types")?;
-        let core_defs = field(alloc, value, "core_defs")?;
-        let adapters = field(alloc, value, "adapters")?;
-        let tunables = field_or(alloc, value, "tunables", DEFAULT_TUNABLES)?;
-        Ok(FusePlan {
-            instances,
-            types,
-            tables,
-            funcs,
-            core_types,
-            core_defs,
-            adapters,
-            tunables,
-        })
+        rest_of_plan(alloc, value, instances, types, tables, funcs)
     }
+}
+
+/// A plan, when its instances, types, tables and functions are read.
+#[tactic(auto, unfolding(crate::specs::Plan::rest_of_plan))]
+fn rest_of_plan(
+    alloc: Global,
+    value: &Value,
+    instances: u32,
+    types: Seq<PlanType>,
+    tables: Seq<(u32, u32)>,
+    funcs: Seq<PlanFunc>,
+) -> Result<FusePlan, PlanFault>
+    ensures { Gives (rest_of_plan instances types tables funcs (view value.now)) result }
+{
+    let core_types = field(alloc, value, "core_types")?;
+    let core_defs = field(alloc, value, "core_defs")?;
+    let adapters = field(alloc, value, "adapters")?;
+    let tunables = field_or(alloc, value, "tunables", DEFAULT_TUNABLES)?;
+    Ok(FusePlan {
+        instances,
+        types,
+        tables,
+        funcs,
+        core_types,
+        core_defs,
+        adapters,
+        tunables,
+    })
 }
 
 /// The plan that stands in a JSON value, or the first fault in it: in each object the least unknown key by bytes, then
