@@ -24,21 +24,13 @@ fn is_placed<Table>(key: Id<Table>, number: u32, other: Id<Table>, before: bool)
     }
 }
 
-/// The numbers of the keys of a table with their entries, in order.
-fn numbered<K: EntityRef>(
-    alloc: Global,
-    table: &PrimaryMap<K, u64>,
-) -> Result<Vec<(u32, u64)>, AllocError> {
-    table
-        .iter()
-        .map(|(key, entry)| (key.as_u32(), *entry))
-        .collect(alloc)
-}
-
 /// Whether a table has two entries, in order.
-fn has_two(alloc: Global, table: &PrimaryMap<TypeRecordIndex, u64>) -> Result<bool, AllocError> {
-    let entries = numbered(alloc, table)?;
-    Ok(table.len() == 2 && entries.as_slice() == [(0, 40), (1, 50)].as_slice())
+fn has_two(table: &PrimaryMap<TypeRecordIndex, u64>) -> bool {
+    let mut pairs = table.iter();
+    table.len() == 2
+        && matches!(pairs.next(), Some((key, entry)) if key.as_u32() == 0 && *entry == 40)
+        && matches!(pairs.next(), Some((key, entry)) if key.as_u32() == 1 && *entry == 50)
+        && pairs.next().is_none()
 }
 
 /// Whether two entries stand where they are put, with nothing behind them.
@@ -60,10 +52,10 @@ fn puts_two(table: &mut PrimaryMap<TypeRecordIndex, u64>) -> Result<bool, PushEr
 fn tables_answer_places(rt: HostRuntime) {
     let mut table = PrimaryMap::new(rt.alloc());
     let put = puts_two(&mut table);
-    let read = has_two(rt.alloc(), &table);
+    let read = has_two(&table);
     drop(table);
     assert!(rt; matches!(put, Ok(true)));
-    assert!(rt; matches!(read, Ok(true)));
+    assert!(rt; read);
 }
 
 type Ids = Interner<TypeVariantIndex, ComponentAnyTypeId>;
@@ -116,16 +108,14 @@ fn equal_values_have_one_key(rt: HostRuntime) {
 }
 
 /// Whether an error is shown in these words.
-fn is_shown(alloc: Global, error: PushError, words: &str) -> Result<bool, AllocError> {
-    let shown = format!(in alloc; "{error}")?;
-    Ok(shown.as_str() == words)
+fn is_shown(alloc: Global, error: PushError, words: &str) -> bool {
+    matches!(format!(in alloc; "{error}"), Ok(shown) if shown.as_str() == words)
 }
 
 /// Whether a key is shown as a number.
-fn is_key_shown(alloc: Global) -> Result<bool, AllocError> {
+fn is_key_shown(alloc: Global) -> bool {
     let key = TypeRecordIndex::from_u32(7);
-    let shown = format!(in alloc; "{key:?}")?;
-    Ok(shown.as_str() == "Id { number: 7, .. }")
+    matches!(format!(in alloc; "{key:?}"), Ok(shown) if shown.as_str() == "Id { number: 7, .. }")
 }
 
 #[test]
@@ -136,17 +126,7 @@ fn keys_are_numbers(rt: HostRuntime) {
     assert!(rt; has_number::<TypeVariantIndex>(0));
     assert!(rt; has_number::<OptionsIndex>(u32::MAX));
     assert!(rt; has_number::<ResourceId>(9));
-    assert!(rt; matches!(is_key_shown(rt.alloc()), Ok(true)));
-    assert!(rt;
-        matches!(
-            is_shown(rt.alloc(), PushError::from(AllocError), "out of memory"),
-            Ok(true)
-        )
-    );
-    assert!(rt;
-        matches!(
-            is_shown(rt.alloc(), PushError::TooLarge, "table too large"),
-            Ok(true)
-        )
-    );
+    assert!(rt; is_key_shown(rt.alloc()));
+    assert!(rt; is_shown(rt.alloc(), PushError::from(AllocError), "out of memory"));
+    assert!(rt; is_shown(rt.alloc(), PushError::TooLarge, "table too large"));
 }
