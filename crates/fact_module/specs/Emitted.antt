@@ -65,6 +65,10 @@ HasType old new ty = (new ≡ old) ⊎ ((Contains old.types ty → ⊥) × (new 
 abbrev pub with_function : Emitted → List ℕ → WasmFunc → Emitted
 with_function s name f = record s { functions = s.functions ++ f ∷ []; exports = s.exports ++ record { name = name; func = func.Defined (length s.functions) } ∷ [] }
 
+-- the same of a module
+abbrev pub with_exported_function : WasmModule → List ℕ → WasmFunc → WasmModule
+with_exported_function m name f = record m { funcs = m.funcs ++ f ∷ []; exports = m.exports ++ record { name = name; func = func.Defined (length m.funcs) } ∷ [] }
+
 -- ---- what they import
 
 abbrev pub flags_import : ℕ → WasmImport

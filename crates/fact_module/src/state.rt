@@ -1,7 +1,7 @@
 //! The parts of a module that is being made.
 
-ghost use Rattle.std.specs.Prelude.{◌≡◌, ◌+◌, ◌<◌, ◌≤◌, ◌^◌, Some, slice_get, length, IfOk, IsFalse, OnOk, true};
-ghost use Rattle.fact_module.specs.Emitted.{Adds, AddsTrap, HasType, Imports, in_parts, module_of, flags as flags_known, flags_import as flags_import_of, function_import as function_import_of, functions_of, globals_of, nothing_emitted, with_function};
+ghost use Rattle.std.specs.Prelude.{◌≡◌, ◌+◌, ◌++◌, ◌∷◌, [], ◌<◌, ◌≤◌, ◌^◌, Contains, None, Some, position, slice_get, length, IfOk, IsFalse, OnOk, true};
+ghost use Rattle.fact_module.specs.Emitted.{Adds, AddsTrap, HasType, Imports, in_parts, module_of, flags as flags_known, flags_import as flags_import_of, function_import as function_import_of, functions_of, globals_of, nothing_emitted, with_exported_function, with_function};
 ghost use Rattle.fact_module.specs.Runs.{flags_place};
 ghost use Rattle.fact_module.specs.Imported.{known_as};
 
@@ -10,7 +10,8 @@ use crate::imported::{ImportedFunction, flags_import, function_import};
 use fact_entity::{EntityRef, FuncIndex, GlobalIndex, Interner, RuntimeComponentInstanceIndex};
 use fact_types::{CoreDef, Import, Trap};
 use fact_wasm::{
-    CoreTypes, FuncName, FuncType, OutOfMemory, Seq, Text, WasmExport, WasmFunc, WasmModule,
+    CoreTypes, FuncName, FuncType, OutOfMemory, Seq, Text, WasmExport, WasmFunc, WasmImport,
+    WasmModule,
 };
 use std::alloc::{AllocError, Global};
 use std::marker::Model;
@@ -50,6 +51,55 @@ impl Model for ModuleState {
     ghost view = { λ s. record { types = s.types; section = s.module.imports; imports = s.imports; functions = s.module.funcs; exports = s.module.exports; whole = s.whole } };
 
     ghost invariant = { λ s. IsTrue s.whole → IsIndexed (record { types = s.types; section = s.module.imports; imports = s.imports; functions = s.module.funcs; exports = s.module.exports; whole = s.whole }) s.flags s.imported };
+}
+
+/// Puts an import, and what it is, behind the others.
+fn push_import(
+    section: &mut Seq<WasmImport>,
+    imports: &mut Seq<Import>,
+    import: WasmImport,
+    known: Import,
+) -> Result<(), OutOfMemory>
+    ensures { OnOk result ((section.new ≡ section.old ++ import ∷ []) × (imports.new ≡ imports.old ++ known ∷ [])) }
+{
+    section.push(import)?;
+    imports.push(known)
+}
+
+/// Puts a function that is not among the imported ones, and its import, behind the others, and answers its place.
+fn add_import(
+    section: &mut Seq<WasmImport>,
+    imports: &mut Seq<Import>,
+    imported: &mut Interner<FuncIndex, ImportedFunction>,
+    function: ImportedFunction,
+    import: WasmImport,
+) -> Result<u32, OutOfMemory>
+    requires { position (⟦<ImportedFunction as PartialEq>⟧.eq function) imported.old ≡ None }
+    ensures { IfOk result (λ n. (section.new ≡ section.old ++ import ∷ []) × (imports.new ≡ imports.old ++ known_as function ∷ [])
+        × (imported.new ≡ imported.old ++ function ∷ []) × (slice_get imported.new n ≡ Some function) × (Contains imported.old function → ⊥)) }
+{
+    let known = function.import()?;
+    push_import(section, imports, import, known)?;
+    match imported.add_new(function) {
+        Ok(place) => Ok(place.as_u32()),
+        Err(_) => Err(AllocError),
+    }
+}
+
+/// Puts a function behind those of a module that has room for it, exported under a name.
+fn push_function(
+    alloc: Global,
+    section: &mut WasmModule,
+    name: &str,
+    function: WasmFunc,
+) -> Result<(), OutOfMemory>
+    requires { length section.old.funcs < 2 ^ 32 }
+    ensures { OnOk result (section.new ≡ with_exported_function section.old name.now function) }
+{
+    let func = FuncName::Defined(section.funcs.len() as u32);
+    let name = Text::from_str(alloc, name)?;
+    section.exports.push(WasmExport { name, func })?;
+    section.funcs.push(function)
 }
 
 impl ModuleState {
@@ -155,17 +205,15 @@ impl ModuleState {
     /// The place of an instance's flags among the imported globals.
     fn import_flags(&mut self, instance: RuntimeComponentInstanceIndex) -> Result<u32, OutOfMemory>
         requires whole { self.old.whole ≡ true }
-        ensures place { IfOk result (λ n. flags_place instance.number (globals_of self.new) ≡ Some n) }
-        ensures imports { OnOk result (Imports self.old self.new (flags_import_of instance.number) (flags_known instance)) }
+        ensures { IfOk result (λ n. (flags_place instance.number (globals_of self.new) ≡ Some n) × Imports self.old self.new (flags_import_of instance.number) (flags_known instance)) }
     {
         if let Some(place) = self.flags.find(&instance) {
             return Ok(place.as_u32());
         }
         let import = flags_import(self.alloc, instance.as_u32())?;
+        let known = Import::CoreDef(CoreDef::InstanceFlags(instance));
         self.whole = false;
-        self.module.imports.push(import)?;
-        self.imports
-            .push(Import::CoreDef(CoreDef::InstanceFlags(instance)))?;
+        push_import(&mut self.module.imports, &mut self.imports, import, known)?;
         let Ok(place) = self.flags.add_new(instance) else {
             return Err(AllocError);
         };
@@ -182,25 +230,26 @@ impl ModuleState {
         ty: u32,
     ) -> Result<u32, OutOfMemory>
         requires whole { self.old.whole ≡ true }
-        ensures place { IfOk result (λ n. slice_get (functions_of self.new) n ≡ Some (known_as function)) }
-        ensures imports { OnOk result (Imports self.old self.new (function_import_of origin.now name.now ty) (known_as function)) }
+        ensures { IfOk result (λ n. (slice_get (functions_of self.new) n ≡ Some (known_as function)) × Imports self.old self.new (function_import_of origin.now name.now ty) (known_as function)) }
     {
+        let full = self.is_full();
         if let Some(place) = self.imported.find(&function) {
             return Ok(place.as_u32());
         }
-        if self.is_full() {
+        if full {
             return Err(AllocError);
         }
         let import = function_import(self.alloc, origin, name, ty)?;
-        let known = function.import()?;
         self.whole = false;
-        self.module.imports.push(import)?;
-        self.imports.push(known)?;
-        let Ok(place) = self.imported.add_new(function) else {
-            return Err(AllocError);
-        };
+        let place = add_import(
+            &mut self.module.imports,
+            &mut self.imports,
+            &mut self.imported,
+            function,
+            import,
+        )?;
         self.whole = true;
-        Ok(place.as_u32())
+        Ok(place)
     }
 
     /// Whether no further function has a number.
@@ -219,14 +268,8 @@ impl ModuleState {
         if self.is_full() {
             return Err(AllocError);
         }
-        let number = self.module.funcs.len() as u32;
-        let name = Text::from_str(self.alloc, name)?;
         self.whole = false;
-        self.module.funcs.push(function)?;
-        self.module.exports.push(WasmExport {
-            name,
-            func: FuncName::Defined(number),
-        })?;
+        push_function(self.alloc, &mut self.module, name, function)?;
         self.whole = true;
         Ok(())
     }

@@ -11,6 +11,6 @@ returns c =
       typed = c.type_index.new.self;
       types = subst (λ (t : FuncType). HasType c.args.self.now c.type_index.new.self t) void c.in_ok-ty.ensures.types;
       ty_there = c.in_ok-ty.ensures.place ∙ ap Some void;
-      imports = c.in_ok-place.ensures.imports;
-      is_there = c.in_ok-place.ensures.place;
+      imports = c.in_ok-place.ensures.1;
+      is_there = c.in_ok-place.ensures.0;
     }
