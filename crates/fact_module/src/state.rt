@@ -62,7 +62,10 @@ fn push_import(
 ) -> Result<(), OutOfMemory>
     ensures { OnOk result ((section.new ≡ section.old ++ import ∷ []) × (imports.new ≡ imports.old ++ known ∷ [])) }
 {
-    section.push(import)?;
+    if let Err(error) = section.push(import) {
+        drop(known);
+        return Err(error);
+    }
     imports.push(known)
 }
 
@@ -78,8 +81,15 @@ fn add_import(
     ensures { IfOk result (λ n. (section.new ≡ section.old ++ import ∷ []) × (imports.new ≡ imports.old ++ known_as function ∷ [])
         × (imported.new ≡ imported.old ++ function ∷ []) × (slice_get imported.new n ≡ Some function) × (Contains imported.old function → ⊥)) }
 {
-    let known = function.import()?;
-    push_import(section, imports, import, known)?;
+    let Ok(known) = function.import() else {
+        drop(import);
+        drop(function);
+        return Err(AllocError);
+    };
+    if let Err(error) = push_import(section, imports, import, known) {
+        drop(function);
+        return Err(error);
+    }
     match imported.add_new(function) {
         Ok(place) => Ok(place.as_u32()),
         Err(_) => Err(AllocError),
@@ -97,8 +107,14 @@ fn push_function(
     ensures { OnOk result (section.new ≡ with_exported_function section.old name.now function) }
 {
     let func = FuncName::Defined(section.funcs.len() as u32);
-    let name = Text::from_str(alloc, name)?;
-    section.exports.push(WasmExport { name, func })?;
+    let Ok(name) = Text::from_str(alloc, name) else {
+        drop(function);
+        return Err(AllocError);
+    };
+    if let Err(error) = section.exports.push(WasmExport { name, func }) {
+        drop(function);
+        return Err(error);
+    }
     section.funcs.push(function)
 }
 
@@ -151,12 +167,18 @@ impl ModuleState {
         ensures numbered { length (functions_of self.now) + length self.now.functions < 2 ^ 32 }
     {
         let WasmModule {
+            types: none,
             imports,
             funcs,
             exports,
-            ..
         } = self.module.try_clone()?;
-        let types = self.types.copied_types()?;
+        drop(none);
+        let Ok(types) = self.types.copied_types() else {
+            drop(imports);
+            drop(funcs);
+            drop(exports);
+            return Err(AllocError);
+        };
         Ok(WasmModule {
             types,
             imports,
@@ -234,12 +256,17 @@ impl ModuleState {
     {
         let full = self.is_full();
         if let Some(place) = self.imported.find(&function) {
+            drop(function);
             return Ok(place.as_u32());
         }
         if full {
+            drop(function);
             return Err(AllocError);
         }
-        let import = function_import(self.alloc, origin, name, ty)?;
+        let Ok(import) = function_import(self.alloc, origin, name, ty) else {
+            drop(function);
+            return Err(AllocError);
+        };
         self.whole = false;
         let place = add_import(
             &mut self.module.imports,
@@ -266,6 +293,7 @@ impl ModuleState {
         ensures { OnOk result (self.new ≡ with_function self.old name.now function) }
     {
         if self.is_full() {
+            drop(function);
             return Err(AllocError);
         }
         self.whole = false;
@@ -314,7 +342,9 @@ impl ModuleState {
             params: Seq::new(self.alloc),
             results: Seq::new(self.alloc),
         };
-        let ty = self.type_index(&void)?;
+        let ty = self.type_index(&void);
+        drop(void);
+        let ty = ty?;
         let trap = ImportedFunction::Trap(Trap::CannotLeaveComponent);
         let place = self.import_function(trap, "runtime", "trap0", ty)?;
         Ok(place)

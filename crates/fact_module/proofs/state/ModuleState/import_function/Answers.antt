@@ -16,10 +16,10 @@ pub invariant_of-self-2 : goal.invariant_of-self-2
 invariant_of-self-2 c whole =
     let made = c.in_ok-place.ensures in
     function-indexed (the_view c.self.inside) c.args.self.now c.self.view_is c.requires.whole c.self.inside.flags c.self.inside.imported c.self.invariant (c.is_full-full.ensures c.if-full.false)
-    c.args.origin.now c.args.name.now c.args.ty c.args.function _ _ _ _ c.in_ok-import.ensures made.0 made.1 made.2
+    c.args.origin.now c.args.name.now c.args.ty c.args.function _ _ _ _ c.in-Ok.ensures made.0 made.1 made.2
 
 pub returns : goal.returns
 returns c =
     let made = c.in_ok-place.ensures in
     function-added (the_view c.self.inside) c.args.self.now c.self.view_is c.requires.whole c.self.inside.flags c.self.inside.imported c.self.invariant (c.is_full-full.ensures c.if-full.false)
-    c.args.origin.now c.args.name.now c.args.ty c.args.function _ _ _ _ c.in_ok-import.ensures made.0 made.1 made.2 _ made.3 made.4
+    c.args.origin.now c.args.name.now c.args.ty c.args.function _ _ _ _ c.in-Ok.ensures made.0 made.1 made.2 _ made.3 made.4

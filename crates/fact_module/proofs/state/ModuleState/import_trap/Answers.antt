@@ -8,8 +8,8 @@ returns c =
     let void : ◌≡◌ {A = FuncType} (record { params = c.new.result; results = c.new-2.result }) no_type = λ k. record { params = c.new.ensures k; results = c.new-2.ensures k } in
     record {
       ty = c.in_ok-ty.ty;
-      typed = c.type_index.new.self;
-      types = subst (λ (t : FuncType). HasType c.args.self.now c.type_index.new.self t) void c.in_ok-ty.ensures.types;
+      typed = c.type_index-ty.new.self;
+      types = subst (λ (t : FuncType). HasType c.args.self.now c.type_index-ty.new.self t) void c.in_ok-ty.ensures.types;
       ty_there = c.in_ok-ty.ensures.place ∙ ap Some void;
       imports = c.in_ok-place.ensures.1;
       is_there = c.in_ok-place.ensures.0;
