@@ -42,9 +42,17 @@ impl ComponentDfg {
             return self.adapters.push(adapter);
         }
         if self.adapters.len() == MOST_ADAPTERS {
+            drop(adapter);
             return Err(PushError::TooLarge);
         }
-        self.transparent_adapters.push(self.adapters.next_key())?;
+        if self
+            .transparent_adapters
+            .push(self.adapters.next_key())
+            .is_err()
+        {
+            drop(adapter);
+            return Err(PushError::OutOfMemory);
+        }
         let added = self.adapters.push(adapter);
         if added.is_err() {
             self.transparent_adapters.pop();

@@ -17,7 +17,7 @@ use fact_plan::{FusePlan, PlanAdapter};
 use fact_plan_types::PlanTypes;
 use fact_types::Import;
 use fact_wasm::{OutOfMemory, Seq, WasmModule, encode};
-use std::alloc::Global;
+use std::alloc::{AllocError, Global};
 
 /// An adapter module: as a tree, as the bytes that spell it, and what its imports are, in the order of its import section.
 #[derive(Drop)]
@@ -49,7 +49,9 @@ fn take_adapter(
         transparent: adapter.transparent,
         adapter: &linked,
     };
-    made.take(k as u32, &candidate)
+    let taken = made.take(k as u32, &candidate);
+    drop(linked);
+    taken
 }
 
 /// Takes the adapters of a plan.
@@ -73,7 +75,11 @@ fn spelled(alloc: Global, module: WasmModule, imports: Seq<Import>) -> Result<Fu
     requires { InRange «module» }
     ensures fused { IfOk result (λ f. (f.module ≡ «module») × (f.imports ≡ imports) × Spells f.bytes «module») }
 {
-    let bytes = encode(alloc, &module)?;
+    let Ok(bytes) = encode(alloc, &module) else {
+        drop(module);
+        drop(imports);
+        return Err(AllocError);
+    };
     Ok(Fused {
         module,
         bytes: Seq::from_vec(bytes),

@@ -29,7 +29,7 @@ use fact_entity::{AdapterId, EntityRef};
 use fact_type_rules::FunctionTypes;
 use fact_types::Import;
 use fact_wasm::{OutOfMemory, Seq, WasmModule, encode};
-use std::alloc::Global;
+use std::alloc::{AllocError, Global};
 use std::marker::Model;
 
 /// A module to which adapters are added one after another, over the types of a builder. Contracts see it as the list of the
@@ -86,7 +86,6 @@ fn emit(
     ensures refused { OnErr result (taken.new.items ≡ taken.old.items) }
 {
     let adapter = candidate.adapter;
-    let copy = copy_candidate(alloc, candidate)?;
     state.add_adapter(
         candidate.name,
         adapter.lift_options.instance,
@@ -94,8 +93,14 @@ fn emit(
         &adapter.func,
         &builder[adapter.lift_options.core_type],
     )?;
-    taken.push(copy)?;
-    Ok(())
+    let copy = copy_candidate(alloc, candidate)?;
+    match taken.push(copy) {
+        Ok(()) => Ok(()),
+        Err(copy) => {
+            drop(copy);
+            Err(AllocError)
+        }
+    }
 }
 
 impl<'a> Module<'a> {
@@ -254,7 +259,9 @@ impl<'a> Module<'a> {
         ensures lost { self.old.whole ≡ false → result ≡ Err FuseError.OutOfMemory }
     {
         let module = self.build()?;
-        Ok(encode(self.alloc, &module)?)
+        let bytes = encode(self.alloc, &module);
+        drop(module);
+        Ok(bytes?)
     }
 
     /// The module, and what its imports are.
@@ -264,7 +271,16 @@ impl<'a> Module<'a> {
         ensures in_range { InRange result.0 }
         ensures promised { (adapters : List LinkedAdapter) → AreTaken self.entry adapters → Promised result.0 self.entry.imports self.entry.tunables self.entry.features adapters }
     {
-        let Module { state, .. } = self;
+        let Module {
+            types,
+            checks,
+            taken,
+            state,
+            ..
+        } = self;
+        drop(types);
+        drop(checks);
+        drop(taken);
         state.into_parts()
     }
 

@@ -6,7 +6,7 @@ ghost use Rattle.fact_module.specs.Collected.{taken_of};
 use fact_checks::{Adapter, AdapterOptionsDfg, Candidate, MemoryOption};
 use fact_types::CoreDef;
 use fact_wasm::{OutOfMemory, Text};
-use std::alloc::Global;
+use std::alloc::{AllocError, Global};
 
 /// An adapter that a module took, under its name.
 #[derive(Drop)]
@@ -33,15 +33,54 @@ fn copy_memory(memory: &Option<MemoryOption>) -> Result<Option<MemoryOption>, Ou
 fn copy_options(options: &AdapterOptionsDfg) -> Result<AdapterOptionsDfg, OutOfMemory>
     ensures { IfOk result (λ copy. copy ≡ options.now) }
 {
+    // What is owned ends by a call: the end of its scope would have a long proof.
+    let memory = copy_memory(&options.memory)?;
+    let Ok(realloc) = CoreDef::try_clone_option(&options.realloc) else {
+        drop(memory);
+        return Err(AllocError);
+    };
+    let Ok(callback) = CoreDef::try_clone_option(&options.callback) else {
+        drop(memory);
+        drop(realloc);
+        return Err(AllocError);
+    };
+    let Ok(post_return) = CoreDef::try_clone_option(&options.post_return) else {
+        drop(memory);
+        drop(realloc);
+        drop(callback);
+        return Err(AllocError);
+    };
     Ok(AdapterOptionsDfg {
         instance: options.instance,
         string_encoding: options.string_encoding,
-        memory: copy_memory(&options.memory)?,
-        realloc: CoreDef::try_clone_option(&options.realloc)?,
-        callback: CoreDef::try_clone_option(&options.callback)?,
-        post_return: CoreDef::try_clone_option(&options.post_return)?,
+        memory,
+        realloc,
+        callback,
+        post_return,
         async_: options.async_,
         core_type: options.core_type,
+    })
+}
+
+fn copy_adapter(adapter: &Adapter) -> Result<Adapter, OutOfMemory>
+    ensures { IfOk result (λ copy. copy ≡ adapter.now) }
+{
+    let func = adapter.func.try_clone()?;
+    let Ok(lift_options) = copy_options(&adapter.lift_options) else {
+        drop(func);
+        return Err(AllocError);
+    };
+    let Ok(lower_options) = copy_options(&adapter.lower_options) else {
+        drop(func);
+        drop(lift_options);
+        return Err(AllocError);
+    };
+    Ok(Adapter {
+        lift_ty: adapter.lift_ty,
+        lift_options,
+        lower_ty: adapter.lower_ty,
+        lower_options,
+        func,
     })
 }
 
@@ -49,16 +88,14 @@ fn copy_options(options: &AdapterOptionsDfg) -> Result<AdapterOptionsDfg, OutOfM
 pub fn copy_candidate(alloc: Global, candidate: &Candidate<'_>) -> Result<TakenAdapter, OutOfMemory>
     ensures { IfOk result (λ taken. taken ≡ taken_of candidate.now) }
 {
-    let adapter = candidate.adapter;
+    let adapter = copy_adapter(candidate.adapter)?;
+    let Ok(name) = Text::from_str(alloc, candidate.name) else {
+        drop(adapter);
+        return Err(AllocError);
+    };
     Ok(TakenAdapter {
-        name: Text::from_str(alloc, candidate.name)?,
+        name,
         transparent: candidate.transparent,
-        adapter: Adapter {
-            lift_ty: adapter.lift_ty,
-            lift_options: copy_options(&adapter.lift_options)?,
-            lower_ty: adapter.lower_ty,
-            lower_options: copy_options(&adapter.lower_options)?,
-            func: adapter.func.try_clone()?,
-        },
+        adapter,
     })
 }
