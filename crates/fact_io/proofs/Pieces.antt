@@ -32,8 +32,6 @@ TakesUpTo-more old mid new bytes most all before more fits = record {
   within = omega (arith, length-append bytes more.bytes, more.within);
 }
 
--- n bytes that are left, copied to the front of a buffer
-pub Consumes-copied : (bytes copy behind : List ℕ) (at n : ℕ) → at + n ≤ length bytes → copy ≡ take n (drop at bytes) → drop at bytes ≡ take n (copy ++ behind) ++ drop (at + n) bytes
-Consumes-copied bytes copy behind at n fits e =
-    let here : take n (copy ++ behind) ≡ take n (drop at bytes) = grind (arith, common_steps) in
-    rw (here, ← drop-drop n at bytes) (sym (take-append-drop n (drop at bytes)))
+-- n bytes that are left, at the front of a buffer
+pub Consumes-front : (bytes buf : List ℕ) (at n : ℕ) → take n buf ≡ take n (drop at bytes) → drop at bytes ≡ take n buf ++ drop (at + n) bytes
+Consumes-front bytes buf at n e = rw (e, ← drop-drop n at bytes) (sym (take-append-drop n (drop at bytes)))

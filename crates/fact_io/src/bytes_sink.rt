@@ -1,13 +1,13 @@
 //! A sink in memory.
 
-ghost use Rattle.std.specs.Prelude.{◌≡◌, ◌≤◌, ◌<◌, ◌+◌, ◌-◌, ◌++◌, ◌⊎◌, ◌↔◌, [], Some, min, take, length, vec_len, vec_capacity, Contains, IfOk, OnOk, OnErr, IsErr};
+ghost use Rattle.std.specs.Prelude.{◌≡◌, ◌≤◌, ◌<◌, ◌+◌, ◌-◌, ◌++◌, ◌⊎◌, ◌↔◌, [], Some, min, take, length, vec_len, vec_capacity, Contains, IfOk, OnOk, OnErr, IsErr, IsTrue};
 ghost use Rattle.std.specs.Io.{WritesAtMost};
 ghost use Rattle.std.specs.Io.KnownBytes.{WriteAppends};
 ghost use Rattle.fact_io.specs.Faults.{Rose, next_count};
 ghost use Rattle.fact_io.specs.Memory.{SinkState};
 
 use crate::OutOfMemory;
-use crate::calls::count_call;
+use crate::calls::{count_call, count_fault};
 use crate::sink::{Sink, WriteFailed};
 use std::alloc::Global;
 use std::marker::Model;
@@ -111,12 +111,19 @@ impl Sink for BytesSink {
     {
         let is_listed = count_call(&mut self.calls, &self.failing);
         let room = self.room - self.bytes.len();
-        if is_listed || (room == 0 && !piece.is_empty()) {
-            self.faults = self.faults.saturating_add(1);
+        if is_refused(is_listed, room, piece) {
+            count_fault(&mut self.faults);
             return Err(WriteFailed);
         }
         let count = piece.len().min(self.piece).min(room);
         self.bytes.extend_from_slice(&piece[..count]).unwrap();
         Ok(count)
     }
+}
+
+/// Whether a call fails: its number is a listed one, or there is no room for its bytes.
+fn is_refused(is_listed: bool, room: usize, piece: &[u8]) -> bool
+    ensures { IsTrue result ↔ (IsTrue is_listed ⊎ ((0 < length piece.now) × (room ≡ 0))) }
+{
+    is_listed || (room == 0 && !piece.is_empty())
 }

@@ -1,12 +1,12 @@
 //! A source in memory.
 
-ghost use Rattle.std.specs.Prelude.{◌≡◌, ◌≤◌, ◌+◌, ◌↔◌, Some, min, drop, length, vec_len, Contains, IfOk, OnOk, OnErr, IsErr};
+ghost use Rattle.std.specs.Prelude.{◌≡◌, ◌≤◌, ◌+◌, ◌↔◌, Some, min, drop, length, take, vec_len, Contains, IfOk, OnOk, OnErr, IsErr};
 ghost use Rattle.std.specs.Io.{ReadsAtMost};
 ghost use Rattle.std.specs.Io.KnownBytes.{ReadConsumes};
 ghost use Rattle.fact_io.specs.Faults.{Rose, next_count};
 ghost use Rattle.fact_io.specs.Memory.{SourceState};
 
-use crate::calls::count_call;
+use crate::calls::{count_call, count_fault};
 use crate::source::{ReadFailed, Source};
 use std::marker::Model;
 
@@ -87,13 +87,22 @@ impl Source for BytesSource {
         }) }
     {
         if count_call(&mut self.calls, &self.failing) {
-            self.faults = self.faults.saturating_add(1);
+            count_fault(&mut self.faults);
             return Err(ReadFailed);
         }
-        let left = &self.bytes[self.at..];
-        let count = buf.len().min(self.piece).min(left.len());
-        buf[..count].copy_from_slice(&left[..count]);
+        let count = copy_front(&self.bytes[self.at..], self.piece, buf);
         self.at += count;
         Ok(count)
     }
+}
+
+/// Copies the first bytes to the front of a buffer, as many as fit and at most so many, and gives their number.
+fn copy_front(bytes: &[u8], most: usize, buf: &mut [u8]) -> usize
+    ensures count { result ≡ min (length buf.old) (min most (length bytes.now)) }
+    ensures room { length buf.new ≡ length buf.old }
+    ensures front { take result buf.new ≡ take result bytes.now }
+{
+    let count = buf.len().min(most).min(bytes.len());
+    buf[..count].copy_from_slice(&bytes[..count]);
+    count
 }

@@ -1,7 +1,7 @@
-//! Calls that are counted, some of which are to fail.
+//! Calls and faults that are counted. Some calls are to fail.
 
-ghost use Rattle.std.specs.Prelude.{◌≡◌, ◌+◌, ◌↔◌, Contains, IsTrue};
-ghost use Rattle.fact_io.specs.Faults.{next_count};
+ghost use Rattle.std.specs.Prelude.{◌≡◌, ◌≤◌, ◌+◌, ◌↔◌, Contains, IsTrue};
+ghost use Rattle.fact_io.specs.Faults.{Rose, next_count};
 
 /// Counts a call, and says whether its number is a listed one. A call past the last number of 64 bits has no number.
 pub fn count_call(calls: &mut u64, failing: &[u64]) -> bool
@@ -15,4 +15,13 @@ pub fn count_call(calls: &mut u64, failing: &[u64]) -> bool
         }
         None => false,
     }
+}
+
+/// Counts a fault, up to the last value of a count.
+pub fn count_fault(faults: &mut u64)
+    ensures counted { faults.new ≡ next_count faults.old }
+    ensures rose { Rose faults.old faults.new }
+    ensures never_falls { faults.old ≤ faults.new }
+{
+    *faults = faults.saturating_add(1);
 }

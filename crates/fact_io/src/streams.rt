@@ -6,6 +6,7 @@ ghost use Rattle.std.specs.Io.KnownBytes.{ReadConsumes, WriteAppends};
 ghost use Rattle.fact_io.specs.Faults.{Rose, next_count};
 ghost use Rattle.fact_io.specs.Streams.{ReaderState, WriterState};
 
+use crate::calls::count_fault;
 use crate::sink::{Sink, WriteFailed};
 use crate::source::{ReadFailed, Source};
 use std::io::{Read, Stderr, Stdin, Stdout, Write};
@@ -50,7 +51,7 @@ impl<R: Read> Source for ReaderSource<R> {
         match self.reader.read(buf) {
             Ok(count) => Ok(count),
             Err(_) => {
-                self.faults = self.faults.saturating_add(1);
+                count_fault(&mut self.faults);
                 Err(ReadFailed)
             }
         }
@@ -98,7 +99,7 @@ impl<W: Write> Sink for WriterSink<W> {
         match self.writer.write(piece) {
             Ok(count) if count > 0 || piece.is_empty() => Ok(count),
             _ => {
-                self.faults = self.faults.saturating_add(1);
+                count_fault(&mut self.faults);
                 Err(WriteFailed)
             }
         }
