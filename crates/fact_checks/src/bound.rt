@@ -2,8 +2,9 @@
 
 ghost use Rattle.std.specs.Prelude.{◌≡◌, ◌↔◌, List, [], IfOk, IsFalse, IsTrue, length, take};
 ghost use Rattle.std.specs.List.{flat_map};
-ghost use Rattle.fact_uses.specs.Bindings.{Covers};
+ghost use Rattle.fact_uses.specs.Bindings.{AreConsistent, Covers};
 ghost use Rattle.fact_uses.specs.Fronts.{IsFront};
+ghost use Rattle.fact_builder.specs.Builder.{Builder};
 ghost use Rattle.fact_types.specs.Adapters.{LinkedAdapter};
 ghost use Rattle.fact_checks.specs.AdapterRules.{HasBadMemory, HasDuplicateName, HasImportConflict, export_names, memories_of, reallocs_of, uses_of, with};
 ghost use Rattle.fact_checks.specs.Binding.{AreAllDifferent};
@@ -67,6 +68,40 @@ impl Bound {
     }
 }
 
+/// Whether a memory of an adapter is named under another instance too. Where not, its memories are bound.
+fn shares_memory(
+    alloc: Global,
+    bound: &mut Bindings<u32>,
+    adapter: &Adapter,
+) -> Result<bool, OutOfMemory>
+    ensures exact { IfOk result (λ found. (b : Builder) (before : List LinkedAdapter) (a : LinkedAdapter) → HasSides b adapter.now a
+        → Covers bound.old (flat_map memories_of before) → (IsTrue found ↔ (AreConsistent (flat_map memories_of (with before a)) → ⊥))) }
+    ensures bound { IfOk result (λ found. IsFalse found → (b : Builder) (before : List LinkedAdapter) (a : LinkedAdapter) → HasSides b adapter.now a
+        → Covers bound.old (flat_map memories_of before) → Covers bound.new (flat_map memories_of (with before a))) }
+    ensures front { IsFront bound.old bound.new }
+{
+    let pairs = memories(alloc, adapter)?;
+    let fits = bind_all(bound, pairs)?;
+    Ok(!fits)
+}
+
+/// Whether a realloc of an adapter is named under another instance too. Where not, its reallocs are bound.
+fn shares_realloc(
+    alloc: Global,
+    bound: &mut Bindings<u32>,
+    adapter: &Adapter,
+) -> Result<bool, OutOfMemory>
+    ensures exact { IfOk result (λ found. (b : Builder) (before : List LinkedAdapter) (a : LinkedAdapter) → HasSides b adapter.now a
+        → Covers bound.old (flat_map reallocs_of before) → (IsTrue found ↔ (AreConsistent (flat_map reallocs_of (with before a)) → ⊥))) }
+    ensures bound { IfOk result (λ found. IsFalse found → (b : Builder) (before : List LinkedAdapter) (a : LinkedAdapter) → HasSides b adapter.now a
+        → Covers bound.old (flat_map reallocs_of before) → Covers bound.new (flat_map reallocs_of (with before a))) }
+    ensures front { IsFront bound.old bound.new }
+{
+    let pairs = reallocs(alloc, adapter)?;
+    let fits = bind_all(bound, pairs)?;
+    Ok(!fits)
+}
+
 /// Whether a memory or a realloc of an adapter is missing, cannot be used, or is named under another instance too. Where
 /// not, they are bound.
 pub(crate) fn has_bad_memory(
@@ -89,11 +124,10 @@ pub(crate) fn has_bad_memory(
     if cannot_use_memory(builder, adapter)? {
         return Ok(true);
     }
-    if !bind_all(bound_memories, memories(alloc, adapter)?)? {
+    if shares_memory(alloc, bound_memories, adapter)? {
         return Ok(true);
     }
-    let fits = bind_all(bound_reallocs, reallocs(alloc, adapter)?)?;
-    Ok(!fits)
+    shares_realloc(alloc, bound_reallocs, adapter)
 }
 
 /// Whether an adapter uses a definition as two things, or as another one than those before. Where not, they are bound.

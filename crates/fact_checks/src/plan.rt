@@ -57,6 +57,40 @@ pub fn linked_adapter(
     Ok(adapter_of(plan, types, adapter)?)
 }
 
+/// An adapter of a plan, made over the types of the plan, as it is checked: with its name and its mark of transparency.
+pub fn candidate_of<'a>(adapter: &'a PlanAdapter, linked: &'a Adapter) -> Candidate<'a>
+    ensures name { result.name.now ≡ adapter.now.name }
+    ensures transparent { result.transparent ≡ adapter.now.transparent }
+    ensures linked { result.adapter.now ≡ linked.now }
+{
+    Candidate {
+        name: adapter.name.as_str(),
+        transparent: adapter.transparent,
+        adapter: linked,
+    }
+}
+
+/// Checks the adapter at a place that was made over the types of the plan, behind those before it.
+fn check_linked(
+    checks: &mut AdapterChecks<'_>,
+    plan: &FusePlan,
+    types: &PlanTypes,
+    k: usize,
+    adapter: &PlanAdapter,
+    linked: &Adapter,
+) -> Result<(), FuseError>
+    requires at { IsAt plan.now types.now.builder checks.old k }
+    requires there { slice_get plan.now.adapters k ≡ Some adapter.now }
+    requires links { LinksAdapter plan.now types.now.builder adapter.now linked.now }
+    requires known { AdapterLacks plan.now adapter.now → ⊥ }
+    requires small { AdapterHas plan.now k adapter.now too_large → ⊥ }
+    ensures sound { OnOk result (IsAt plan.now types.now.builder checks.new (k + 1)) }
+    ensures refused { IfErr result (λ e. IfSome (told e) (λ x. IsFirstHere plan.now k x.0 x.1)) }
+{
+    let candidate = candidate_of(adapter, linked);
+    checks.check(k as u32, &candidate)
+}
+
 /// Checks the adapter at a place, behind those before it.
 fn check_adapter(
     checks: &mut AdapterChecks<'_>,
@@ -72,12 +106,27 @@ fn check_adapter(
     ensures refused { IfErr result (λ e. IfSome (told e) (λ x. IsFirstHere plan.now k x.0 x.1)) }
 {
     let linked = linked_adapter(plan, types, k, adapter)?;
-    let candidate = Candidate {
-        name: adapter.name.as_str(),
-        transparent: adapter.transparent,
-        adapter: &linked,
-    };
-    checks.check(k as u32, &candidate)
+    let checked = check_linked(checks, plan, types, k, adapter, &linked);
+    drop(linked);
+    checked
+}
+
+/// Checks the adapters of a plan, one behind the other.
+fn check_each(
+    checks: &mut AdapterChecks<'_>,
+    plan: &FusePlan,
+    types: &PlanTypes,
+) -> Result<(), FuseError>
+    requires types { AreTypesOf plan.now types.now }
+    requires faultless { AreFaultless plan.now }
+    requires at { IsAt plan.now types.now.builder checks.old 0 }
+    ensures faultless { OnOk result (IsFaultlessPlan plan.now) }
+    ensures refused { IfErr result (λ e. IfSome (told e) (λ x. IsFirstAt plan.now x.0 x.1)) }
+{
+    for (k, adapter) in plan.adapters.as_slice().iter().enumerate() {
+        check_adapter(checks, plan, types, k, adapter)?;
+    }
+    Ok(())
 }
 
 /// Checks the adapters of a plan over its types.
@@ -88,10 +137,9 @@ fn check_adapters(alloc: Global, plan: &FusePlan, types: &PlanTypes) -> Result<(
     ensures refused { IfErr result (λ e. IfSome (told e) (λ x. IsFirstAt plan.now x.0 x.1)) }
 {
     let mut checks = AdapterChecks::new(alloc, &types.builder, plan.tunables.concurrency);
-    for (k, adapter) in plan.adapters.as_slice().iter().enumerate() {
-        check_adapter(&mut checks, plan, types, k, adapter)?;
-    }
-    Ok(())
+    let checked = check_each(&mut checks, plan, types);
+    drop(checks);
+    checked
 }
 
 /// Tells the first fault of a plan, with its place: types come before functions, these before adapters, each list from its

@@ -146,7 +146,8 @@ fn push_side(
     let realloc = realloc_type(alloc, is_wide(options))?;
     push_def(pairs, &options.realloc, Use::Function(realloc))?;
     let callback = callback_type(alloc)?;
-    push_def(pairs, &options.callback, Use::Function(callback))
+    push_def(pairs, &options.callback, Use::Function(callback))?;
+    Ok(())
 }
 
 /// Appends the callee of an adapter, of this core type, and its post-return, where it has one.

@@ -1,23 +1,44 @@
-use Rattle.std.proofs.Common.{refl}
-use Rattle.fact_uses.proofs.BindingLaws.{AreConsistent-covered}
-use Rattle.fact_checks.specs.AdapterRules.{memories_of, reallocs_of}
-use Rattle.fact_checks.proofs.Decisions.{denied, here, there, unless-not}
-use Rattle.fact_checks.proofs.StageLaws.{bound-exactly, bound-with}
+use Rattle.fact_uses.proofs.FrontLaws.{IsFront-itself}
+use Rattle.fact_checks.proofs.Decisions.{denied, granted, here, mapped, there}
 use Rattle.fact_checks.proofs.bound.has_bad_memory.Goals as goal
 
-pub returns-then-not-branch-clause-exact : goal.returns-then-not-branch-clause-exact
-returns-then-not-branch-clause-exact c = λ before a h ms rs.
-    let memories = bound-exactly memories_of before a _ _ _ (c.in_ok-memories.ensures _ a h) _ c.in_ok-bind_all.ensures.binds ms in
-    there _ _ _ (denied _ _ (c.in_ok-cannot_use_memory.ensures a h) c.if-branch.false) (here _ _ (memories.0 (rw c.if-not-branch.true refl)))
+pub returns-in_err-cannot_use_memory-clause-memories_front : goal.returns-in_err-cannot_use_memory-clause-memories_front
+returns-in_err-cannot_use_memory-clause-memories_front c = IsFront-itself _
+
+pub returns-in_err-cannot_use_memory-clause-reallocs_front : goal.returns-in_err-cannot_use_memory-clause-reallocs_front
+returns-in_err-cannot_use_memory-clause-reallocs_front c = IsFront-itself _
+
+pub returns-then-branch-clause-exact : goal.returns-then-branch-clause-exact
+returns-then-branch-clause-exact c = λ before a h ms rs. here _ _ (granted _ _ (c.in_ok-cannot_use_memory.ensures a h) c.if-branch.true)
+
+pub returns-then-branch-clause-memories_front : goal.returns-then-branch-clause-memories_front
+returns-then-branch-clause-memories_front c = IsFront-itself _
+
+pub returns-then-branch-clause-reallocs_front : goal.returns-then-branch-clause-reallocs_front
+returns-then-branch-clause-reallocs_front c = IsFront-itself _
+
+pub returns-in_err-shares_memory-clause-reallocs_front : goal.returns-in_err-shares_memory-clause-reallocs_front
+returns-in_err-shares_memory-clause-reallocs_front c = IsFront-itself _
+
+pub returns-then-branch-2-clause-exact : goal.returns-then-branch-2-clause-exact
+returns-then-branch-2-clause-exact c = λ before a h ms rs.
+    there _ _ _ (denied _ _ (c.in_ok-cannot_use_memory.ensures a h) c.if-branch.false)
+    (here _ _ (granted _ _ (c.in_ok-shares_memory.ensures.exact _ before a h ms) c.if-branch-2.true))
+
+pub returns-then-branch-2-clause-reallocs_front : goal.returns-then-branch-2-clause-reallocs_front
+returns-then-branch-2-clause-reallocs_front c = IsFront-itself _
 
 pub returns-clause-exact : goal.returns-clause-exact
-returns-clause-exact c = λ before a h ms rs.
-    let bound = bound-with memories_of before a _ _ _ (c.in_ok-memories.ensures _ a h) _ c.in_ok-bind_all.ensures.binds c.if-not-branch.false ms in
+returns-clause-exact c =
+    mapped c.shares_realloc.result _ _ (λ found told before a h ms rs.
     there _ _ _ (denied _ _ (c.in_ok-cannot_use_memory.ensures a h) c.if-branch.false)
-    (there _ _ _ (λ k. k (AreConsistent-covered _ _ bound)) (bound-exactly reallocs_of before a _ _ _ (c.in_ok-reallocs.ensures _ a h) _ c.in_ok-fits.ensures.binds rs))
+    (there _ _ _ (denied _ _ (c.in_ok-shares_memory.ensures.exact _ before a h ms) c.if-branch-2.false) (told _ before a h rs)))
+    c.shares_realloc.ensures.exact
 
 pub returns-clause-memories : goal.returns-clause-memories
-returns-clause-memories c = λ fits before a h ms. bound-with memories_of before a _ _ _ (c.in_ok-memories.ensures _ a h) _ c.in_ok-bind_all.ensures.binds c.if-not-branch.false ms
+returns-clause-memories c =
+    mapped c.shares_realloc.result _ _ (λ found told fits before a h ms. c.in_ok-shares_memory.ensures.bound c.if-branch-2.false _ before a h ms)
+    c.shares_realloc.ensures.exact
 
 pub returns-clause-reallocs : goal.returns-clause-reallocs
-returns-clause-reallocs c = λ fits before a h rs. bound-with reallocs_of before a _ _ _ (c.in_ok-reallocs.ensures _ a h) _ c.in_ok-fits.ensures.binds (unless-not _ fits) rs
+returns-clause-reallocs c = mapped c.shares_realloc.result _ _ (λ found told fits before a h rs. told fits _ before a h rs) c.shares_realloc.ensures.bound
