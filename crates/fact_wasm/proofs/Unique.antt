@@ -230,7 +230,7 @@ mem_of o a i = record { offset = o; align = a; memory_index = i }
 mem-same : (x y : MemArg) → x.offset ≡ y.offset → x.align ≡ y.align → x.memory_index ≡ y.memory_index → x ≡ y
 mem-same x y o a i = ap (λ (n : ℕ). mem_of n x.align x.memory_index) o ∙ ap (λ (n : ℕ). mem_of y.offset n x.memory_index) a ∙ ap (λ (n : ℕ). mem_of y.offset y.align n) i
 
-mem-unique : IsPrefixFree memarg IsMemArg
+pub mem-unique : IsPrefixFree memarg IsMemArg
 mem-unique x y r s p q e =
     let u = mem-cases x y (eqb x.memory_index 0) (eqb y.memory_index 0) r s refl refl p q e in
     (mem-same x y u.0 u.1 u.2, u.3)
