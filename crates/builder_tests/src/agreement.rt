@@ -3,6 +3,7 @@
 ghost use Rattle.fact_types.specs.Tables.{IsLive};
 
 use crate::live::{are_live, is_live};
+use crate::questions::{Question, say_table, yes_or_no};
 use crate::words::{repeated, type_of, types_of};
 use fact_agreement::Agreement;
 use fact_builder::ComponentTypesBuilder;
@@ -156,31 +157,28 @@ fn agreed(
 }
 
 /// Whether a type in words agrees with another.
-fn agree(
+fn agree_in_words(
     rt: &impl Abort,
     alloc: Global,
     builder: &mut ComponentTypesBuilder,
     from: &str,
     to: &str,
-) -> Result<bool, PushError> {
+) -> Result<String, PushError> {
     let source = type_of(rt, alloc, builder, from)?;
     let destination = type_of(rt, alloc, builder, to)?;
-    agreed(rt, alloc, builder, source, destination)
+    let agree = agreed(rt, alloc, builder, source, destination)?;
+    Ok(String::from_str(alloc, yes_or_no(agree))?)
 }
 
-/// Each row tells whether its types agree.
-fn say_rows(
+/// Whether a type agrees with another, as a row tells it.
+pub fn agree(
     rt: &impl Abort,
     alloc: Global,
     builder: &mut ComponentTypesBuilder,
-) -> Result<(), Fail> {
-    for row in ROWS.trim().lines() {
-        let (types, answer) = row.split_once(" = ").ok_or("no answer")?;
-        let (from, to) = types.split_once(" / ").ok_or("no destination")?;
-        let agrees = agree(rt, alloc, builder, from, to)?;
-        assert_eq!(rt; if agrees { "yes" } else { "no" }, answer, "{row}");
-    }
-    Ok(())
+    words: &str,
+) -> Result<String, PushError> {
+    let (from, to) = words.split_once(" / ").expect(rt, "a destination");
+    agree_in_words(rt, alloc, builder, from, to)
 }
 
 /// Lists of types, and whether they agree.
@@ -209,62 +207,51 @@ fn all_agree(
     Ok(answer?)
 }
 
-/// Each row tells whether its lists agree.
-fn say_lists(
+/// Whether types agree with others by place, as a row tells it.
+pub fn agree_by_place(
     rt: &impl Abort,
     alloc: Global,
     builder: &mut ComponentTypesBuilder,
-) -> Result<(), Fail> {
-    for row in LISTS.trim().lines() {
-        let (types, answer) = row.split_once("= ").ok_or("no answer")?;
-        let (from, to) = types.split_once("/").ok_or("no destination")?;
-        let source = types_of(rt, alloc, builder, from)?;
-        let destination = types_of(rt, alloc, builder, to)?;
-        let agree = all_agree(
-            rt,
-            alloc,
-            builder,
-            source.as_slice(),
-            destination.as_slice(),
-        )?;
-        assert_eq!(rt; if agree { "yes" } else { "no" }, answer, "{row}");
-    }
-    Ok(())
+    words: &str,
+) -> Result<String, PushError> {
+    let (from, to) = words.split_once("/").expect(rt, "a destination");
+    let source = types_of(rt, alloc, builder, from)?;
+    let destination = types_of(rt, alloc, builder, to)?;
+    let agree = all_agree(
+        rt,
+        alloc,
+        builder,
+        source.as_slice(),
+        destination.as_slice(),
+    )?;
+    Ok(String::from_str(alloc, yes_or_no(agree))?)
 }
 
 /// Each level holds the one below twice.
 const LEVEL: &str = "same tuple:2 list";
 
 /// Types that many others share are compared once: here there are 2 to the power of 60 pairs.
-fn say_shared(
-    rt: &impl Abort,
-    alloc: Global,
-    builder: &mut ComponentTypesBuilder,
-) -> Result<(), PushError> {
-    let fewer = repeated(alloc, "- variant:a", LEVEL, 60)?;
-    let more = repeated(alloc, "- - variant:b,a", LEVEL, 60)?;
-    assert!(rt; agree(rt, alloc, builder, fewer.as_str(), more.as_str())?);
-    assert!(rt; !agree(rt, alloc, builder, more.as_str(), fewer.as_str())?);
-    Ok(())
-}
+const SHARED: &str = "
+- variant:a / - - variant:b,a = yes
+- - variant:b,a / - variant:a = no
+";
 
-/// All of these.
-fn say_who_agrees(
+/// Whether a type agrees with another that many others share, as a row tells it.
+pub fn agree_deep(
     rt: &impl Abort,
     alloc: Global,
     builder: &mut ComponentTypesBuilder,
-) -> Result<(), Fail> {
-    say_rows(rt, alloc, builder)?;
-    say_lists(rt, alloc, builder)?;
-    say_shared(rt, alloc, builder)?;
-    Ok(())
+    words: &str,
+) -> Result<String, PushError> {
+    let (from, to) = words.split_once(" / ").expect(rt, "a destination");
+    let from = repeated(alloc, from, LEVEL, 60)?;
+    let to = repeated(alloc, to, LEVEL, 60)?;
+    agree_in_words(rt, alloc, builder, from.as_str(), to.as_str())
 }
 
 #[test]
 fn types_agree(rt: HostRuntime) -> Result<(), Fail> {
-    let mut builder = ComponentTypesBuilder::new(rt.alloc(), 7);
-    let said = say_who_agrees(&rt, rt.alloc(), &mut builder);
-    // A builder that is dropped by a call has one short proof, where the end of its scope has a long one.
-    drop(builder);
-    said
+    say_table(&rt, rt.alloc(), Question::Agree, ROWS)?;
+    say_table(&rt, rt.alloc(), Question::AgreeByPlace, LISTS)?;
+    say_table(&rt, rt.alloc(), Question::AgreeDeep, SHARED)
 }

@@ -1,7 +1,8 @@
 //! How deep types nest, which hold a pointer with a length, and which a borrow.
 
 use crate::live::is_live;
-use crate::words::{repeated, type_of};
+use crate::questions::{Question, say_table, yes_or_no};
+use crate::words::{number_of, repeated, type_of};
 use fact_builder::ComponentTypesBuilder;
 use fact_entity::PushError;
 use std::alloc::Global;
@@ -59,13 +60,8 @@ borrow future = 2 no no
 flags:a option = 2 no no
 ";
 
-/// A word for whether something is so.
-fn word(is_so: bool) -> &'static str {
-    if is_so { "yes" } else { "no" }
-}
-
 /// What is known of a type, as a row tells it.
-fn told(
+pub fn known(
     rt: &impl Abort,
     alloc: Global,
     builder: &mut ComponentTypesBuilder,
@@ -73,69 +69,40 @@ fn told(
 ) -> Result<String, PushError> {
     let ty = type_of(rt, alloc, builder, words)?;
     assert!(rt; is_live(builder, &ty));
-    let pointer = word(builder.ty_contains_pointer_pair(&ty));
-    let borrow = word(builder.ty_contains_borrow_resource(&ty));
+    let pointer = yes_or_no(builder.ty_contains_pointer_pair(&ty));
+    let borrow = yes_or_no(builder.ty_contains_borrow_resource(&ty));
     Ok(format!(in alloc; "{} {pointer} {borrow}", builder.nesting(&ty))?)
 }
 
-/// Each row tells what is known of its type.
-fn say_rows(
-    rt: &impl Abort,
-    alloc: Global,
-    builder: &mut ComponentTypesBuilder,
-) -> Result<(), Fail> {
-    for row in ROWS.trim().lines() {
-        let (words, answer) = row.split_once(" = ").ok_or("no answer")?;
-        let told = told(rt, alloc, builder, words)?;
-        assert_eq!(rt; told.as_str(), answer, "{row}");
-    }
-    Ok(())
-}
-
 /// A type, what is put around it, how many times, and what is known then. Past 101 levels are told as 101.
-const DEEP: [(&str, &str, usize, &str); 10] = [
-    ("u8", "list", 98, "99 yes no"),
-    ("u8", "list", 99, "100 yes no"),
-    ("u8", "list", 100, "101 yes no"),
-    ("u8", "list", 101, "101 yes no"),
-    ("u8", "list", 300, "101 yes no"),
-    ("- future", "future", 99, "100 no no"),
-    ("- future", "future", 100, "101 no no"),
-    ("- future", "stream", 150, "101 no no"),
-    ("string", "option", 99, "100 yes no"),
-    ("string", "option", 200, "101 yes no"),
-];
+const DEEP: &str = "
+u8 / list / 98 = 99 yes no
+u8 / list / 99 = 100 yes no
+u8 / list / 100 = 101 yes no
+u8 / list / 101 = 101 yes no
+u8 / list / 300 = 101 yes no
+- future / future / 99 = 100 no no
+- future / future / 100 = 101 no no
+- future / stream / 150 = 101 no no
+string / option / 99 = 100 yes no
+string / option / 200 = 101 yes no
+";
 
-/// Each row tells what is known of its type.
-fn say_deep(
+/// What is known of a type with others around it, as a row tells it.
+pub fn known_deep(
     rt: &impl Abort,
     alloc: Global,
     builder: &mut ComponentTypesBuilder,
-) -> Result<(), PushError> {
-    for (words, others, times, answer) in DEEP {
-        let words = repeated(alloc, words, others, times)?;
-        let told = told(rt, alloc, builder, words.as_str())?;
-        assert_eq!(rt; told.as_str(), answer, "{times} times {others}");
-    }
-    Ok(())
-}
-
-/// All of these.
-fn say_facts(
-    rt: &impl Abort,
-    alloc: Global,
-    builder: &mut ComponentTypesBuilder,
-) -> Result<(), Fail> {
-    say_rows(rt, alloc, builder)?;
-    say_deep(rt, alloc, builder)?;
-    Ok(())
+    words: &str,
+) -> Result<String, PushError> {
+    let (words, around) = words.split_once(" / ").expect(rt, "what is around");
+    let (others, times) = around.split_once(" / ").expect(rt, "how many times");
+    let words = repeated(alloc, words, others, number_of(rt, times) as usize)?;
+    known(rt, alloc, builder, words.as_str())
 }
 
 #[test]
 fn types_nest_and_hold_pointers(rt: HostRuntime) -> Result<(), Fail> {
-    let mut builder = ComponentTypesBuilder::new(rt.alloc(), 7);
-    let said = say_facts(&rt, rt.alloc(), &mut builder);
-    // A builder that is dropped by a call has one short proof, where the end of its scope has a long one.
-    drop(builder);
-    said
+    say_table(&rt, rt.alloc(), Question::Known, ROWS)?;
+    say_table(&rt, rt.alloc(), Question::KnownDeep, DEEP)
 }

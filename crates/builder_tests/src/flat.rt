@@ -1,7 +1,8 @@
 //! Flat types, as the canonical ABI gives them.
 
 use crate::live::{are_live, is_live};
-use crate::words::type_of;
+use crate::questions::{Question, say_table};
+use crate::words::{number_of, type_of};
 use fact_builder::ComponentTypesBuilder;
 use fact_entity::PushError;
 use fact_types::{FlatType, FlatTypes, InterfaceType};
@@ -42,7 +43,7 @@ fn both_told(alloc: Global, flat: &FlatTypes<'_>) -> Result<String, AllocError> 
     format!(in alloc; "{memory32:?} {memory64:?}")
 }
 
-/// The flat types of a type, as a row tells them.
+/// The flat types of a type that was made, as a row tells them.
 fn told(
     rt: &impl Abort,
     alloc: Global,
@@ -56,20 +57,25 @@ fn told(
     }
 }
 
-/// Each row tells the flat types of its type.
-fn say_rows(
+/// The flat types of a type, as a row tells them.
+pub fn flat(
     rt: &impl Abort,
     alloc: Global,
     builder: &mut ComponentTypesBuilder,
-) -> Result<(), Fail> {
-    for row in ROWS.trim().lines() {
-        let (words, answer) = row.split_once(" = ").ok_or("no answer")?;
-        let ty = type_of(rt, alloc, builder, words)?;
-        let told = told(rt, alloc, builder, &ty)?;
-        assert_eq!(rt; told.as_str(), answer, "{row}");
-    }
-    Ok(())
+    words: &str,
+) -> Result<String, PushError> {
+    let ty = type_of(rt, alloc, builder, words)?;
+    told(rt, alloc, builder, &ty)
 }
+
+/// A memory, `wide` one of 64 bits, how many core types are allowed, and those that stand for a text and a number of eight
+/// bytes.
+const LIMITS: &str = "
+narrow 3 = [I32, I32, I64]
+narrow 2 = none
+wide 3 = [I64, I64, I64]
+wide 2 = none
+";
 
 /// The core types that stand for a text and a number of eight bytes, if they are allowed so many.
 fn flattened(
@@ -87,40 +93,25 @@ fn flattened(
     }
 }
 
-/// Says which core types stand for them up to a limit.
-fn say_limits(
+/// The core types that stand for them up to a limit in words, as a row tells them.
+pub fn flat_up_to(
     rt: &impl Abort,
     alloc: Global,
     builder: &ComponentTypesBuilder,
-) -> Result<(), PushError> {
-    let rows = [
-        (false, 3, "[I32, I32, I64]"),
-        (false, 2, "none"),
-        (true, 3, "[I64, I64, I64]"),
-        (true, 2, "none"),
-    ];
-    for (memory64, max, core) in rows {
-        let told = flattened(rt, alloc, builder, memory64, max)?;
-        assert_eq!(rt; told.as_str(), core);
-    }
-    Ok(())
-}
-
-/// All of these.
-fn say_flat(
-    rt: &impl Abort,
-    alloc: Global,
-    builder: &mut ComponentTypesBuilder,
-) -> Result<(), Fail> {
-    say_rows(rt, alloc, builder)?;
-    say_limits(rt, alloc, builder)?;
-    Ok(())
+    words: &str,
+) -> Result<String, PushError> {
+    let (memory, max) = words.split_once(" ").expect(rt, "a limit");
+    flattened(
+        rt,
+        alloc,
+        builder,
+        memory == "wide",
+        number_of(rt, max) as usize,
+    )
 }
 
 #[test]
 fn types_are_flat(rt: HostRuntime) -> Result<(), Fail> {
-    let mut builder = ComponentTypesBuilder::new(rt.alloc(), 7);
-    let said = say_flat(&rt, rt.alloc(), &mut builder);
-    drop(builder);
-    said
+    say_table(&rt, rt.alloc(), Question::Flat, ROWS)?;
+    say_table(&rt, rt.alloc(), Question::FlatUpTo, LIMITS)
 }

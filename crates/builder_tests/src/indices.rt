@@ -1,16 +1,18 @@
 //! Types that are added: equal ones have one index, others the next, and so do tables of handles. Tables of the handles of
 //! resources have indices of their own.
 
+use crate::questions::{Question, say_table};
 use crate::words::type_of;
 use fact_builder::ComponentTypesBuilder;
-use fact_entity::{EntityRef, PushError, RuntimeComponentInstanceIndex};
-use fact_types::{InterfaceType, Lookup, TypeErrorContextTable};
+use fact_entity::{EntityRef, ModuleInternedTypeIndex, PushError};
+use fact_types::{InterfaceType, Lookup};
 use fact_wasm::{FuncType, Seq, ValType};
 use std::alloc::Global;
 use std::process::Abort;
 use std::test::Fail;
 
-/// A type, and the index that it gets after those above it.
+/// A type, and the index that it gets after those above it, or tables of handles, and how many of them there are then. A further
+/// instance has a table of error contexts of its own.
 const ROWS: &str = "
 u32 string variant:n,s = 0
 u32 string variant:n,s = 0
@@ -53,6 +55,11 @@ own = 1
 borrow = 2
 error-context = 0
 error-context = 0
+future tables = 2
+stream tables = 2
+error-context tables = 1
+resource tables = 3
+error-context:6 = 1
 ";
 
 /// The index of a type in its table.
@@ -76,53 +83,68 @@ fn index_of(ty: InterfaceType) -> Option<u32> {
     }
 }
 
-/// Each row tells the index of its type.
-fn say_rows(
+/// How many tables of handles of a kind there are.
+fn count_tables(builder: &ComponentTypesBuilder, kind: &str) -> usize {
+    match kind {
+        "future" => builder.num_future_tables(),
+        "stream" => builder.num_stream_tables(),
+        "error-context" => builder.num_error_context_tables(),
+        _ => builder.num_resource_tables(),
+    }
+}
+
+/// The index of a type, or how many tables of handles there are, as a row tells it.
+pub fn index(
     rt: &impl Abort,
     alloc: Global,
     builder: &mut ComponentTypesBuilder,
-) -> Result<(), Fail> {
-    for row in ROWS.trim().lines() {
-        let (words, answer) = row.split_once(" = ").ok_or("no answer")?;
-        let ty = type_of(rt, alloc, builder, words)?;
-        assert_eq!(rt; index_of(ty), answer.parse::<u32>().ok(), "{row}");
+    words: &str,
+) -> Result<String, PushError> {
+    if let Some((kind, "tables")) = words.split_once(" ") {
+        return Ok(format!(in alloc; "{}", count_tables(builder, kind))?);
     }
-    Ok(())
+    let ty = type_of(rt, alloc, builder, words)?;
+    Ok(format!(in alloc; "{}", index_of(ty).expect(rt, "an index"))?)
 }
 
-/// Says how many tables of handles there are, and that a further instance has one of its own.
-fn say_tables(rt: &impl Abort, builder: &mut ComponentTypesBuilder) -> Result<(), PushError> {
-    let counts = [
-        builder.num_future_tables(),
-        builder.num_stream_tables(),
-        builder.num_error_context_tables(),
-        builder.num_resource_tables(),
-    ];
-    assert!(rt; counts == [2, 2, 1, 3]);
-    let instance = RuntimeComponentInstanceIndex::from_u32(6);
-    let other = builder.add_error_context_table_type(TypeErrorContextTable { instance })?;
-    assert_eq!(rt; other.as_u32(), 1);
-    Ok(())
+/// A core function type, its index, the number of such types, and that of its parameters.
+const CORE_TYPES: &str = "
+i32 f64 = 0 1 2
+";
+
+/// What is told of a core function type that was interned through the builder, when it is looked up.
+fn core_type_told(
+    rt: &impl Abort,
+    alloc: Global,
+    builder: &ComponentTypesBuilder,
+    index: ModuleInternedTypeIndex,
+) -> Result<String, PushError> {
+    let types = builder.module_types_builder();
+    assert!(rt; types.get(index).is_some());
+    let params = builder[index].params.len();
+    Ok(format!(in alloc; "{} {} {params}", index.as_u32(), types.len())?)
 }
 
 /// Interns a core function type through the builder, and looks it up.
-fn say_core_type(
+pub fn core_type(
     rt: &impl Abort,
     alloc: Global,
     builder: &mut ComponentTypesBuilder,
-) -> Result<(), PushError> {
+    words: &str,
+) -> Result<String, PushError> {
+    assert_eq!(rt; words, "i32 f64");
     let params = Seq::from_vec([ValType::I32, ValType::F64].to_vec(alloc)?);
     let results = Seq::new(alloc);
     let index = builder
         .module_types_builder_mut()
         .intern(FuncType { params, results })?;
-    assert_eq!(rt; index.as_u32(), 0);
-    let types = builder.module_types_builder();
-    assert_eq!(rt; types.len(), 1);
-    assert!(rt; types.get(index).is_some());
-    assert_eq!(rt; builder[index].params.len(), 2);
-    Ok(())
+    core_type_told(rt, alloc, builder, index)
 }
+
+/// A record, and how many fields it has.
+const RECORDS: &str = "
+u8 u32 record:a,b = Some(2)
+";
 
 /// How many fields a record has that the builder holds.
 fn count_fields(builder: &ComponentTypesBuilder, ty: InterfaceType) -> Option<usize> {
@@ -134,34 +156,20 @@ fn count_fields(builder: &ComponentTypesBuilder, ty: InterfaceType) -> Option<us
     }
 }
 
-/// Looks a record up.
-fn say_record(
+/// How many fields a record has, as a row tells it.
+pub fn fields(
     rt: &impl Abort,
     alloc: Global,
     builder: &mut ComponentTypesBuilder,
-) -> Result<(), PushError> {
-    let ty = type_of(rt, alloc, builder, "u8 u32 record:a,b")?;
-    assert!(rt; count_fields(builder, ty) == Some(2));
-    Ok(())
-}
-
-/// All of these.
-fn say_indices(
-    rt: &impl Abort,
-    alloc: Global,
-    builder: &mut ComponentTypesBuilder,
-) -> Result<(), Fail> {
-    say_rows(rt, alloc, builder)?;
-    say_tables(rt, builder)?;
-    say_core_type(rt, alloc, builder)?;
-    say_record(rt, alloc, builder)?;
-    Ok(())
+    words: &str,
+) -> Result<String, PushError> {
+    let ty = type_of(rt, alloc, builder, words)?;
+    Ok(format!(in alloc; "{:?}", count_fields(builder, ty))?)
 }
 
 #[test]
 fn equal_types_have_one_index(rt: HostRuntime) -> Result<(), Fail> {
-    let mut builder = ComponentTypesBuilder::new(rt.alloc(), 7);
-    let said = say_indices(&rt, rt.alloc(), &mut builder);
-    drop(builder);
-    said
+    say_table(&rt, rt.alloc(), Question::Index, ROWS)?;
+    say_table(&rt, rt.alloc(), Question::CoreType, CORE_TYPES)?;
+    say_table(&rt, rt.alloc(), Question::Fields, RECORDS)
 }

@@ -17,6 +17,8 @@ mod making;
 #[cfg(test)]
 mod parts;
 #[cfg(test)]
+mod questions;
+#[cfg(test)]
 mod signatures;
 #[cfg(test)]
 mod words;

@@ -1,7 +1,8 @@
 //! Types made of their members: what they take in memory, and where they take too much.
 
 use crate::live::is_live;
-use crate::words::type_of;
+use crate::questions::{Question, say_table};
+use crate::words::{number_of, type_of};
 use fact_builder::ComponentTypesBuilder;
 use fact_entity::PushError;
 use fact_making::{make_enum, make_flags};
@@ -129,8 +130,16 @@ fn told(
     )?)
 }
 
+/// That a type is refused, as a row tells it, or want of memory.
+fn refused(alloc: Global, error: PushError) -> Result<String, PushError> {
+    match error {
+        PushError::TooLarge => Ok(String::from_str(alloc, "too large")?),
+        PushError::OutOfMemory => Err(error),
+    }
+}
+
 /// What comes of making a type, as a row tells it. Made once more it is the same type.
-fn made(
+pub fn made(
     rt: &impl Abort,
     alloc: Global,
     builder: &mut ComponentTypesBuilder,
@@ -142,23 +151,8 @@ fn made(
             assert!(rt; again == ty);
             told(rt, alloc, builder, &ty)
         }
-        Err(PushError::TooLarge) => Ok(String::from_str(alloc, "too large")?),
-        Err(error) => Err(error),
+        Err(error) => refused(alloc, error),
     }
-}
-
-/// Each row tells what comes of making its type.
-fn say_rows(
-    rt: &impl Abort,
-    alloc: Global,
-    builder: &mut ComponentTypesBuilder,
-) -> Result<(), Fail> {
-    for row in ROWS.trim().lines() {
-        let (words, answer) = row.split_once(" = ").ok_or("no answer")?;
-        let made = made(rt, alloc, builder, words)?;
-        assert_eq!(rt; made.as_str(), answer, "{row}");
-    }
-    Ok(())
 }
 
 /// Of a map, the size and alignment of its entries and the place of the value in them; of a type of cases, the size of its
@@ -198,7 +192,7 @@ fn entries_told(alloc: Global, map: &TypeMap) -> Result<String, PushError> {
 }
 
 /// What is inside of a type, as a row tells it.
-fn inside(
+pub fn inside(
     rt: &impl Abort,
     alloc: Global,
     builder: &mut ComponentTypesBuilder,
@@ -216,27 +210,13 @@ fn inside(
     }
 }
 
-/// Each row tells what is inside of its type.
-fn say_insides(
-    rt: &impl Abort,
-    alloc: Global,
-    builder: &mut ComponentTypesBuilder,
-) -> Result<(), Fail> {
-    for row in INSIDE.trim().lines() {
-        let (words, answer) = row.split_once(" = ").ok_or("no answer")?;
-        let inside = inside(rt, alloc, builder, words)?;
-        assert_eq!(rt; inside.as_str(), answer, "{row}");
-    }
-    Ok(())
-}
-
 /// A field of a record, the flat types before it, and its places in memories of 32 bits and of 64 bits.
-const FIELDS: [(&str, &str); 4] = [
-    ("a", "Some(0) 0 0"),
-    ("b", "Some(1) 8 8"),
-    ("c", "Some(2) 16 16"),
-    ("d", "none"),
-];
+const FIELDS: &str = "
+a in u8 u64 u16 list record:a,b,c = Some(0) 0 0
+b in u8 u64 u16 list record:a,b,c = Some(1) 8 8
+c in u8 u64 u16 list record:a,b,c = Some(2) 16 16
+d in u8 u64 u16 list record:a,b,c = none
+";
 
 /// Where a field of a record stands, as a row tells it.
 fn place_told(
@@ -258,30 +238,34 @@ fn place_told(
     }
 }
 
-/// Each row tells where its field stands.
-fn say_fields(
+/// Where a field of a record in words stands, as a row tells it.
+pub fn place(
     rt: &impl Abort,
     alloc: Global,
     builder: &mut ComponentTypesBuilder,
-) -> Result<(), PushError> {
-    let record = type_of(rt, alloc, builder, "u8 u64 u16 list record:a,b,c")?;
-    for (name, place) in FIELDS {
-        let name = Text::from_str(alloc, name)?;
-        let told = place_told(alloc, builder.component_types(), record, &name)?;
-        assert_eq!(rt; told.as_str(), place);
-    }
-    Ok(())
+    words: &str,
+) -> Result<String, PushError> {
+    let (name, words) = words.split_once(" in ").expect(rt, "a record");
+    let record = type_of(rt, alloc, builder, words)?;
+    let name = Text::from_str(alloc, name)?;
+    place_told(alloc, builder.component_types(), record, &name)
 }
 
-/// How many names, and what comes of making an enum of them, and flags of them.
-const LONG: &[(u32, &str, &str)] = &[
-    (32, "enum 1 1 1 1", "flags 4 4 4 4"),
-    (33, "enum 1 1 1 1", "flags 8 4 8 4"),
-    (256, "enum 1 1 1 1", "flags 32 4 32 4"),
-    (257, "enum 2 2 2 2", "flags 36 4 36 4"),
-    (8160, "enum 2 2 2 2", "flags 1020 4 1020 4"),
-    (8161, "enum 2 2 2 2", "too large"),
-];
+/// How many names, and what comes of making an enum of them, or flags of them.
+const LONG: &str = "
+enum 32 = enum 1 1 1 1
+flags 32 = flags 4 4 4 4
+enum 33 = enum 1 1 1 1
+flags 33 = flags 8 4 8 4
+enum 256 = enum 1 1 1 1
+flags 256 = flags 32 4 32 4
+enum 257 = enum 2 2 2 2
+flags 257 = flags 36 4 36 4
+enum 8160 = enum 2 2 2 2
+flags 8160 = flags 1020 4 1020 4
+enum 8161 = enum 2 2 2 2
+flags 8161 = too large
+";
 
 /// So many names.
 fn numbers(alloc: Global, count: u32) -> Result<IndexSet<Text>, PushError> {
@@ -292,52 +276,38 @@ fn numbers(alloc: Global, count: u32) -> Result<IndexSet<Text>, PushError> {
     Ok(names)
 }
 
-/// What comes of making flags, as a row tells it.
-fn flags_made(
-    rt: &impl Abort,
+/// An enum of so many names, or flags.
+fn make_of_many_names(
     alloc: Global,
     builder: &mut ComponentTypesBuilder,
+    kind: &str,
     count: u32,
+) -> Result<InterfaceType, PushError> {
+    let names = numbers(alloc, count)?;
+    match kind {
+        "enum" => make_enum(builder, names),
+        _ => make_flags(builder, names),
+    }
+}
+
+/// What comes of many names, as a row tells it.
+pub fn made_of_names(
+    rt: &impl Abort,
+    alloc: Global,
+    builder: &mut ComponentTypesBuilder,
+    words: &str,
 ) -> Result<String, PushError> {
-    match make_flags(builder, numbers(alloc, count)?) {
+    let (kind, count) = words.split_once(" ").expect(rt, "how many names");
+    match make_of_many_names(alloc, builder, kind, number_of(rt, count)) {
         Ok(ty) => told(rt, alloc, builder, &ty),
-        Err(PushError::TooLarge) => Ok(String::from_str(alloc, "too large")?),
-        Err(error) => Err(error),
+        Err(error) => refused(alloc, error),
     }
-}
-
-/// Each row tells what comes of many names.
-fn say_long(
-    rt: &impl Abort,
-    alloc: Global,
-    builder: &mut ComponentTypesBuilder,
-) -> Result<(), PushError> {
-    for (count, as_enum, as_flags) in LONG {
-        let ty = make_enum(builder, numbers(alloc, *count)?)?;
-        assert_eq!(rt; told(rt, alloc, builder, &ty)?.as_str(), *as_enum);
-        assert_eq!(rt; flags_made(rt, alloc, builder, *count)?.as_str(), *as_flags);
-    }
-    Ok(())
-}
-
-/// All of these.
-fn say_what_is_made(
-    rt: &impl Abort,
-    alloc: Global,
-    builder: &mut ComponentTypesBuilder,
-) -> Result<(), Fail> {
-    say_rows(rt, alloc, builder)?;
-    say_insides(rt, alloc, builder)?;
-    say_fields(rt, alloc, builder)?;
-    say_long(rt, alloc, builder)?;
-    Ok(())
 }
 
 #[test]
 fn types_are_made(rt: HostRuntime) -> Result<(), Fail> {
-    let mut builder = ComponentTypesBuilder::new(rt.alloc(), 7);
-    let said = say_what_is_made(&rt, rt.alloc(), &mut builder);
-    // A builder that is dropped by a call has one short proof, where the end of its scope has a long one.
-    drop(builder);
-    said
+    say_table(&rt, rt.alloc(), Question::Made, ROWS)?;
+    say_table(&rt, rt.alloc(), Question::Inside, INSIDE)?;
+    say_table(&rt, rt.alloc(), Question::Place, FIELDS)?;
+    say_table(&rt, rt.alloc(), Question::Many, LONG)
 }

@@ -24,6 +24,18 @@ pub fn names_of(alloc: Global, list: &str) -> Result<IndexSet<Text>, PushError> 
     Ok(names)
 }
 
+/// Puts a field behind others.
+fn push_field(
+    alloc: Global,
+    fields: &mut Seq<RecordField>,
+    name: &str,
+    ty: InterfaceType,
+) -> Result<(), PushError> {
+    let name = Text::from_str(alloc, name)?;
+    fields.push(RecordField { name, ty })?;
+    Ok(())
+}
+
 /// Fields of these names and types.
 pub fn fields_of(
     alloc: Global,
@@ -32,10 +44,20 @@ pub fn fields_of(
 ) -> Result<Seq<RecordField>, PushError> {
     let mut fields = Seq::new(alloc);
     for (name, ty) in list.split(',').zip(types) {
-        let name = Text::from_str(alloc, name)?;
-        fields.push(RecordField { name, ty: *ty })?;
+        push_field(alloc, &mut fields, name, *ty)?;
     }
     Ok(fields)
+}
+
+/// Puts a case behind others.
+fn insert_case(
+    alloc: Global,
+    cases: &mut IndexMap<Text, Option<InterfaceType>>,
+    name: &str,
+    payload: Option<InterfaceType>,
+) -> Result<(), PushError> {
+    cases.insert(Text::from_str(alloc, name)?, payload)?;
+    Ok(())
 }
 
 /// Cases of these names and payloads.
@@ -46,7 +68,7 @@ pub fn cases_of(
 ) -> Result<IndexMap<Text, Option<InterfaceType>>, PushError> {
     let mut cases = IndexMap::new(alloc);
     for (name, payload) in list.split(',').zip(payloads) {
-        cases.insert(Text::from_str(alloc, name)?, *payload)?;
+        insert_case(alloc, &mut cases, name, *payload)?;
     }
     Ok(cases)
 }
@@ -63,7 +85,7 @@ pub fn are_live_cases(
         .all(|(_, payload)| is_live_payload(builder, payload))
 }
 
-/// The instance of each table.
+/// The instance of each table of futures and of streams.
 fn instance() -> RuntimeComponentInstanceIndex {
     RuntimeComponentInstanceIndex::from_u32(0)
 }
@@ -83,11 +105,13 @@ pub fn make_borrow(builder: &mut ComponentTypesBuilder) -> Result<InterfaceType,
     Ok(InterfaceType::Borrow(builder.push_resource_table(resource())?))
 }
 
-/// An error context.
-pub fn make_error_context(builder: &mut ComponentTypesBuilder) -> Result<InterfaceType, PushError> {
-    let table = TypeErrorContextTable {
-        instance: instance(),
-    };
+/// An error context of an instance.
+pub fn make_error_context(
+    builder: &mut ComponentTypesBuilder,
+    number: u32,
+) -> Result<InterfaceType, PushError> {
+    let instance = RuntimeComponentInstanceIndex::from_u32(number);
+    let table = TypeErrorContextTable { instance };
     Ok(InterfaceType::ErrorContext(builder.add_error_context_table_type(table)?))
 }
 

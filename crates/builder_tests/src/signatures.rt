@@ -1,10 +1,9 @@
 //! Functions: their core signatures, as the canonical ABI gives them, and which of them hold handles.
 
-use crate::live::are_live;
-use crate::words::types_of;
+use crate::questions::{Question, say_table, yes_or_no};
+use crate::words::{make_tuple_of, types_of};
 use fact_builder::{ComponentTypesBuilder, SideSig, Signature};
 use fact_entity::PushError;
-use fact_making::make_tuple;
 use fact_types::{InterfaceType, Lookup, TypeFunc, TypeFuncIndex, TypeTupleIndex};
 use fact_wasm::Seq;
 use std::alloc::Global;
@@ -18,9 +17,8 @@ fn tuple_of(
     builder: &mut ComponentTypesBuilder,
     words: &str,
 ) -> Result<TypeTupleIndex, PushError> {
-    let types = Seq::from_vec(types_of(rt, alloc, builder, words)?);
-    assert!(rt; are_live(builder, types.as_slice()));
-    match make_tuple(alloc, builder, types)? {
+    let types = types_of(rt, alloc, builder, words)?;
+    match make_tuple_of(rt, alloc, builder, types.as_slice())? {
         InterfaceType::Tuple(index) => Ok(index),
         _ => Err(PushError::TooLarge),
     }
@@ -92,21 +90,24 @@ fn told(
     Ok(format!(in alloc; "{params:?} {results:?}")?)
 }
 
-/// Each row tells the signature of its side.
-fn say_rows(
+/// The core signature of a side of a function in words, as a row tells it.
+pub fn signature(
     rt: &impl Abort,
     alloc: Global,
     builder: &mut ComponentTypesBuilder,
-) -> Result<(), Fail> {
-    for row in ROWS.trim().lines() {
-        let (side, func) = row.split_once(": ").ok_or("no function")?;
-        let (words, answer) = func.split_once(" = ").ok_or("no answer")?;
-        let ty = func_of(rt, alloc, builder, words)?;
-        let told = told(rt, alloc, builder, ty, side)?;
-        assert_eq!(rt; told.as_str(), answer, "{row}");
-    }
-    Ok(())
+    words: &str,
+) -> Result<String, PushError> {
+    let (side, func) = words.split_once(": ").expect(rt, "a function");
+    let ty = func_of(rt, alloc, builder, func)?;
+    told(rt, alloc, builder, ty, side)
 }
+
+/// A function, and whether it holds a handle.
+const HANDLES: &str = "
+u32 own > = yes
+string > u8 stream = yes
+u32 string > string = no
+";
 
 /// Whether a function holds a handle.
 fn has_handle(rt: &impl Abort, builder: &ComponentTypesBuilder, ty: TypeFuncIndex) -> bool {
@@ -114,42 +115,40 @@ fn has_handle(rt: &impl Abort, builder: &ComponentTypesBuilder, ty: TypeFuncInde
     builder.func_contains_any_handle(ty)
 }
 
-/// Says which functions hold a handle, and that equal functions have one index.
-fn say_handles(
+/// Whether a function holds a handle, as a row tells it.
+pub fn handles(
     rt: &impl Abort,
     alloc: Global,
     builder: &mut ComponentTypesBuilder,
-) -> Result<(), PushError> {
-    let rows = [
-        ("u32 own >", true),
-        ("string > u8 stream", true),
-        ("u32 string > string", false),
-    ];
-    for (words, holds) in rows {
-        let ty = func_of(rt, alloc, builder, words)?;
-        assert!(rt; has_handle(rt, builder, ty) == holds, "{words}");
-    }
-    let first = func_of(rt, alloc, builder, "u16 > u8")?;
-    let again = func_of(rt, alloc, builder, "u16 > u8")?;
-    assert!(rt; first == again);
-    Ok(())
+    words: &str,
+) -> Result<String, PushError> {
+    let ty = func_of(rt, alloc, builder, words)?;
+    let holds = has_handle(rt, builder, ty);
+    Ok(String::from_str(alloc, yes_or_no(holds))?)
 }
 
-/// All of these.
-fn say_functions(
+/// Two functions, and whether they have one index.
+const EQUAL: &str = "
+u16 > u8 / u16 > u8 = yes
+u16 > u8 / u8 > u16 = no
+";
+
+/// Whether two functions have one index, as a row tells it.
+pub fn one_function(
     rt: &impl Abort,
     alloc: Global,
     builder: &mut ComponentTypesBuilder,
-) -> Result<(), Fail> {
-    say_rows(rt, alloc, builder)?;
-    say_handles(rt, alloc, builder)?;
-    Ok(())
+    words: &str,
+) -> Result<String, PushError> {
+    let (first, second) = words.split_once(" / ").expect(rt, "a second function");
+    let first = func_of(rt, alloc, builder, first)?;
+    let second = func_of(rt, alloc, builder, second)?;
+    Ok(String::from_str(alloc, yes_or_no(first == second))?)
 }
 
 #[test]
 fn functions_are_told(rt: HostRuntime) -> Result<(), Fail> {
-    let mut builder = ComponentTypesBuilder::new(rt.alloc(), 7);
-    let said = say_functions(&rt, rt.alloc(), &mut builder);
-    drop(builder);
-    said
+    say_table(&rt, rt.alloc(), Question::Signature, ROWS)?;
+    say_table(&rt, rt.alloc(), Question::Handles, HANDLES)?;
+    say_table(&rt, rt.alloc(), Question::OneFunction, EQUAL)
 }

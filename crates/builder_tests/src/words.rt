@@ -1,5 +1,6 @@
 //! Types in words: each word is a type, and stands behind the words of its members. `-` stands for a payload that is not
-//! there, `same` for the type before it once more; behind `:` stand names, or a number of members or of elements.
+//! there, `same` for the type before it once more; behind `:` stand names, or a number of members, of elements or of
+//! an instance.
 
 use crate::live::{are_live, are_live_fields, is_live, is_live_payload};
 use crate::parts::{
@@ -37,8 +38,8 @@ fn scalar_of(word: &str) -> Option<InterfaceType> {
     }
 }
 
-/// The number behind a word.
-fn number_of(rt: &impl Abort, text: &str) -> u32 {
+/// The number that a text is.
+pub fn number_of(rt: &impl Abort, text: &str) -> u32 {
     text.parse::<u32>().ok().expect(rt, "a number")
 }
 
@@ -80,6 +81,31 @@ fn make_of_two(
     make_map(builder, key, value)
 }
 
+/// A tuple of members.
+pub fn make_tuple_of(
+    rt: &impl Abort,
+    alloc: Global,
+    builder: &mut ComponentTypesBuilder,
+    members: &[InterfaceType],
+) -> Result<InterfaceType, PushError> {
+    let types = Seq::from_vec(members.to_vec(alloc)?);
+    assert!(rt; are_live(builder, types.as_slice()));
+    make_tuple(alloc, builder, types)
+}
+
+/// A record of members of these names.
+fn make_record_of(
+    rt: &impl Abort,
+    alloc: Global,
+    builder: &mut ComponentTypesBuilder,
+    names: &str,
+    members: &[InterfaceType],
+) -> Result<InterfaceType, PushError> {
+    let fields = fields_of(alloc, names, members)?;
+    assert!(rt; are_live_fields(builder, fields.as_slice()));
+    make_record(alloc, builder, fields)
+}
+
 /// A type with any number of members, none of them absent.
 fn make_of_many(
     rt: &impl Abort,
@@ -90,16 +116,8 @@ fn make_of_many(
     members: &[InterfaceType],
 ) -> Result<InterfaceType, PushError> {
     match (kind, members) {
-        ("tuple", _) => {
-            let types = Seq::from_vec(members.to_vec(alloc)?);
-            assert!(rt; are_live(builder, types.as_slice()));
-            make_tuple(alloc, builder, types)
-        }
-        ("record", _) => {
-            let fields = fields_of(alloc, behind, members)?;
-            assert!(rt; are_live_fields(builder, fields.as_slice()));
-            make_record(alloc, builder, fields)
-        }
+        ("tuple", _) => make_tuple_of(rt, alloc, builder, members),
+        ("record", _) => make_record_of(rt, alloc, builder, behind, members),
         (_, [key, value]) => make_of_two(rt, builder, *key, *value),
         (_, [member]) => make_of_one(rt, builder, kind, behind, *member),
         _ => Err(PushError::TooLarge),
@@ -119,6 +137,43 @@ fn present(
     Ok(types)
 }
 
+/// A variant of cases of these names.
+fn make_variant_of(
+    rt: &impl Abort,
+    alloc: Global,
+    builder: &mut ComponentTypesBuilder,
+    names: &str,
+    payloads: &[Option<InterfaceType>],
+) -> Result<InterfaceType, PushError> {
+    let cases = cases_of(alloc, names, payloads)?;
+    assert!(rt; are_live_cases(builder, &cases));
+    make_variant(alloc, builder, cases)
+}
+
+/// A result of these payloads.
+fn make_result_of(
+    rt: &impl Abort,
+    builder: &mut ComponentTypesBuilder,
+    ok: Option<InterfaceType>,
+    err: Option<InterfaceType>,
+) -> Result<InterfaceType, PushError> {
+    assert!(rt; is_live_payload(builder, &ok) && is_live_payload(builder, &err));
+    make_result(builder, ok, err)
+}
+
+/// A type without absent members.
+fn make_of_present(
+    rt: &impl Abort,
+    alloc: Global,
+    builder: &mut ComponentTypesBuilder,
+    kind: &str,
+    behind: &str,
+    members: &[Option<InterfaceType>],
+) -> Result<InterfaceType, PushError> {
+    let types = present(rt, alloc, members)?;
+    make_of_many(rt, alloc, builder, kind, behind, types.as_slice())
+}
+
 /// A type whose members may be absent.
 fn make_of_payloads(
     rt: &impl Abort,
@@ -129,21 +184,11 @@ fn make_of_payloads(
     members: &[Option<InterfaceType>],
 ) -> Result<InterfaceType, PushError> {
     match (kind, members) {
-        ("variant", _) => {
-            let cases = cases_of(alloc, behind, members)?;
-            assert!(rt; are_live_cases(builder, &cases));
-            make_variant(alloc, builder, cases)
-        }
-        ("result", [ok, err]) => {
-            assert!(rt; is_live_payload(builder, ok) && is_live_payload(builder, err));
-            make_result(builder, *ok, *err)
-        }
+        ("variant", _) => make_variant_of(rt, alloc, builder, behind, members),
+        ("result", [ok, err]) => make_result_of(rt, builder, *ok, *err),
         ("future", [payload]) => make_future(rt, builder, *payload),
         ("stream", [payload]) => make_stream(rt, builder, *payload),
-        _ => {
-            let types = present(rt, alloc, members)?;
-            make_of_many(rt, alloc, builder, kind, behind, types.as_slice())
-        }
+        _ => make_of_present(rt, alloc, builder, kind, behind, members),
     }
 }
 
@@ -159,7 +204,7 @@ fn make(
     match kind {
         "own" => make_own(builder),
         "borrow" => make_borrow(builder),
-        "error-context" => make_error_context(builder),
+        "error-context" => make_error_context(builder, behind.parse::<u32>().unwrap_or(0)),
         "flags" => make_flags(builder, names_of(alloc, behind)?),
         "enum" => make_enum(builder, names_of(alloc, behind)?),
         _ => make_of_payloads(rt, alloc, builder, kind, behind, members),
