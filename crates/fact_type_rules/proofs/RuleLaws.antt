@@ -1,5 +1,5 @@
 -- The rules for the types of a plan, the rules for shapes, and validity are one.
-use Rattle.std.proofs.Common.{◌≡◌, ◌<◌, ◌≤◌, ◌+◌, ◌⊎◌, ℕ, zero, suc, max, List, [], ◌∷◌, length, map, get_or, Option, Some, None, refl, sym, ◌∙◌, ap, subst, arith, inl, inr}
+use Rattle.std.proofs.Common.{◌≡◌, ◌<◌, ◌≤◌, ◌+◌, ◌⊎◌, ℕ, zero, suc, List, [], ◌∷◌, length, map, get_or, Option, Some, None, refl, sym, ◌∙◌, ap, subst, arith, inl, inr}
 use Rattle.std.specs.Prelude.{◌↔◌, IsSomeAnd, option_map, slice_get}
 use Rattle.std.proofs.lemmas.List.{length-map}
 use Rattle.std.proofs.lemmas.Bool.{cases_lt}
@@ -13,13 +13,12 @@ use Rattle.fact_types.specs.Layout.{payloads}
 use Rattle.fact_types.specs.Shapes.{Kind, k_record, k_variant, k_list, k_tuple, k_map, k_flags, k_enum, k_option, k_result, k_fixed, k_future, k_stream, Shape, s_plain, s_node, Members, no_members, bare, typed, none_name, some_name, ok_name, error_name, layout_of, layouts_of, plain_layout}
 use Rattle.fact_types.specs.Tables.{Tables, Node, node_of, record_node, variant_node, placed, tuple_node, flags_node, enum_node, option_node, result_node, list_node, map_node, fixed_length_list_node, payload_in, future_node, stream_node, HasShape, HasMembers}
 use Rattle.fact_types.proofs.ShapeLaws.{more}
-use Rattle.fact_types.specs.Valid.{AreDistinct, AreEnough, AreRuled, FollowsRules, IsPlainValid, IsRuled, IsValid, deepest_nesting, nesting}
+use Rattle.fact_types.specs.Valid.{AreDistinct, AreEnough, AreRuled, FollowsRules, IsPlainValid, IsRuled, deepest_nesting, nesting}
 use Rattle.fact_plan.specs.declared.plan.PlanRef.{PlanRef}
 use Rattle.fact_plan.specs.declared.plan.PlanType.{PlanType}
 use Rattle.fact_plan.specs.declared.plan.PlanType.TheVariants as entry
-use Rattle.fact_plan.specs.declared.plan.FusePlan.{FusePlan}
 use Rattle.fact_plan_types.specs.PlanShapes.{HandleTables, cases_of, entry_shape, fields_of, names_alone, places_of}
-use Rattle.fact_plan_types.specs.TypeRules.{IsEmpty, IsErrorContext, IsPast, IsRepeated, IsTooLarge, most_entries, names_in, list_length, table_in, types_in}
+use Rattle.fact_plan_types.specs.TypeRules.{IsEmpty, IsPast, IsRepeated, most_entries, names_in, list_length, table_in}
 use Rattle.fact_plan_types.specs.TypeRules.{HasManyCases as HasManyCasesIn, HasManyFlags as HasManyFlagsIn}
 use Rattle.fact_plan_types.proofs.AddLaws.{entry_not_past, entry_within_or_past, not_past, within_or_past}
 use Rattle.fact_plan_types.proofs.ValidLaws.{bare_names, case_names, distinct_where, field_names, head, one_name, option_names, result_names, two_names}
