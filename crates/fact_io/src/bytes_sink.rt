@@ -13,7 +13,7 @@ use std::alloc::Global;
 use std::marker::Model;
 
 /// Bytes in memory that are written in pieces, up to a room, by calls of which some are to fail.
-#[derive(Debug, Drop)]
+#[derive(Drop)]
 pub struct BytesSink {
     bytes: Vec<u8>,
     room: usize,

@@ -11,7 +11,7 @@ use crate::source::{ReadFailed, Source};
 use std::marker::Model;
 
 /// Bytes in memory that are read in pieces, by calls of which some are to fail.
-#[derive(Debug, Drop)]
+#[derive(Drop)]
 pub struct BytesSource {
     bytes: Vec<u8>,
     at: usize,

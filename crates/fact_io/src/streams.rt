@@ -13,7 +13,7 @@ use std::io::{Read, Stderr, Stdin, Stdout, Write};
 use std::marker::Model;
 
 /// A reader as a source. It tells the bytes that the reader tells.
-#[derive(Debug, Drop)]
+#[derive(Drop)]
 pub struct ReaderSource<R: Read> {
     reader: R,
     faults: u64,
@@ -59,7 +59,7 @@ impl<R: Read> Source for ReaderSource<R> {
 }
 
 /// A writer as a sink. It tells the bytes that the writer tells.
-#[derive(Debug, Drop)]
+#[derive(Drop)]
 pub struct WriterSink<W: Write> {
     writer: W,
     faults: u64,
