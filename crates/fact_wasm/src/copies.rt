@@ -1,9 +1,12 @@
 //! Equal copies.
 
-ghost use Rattle.std.specs.Prelude.{◌≡◌, IfOk};
+ghost use Rattle.std.specs.Prelude.{◌≡◌, true, Some, IfOk};
+ghost use Rattle.fact_wasm.specs.declared.instr.Instr.{out-Instr};
+ghost use Rattle.fact_wasm.specs.declared.instr.Instr.TheVariants.{If, TryTable};
+ghost use Rattle.fact_wasm.specs.Copies.{is_flat};
 
 use crate::OutOfMemory;
-use crate::instr::Instr;
+use crate::instr::{BlockType, Instr};
 use crate::module::{ImportType, WasmExport, WasmFunc, WasmImport, WasmModule};
 use crate::seq::Seq;
 use crate::types::FuncType;
@@ -101,38 +104,18 @@ impl Copied for WasmFunc {
     }
 }
 
-#[cycle(copied)]
-fn copy_body(body: &Seq<Instr>) -> Result<Seq<Instr>, OutOfMemory>
-    ensures { IfOk result (λ copy. copy ≡ body.now) }
-{
-    let mut copies = body.empty_like();
-    for instr in body.as_slice() {
-        copies.push(copy_instr(instr)?)?;
-    }
-    Ok(copies)
-}
-
-#[cycle(copied)]
-fn copy_instr(instr: &Instr) -> Result<Instr, OutOfMemory>
-    ensures { IfOk result (λ copy. copy ≡ instr.now) }
+/// Copies an instruction without lists.
+fn copy_flat(instr: &Instr) -> Instr
+    requires { is_flat (out-Instr instr.now) ≡ true }
+    ensures { result ≡ instr.now }
 {
     let copy = match instr {
         Instr::Unreachable => Instr::Unreachable,
-        Instr::Block(ty, body) => Instr::Block(*ty, copy_body(body)?),
-        Instr::Loop(ty, body) => Instr::Loop(*ty, copy_body(body)?),
-        Instr::If(ty, body, other) => match other {
-            None => Instr::If(*ty, copy_body(body)?, None),
-            Some(other) => Instr::If(*ty, copy_body(body)?, Some(copy_body(other)?)),
-        },
         Instr::Br(label) => Instr::Br(*label),
         Instr::BrIf(label) => Instr::BrIf(*label),
-        Instr::BrTable(labels, default) => Instr::BrTable(copy_items(labels)?, *default),
         Instr::Call(func) => Instr::Call(*func),
         Instr::Drop => Instr::Drop,
         Instr::Select => Instr::Select,
-        Instr::TryTable(ty, catches, body) => {
-            Instr::TryTable(*ty, copy_items(catches)?, copy_body(body)?)
-        }
         Instr::LocalGet(index) => Instr::LocalGet(*index),
         Instr::LocalSet(index) => Instr::LocalSet(*index),
         Instr::LocalTee(index) => Instr::LocalTee(*index),
@@ -194,8 +177,74 @@ fn copy_instr(instr: &Instr) -> Result<Instr, OutOfMemory>
         Instr::I32Extend8S => Instr::I32Extend8S,
         Instr::I32Extend16S => Instr::I32Extend16S,
         Instr::RefFunc(func) => Instr::RefFunc(*func),
+        Instr::Block(_, _)
+        | Instr::Loop(_, _)
+        | Instr::If(_, _, _)
+        | Instr::BrTable(_, _)
+        | Instr::TryTable(_, _, _) => unreachable!(),
     };
-    Ok(copy)
+    copy
+}
+
+/// A `try_table` of this body with a copy of these labels.
+fn try_table(
+    ty: BlockType,
+    catches: &Seq<u32>,
+    body: Seq<Instr>,
+) -> Result<Instr, OutOfMemory>
+    ensures { IfOk result (λ copy. copy ≡ TryTable ty catches.now body) }
+{
+    match copy_items(catches) {
+        Ok(catches) => Ok(Instr::TryTable(ty, catches, body)),
+        Err(error) => {
+            drop(body);
+            Err(error)
+        }
+    }
+}
+
+#[cycle(copied)]
+fn copy_body(body: &Seq<Instr>) -> Result<Seq<Instr>, OutOfMemory>
+    ensures { IfOk result (λ copy. copy ≡ body.now) }
+{
+    let mut copies = body.empty_like();
+    for instr in body.as_slice() {
+        copies.push(copy_instr(instr)?)?;
+    }
+    Ok(copies)
+}
+
+#[cycle(copied)]
+fn copy_instr(instr: &Instr) -> Result<Instr, OutOfMemory>
+    ensures { IfOk result (λ copy. copy ≡ instr.now) }
+{
+    match instr {
+        Instr::Block(ty, body) => Ok(Instr::Block(*ty, copy_body(body)?)),
+        Instr::Loop(ty, body) => Ok(Instr::Loop(*ty, copy_body(body)?)),
+        Instr::If(ty, body, None) => Ok(Instr::If(*ty, copy_body(body)?, None)),
+        Instr::If(ty, body, Some(other)) => if_else(*ty, body, copy_body(other)?),
+        Instr::BrTable(labels, default) => Ok(Instr::BrTable(copy_items(labels)?, *default)),
+        Instr::TryTable(ty, catches, body) => try_table(*ty, catches, copy_body(body)?),
+        _ => Ok(copy_flat(instr)),
+    }
+}
+
+/// An `if` of this else body with a copy of this body.
+#[cycle(copied)]
+fn if_else(
+    ty: BlockType,
+    body: &Seq<Instr>,
+    other: Seq<Instr>,
+) -> Result<Instr, OutOfMemory>
+    ensures { IfOk result (λ copy. copy ≡ If ty body.now (Some other)) }
+{
+    match copy_body(body) {
+        Ok(body) => Ok(Instr::If(ty, body, Some(other))),
+        Err(error) => {
+            drop(other);
+            Err(error)
+        }
+    }
 }
 
 impl WasmModule {
