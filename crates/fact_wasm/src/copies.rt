@@ -221,8 +221,10 @@ fn copy_instr(instr: &Instr) -> Result<Instr, OutOfMemory>
     match instr {
         Instr::Block(ty, body) => Ok(Instr::Block(*ty, copy_body(body)?)),
         Instr::Loop(ty, body) => Ok(Instr::Loop(*ty, copy_body(body)?)),
-        Instr::If(ty, body, None) => Ok(Instr::If(*ty, copy_body(body)?, None)),
-        Instr::If(ty, body, Some(other)) => if_else(*ty, body, copy_body(other)?),
+        Instr::If(ty, body, other) => match other {
+            None => Ok(Instr::If(*ty, copy_body(body)?, None)),
+            Some(other) => if_else(*ty, body, copy_body(other)?),
+        },
         Instr::BrTable(labels, default) => Ok(Instr::BrTable(copy_items(labels)?, *default)),
         Instr::TryTable(ty, catches, body) => try_table(*ty, catches, copy_body(body)?),
         _ => Ok(copy_flat(instr)),
