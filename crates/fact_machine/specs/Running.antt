@@ -231,6 +231,20 @@ storing kind index address value w vs ls rest k =
 abbrev pub addressed : Bool → (ℕ → Row) → Row
 addressed memory64 go w vs ls rest k = with_address memory64 w vs (λ base us. go base w us ls rest k)
 
+-- the control instructions, with the one that makes a reference to a function
+abbrev pub is_control : Instr-F Instr → Bool
+is_control instr.Unreachable = true
+is_control (instr.Block bt body) = true
+is_control (instr.Loop bt body) = true
+is_control (instr.If bt body other) = true
+is_control (instr.Br l) = true
+is_control (instr.BrIf l) = true
+is_control (instr.BrTable labels last) = true
+is_control (instr.Call f) = true
+is_control (instr.TryTable bt catches body) = true
+is_control (instr.RefFunc f) = true
+is_control _ = false
+
 -- the loads and the stores
 abbrev pub is_access : Instr-F Instr → Bool
 is_access (instr.I32Load m) = true

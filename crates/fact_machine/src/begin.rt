@@ -1,10 +1,10 @@
 //! The instruction table.
 
-ghost use Rattle.std.specs.Prelude.{◌≡◌, ◌≢◌, [], true, IfOk};
+ghost use Rattle.std.specs.Prelude.{◌≡◌, ◌≢◌, [], ◌∷◌, true, false, IfOk};
 ghost use Rattle.fact_wasm.specs.declared.instr.Instr.{out-Instr};
 ghost use Rattle.fact_wasm.specs.declared.module.WasmModule.{WasmModule};
 ghost use Rattle.fact_machine.specs.Machine.{next, act, begin as begin_of};
-ghost use Rattle.fact_machine.specs.Running.{did_of, config_of, at, is_access, is_numeric};
+ghost use Rattle.fact_machine.specs.Running.{did_of, config_of, at, is_access, is_control, is_numeric};
 
 use crate::memory::{LoadKind, StoreKind};
 use crate::numeric::{Binary, UnaryI32, UnaryI64};
@@ -34,64 +34,7 @@ fn begin_access(run: &mut Running, module: &WasmModule, instr: &Instr) -> Step
         Instr::F64Store(arg) => memory::store(run, module, StoreKind::F64, *arg),
         Instr::I32Store8(arg) => memory::store(run, module, StoreKind::I32To8, *arg),
         Instr::I32Store16(arg) => memory::store(run, module, StoreKind::I32To16, *arg),
-        Instr::Unreachable
-        | Instr::Block(_, _)
-        | Instr::Loop(_, _)
-        | Instr::If(_, _, _)
-        | Instr::Br(_)
-        | Instr::BrIf(_)
-        | Instr::BrTable(_, _)
-        | Instr::Call(_)
-        | Instr::Drop
-        | Instr::Select
-        | Instr::TryTable(_, _, _)
-        | Instr::LocalGet(_)
-        | Instr::LocalSet(_)
-        | Instr::LocalTee(_)
-        | Instr::GlobalGet(_)
-        | Instr::GlobalSet(_)
-        | Instr::MemorySize(_)
-        | Instr::I32Const(_)
-        | Instr::I64Const(_)
-        | Instr::F32Const(_)
-        | Instr::F64Const(_)
-        | Instr::I32Eqz
-        | Instr::I32Eq
-        | Instr::I32Ne
-        | Instr::I32LtU
-        | Instr::I32GtU
-        | Instr::I32GeU
-        | Instr::I64Eqz
-        | Instr::I64Eq
-        | Instr::I64Ne
-        | Instr::I64LtU
-        | Instr::I64GtU
-        | Instr::I64GeU
-        | Instr::I32Add
-        | Instr::I32Sub
-        | Instr::I32Mul
-        | Instr::I32And
-        | Instr::I32Or
-        | Instr::I32Xor
-        | Instr::I32Shl
-        | Instr::I32ShrU
-        | Instr::I64Add
-        | Instr::I64Sub
-        | Instr::I64Mul
-        | Instr::I64And
-        | Instr::I64Or
-        | Instr::I64Xor
-        | Instr::I64Shl
-        | Instr::I64ShrU
-        | Instr::I32WrapI64
-        | Instr::I64ExtendI32U
-        | Instr::I32ReinterpretF32
-        | Instr::I64ReinterpretF64
-        | Instr::F32ReinterpretI32
-        | Instr::F64ReinterpretI64
-        | Instr::I32Extend8S
-        | Instr::I32Extend16S
-        | Instr::RefFunc(_) => unreachable!(),
+        _ => unreachable!(),
     }
 }
 
@@ -137,69 +80,18 @@ fn begin_numeric(run: &mut Running, instr: &Instr) -> Step
         Instr::F64ReinterpretI64 => numeric::unary_i64(run, UnaryI64::Reinterpret),
         Instr::I32Extend8S => numeric::unary_i32(run, UnaryI32::Extend8S),
         Instr::I32Extend16S => numeric::unary_i32(run, UnaryI32::Extend16S),
-        Instr::Unreachable
-        | Instr::Block(_, _)
-        | Instr::Loop(_, _)
-        | Instr::If(_, _, _)
-        | Instr::Br(_)
-        | Instr::BrIf(_)
-        | Instr::BrTable(_, _)
-        | Instr::Call(_)
-        | Instr::Drop
-        | Instr::Select
-        | Instr::TryTable(_, _, _)
-        | Instr::LocalGet(_)
-        | Instr::LocalSet(_)
-        | Instr::LocalTee(_)
-        | Instr::GlobalGet(_)
-        | Instr::GlobalSet(_)
-        | Instr::I32Load(_)
-        | Instr::I64Load(_)
-        | Instr::F32Load(_)
-        | Instr::F64Load(_)
-        | Instr::I32Load8S(_)
-        | Instr::I32Load8U(_)
-        | Instr::I32Load16S(_)
-        | Instr::I32Load16U(_)
-        | Instr::I32Store(_)
-        | Instr::I64Store(_)
-        | Instr::F32Store(_)
-        | Instr::F64Store(_)
-        | Instr::I32Store8(_)
-        | Instr::I32Store16(_)
-        | Instr::MemorySize(_)
-        | Instr::I32Const(_)
-        | Instr::I64Const(_)
-        | Instr::F32Const(_)
-        | Instr::F64Const(_)
-        | Instr::RefFunc(_) => unreachable!(),
+        _ => unreachable!(),
     }
 }
 
-/// Begins the next instruction, which is there.
-pub fn begin<'m>(run: &mut Running<'m>, alloc: Global, module: &'m WasmModule) -> Step
-    requires { run.old.code.now ≢ [] }
-    ensures { IfOk result (λ end. did_of end run.new ≡ begin_of «module».now (next (config_of run.old))) }
+/// Begins an instruction that is not a control instruction.
+fn begin_data(run: &mut Running, module: &WasmModule, instr: &Instr) -> Step
+    requires { is_control (out-Instr instr.now) ≡ false }
+    ensures { IfOk result (λ end. did_of end run.new ≡ at run.old (act «module».now (out-Instr instr.now))) }
 {
-    let code = run.code;
-    let [instr, rest @ ..] = code else {
-        unreachable!();
-    };
-    run.code = rest;
     match instr {
-        Instr::Unreachable => Ok(Some(End::Trapped)),
-        Instr::Block(ty, body) => entering::block(run, module, *ty, &[], body.as_slice()),
-        Instr::Loop(ty, body) => entering::again(run, module, *ty, body.as_slice(), code),
-        Instr::If(ty, body, other) => entering::if_else(run, module, *ty, body.as_slice(), other),
-        Instr::Br(label) => branches::branch(run, *label),
-        Instr::BrIf(label) => branches::br_if(run, *label),
-        Instr::BrTable(labels, last) => branches::br_table(run, labels.as_slice(), *last),
-        Instr::Call(func) => outside::call(run, alloc, module, *func),
         Instr::Drop => Ok(rows::drop_one(run)),
         Instr::Select => rows::select(run),
-        Instr::TryTable(ty, catches, body) => {
-            entering::block(run, module, *ty, catches.as_slice(), body.as_slice())
-        }
         Instr::LocalGet(n) => rows::local_get(run, *n),
         Instr::LocalSet(n) => Ok(rows::local_set(run, *n)),
         Instr::LocalTee(n) => rows::local_tee(run, *n),
@@ -210,7 +102,6 @@ pub fn begin<'m>(run: &mut Running<'m>, alloc: Global, module: &'m WasmModule) -
         Instr::I64Const(n) => rows::constant(run, CoreValue::I64(*n)),
         Instr::F32Const(n) => rows::constant(run, CoreValue::F32(*n)),
         Instr::F64Const(n) => rows::constant(run, CoreValue::F64(*n)),
-        Instr::RefFunc(func) => outside::ref_func(run, module, *func),
         Instr::I32Load(_)
         | Instr::I64Load(_)
         | Instr::F32Load(_)
@@ -225,41 +116,47 @@ pub fn begin<'m>(run: &mut Running<'m>, alloc: Global, module: &'m WasmModule) -
         | Instr::F64Store(_)
         | Instr::I32Store8(_)
         | Instr::I32Store16(_) => begin_access(run, module, instr),
-        Instr::I32Eqz
-        | Instr::I32Eq
-        | Instr::I32Ne
-        | Instr::I32LtU
-        | Instr::I32GtU
-        | Instr::I32GeU
-        | Instr::I64Eqz
-        | Instr::I64Eq
-        | Instr::I64Ne
-        | Instr::I64LtU
-        | Instr::I64GtU
-        | Instr::I64GeU
-        | Instr::I32Add
-        | Instr::I32Sub
-        | Instr::I32Mul
-        | Instr::I32And
-        | Instr::I32Or
-        | Instr::I32Xor
-        | Instr::I32Shl
-        | Instr::I32ShrU
-        | Instr::I64Add
-        | Instr::I64Sub
-        | Instr::I64Mul
-        | Instr::I64And
-        | Instr::I64Or
-        | Instr::I64Xor
-        | Instr::I64Shl
-        | Instr::I64ShrU
-        | Instr::I32WrapI64
-        | Instr::I64ExtendI32U
-        | Instr::I32ReinterpretF32
-        | Instr::I64ReinterpretF64
-        | Instr::F32ReinterpretI32
-        | Instr::F64ReinterpretI64
-        | Instr::I32Extend8S
-        | Instr::I32Extend16S => begin_numeric(run, instr),
+        _ => begin_numeric(run, instr),
     }
+}
+
+/// Begins an instruction with which this code begins.
+fn begin_row<'m>(
+    run: &mut Running<'m>,
+    alloc: Global,
+    module: &'m WasmModule,
+    instr: &'m Instr,
+    code: &'m [Instr],
+) -> Step
+    requires { code.now ≡ instr.now ∷ run.old.code.now }
+    ensures { IfOk result (λ end. did_of end run.new ≡ at run.old (act «module».now (out-Instr instr.now))) }
+{
+    match instr {
+        Instr::Unreachable => Ok(Some(End::Trapped)),
+        Instr::Block(ty, body) => entering::block(run, module, *ty, &[], body.as_slice()),
+        Instr::Loop(ty, body) => entering::again(run, module, *ty, body.as_slice(), code),
+        Instr::If(ty, body, other) => entering::if_else(run, module, *ty, body.as_slice(), other),
+        Instr::Br(label) => branches::branch(run, *label),
+        Instr::BrIf(label) => branches::br_if(run, *label),
+        Instr::BrTable(labels, last) => branches::br_table(run, labels.as_slice(), *last),
+        Instr::Call(func) => outside::call(run, alloc, module, *func),
+        Instr::TryTable(ty, catches, body) => {
+            entering::block(run, module, *ty, catches.as_slice(), body.as_slice())
+        }
+        Instr::RefFunc(func) => outside::ref_func(run, module, *func),
+        _ => begin_data(run, module, instr),
+    }
+}
+
+/// Begins the next instruction, which is there.
+pub fn begin<'m>(run: &mut Running<'m>, alloc: Global, module: &'m WasmModule) -> Step
+    requires { run.old.code.now ≢ [] }
+    ensures { IfOk result (λ end. did_of end run.new ≡ begin_of «module».now (next (config_of run.old))) }
+{
+    let code = run.code;
+    let [instr, rest @ ..] = code else {
+        unreachable!();
+    };
+    run.code = rest;
+    begin_row(run, alloc, module, instr, code)
 }

@@ -187,11 +187,7 @@ fn copy_flat(instr: &Instr) -> Instr
 }
 
 /// A `try_table` of this body with a copy of these labels.
-fn try_table(
-    ty: BlockType,
-    catches: &Seq<u32>,
-    body: Seq<Instr>,
-) -> Result<Instr, OutOfMemory>
+fn try_table(ty: BlockType, catches: &Seq<u32>, body: Seq<Instr>) -> Result<Instr, OutOfMemory>
     ensures { IfOk result (λ copy. copy ≡ TryTable ty catches.now body) }
 {
     match copy_items(catches) {
@@ -233,11 +229,7 @@ fn copy_instr(instr: &Instr) -> Result<Instr, OutOfMemory>
 
 /// An `if` of this else body with a copy of this body.
 #[cycle(copied)]
-fn if_else(
-    ty: BlockType,
-    body: &Seq<Instr>,
-    other: Seq<Instr>,
-) -> Result<Instr, OutOfMemory>
+fn if_else(ty: BlockType, body: &Seq<Instr>, other: Seq<Instr>) -> Result<Instr, OutOfMemory>
     ensures { IfOk result (λ copy. copy ≡ If ty body.now (Some other)) }
 {
     match copy_body(body) {
