@@ -5,11 +5,12 @@ ghost use Rattle.fact_wasm.specs.declared.instr.Instr.TheOpen as instr;
 ghost use Rattle.fact_machine.specs.Machine.{act, func_import, ref_func as ref_func_of};
 ghost use Rattle.fact_machine.specs.Running.{did_of, at, answering, asking, imported_typed, imported};
 
+use crate::OutOfMemory;
 use crate::branches::throw;
 use crate::calls::call_defined;
 use crate::copies::copy_answer;
 use crate::running::{Running, Step};
-use crate::types::{Answer, CoreValue, End, Event, TraceEntry};
+use crate::types::{Answer, CoreValue, End, Event, MachineState, TraceEntry};
 use crate::values::have_types;
 use fact_wasm::{FuncName, FuncType, ImportType, Seq, WasmImport, WasmModule};
 use std::alloc::Global;
@@ -46,6 +47,37 @@ fn follow(run: &mut Running, alloc: Global, answer: &Answer) -> Step
     }
 }
 
+/// A call with these arguments in a state, and its answer.
+fn event_of(
+    func: u32,
+    args: Seq<CoreValue>,
+    state: &MachineState,
+    answer: &Answer,
+) -> Result<Event, OutOfMemory>
+    ensures { IfOk result (λ event. event ≡ record { func = func; args = args; before = state.now; answer = answer.now }) }
+{
+    let before = match state.try_clone() {
+        Ok(before) => before,
+        Err(error) => {
+            drop(args);
+            return Err(error);
+        }
+    };
+    match copy_answer(answer) {
+        Ok(answer) => Ok(Event {
+            func,
+            args,
+            before,
+            answer,
+        }),
+        Err(error) => {
+            drop(before);
+            drop(args);
+            Err(error)
+        }
+    }
+}
+
 /// Takes the next answer, with the call and the state before it in the trace.
 fn ask(run: &mut Running, alloc: Global, func: u32, args: Seq<CoreValue>) -> Step
     ensures { IfOk result (λ end. did_of end run.new ≡ at run.old (asking func args)) }
@@ -54,12 +86,7 @@ fn ask(run: &mut Running, alloc: Global, func: u32, args: Seq<CoreValue>) -> Ste
         return Ok(Some(End::Lacks));
     };
     run.answers = rest;
-    let event = Event {
-        func,
-        args,
-        before: run.state.try_clone()?,
-        answer: copy_answer(answer)?,
-    };
+    let event = event_of(func, args, &run.state, answer)?;
     run.trace.push(TraceEntry::Called(event))?;
     follow(run, alloc, answer)
 }

@@ -4,7 +4,7 @@ ghost use Rattle.std.specs.Prelude.{◌≡◌, [], ◌∷◌, ◌++◌, IfOk, re
 ghost use Rattle.fact_machine.specs.declared.types.Answer.{Answer};
 ghost use Rattle.fact_machine.specs.Causes.{steps_of, answers_of};
 ghost use Rattle.fact_machine.specs.World.{calls};
-ghost use Rattle.fact_machine.specs.Machine.{run_of, outcome as outcome_at, begin as begin_of, next, exec, after, at_rest, check, takes as takes_of};
+ghost use Rattle.fact_machine.specs.Machine.{At, Bottom, run_of, outcome as outcome_at, begin as begin_of, next, exec, after, at_rest, check, takes as takes_of};
 ghost use Rattle.fact_machine.specs.Running.{world_of, config_of, did_of, at, defined};
 
 use crate::OutOfMemory;
@@ -47,22 +47,59 @@ impl Machine {
         ensures lacks { IfOk result (λ outcome. outcome.end ≡ End.Lacks → answers_of outcome.log ≡ answers.now) }
         ensures asks { IfOk result (λ outcome. outcome.end ≡ End.Lacks → (more : Answer) → answers_of (run_of «module».now func args.now state.now (answers.now ++ more ∷ []) steps).log ≡ answers.now ++ more ∷ []) }
     {
-        let mut run = Running {
-            state: state.try_clone()?,
+        let mut run = loaded(alloc, args, state, answers)?;
+        match call_and_go_on(&mut run, alloc, module, func, args, steps) {
+            Ok(end) => {
+                let outcome = outcome_of(alloc, run, end)?;
+                Ok(outcome)
+            }
+            Err(error) => {
+                drop(run);
+                Err(error)
+            }
+        }
+    }
+}
+
+/// A machine with these arguments on its stack and nothing to run.
+fn loaded<'m>(
+    alloc: Global,
+    args: &[CoreValue],
+    state: &MachineState,
+    answers: &'m [Answer],
+) -> Result<Running<'m>, OutOfMemory>
+    ensures { IfOk result (λ run. config_of run ≡ At (record { state = state.now; answers = answers.now; trace = [] }) (reverse args.now) [] [] Bottom) }
+{
+    let state = state.try_clone()?;
+    match Stack::from_slice(alloc, args) {
+        Ok(stack) => Ok(Running {
+            state,
             answers,
             trace: Seq::new(alloc),
-            stack: Stack::from_slice(alloc, args)?,
+            stack,
             locals: Seq::new(alloc),
             code: &[],
             around: Seq::new(alloc),
-        };
-        let end = call_and_go_on(&mut run, alloc, module, func, args, steps)?;
-        let Running { state, trace, .. } = run;
-        Ok(Outcome {
-            end,
-            state,
-            log: calls_of(alloc, trace)?,
-        })
+        }),
+        Err(error) => {
+            drop(state);
+            Err(error)
+        }
+    }
+}
+
+/// What is left of a machine that ended so.
+fn outcome_of(alloc: Global, run: Running, end: End) -> Result<Outcome, OutOfMemory>
+    ensures { IfOk result (λ outcome. outcome ≡ outcome_at end (world_of run.entry)) }
+{
+    let Running { state, trace, .. } = run;
+    match calls_of(alloc, trace) {
+        Ok(log) => Ok(Outcome { end, state, log }),
+        Err(error) => {
+            drop(state);
+            drop(end);
+            Err(error)
+        }
     }
 }
 
