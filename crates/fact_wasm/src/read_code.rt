@@ -213,30 +213,69 @@ fn instr_at(alloc: Global, imports: u32, bytes: &[u8]) -> Result<(Instr, &[u8]),
             let (instr, rest) = leaf_at(alloc, imports, row, rest)?;
             Ok((instr, rest))
         }
-        Form::Body(row) => {
-            let (ty, labels, rest) = head_at(alloc, imports, row, rest)?;
-            let (body, end, rest) = body_at(alloc, imports, rest)?;
+        Form::Body(row) => nest_at(alloc, imports, row, rest),
+        Form::If => choice_at(alloc, imports, rest),
+        Form::Unknown => Err(DecodeError::NotInGrammar),
+    }
+}
+
+/// The instruction of a row with one body, behind its opcode.
+#[cycle(read)]
+fn nest_at(
+    alloc: Global,
+    imports: u32,
+    row: BodyRow,
+    bytes: &[u8],
+) -> Result<(Instr, &[u8]), DecodeError>
+    ensures found { IfOk result (λ x. IsInstrAt imports (body_op row ∷ bytes.now) x.0 x.1.now) }
+    ensures only { (i : InstrNode) (rest : List ℕ) → IsNode i → body_op row ∷ bytes.now ≡ code i ++ rest → Answers result (λ x. (node imports x.0 ≡ i) × (x.1.now ≡ rest)) }
+{
+    let (ty, labels, rest) = head_at(alloc, imports, row, bytes)?;
+    match body_at(alloc, imports, rest) {
+        Ok((body, end, rest)) => {
             if end != 0x0B {
+                drop(body);
+                drop(labels);
                 return Err(DecodeError::NotInGrammar);
             }
             Ok((body_instr(row, ty, labels, body), rest))
         }
-        Form::If => {
-            let (ty, rest) = block_type_at(rest)?;
-            let (body, end, rest) = body_at(alloc, imports, rest)?;
-            if end == 0x0B {
-                return Ok((Instr::If(ty, body, None), rest));
-            }
-            let (other, last, rest) = body_at(alloc, imports, rest)?;
+        Err(error) => {
+            drop(labels);
+            Err(error)
+        }
+    }
+}
+
+/// An `if`, behind its opcode.
+#[cycle(read)]
+fn choice_at(alloc: Global, imports: u32, bytes: &[u8]) -> Result<(Instr, &[u8]), DecodeError>
+    ensures found { IfOk result (λ x. IsInstrAt imports (0x04 ∷ bytes.now) x.0 x.1.now) }
+    ensures only { (i : InstrNode) (rest : List ℕ) → IsNode i → 0x04 ∷ bytes.now ≡ code i ++ rest → Answers result (λ x. (node imports x.0 ≡ i) × (x.1.now ≡ rest)) }
+{
+    let (ty, rest) = block_type_at(bytes)?;
+    let (body, end, rest) = body_at(alloc, imports, rest)?;
+    if end == 0x0B {
+        return Ok((Instr::If(ty, body, None), rest));
+    }
+    match body_at(alloc, imports, rest) {
+        Ok((other, last, rest)) => {
             if other.len() == 0 {
+                drop(other);
+                drop(body);
                 return Err(DecodeError::NotInGrammar);
             }
             if last != 0x0B {
+                drop(other);
+                drop(body);
                 return Err(DecodeError::NotInGrammar);
             }
             Ok((Instr::If(ty, body, Some(other)), rest))
         }
-        Form::Unknown => Err(DecodeError::NotInGrammar),
+        Err(error) => {
+            drop(body);
+            Err(error)
+        }
     }
 }
 

@@ -1,8 +1,10 @@
-use Rattle.std.proofs.Common.{arith, ◌≡◌, ℕ, List, ◌∷◌, ◌++◌, length, Some, None, refl, sym, ap, ◌∙◌, append_assoc, inr}
+use Rattle.std.proofs.Common.{arith, ◌≡◌, ℕ, List, [], ◌∷◌, ◌++◌, length, Some, None, refl, sym, ap, ◌∙◌, append_assoc, inr}
 use Rattle.std.proofs.lemmas.Result.{err_from_is_err_and}
 use Rattle.fact_wasm.specs.declared.instr.Instr.TheVariants.{If}
-use Rattle.fact_wasm.specs.Grammar.{Body, Nil, code, codes, choice_end, node, body_nodes, AreNodes}
-use Rattle.fact_wasm.specs.Forms.{head_args}
+use Rattle.fact_wasm.specs.declared.forms.BodyRow.{BodyRow}
+use Rattle.fact_wasm.specs.declared.forms.BodyRow.TheVariants as nest
+use Rattle.fact_wasm.specs.Grammar.{ATyp, Body, Bodies, Nil, shape, code, codes, choice_end, node, body_nodes, AreNodes}
+use Rattle.fact_wasm.specs.Forms.{head_args, body_op, body_kinds}
 use Rattle.fact_wasm.specs.Rebuild.{instrs_of}
 use Rattle.fact_wasm.proofs.Items.{passes}
 use Rattle.fact_wasm.proofs.Unique.{codes-unique}
@@ -91,120 +93,142 @@ instr_at-returns-in_ok-instr-in-Leaf-clause-found t c =
 pub instr_at-returns-in_ok-instr-in-Leaf-clause-only : goal.instr_at-returns-in_ok-instr-in-Leaf-clause-only
 instr_at-returns-in_ok-instr-in-Leaf-clause-only t c = only c.args.imports c.args.bytes.now c.in_ok-instr-in-Leaf.rest.now c.in_ok-instr-in-Leaf.instr (instr_at-returns-in_ok-instr-in-Leaf-clause-found t c)
 
+pub instr_at-returns-in-Body-clause-found : goal.instr_at-returns-in-Body-clause-found
+instr_at-returns-in-Body-clause-found t c = rw (c.in_ok-op.ensures.found, ← c.in-Body.ensures.1) c.nest_at.ensures.found
+
+pub instr_at-returns-in-Body-clause-only : goal.instr_at-returns-in-Body-clause-only
+instr_at-returns-in-Body-clause-only t c i rest p e =
+    c.nest_at.ensures.only i rest p (ap (λ (op : ℕ). op ∷ c.in_ok-op.rest.now) c.in-Body.ensures.1 ∙ sym c.in_ok-op.ensures.found ∙ e)
+
+pub instr_at-returns-in-If-clause-found : goal.instr_at-returns-in-If-clause-found
+instr_at-returns-in-If-clause-found t c = rw (c.in_ok-op.ensures.found, c.in-If.ensures.1) c.choice_at.ensures.found
+
+pub instr_at-returns-in-If-clause-only : goal.instr_at-returns-in-If-clause-only
+instr_at-returns-in-If-clause-only t c i rest p e =
+    c.choice_at.ensures.only i rest p (ap (λ (op : ℕ). op ∷ c.in_ok-op.rest.now) (sym c.in-If.ensures.1) ∙ sym c.in_ok-op.ensures.found ∙ e)
+
 -- ---- a row with one body
 
-pub instr_at-returns-in_err-ty-in-Body-clause-only : goal.instr_at-returns-in_err-ty-in-Body-clause-only
-instr_at-returns-in_err-ty-in-Body-clause-only t c i rest p e =
-    let q = err_from_is_err_and c.from_residual-in_err-ty-in-Body.result c.from_residual-in_err-ty-in-Body.ensures.1 in
-    let v = after_body i c.in_ok-op.op c.args.bytes.now c.in_ok-op.rest.now rest _ c.in-Body.ensures.0 c.in_ok-op.ensures.found p e in
-    rw (q.1, q.2) (passes c.in_err-ty-in-Body.field-0.0 _ _ (c.in_err-ty-in-Body.ensures.only v.0 (codes v.1 ++ 0x0B ∷ rest) v.3 v.4 v.6))
+body-shape : (r : BodyRow) → shape (body_op r) ≡ Body (body_kinds r)
+unfolding shape
+body-shape nest.Block = refl
+body-shape nest.Loop = refl
+body-shape nest.TryTable = refl
 
-pub instr_at-returns-in_err-body-in-Body-clause-only : goal.instr_at-returns-in_err-body-in-Body-clause-only
-instr_at-returns-in_err-body-in-Body-clause-only t c i rest p e =
-    let q = err_from_is_err_and c.from_residual-in_err-body-in-Body.result c.from_residual-in_err-body-in-Body.ensures.1 in
-    let v = after_body i c.in_ok-op.op c.args.bytes.now c.in_ok-op.rest.now rest _ c.in-Body.ensures.0 c.in_ok-op.ensures.found p e in
-    let u = c.in_ok-ty-in-Body.ensures.only v.0 (codes v.1 ++ 0x0B ∷ rest) v.3 v.4 v.6 in
-    rw (q.1, q.2) (passes c.in_err-body-in-Body.field-0.0 _ _ (c.in_err-body-in-Body.ensures.only v.1 0x0B rest (inr refl) v.5 u.1))
+pub nest_at-returns-in_err-ty-clause-only : goal.nest_at-returns-in_err-ty-clause-only
+nest_at-returns-in_err-ty-clause-only t c i rest p e =
+    let q = err_from_is_err_and c.from_residual.result c.from_residual.ensures.1 in
+    let v = after_body i (body_op c.args.row) (body_op c.args.row ∷ c.args.bytes.now) c.args.bytes.now rest _ (body-shape c.args.row) refl p e in
+    rw (q.1, q.2) (passes c.in_err-ty.field-0.0 _ _ (c.in_err-ty.ensures.only v.0 (codes v.1 ++ 0x0B ∷ rest) v.3 v.4 v.6))
 
-pub instr_at-returns-then-end-ne11-clause-only : goal.instr_at-returns-then-end-ne11-clause-only
-instr_at-returns-then-end-ne11-clause-only t c i rest p e =
-    let v = after_body i c.in_ok-op.op c.args.bytes.now c.in_ok-op.rest.now rest _ c.in-Body.ensures.0 c.in_ok-op.ensures.found p e in
-    let u = c.in_ok-ty-in-Body.ensures.only v.0 (codes v.1 ++ 0x0B ∷ rest) v.3 v.4 v.6 in
-    let w = c.in_ok-body-in-Body.ensures.only v.1 0x0B rest (inr refl) v.5 u.1 in
+pub nest_at-returns-in-Err-clause-only : goal.nest_at-returns-in-Err-clause-only
+nest_at-returns-in-Err-clause-only t c i rest p e =
+    let v = after_body i (body_op c.args.row) (body_op c.args.row ∷ c.args.bytes.now) c.args.bytes.now rest _ (body-shape c.args.row) refl p e in
+    let u = c.in_ok-ty.ensures.only v.0 (codes v.1 ++ 0x0B ∷ rest) v.3 v.4 v.6 in
+    passes c.in-Err.error _ _ (c.in-Err.ensures.only v.1 0x0B rest (inr refl) v.5 u.1)
+
+pub nest_at-returns-then-end-ne11-clause-only : goal.nest_at-returns-then-end-ne11-clause-only
+nest_at-returns-then-end-ne11-clause-only t c i rest p e =
+    let v = after_body i (body_op c.args.row) (body_op c.args.row ∷ c.args.bytes.now) c.args.bytes.now rest _ (body-shape c.args.row) refl p e in
+    let u = c.in_ok-ty.ensures.only v.0 (codes v.1 ++ 0x0B ∷ rest) v.3 v.4 v.6 in
+    let w = c.in-Ok.ensures.only v.1 0x0B rest (inr refl) v.5 u.1 in
     c.if-end-ne11.true w.1
 
-pub instr_at-returns-else-end-ne11-clause-found : goal.instr_at-returns-else-end-ne11-clause-found
-instr_at-returns-else-end-ne11-clause-found t c =
+pub nest_at-returns-else-end-ne11-clause-found : goal.nest_at-returns-else-end-ne11-clause-found
+nest_at-returns-else-end-ne11-clause-found t c =
     let n = c.args.imports in
-    let xs = head_args c.in-Body.row c.in_ok-ty-in-Body.ty c.in_ok-ty-in-Body.labels in
-    let is = c.in_ok-body-in-Body.body in
-    let h = c.in_ok-ty-in-Body.ensures.found in
-    let body = rw c.if-end-ne11.false at c.in_ok-body-in-Body.ensures.found in
-    found_body n c.args.bytes.now c.in_ok-op.rest.now c.in_ok-ty-in-Body.rest.now c.in_ok-body-in-Body.rest.now c.in_ok-op.op xs is c.body_instr.result c.in_ok-op.ensures.found
-    (c.in-Body.ensures.0 ∙ ap Body (sym c.in_ok-ty-in-Body.ensures.kinds)) h.0 h.1 body (rw (← c.in-Body.ensures.1) (c.body_instr.ensures.node n)) (rw (← c.in-Body.ensures.1) (c.body_instr.ensures.own n c.in_ok-body-in-Body.ensures.found.own))
+    let xs = head_args c.args.row c.in_ok-ty.ty c.in_ok-ty.labels in
+    let is = c.in-Ok.body in
+    let h = c.in_ok-ty.ensures.found in
+    let body = rw c.if-end-ne11.false at c.in-Ok.ensures.found in
+    found_body n (body_op c.args.row ∷ c.args.bytes.now) c.args.bytes.now c.in_ok-ty.rest.now c.in-Ok.rest.now (body_op c.args.row) xs is c.body_instr.result refl
+    ((body-shape c.args.row) ∙ ap Body (sym c.in_ok-ty.ensures.kinds)) h.0 h.1 body (c.body_instr.ensures.node n) (c.body_instr.ensures.own n c.in-Ok.ensures.found.own)
 
-pub instr_at-returns-else-end-ne11-clause-only : goal.instr_at-returns-else-end-ne11-clause-only
-instr_at-returns-else-end-ne11-clause-only t c = only c.args.imports c.args.bytes.now c.in_ok-body-in-Body.rest.now c.body_instr.result (instr_at-returns-else-end-ne11-clause-found t c)
+pub nest_at-returns-else-end-ne11-clause-only : goal.nest_at-returns-else-end-ne11-clause-only
+nest_at-returns-else-end-ne11-clause-only t c = only c.args.imports (body_op c.args.row ∷ c.args.bytes.now) c.in-Ok.rest.now c.body_instr.result (nest_at-returns-else-end-ne11-clause-found t c)
 
 -- ---- a choice
 
-pub instr_at-returns-in_err-ty-in-If-clause-only : goal.instr_at-returns-in_err-ty-in-If-clause-only
-instr_at-returns-in_err-ty-in-If-clause-only t c i rest p e =
-    let q = err_from_is_err_and c.from_residual-in_err-ty-in-If.result c.from_residual-in_err-ty-in-If.ensures.1 in
-    let v = after_bodies i c.in_ok-op.op c.args.bytes.now c.in_ok-op.rest.now rest c.in-If.ensures.0 c.in_ok-op.ensures.found p e in
-    rw (q.1, q.2) (passes c.in_err-ty-in-If.field-0.0 _ _ (c.in_err-ty-in-If.ensures.only v.0 (codes v.1 ++ (choice_end v.2 (codes v.2) ++ rest)) v.3 v.7))
+choice-shape : shape 0x04 ≡ Bodies (ATyp ∷ [])
+unfolding shape
+choice-shape = refl
 
-pub instr_at-returns-in_err-body-in-If-clause-only : goal.instr_at-returns-in_err-body-in-If-clause-only
-instr_at-returns-in_err-body-in-If-clause-only t c i rest p e =
-    let q = err_from_is_err_and c.from_residual-in_err-body-in-If.result c.from_residual-in_err-body-in-If.ensures.1 in
-    let v = after_bodies i c.in_ok-op.op c.args.bytes.now c.in_ok-op.rest.now rest c.in-If.ensures.0 c.in_ok-op.ensures.found p e in
-    let u = c.in_ok-ty-in-If.ensures.only v.0 (codes v.1 ++ (choice_end v.2 (codes v.2) ++ rest)) v.3 v.7 in
+pub choice_at-returns-in_err-ty-clause-only : goal.choice_at-returns-in_err-ty-clause-only
+choice_at-returns-in_err-ty-clause-only t c i rest p e =
+    let q = err_from_is_err_and c.from_residual.result c.from_residual.ensures.1 in
+    let v = after_bodies i 0x04 (0x04 ∷ c.args.bytes.now) c.args.bytes.now rest choice-shape refl p e in
+    rw (q.1, q.2) (passes c.in_err-ty.field-0.0 _ _ (c.in_err-ty.ensures.only v.0 (codes v.1 ++ (choice_end v.2 (codes v.2) ++ rest)) v.3 v.7))
+
+pub choice_at-returns-in_err-body-clause-only : goal.choice_at-returns-in_err-body-clause-only
+choice_at-returns-in_err-body-clause-only t c i rest p e =
+    let q = err_from_is_err_and c.from_residual-in_err-body.result c.from_residual-in_err-body.ensures.1 in
+    let v = after_bodies i 0x04 (0x04 ∷ c.args.bytes.now) c.args.bytes.now rest choice-shape refl p e in
+    let u = c.in_ok-ty.ensures.only v.0 (codes v.1 ++ (choice_end v.2 (codes v.2) ++ rest)) v.3 v.7 in
     let b = choice_begins v.2 rest in
-    rw (q.1, q.2) (passes c.in_err-body-in-If.field-0.0 _ _ (c.in_err-body-in-If.ensures.only v.1 b.0 b.1 b.2 v.4 (u.1 ∙ ap (λ (r : List ℕ). codes v.1 ++ r) b.3)))
+    rw (q.1, q.2) (passes c.in_err-body.field-0.0 _ _ (c.in_err-body.ensures.only v.1 b.0 b.1 b.2 v.4 (u.1 ∙ ap (λ (r : List ℕ). codes v.1 ++ r) b.3)))
 
-pub instr_at-returns-then-end-eq11-clause-found : goal.instr_at-returns-then-end-eq11-clause-found
+pub choice_at-returns-then-end-eq11-clause-found : goal.choice_at-returns-then-end-eq11-clause-found
 unfolding AreNodes
-instr_at-returns-then-end-eq11-clause-found t c =
+choice_at-returns-then-end-eq11-clause-found t c =
     let n = c.args.imports in
-    let ty = c.in_ok-ty-in-If.ty in
-    let is = c.in_ok-body-in-If.body in
-    let b = c.in_ok-body-in-If.ensures.found in
-    let y = c.in_ok-ty-in-If.ensures.found in
-    let spelled = b.spelled ∙ ap (λ (e : ℕ). codes (body_nodes n is) ++ e ∷ c.in_ok-body-in-If.rest.now) c.if-end-eq11.true in
-    found_choice n c.args.bytes.now c.in_ok-op.rest.now c.in_ok-ty-in-If.rest.now c.in_ok-body-in-If.rest.now c.in_ok-op.op ty (body_nodes n is) Nil (If ty is None)
-    c.in_ok-op.ensures.found c.in-If.ensures.0 y.0 y.1 b.fits tt spelled (rw c.in-If.ensures.1 (node-if n ty is)) (own_if n c.in_ok-op.op ty is b.own)
+    let ty = c.in_ok-ty.ty in
+    let is = c.in_ok-body.body in
+    let b = c.in_ok-body.ensures.found in
+    let y = c.in_ok-ty.ensures.found in
+    let spelled = b.spelled ∙ ap (λ (e : ℕ). codes (body_nodes n is) ++ e ∷ c.in_ok-body.rest.now) c.if-end-eq11.true in
+    found_choice n (0x04 ∷ c.args.bytes.now) c.args.bytes.now c.in_ok-ty.rest.now c.in_ok-body.rest.now 0x04 ty (body_nodes n is) Nil (If ty is None)
+    refl choice-shape y.0 y.1 b.fits tt spelled (node-if n ty is) (own_if n 0x04 ty is b.own)
 
-pub instr_at-returns-then-end-eq11-clause-only : goal.instr_at-returns-then-end-eq11-clause-only
-instr_at-returns-then-end-eq11-clause-only t c =
-    only c.args.imports c.args.bytes.now c.in_ok-body-in-If.rest.now (If c.in_ok-ty-in-If.ty c.in_ok-body-in-If.body None) (instr_at-returns-then-end-eq11-clause-found t c)
+pub choice_at-returns-then-end-eq11-clause-only : goal.choice_at-returns-then-end-eq11-clause-only
+choice_at-returns-then-end-eq11-clause-only t c =
+    only c.args.imports (0x04 ∷ c.args.bytes.now) c.in_ok-body.rest.now (If c.in_ok-ty.ty c.in_ok-body.body None) (choice_at-returns-then-end-eq11-clause-found t c)
 
-pub instr_at-returns-in_err-other-in-If-clause-only : goal.instr_at-returns-in_err-other-in-If-clause-only
-instr_at-returns-in_err-other-in-If-clause-only t c i rest p e =
-    let q = err_from_is_err_and c.from_residual-in_err-other-in-If.result c.from_residual-in_err-other-in-If.ensures.1 in
-    let v = after_bodies i c.in_ok-op.op c.args.bytes.now c.in_ok-op.rest.now rest c.in-If.ensures.0 c.in_ok-op.ensures.found p e in
-    let u = c.in_ok-ty-in-If.ensures.only v.0 (codes v.1 ++ (choice_end v.2 (codes v.2) ++ rest)) v.3 v.7 in
+pub choice_at-returns-in-Err-clause-only : goal.choice_at-returns-in-Err-clause-only
+choice_at-returns-in-Err-clause-only t c i rest p e =
+    let v = after_bodies i 0x04 (0x04 ∷ c.args.bytes.now) c.args.bytes.now rest choice-shape refl p e in
+    let u = c.in_ok-ty.ensures.only v.0 (codes v.1 ++ (choice_end v.2 (codes v.2) ++ rest)) v.3 v.7 in
     let b = choice_begins v.2 rest in
-    let w = c.in_ok-body-in-If.ensures.only v.1 b.0 b.1 b.2 v.4 (u.1 ∙ ap (λ (r : List ℕ). codes v.1 ++ r) b.3) in
-    let five = ends-one b.0 c.in_ok-body-in-If.end b.2 w.1 c.if-end-eq11.false in
+    let w = c.in_ok-body.ensures.only v.1 b.0 b.1 b.2 v.4 (u.1 ∙ ap (λ (r : List ℕ). codes v.1 ++ r) b.3) in
+    let five = ends-one b.0 c.in_ok-body.end b.2 w.1 c.if-end-eq11.false in
     let o = other-body v.2 rest b.1 (b.3 ∙ ap (λ (x : ℕ). x ∷ b.1) five) in
-    rw (q.1, q.2) (passes c.in_err-other-in-If.field-0.0 _ _ (c.in_err-other-in-If.ensures.only v.2 0x0B rest (inr refl) v.5 (w.2 ∙ o.3)))
+    passes c.in-Err.error _ _ (c.in-Err.ensures.only v.2 0x0B rest (inr refl) v.5 (w.2 ∙ o.3))
 
-pub instr_at-returns-then-len-eq0-clause-only : goal.instr_at-returns-then-len-eq0-clause-only
-instr_at-returns-then-len-eq0-clause-only t c i rest p e =
-    let v = after_bodies i c.in_ok-op.op c.args.bytes.now c.in_ok-op.rest.now rest c.in-If.ensures.0 c.in_ok-op.ensures.found p e in
-    let u = c.in_ok-ty-in-If.ensures.only v.0 (codes v.1 ++ (choice_end v.2 (codes v.2) ++ rest)) v.3 v.7 in
+pub choice_at-returns-then-len-eq0-clause-only : goal.choice_at-returns-then-len-eq0-clause-only
+choice_at-returns-then-len-eq0-clause-only t c i rest p e =
+    let v = after_bodies i 0x04 (0x04 ∷ c.args.bytes.now) c.args.bytes.now rest choice-shape refl p e in
+    let u = c.in_ok-ty.ensures.only v.0 (codes v.1 ++ (choice_end v.2 (codes v.2) ++ rest)) v.3 v.7 in
     let b = choice_begins v.2 rest in
-    let w = c.in_ok-body-in-If.ensures.only v.1 b.0 b.1 b.2 v.4 (u.1 ∙ ap (λ (r : List ℕ). codes v.1 ++ r) b.3) in
-    let five = ends-one b.0 c.in_ok-body-in-If.end b.2 w.1 c.if-end-eq11.false in
+    let w = c.in_ok-body.ensures.only v.1 b.0 b.1 b.2 v.4 (u.1 ∙ ap (λ (r : List ℕ). codes v.1 ++ r) b.3) in
+    let five = ends-one b.0 c.in_ok-body.end b.2 w.1 c.if-end-eq11.false in
     let o = other-body v.2 rest b.1 (b.3 ∙ ap (λ (x : ℕ). x ∷ b.1) five) in
-    let z = c.in_ok-other-in-If.ensures.only v.2 0x0B rest (inr refl) v.5 (w.2 ∙ o.3) in
-    empty-body c.args.imports c.in_ok-other-in-If.other o.0 o.1 (omega (arith, c.len.ensures)) (z.0 ∙ o.2)
+    let z = c.in-Ok.ensures.only v.2 0x0B rest (inr refl) v.5 (w.2 ∙ o.3) in
+    empty-body c.args.imports c.in-Ok.other o.0 o.1 (omega (arith, c.len.ensures)) (z.0 ∙ o.2)
 
-pub instr_at-returns-then-last-ne11-clause-only : goal.instr_at-returns-then-last-ne11-clause-only
-instr_at-returns-then-last-ne11-clause-only t c i rest p e =
-    let v = after_bodies i c.in_ok-op.op c.args.bytes.now c.in_ok-op.rest.now rest c.in-If.ensures.0 c.in_ok-op.ensures.found p e in
-    let u = c.in_ok-ty-in-If.ensures.only v.0 (codes v.1 ++ (choice_end v.2 (codes v.2) ++ rest)) v.3 v.7 in
+pub choice_at-returns-then-last-ne11-clause-only : goal.choice_at-returns-then-last-ne11-clause-only
+choice_at-returns-then-last-ne11-clause-only t c i rest p e =
+    let v = after_bodies i 0x04 (0x04 ∷ c.args.bytes.now) c.args.bytes.now rest choice-shape refl p e in
+    let u = c.in_ok-ty.ensures.only v.0 (codes v.1 ++ (choice_end v.2 (codes v.2) ++ rest)) v.3 v.7 in
     let b = choice_begins v.2 rest in
-    let w = c.in_ok-body-in-If.ensures.only v.1 b.0 b.1 b.2 v.4 (u.1 ∙ ap (λ (r : List ℕ). codes v.1 ++ r) b.3) in
-    let five = ends-one b.0 c.in_ok-body-in-If.end b.2 w.1 c.if-end-eq11.false in
+    let w = c.in_ok-body.ensures.only v.1 b.0 b.1 b.2 v.4 (u.1 ∙ ap (λ (r : List ℕ). codes v.1 ++ r) b.3) in
+    let five = ends-one b.0 c.in_ok-body.end b.2 w.1 c.if-end-eq11.false in
     let o = other-body v.2 rest b.1 (b.3 ∙ ap (λ (x : ℕ). x ∷ b.1) five) in
-    let z = c.in_ok-other-in-If.ensures.only v.2 0x0B rest (inr refl) v.5 (w.2 ∙ o.3) in
+    let z = c.in-Ok.ensures.only v.2 0x0B rest (inr refl) v.5 (w.2 ∙ o.3) in
     c.if-last-ne11.true z.1
 
-pub instr_at-returns-else-last-ne11-clause-found : goal.instr_at-returns-else-last-ne11-clause-found
-instr_at-returns-else-last-ne11-clause-found t c =
+pub choice_at-returns-else-last-ne11-clause-found : goal.choice_at-returns-else-last-ne11-clause-found
+choice_at-returns-else-last-ne11-clause-found t c =
     let n = c.args.imports in
-    let ty = c.in_ok-ty-in-If.ty in
-    let is = c.in_ok-body-in-If.body in
-    let js = c.in_ok-other-in-If.other in
-    let b = c.in_ok-body-in-If.ensures.found in
-    let d = c.in_ok-other-in-If.ensures.found in
-    let y = c.in_ok-ty-in-If.ensures.found in
+    let ty = c.in_ok-ty.ty in
+    let is = c.in_ok-body.body in
+    let js = c.in-Ok.other in
+    let b = c.in_ok-body.ensures.found in
+    let d = c.in-Ok.ensures.found in
+    let y = c.in_ok-ty.ensures.found in
     let some : length js ≡ 0 → ⊥ = λ h. c.if-len-eq0.false (c.len.ensures ∙ h) in
-    let spelled = b.spelled ∙ ap (λ (e : List ℕ). codes (body_nodes n is) ++ e) (choice-bytes n js c.in_ok-body-in-If.end c.in_ok-other-in-If.last c.in_ok-body-in-If.rest.now c.in_ok-other-in-If.rest.now some (end-five c.in_ok-body-in-If.end b.ends c.if-end-eq11.false) c.if-last-ne11.false d.spelled) in
-    found_choice n c.args.bytes.now c.in_ok-op.rest.now c.in_ok-ty-in-If.rest.now c.in_ok-other-in-If.rest.now c.in_ok-op.op ty (body_nodes n is) (body_nodes n js) (If ty is (Some js))
-    c.in_ok-op.ensures.found c.in-If.ensures.0 y.0 y.1 b.fits d.fits spelled (rw c.in-If.ensures.1 (node-else n ty is js)) (own_choice n c.in_ok-op.op ty is js b.own d.own some)
+    let spelled = b.spelled ∙ ap (λ (e : List ℕ). codes (body_nodes n is) ++ e) (choice-bytes n js c.in_ok-body.end c.in-Ok.last c.in_ok-body.rest.now c.in-Ok.rest.now some (end-five c.in_ok-body.end b.ends c.if-end-eq11.false) c.if-last-ne11.false d.spelled) in
+    found_choice n (0x04 ∷ c.args.bytes.now) c.args.bytes.now c.in_ok-ty.rest.now c.in-Ok.rest.now 0x04 ty (body_nodes n is) (body_nodes n js) (If ty is (Some js))
+    refl choice-shape y.0 y.1 b.fits d.fits spelled (node-else n ty is js) (own_choice n 0x04 ty is js b.own d.own some)
 
-pub instr_at-returns-else-last-ne11-clause-only : goal.instr_at-returns-else-last-ne11-clause-only
-instr_at-returns-else-last-ne11-clause-only t c =
-    only c.args.imports c.args.bytes.now c.in_ok-other-in-If.rest.now (If c.in_ok-ty-in-If.ty c.in_ok-body-in-If.body (Some c.in_ok-other-in-If.other)) (instr_at-returns-else-last-ne11-clause-found t c)
+pub choice_at-returns-else-last-ne11-clause-only : goal.choice_at-returns-else-last-ne11-clause-only
+choice_at-returns-else-last-ne11-clause-only t c =
+    only c.args.imports (0x04 ∷ c.args.bytes.now) c.in-Ok.rest.now (If c.in_ok-ty.ty c.in_ok-body.body (Some c.in-Ok.other)) (choice_at-returns-else-last-ne11-clause-found t c)

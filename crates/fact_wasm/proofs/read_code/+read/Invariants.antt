@@ -4,10 +4,16 @@ use Rattle.fact_wasm.specs.Rebuild.{instrs_of}
 use Rattle.fact_wasm.proofs.read_code.+read.Given as goal
 
 abbrev pub decreases-instr_at : goal.decreases-instr_at
-decreases-instr_at l = 2 * length l.bytes.now
+decreases-instr_at l = 3 * length l.bytes.now
+
+abbrev pub decreases-nest_at : goal.decreases-nest_at
+decreases-nest_at l = 3 * length l.bytes.now + 2
+
+abbrev pub decreases-choice_at : goal.decreases-choice_at
+decreases-choice_at l = 3 * length l.bytes.now + 2
 
 abbrev pub decreases-body_at : goal.decreases-body_at
-decreases-body_at l = 2 * length l.bytes.now + 1
+decreases-body_at l = 3 * length l.bytes.now + 1
 
 abbrev pub invariant-body_at-loop-body : goal.invariant-body_at-loop-body
 invariant-body_at-loop-body l = record {
