@@ -1,9 +1,9 @@
-use Rattle.std.proofs.Common.{arith, ◌≡◌, ℕ, List, [], ◌∷◌, ◌++◌, length, Some, None, refl, sym, ap, ◌∙◌, append_assoc, inr}
+use Rattle.std.proofs.Common.{arith, rules, ◌≡◌, ◌<◌, ◌≤◌, ◌+◌, ◌*◌, ℕ, List, [], ◌∷◌, ◌++◌, length, length-append, Some, None, refl, sym, ap, ◌∙◌, append_assoc, inr}
 use Rattle.std.proofs.lemmas.Result.{err_from_is_err_and}
 use Rattle.fact_wasm.specs.declared.instr.Instr.TheVariants.{If}
 use Rattle.fact_wasm.specs.declared.forms.BodyRow.{BodyRow}
 use Rattle.fact_wasm.specs.declared.forms.BodyRow.TheVariants as nest
-use Rattle.fact_wasm.specs.Grammar.{ATyp, Body, Bodies, Nil, shape, code, codes, choice_end, node, body_nodes, AreNodes}
+use Rattle.fact_wasm.specs.Grammar.{ATyp, Body, Bodies, Nil, shape, args, block_type, code, codes, choice_end, node, body_nodes, AreNodes}
 use Rattle.fact_wasm.specs.Forms.{head_args, body_op, body_kinds}
 use Rattle.fact_wasm.specs.Rebuild.{instrs_of}
 use Rattle.fact_wasm.proofs.Items.{passes}
@@ -232,3 +232,45 @@ choice_at-returns-else-last-ne11-clause-found t c =
 pub choice_at-returns-else-last-ne11-clause-only : goal.choice_at-returns-else-last-ne11-clause-only
 choice_at-returns-else-last-ne11-clause-only t c =
     only c.args.imports (0x04 ∷ c.args.bytes.now) c.in-Ok.rest.now (If c.in_ok-ty.ty c.in_ok-body.body (Some c.in-Ok.other)) (choice_at-returns-else-last-ne11-clause-found t c)
+
+-- ---- what is read next is no longer
+
+shorter : (front rest bytes : List ℕ) → bytes ≡ front ++ rest → length rest ≤ length bytes
+shorter front rest bytes e = omega (arith, length-append front rest, ap length e)
+
+pub nest_at-body_at-requires : goal.nest_at-body_at-requires
+nest_at-body_at-requires t c =
+    let left : length c.in_ok-ty.rest.now ≤ length c.args.bytes.now = shorter (args (head_args c.args.row c.in_ok-ty.ty c.in_ok-ty.labels)) c.in_ok-ty.rest.now c.args.bytes.now c.in_ok-ty.ensures.found.1 in
+    let small : 3 * length c.in_ok-ty.rest.now + 1 < 3 * length c.args.bytes.now + 2 = omega arith in
+    search rules
+
+pub choice_at-body_at-requires : goal.choice_at-body_at-requires
+choice_at-body_at-requires t c =
+    let left : length c.in_ok-ty.rest.now ≤ length c.args.bytes.now = shorter (block_type c.in_ok-ty.ty) c.in_ok-ty.rest.now c.args.bytes.now c.in_ok-ty.ensures.found.1 in
+    let small : 3 * length c.in_ok-ty.rest.now + 1 < 3 * length c.args.bytes.now + 2 = omega arith in
+    search rules
+
+pub choice_at-body_at-requires-2 : goal.choice_at-body_at-requires-2
+choice_at-body_at-requires-2 t c =
+    let left : length c.in_ok-ty.rest.now ≤ length c.args.bytes.now = shorter (block_type c.in_ok-ty.ty) c.in_ok-ty.rest.now c.args.bytes.now c.in_ok-ty.ensures.found.1 in
+    let ended : length (c.in_ok-body.end ∷ c.in_ok-body.rest.now) ≤ length c.in_ok-ty.rest.now = shorter (codes (body_nodes c.args.imports c.in_ok-body.body)) (c.in_ok-body.end ∷ c.in_ok-body.rest.now) c.in_ok-ty.rest.now c.in_ok-body.ensures.found.spelled in
+    let small : 3 * length c.in_ok-body.rest.now + 1 < 3 * length c.args.bytes.now + 2 = omega arith in
+    search rules
+
+pub instr_at-nest_at-requires : goal.instr_at-nest_at-requires
+instr_at-nest_at-requires t c =
+    let left = ap length c.in_ok-op.ensures.found in
+    let small : 3 * length c.in_ok-op.rest.now + 2 < 3 * length c.args.bytes.now = omega arith in
+    search rules
+
+pub instr_at-choice_at-requires : goal.instr_at-choice_at-requires
+instr_at-choice_at-requires t c =
+    let left = ap length c.in_ok-op.ensures.found in
+    let small : 3 * length c.in_ok-op.rest.now + 2 < 3 * length c.args.bytes.now = omega arith in
+    search rules
+
+pub body_at-instr_at-requires : goal.body_at-instr_at-requires
+body_at-instr_at-requires t c =
+    let left : length c.loop-body.left.now ≤ length c.args.bytes.now = shorter (codes (body_nodes c.args.imports c.loop-body.body)) c.loop-body.left.now c.args.bytes.now c.loop-body.invariant.bytes in
+    let small : 3 * length c.loop-body.left.now < 3 * length c.args.bytes.now + 1 = omega arith in
+    search rules
