@@ -1,13 +1,15 @@
 use Rattle.std.proofs.Common.{◌≡◌, ◌⊎◌, ℕ, List, refl, sym, ◌∙◌, inl, inr}
 use Rattle.fact_wasm.specs.declared.code.Operands.{Operands}
 use Rattle.fact_wasm.specs.declared.code.Operands.TheVariants as o
-use Rattle.fact_wasm.specs.declared.instr.Instr.{Instr, Instr-F, roll-Instr, map-Instr}
+use Rattle.fact_wasm.specs.declared.instr.Instr.{Instr, Instr-F, out-Instr, roll-Instr, roll-out-Instr, map-Instr}
 use Rattle.fact_wasm.specs.declared.instr.Instr.TheVariants as v
+use Rattle.fact_wasm.specs.declared.instr.Instr.TheOpen as layer
 use Rattle.fact_wasm.specs.Encode.{Shown, points_of}
 use Rattle.fact_wasm.specs.Ranges.{Point, points, points_row}
 use Rattle.fact_wasm.specs.Grammar.{InstrNode, shape, instr_node, node}
 use Rattle.fact_wasm.proofs.Layers.{node-layer, points-layer}
 use Rattle.fact_wasm.proofs.code.operands_of.Goals as goal
+use Rattle.fact_wasm.proofs.code.operands_of.Goals.{In_default}
 
 -- what both clauses say
 abbrev IsSeen : Operands → Instr → Type 0
@@ -80,51 +82,46 @@ returns-in-I32Load-clause-shown c = (seen-memory c).0
 pub returns-in-I32Load-clause-points : goal.returns-in-I32Load-clause-points
 returns-in-I32Load-clause-points c = (seen-memory c).1
 
-seen-none : (c : goal.In-Unreachable) → IsSeen o.None c.args.instr.now
+-- what no arm takes is a row of its opcode alone
+seen-none : (c : In_default) (x : Instr-F Instr) → c.args.instr.now ≡ roll-Instr x → IsSeen o.None c.args.instr.now
 unfolding shape
-seen-none c = (
-    row o.None _ v.rolls-Unreachable (λ n. (refl, refl)) refl
-    or row o.None _ v.rolls-Drop (λ n. (refl, refl)) refl
-    or row o.None _ v.rolls-Select (λ n. (refl, refl)) refl
-    or row o.None _ v.rolls-I32Eqz (λ n. (refl, refl)) refl
-    or row o.None _ v.rolls-I32Eq (λ n. (refl, refl)) refl
-    or row o.None _ v.rolls-I32Ne (λ n. (refl, refl)) refl
-    or row o.None _ v.rolls-I32LtU (λ n. (refl, refl)) refl
-    or row o.None _ v.rolls-I32GtU (λ n. (refl, refl)) refl
-    or row o.None _ v.rolls-I32GeU (λ n. (refl, refl)) refl
-    or row o.None _ v.rolls-I64Eqz (λ n. (refl, refl)) refl
-    or row o.None _ v.rolls-I64Eq (λ n. (refl, refl)) refl
-    or row o.None _ v.rolls-I64Ne (λ n. (refl, refl)) refl
-    or row o.None _ v.rolls-I64LtU (λ n. (refl, refl)) refl
-    or row o.None _ v.rolls-I64GtU (λ n. (refl, refl)) refl
-    or row o.None _ v.rolls-I64GeU (λ n. (refl, refl)) refl
-    or row o.None _ v.rolls-I32Add (λ n. (refl, refl)) refl
-    or row o.None _ v.rolls-I32Sub (λ n. (refl, refl)) refl
-    or row o.None _ v.rolls-I32Mul (λ n. (refl, refl)) refl
-    or row o.None _ v.rolls-I32And (λ n. (refl, refl)) refl
-    or row o.None _ v.rolls-I32Or (λ n. (refl, refl)) refl
-    or row o.None _ v.rolls-I32Xor (λ n. (refl, refl)) refl
-    or row o.None _ v.rolls-I32Shl (λ n. (refl, refl)) refl
-    or row o.None _ v.rolls-I32ShrU (λ n. (refl, refl)) refl
-    or row o.None _ v.rolls-I64Add (λ n. (refl, refl)) refl
-    or row o.None _ v.rolls-I64Sub (λ n. (refl, refl)) refl
-    or row o.None _ v.rolls-I64Mul (λ n. (refl, refl)) refl
-    or row o.None _ v.rolls-I64And (λ n. (refl, refl)) refl
-    or row o.None _ v.rolls-I64Or (λ n. (refl, refl)) refl
-    or row o.None _ v.rolls-I64Xor (λ n. (refl, refl)) refl
-    or row o.None _ v.rolls-I64Shl (λ n. (refl, refl)) refl
-    or row o.None _ v.rolls-I64ShrU (λ n. (refl, refl)) refl
-    or row o.None _ v.rolls-I32WrapI64 (λ n. (refl, refl)) refl
-    or row o.None _ v.rolls-I64ExtendI32U (λ n. (refl, refl)) refl
-    or row o.None _ v.rolls-I32ReinterpretF32 (λ n. (refl, refl)) refl
-    or row o.None _ v.rolls-I64ReinterpretF64 (λ n. (refl, refl)) refl
-    or row o.None _ v.rolls-F32ReinterpretI32 (λ n. (refl, refl)) refl
-    or row o.None _ v.rolls-F64ReinterpretI64 (λ n. (refl, refl)) refl
-    or row o.None _ v.rolls-I32Extend8S (λ n. (refl, refl)) refl
-    or row o.None _ v.rolls-I32Extend16S (λ n. (refl, refl)) refl) c.in-Unreachable.is
+seen-none c (layer.Block t b) e = absurd (c.in_default.not-Block t b (e ∙ v.rolls-Block t b))
+seen-none c (layer.Loop t b) e = absurd (c.in_default.not-Loop t b (e ∙ v.rolls-Loop t b))
+seen-none c (layer.If t b u) e = absurd (c.in_default.not-If t b u (e ∙ v.rolls-If t b u))
+seen-none c (layer.TryTable t ls b) e = absurd (c.in_default.not-TryTable t ls b (e ∙ v.rolls-TryTable t ls b))
+seen-none c (layer.Br n) e = absurd (c.in_default.not-Br n (e ∙ v.rolls-Br n))
+seen-none c (layer.BrIf n) e = absurd (c.in_default.not-BrIf n (e ∙ v.rolls-BrIf n))
+seen-none c (layer.LocalGet n) e = absurd (c.in_default.not-LocalGet n (e ∙ v.rolls-LocalGet n))
+seen-none c (layer.LocalSet n) e = absurd (c.in_default.not-LocalSet n (e ∙ v.rolls-LocalSet n))
+seen-none c (layer.LocalTee n) e = absurd (c.in_default.not-LocalTee n (e ∙ v.rolls-LocalTee n))
+seen-none c (layer.GlobalGet n) e = absurd (c.in_default.not-GlobalGet n (e ∙ v.rolls-GlobalGet n))
+seen-none c (layer.GlobalSet n) e = absurd (c.in_default.not-GlobalSet n (e ∙ v.rolls-GlobalSet n))
+seen-none c (layer.MemorySize n) e = absurd (c.in_default.not-MemorySize n (e ∙ v.rolls-MemorySize n))
+seen-none c (layer.BrTable ls l) e = absurd (c.in_default.not-BrTable ls l (e ∙ v.rolls-BrTable ls l))
+seen-none c (layer.Call f) e = absurd (c.in_default.not-Call f (e ∙ v.rolls-Call f))
+seen-none c (layer.RefFunc f) e = absurd (c.in_default.not-RefFunc f (e ∙ v.rolls-RefFunc f))
+seen-none c (layer.I32Load m) e = absurd (c.in_default.not-I32Load m (e ∙ v.rolls-I32Load m))
+seen-none c (layer.I64Load m) e = absurd (c.in_default.not-I64Load m (e ∙ v.rolls-I64Load m))
+seen-none c (layer.F32Load m) e = absurd (c.in_default.not-F32Load m (e ∙ v.rolls-F32Load m))
+seen-none c (layer.F64Load m) e = absurd (c.in_default.not-F64Load m (e ∙ v.rolls-F64Load m))
+seen-none c (layer.I32Load8S m) e = absurd (c.in_default.not-I32Load8S m (e ∙ v.rolls-I32Load8S m))
+seen-none c (layer.I32Load8U m) e = absurd (c.in_default.not-I32Load8U m (e ∙ v.rolls-I32Load8U m))
+seen-none c (layer.I32Load16S m) e = absurd (c.in_default.not-I32Load16S m (e ∙ v.rolls-I32Load16S m))
+seen-none c (layer.I32Load16U m) e = absurd (c.in_default.not-I32Load16U m (e ∙ v.rolls-I32Load16U m))
+seen-none c (layer.I32Store m) e = absurd (c.in_default.not-I32Store m (e ∙ v.rolls-I32Store m))
+seen-none c (layer.I64Store m) e = absurd (c.in_default.not-I64Store m (e ∙ v.rolls-I64Store m))
+seen-none c (layer.F32Store m) e = absurd (c.in_default.not-F32Store m (e ∙ v.rolls-F32Store m))
+seen-none c (layer.F64Store m) e = absurd (c.in_default.not-F64Store m (e ∙ v.rolls-F64Store m))
+seen-none c (layer.I32Store8 m) e = absurd (c.in_default.not-I32Store8 m (e ∙ v.rolls-I32Store8 m))
+seen-none c (layer.I32Store16 m) e = absurd (c.in_default.not-I32Store16 m (e ∙ v.rolls-I32Store16 m))
+seen-none c (layer.I32Const x) e = absurd (c.in_default.not-I32Const x (e ∙ v.rolls-I32Const x))
+seen-none c (layer.I64Const x) e = absurd (c.in_default.not-I64Const x (e ∙ v.rolls-I64Const x))
+seen-none c (layer.F32Const x) e = absurd (c.in_default.not-F32Const x (e ∙ v.rolls-F32Const x))
+seen-none c (layer.F64Const x) e = absurd (c.in_default.not-F64Const x (e ∙ v.rolls-F64Const x))
+seen-none c x e = row o.None x refl (λ n. (refl, refl)) refl e
 
-pub returns-in-Unreachable-clause-shown : goal.returns-in-Unreachable-clause-shown
-returns-in-Unreachable-clause-shown c = (seen-none c).0
+pub returns-in_default-clause-shown : goal.returns-in_default-clause-shown
+returns-in_default-clause-shown c = (seen-none c (out-Instr c.args.instr.now) (sym (roll-out-Instr c.args.instr.now))).0
 
-pub returns-in-Unreachable-clause-points : goal.returns-in-Unreachable-clause-points
-returns-in-Unreachable-clause-points c = (seen-none c).1
+pub returns-in_default-clause-points : goal.returns-in_default-clause-points
+returns-in_default-clause-points c = (seen-none c (out-Instr c.args.instr.now) (sym (roll-out-Instr c.args.instr.now))).1
