@@ -28,10 +28,13 @@ use Rattle.fact_machine.specs.declared.numeric.UnaryI32.{UnaryI32}
 use Rattle.fact_machine.specs.declared.numeric.UnaryI32.TheVariants as unary32
 use Rattle.fact_machine.specs.declared.numeric.UnaryI64.{UnaryI64}
 use Rattle.fact_machine.specs.declared.numeric.UnaryI64.TheVariants as unary64
+use Rattle.fact_machine.specs.declared.begin.Operation.{Operation}
+use Rattle.fact_machine.specs.declared.begin.Operation.TheVariants as operation
 use Rattle.fact_machine.specs.declared.memory.LoadKind.{LoadKind}
 use Rattle.fact_machine.specs.declared.memory.LoadKind.TheVariants as load_kind
 use Rattle.fact_machine.specs.declared.memory.StoreKind.{StoreKind}
 use Rattle.fact_machine.specs.declared.memory.StoreKind.TheVariants as store_kind
+use Rattle.fact_machine.specs.Operands.{binary_i32, binary_i64, unary_i32, unary_i64}
 use Rattle.fact_machine.specs.World.{World, read, write}
 use Rattle.fact_machine.specs.Numerics.{iadd, isub, imul, ishl, ishr_u, ieqz, ieq, ine, ilt_u, igt_u, ige_u, wrap_32, extend_s}
 use Rattle.fact_machine.specs.Machine.{Around, Bottom, Label, Frame, Config, At, Did, Goes, Ends, Next, Breaks, next, or_stuck, check, grab, have_types, set_local, branch, throw, call_outside, call_inside, call_import, some_of, locals_of, enter, with_address, on_res, load, store, i32_of, i64_of, f32_of, f64_of, act}
@@ -166,6 +169,15 @@ abbrev pub unary_i64_meaning : UnaryI64 → ℕ → CoreValue
 unary_i64_meaning unary64.Eqz i = I32 (ieqz i)
 unary_i64_meaning unary64.Wrap i = I32 (wrap_32 i)
 unary_i64_meaning unary64.Reinterpret i = F64 i
+
+-- what a numeric instruction does
+abbrev pub operation_row : Operation → Row
+operation_row (operation.BinaryI32 op) = operated (binary_i32 (binary_meaning 32 (λ n. I32 n) op))
+operation_row (operation.BinaryI64 op) = operated (binary_i64 (binary_meaning 64 (λ n. I64 n) op))
+operation_row (operation.UnaryI32 op) = operated (unary_i32 (unary_i32_meaning op))
+operation_row (operation.UnaryI64 op) = operated (unary_i64 (unary_i64_meaning op))
+operation_row operation.I32OfF32 = plain_row instr.I32ReinterpretF32
+operation_row operation.I64OfF64 = plain_row instr.I64ReinterpretF64
 
 -- ---- blocks
 

@@ -1,10 +1,12 @@
 //! The instruction table.
 
-ghost use Rattle.std.specs.Prelude.{◌≡◌, ◌≢◌, [], ◌∷◌, true, false, IfOk};
-ghost use Rattle.fact_wasm.specs.declared.instr.Instr.{out-Instr};
+ghost use Rattle.std.specs.Prelude.{◌≡◌, ◌≢◌, List, [], ◌∷◌, Option, true, false, IfOk};
 ghost use Rattle.fact_wasm.specs.declared.module.WasmModule.{WasmModule};
-ghost use Rattle.fact_machine.specs.Machine.{next, act, begin as begin_of};
-ghost use Rattle.fact_machine.specs.Running.{did_of, config_of, at, is_access, is_control, is_numeric};
+ghost use Rattle.fact_wasm.specs.declared.instr.Instr.{Instr, out-Instr};
+ghost use Rattle.fact_machine.specs.declared.types.CoreValue.{CoreValue};
+ghost use Rattle.fact_machine.specs.World.{World};
+ghost use Rattle.fact_machine.specs.Machine.{Around, next, act, begin as begin_of};
+ghost use Rattle.fact_machine.specs.Running.{did_of, config_of, at, is_access, is_control, is_numeric, operation_row};
 
 use crate::memory::{LoadKind, StoreKind};
 use crate::numeric::{Binary, UnaryI32, UnaryI64};
@@ -38,49 +40,75 @@ fn begin_access(run: &mut Running, module: &WasmModule, instr: &Instr) -> Step
     }
 }
 
+/// What a numeric instruction does.
+#[derive(Clone, Copy)]
+enum Operation {
+    BinaryI32(Binary),
+    BinaryI64(Binary),
+    UnaryI32(UnaryI32),
+    UnaryI64(UnaryI64),
+    I32OfF32,
+    I64OfF64,
+}
+
+/// What a numeric instruction does.
+fn operation_of(instr: &Instr) -> Operation
+    requires { is_numeric (out-Instr instr.now) ≡ true }
+    ensures { (M : WasmModule) (w : World) (vs : List CoreValue) (ls : List (Option CoreValue)) (rest : List Instr) (k : Around) → operation_row result w vs ls rest k ≡ act M (out-Instr instr.now) w vs ls rest k }
+{
+    match instr {
+        Instr::I32Eqz => Operation::UnaryI32(UnaryI32::Eqz),
+        Instr::I32Eq => Operation::BinaryI32(Binary::Eq),
+        Instr::I32Ne => Operation::BinaryI32(Binary::Ne),
+        Instr::I32LtU => Operation::BinaryI32(Binary::LtU),
+        Instr::I32GtU => Operation::BinaryI32(Binary::GtU),
+        Instr::I32GeU => Operation::BinaryI32(Binary::GeU),
+        Instr::I64Eqz => Operation::UnaryI64(UnaryI64::Eqz),
+        Instr::I64Eq => Operation::BinaryI64(Binary::Eq),
+        Instr::I64Ne => Operation::BinaryI64(Binary::Ne),
+        Instr::I64LtU => Operation::BinaryI64(Binary::LtU),
+        Instr::I64GtU => Operation::BinaryI64(Binary::GtU),
+        Instr::I64GeU => Operation::BinaryI64(Binary::GeU),
+        Instr::I32Add => Operation::BinaryI32(Binary::Add),
+        Instr::I32Sub => Operation::BinaryI32(Binary::Sub),
+        Instr::I32Mul => Operation::BinaryI32(Binary::Mul),
+        Instr::I32And => Operation::BinaryI32(Binary::And),
+        Instr::I32Or => Operation::BinaryI32(Binary::Or),
+        Instr::I32Xor => Operation::BinaryI32(Binary::Xor),
+        Instr::I32Shl => Operation::BinaryI32(Binary::Shl),
+        Instr::I32ShrU => Operation::BinaryI32(Binary::ShrU),
+        Instr::I64Add => Operation::BinaryI64(Binary::Add),
+        Instr::I64Sub => Operation::BinaryI64(Binary::Sub),
+        Instr::I64Mul => Operation::BinaryI64(Binary::Mul),
+        Instr::I64And => Operation::BinaryI64(Binary::And),
+        Instr::I64Or => Operation::BinaryI64(Binary::Or),
+        Instr::I64Xor => Operation::BinaryI64(Binary::Xor),
+        Instr::I64Shl => Operation::BinaryI64(Binary::Shl),
+        Instr::I64ShrU => Operation::BinaryI64(Binary::ShrU),
+        Instr::I32WrapI64 => Operation::UnaryI64(UnaryI64::Wrap),
+        Instr::I64ExtendI32U => Operation::UnaryI32(UnaryI32::ExtendU),
+        Instr::I32ReinterpretF32 => Operation::I32OfF32,
+        Instr::I64ReinterpretF64 => Operation::I64OfF64,
+        Instr::F32ReinterpretI32 => Operation::UnaryI32(UnaryI32::Reinterpret),
+        Instr::F64ReinterpretI64 => Operation::UnaryI64(UnaryI64::Reinterpret),
+        Instr::I32Extend8S => Operation::UnaryI32(UnaryI32::Extend8S),
+        Instr::I32Extend16S => Operation::UnaryI32(UnaryI32::Extend16S),
+        _ => unreachable!(),
+    }
+}
+
 /// Begins a numeric instruction.
 fn begin_numeric(run: &mut Running, instr: &Instr) -> Step
     requires { is_numeric (out-Instr instr.now) ≡ true }
     ensures { (M : WasmModule) → IfOk result (λ end. did_of end run.new ≡ at run.old (act M (out-Instr instr.now))) }
 {
-    match instr {
-        Instr::I32Eqz => numeric::unary_i32(run, UnaryI32::Eqz),
-        Instr::I32Eq => numeric::binary_i32(run, Binary::Eq),
-        Instr::I32Ne => numeric::binary_i32(run, Binary::Ne),
-        Instr::I32LtU => numeric::binary_i32(run, Binary::LtU),
-        Instr::I32GtU => numeric::binary_i32(run, Binary::GtU),
-        Instr::I32GeU => numeric::binary_i32(run, Binary::GeU),
-        Instr::I64Eqz => numeric::unary_i64(run, UnaryI64::Eqz),
-        Instr::I64Eq => numeric::binary_i64(run, Binary::Eq),
-        Instr::I64Ne => numeric::binary_i64(run, Binary::Ne),
-        Instr::I64LtU => numeric::binary_i64(run, Binary::LtU),
-        Instr::I64GtU => numeric::binary_i64(run, Binary::GtU),
-        Instr::I64GeU => numeric::binary_i64(run, Binary::GeU),
-        Instr::I32Add => numeric::binary_i32(run, Binary::Add),
-        Instr::I32Sub => numeric::binary_i32(run, Binary::Sub),
-        Instr::I32Mul => numeric::binary_i32(run, Binary::Mul),
-        Instr::I32And => numeric::binary_i32(run, Binary::And),
-        Instr::I32Or => numeric::binary_i32(run, Binary::Or),
-        Instr::I32Xor => numeric::binary_i32(run, Binary::Xor),
-        Instr::I32Shl => numeric::binary_i32(run, Binary::Shl),
-        Instr::I32ShrU => numeric::binary_i32(run, Binary::ShrU),
-        Instr::I64Add => numeric::binary_i64(run, Binary::Add),
-        Instr::I64Sub => numeric::binary_i64(run, Binary::Sub),
-        Instr::I64Mul => numeric::binary_i64(run, Binary::Mul),
-        Instr::I64And => numeric::binary_i64(run, Binary::And),
-        Instr::I64Or => numeric::binary_i64(run, Binary::Or),
-        Instr::I64Xor => numeric::binary_i64(run, Binary::Xor),
-        Instr::I64Shl => numeric::binary_i64(run, Binary::Shl),
-        Instr::I64ShrU => numeric::binary_i64(run, Binary::ShrU),
-        Instr::I32WrapI64 => numeric::unary_i64(run, UnaryI64::Wrap),
-        Instr::I64ExtendI32U => numeric::unary_i32(run, UnaryI32::ExtendU),
-        Instr::I32ReinterpretF32 => numeric::i32_reinterpret_f32(run),
-        Instr::I64ReinterpretF64 => numeric::i64_reinterpret_f64(run),
-        Instr::F32ReinterpretI32 => numeric::unary_i32(run, UnaryI32::Reinterpret),
-        Instr::F64ReinterpretI64 => numeric::unary_i64(run, UnaryI64::Reinterpret),
-        Instr::I32Extend8S => numeric::unary_i32(run, UnaryI32::Extend8S),
-        Instr::I32Extend16S => numeric::unary_i32(run, UnaryI32::Extend16S),
-        _ => unreachable!(),
+    match operation_of(instr) {
+        Operation::BinaryI32(op) => numeric::binary_i32(run, op),
+        Operation::BinaryI64(op) => numeric::binary_i64(run, op),
+        Operation::UnaryI32(op) => numeric::unary_i32(run, op),
+        Operation::UnaryI64(op) => numeric::unary_i64(run, op),
+        Operation::I32OfF32 => numeric::i32_reinterpret_f32(run),
+        Operation::I64OfF64 => numeric::i64_reinterpret_f64(run),
     }
 }
 

@@ -3,8 +3,8 @@ use Rattle.fact_wasm.specs.declared.instr.Instr.{Instr, Instr-F, out-Instr, roll
 use Rattle.fact_wasm.specs.declared.instr.Instr.TheOpen as o
 use Rattle.fact_wasm.specs.declared.instr.Instr.TheVariants as v
 use Rattle.fact_machine.specs.Running.{is_numeric}
-use Rattle.fact_machine.proofs.begin.begin_numeric.Goals as goal
-use Rattle.fact_machine.proofs.begin.begin_numeric.Goals.{In_default}
+use Rattle.fact_machine.proofs.begin.operation_of.Goals as goal
+use Rattle.fact_machine.proofs.begin.operation_of.Goals.{In_default}
 
 -- every instruction of the family is taken by an arm
 taken : (c : In_default) (x : Instr-F Instr) → c.args.instr.now ≡ roll-Instr x → is_numeric x ≡ true → ⊥
