@@ -19,29 +19,15 @@ use Rattle.fact_entity.specs.declared.table.TypeVariants.{TypeVariants}
 use Rattle.fact_types.specs.declared.interface.InterfaceType.{InterfaceType}
 use Rattle.fact_types.specs.declared.interface.InterfaceType.TheVariants.{Record as t_record, Variant as t_variant, List as t_list, Tuple as t_tuple, Map as t_map, Flags as t_flags, Enum as t_enum, Option as t_option, Result as t_result, Future as t_future, Stream as t_stream, FixedLengthList as t_fixed_length_list, Own as t_own, Borrow as t_borrow, ErrorContext as t_error_context}
 use Rattle.fact_types.specs.Agrees.{Agrees, AgreesPlain}
-use Rattle.fact_types.specs.Shapes.{Kind, k_record, k_variant, k_list, k_tuple, k_map, k_flags, k_enum, k_option, k_result, k_fixed, k_future, k_stream, Shape, s_plain, s_node, Members}
+use Rattle.fact_types.specs.Shapes.{Shape, s_plain, s_node}
 use Rattle.fact_types.specs.Tables.{Tables, node_of, is_plain, HasShape}
 use Rattle.fact_types.proofs.ShapeLaws.{none_some, no_node}
 use Rattle.fact_types.specs.contracts.interface.InterfaceTypePartialEq.TheImpl as type_eq
 use Rattle.fact_types.specs.contracts.interface.InterfaceTypeEq.TheImpl.Laws.{laws-law as type_laws}
 use Rattle.fact_types.specs.Exact.{exact_type}
 use Rattle.fact_agreement.specs.Told.{Tells}
+use Rattle.fact_agreement.proofs.KindLaws.{not_node}
 use Rattle.fact_agreement.proofs.MemberLaws.{both_ways, other_way}
-
--- a plain type does not agree with one that has members
-not_node : (p : InterfaceType) (k : Kind) (ns : Members) → Agrees (s_plain p) (s_node k ns) → ⊥
-not_node p k_record ns h = h
-not_node p k_variant ns h = h
-not_node p k_list ns h = h
-not_node p k_tuple ns h = h
-not_node p k_map ns h = h
-not_node p k_flags ns h = h
-not_node p k_enum ns h = h
-not_node p k_option ns h = h
-not_node p k_result ns h = h
-not_node p (k_future u j) ns h = h
-not_node p (k_stream u j) ns h = h
-not_node p (k_fixed m) ns h = h
 
 -- a type of no kind that has members is plain
 pub plain_left : (p : InterfaceType)
