@@ -9,7 +9,7 @@ ghost use Rattle.fact_agreement.specs.Lists.{AgreeAll};
 ghost use Rattle.fact_agreement.specs.Told.{AreLive, of_fields, Tells, TellsPayload, TellsFields, TellsRecords, TellsCases};
 
 use crate::comparison::{Comparison, left_to_compare};
-use crate::fields::NamedFields;
+use crate::fields::{NamedFields, are_names_of};
 use fact_types::{ComponentTypes, InterfaceType, RecordField};
 use fact_wasm::{OutOfMemory, Text};
 use indexmap::IndexMap;
@@ -151,7 +151,7 @@ impl<'a> Agreement<'a> {
         ensures same { self.new ≡ self.old }
         ensures exact { IfOk result (TellsRecords self.old from.now to.now) }
     {
-        let names_there = NamedFields::new(self.allocator(), to)?.has_names_of(from);
+        let names_there = are_names_of(self.allocator(), from, to)?;
         if !names_there {
             return Ok(false);
         }

@@ -13,7 +13,7 @@ use fact_wasm::Text;
 use indexmap::IndexMap;
 
 /// What is left to compare of a source type and a destination type, each time the source's first.
-#[derive(Drop)]
+#[derive(Clone, Copy)]
 pub(crate) enum Comparison<'a> {
     /// Nothing: they agree, or they do not.
     Decided(bool),

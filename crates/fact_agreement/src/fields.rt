@@ -48,13 +48,18 @@ impl<'a> NamedFields<'a> {
     {
         self.types.get(name.as_str()).copied()
     }
+}
 
-    /// Whether the name of each of some fields is that of a field here.
-    pub(crate) fn has_names_of(&self, fields: &[RecordField]) -> bool
-        ensures { IsTrue result ↔ ((x : List ℕ) → Contains (field_names fields.now) x → Contains (field_names self.now) x) }
-    {
-        are_keys(&self.types, fields)
-    }
+/// Whether the name of each of some fields is that of one of others.
+pub(crate) fn are_names_of(
+    alloc: Global,
+    fields: &[RecordField],
+    others: &[RecordField],
+) -> Result<bool, OutOfMemory>
+    ensures { IfOk result (λ told. IsTrue told ↔ ((x : List ℕ) → Contains (field_names fields.now) x → Contains (field_names others.now) x)) }
+{
+    let types = types_by_name(alloc, others)?;
+    Ok(are_keys(&types, fields))
 }
 
 /// The types of fields by their names; of fields with one name, that of the first.

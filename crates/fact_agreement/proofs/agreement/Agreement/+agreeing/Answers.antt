@@ -14,7 +14,7 @@ use Rattle.fact_agreement.proofs.CaseLaws.{LeftCases, case_live, rest_live, next
 use Rattle.fact_agreement.proofs.FieldLaws.{placed_live, field_live, placed_lower, named_live, named_lower, fields_from, next_field, wrong_field, no_more_fields, types_from, next_types, wrong_types, no_more_types, not_as_many}
 use Rattle.fact_agreement.proofs.KnownLaws.{pair_eq, one_more}
 use Rattle.fact_agreement.proofs.MeasureLaws.{first_lower, rest_lower}
-use Rattle.fact_agreement.proofs.FieldNames.{AreAmong, no_records, by_fields}
+use Rattle.fact_agreement.proofs.FieldNames.{no_records, by_fields}
 use Rattle.fact_agreement.proofs.MemberLaws.{is_so, is_not, both_told, first_told}
 use Rattle.fact_agreement.proofs.agreement.Agreement.+agreeing.Goals as goal
 
@@ -130,15 +130,12 @@ pub agree_fields-returns-clause-exact : goal.agree_fields-returns-clause-exact
 agree_fields-returns-clause-exact t c = λ ms ns h k. is_so (no_more_fields c.args.self.now c.args.to.now c.loop-field.field-index ms ns (omega (arith, c.loop-field-test.false)) (c.loop-field.invariant.left ms ns h k))
 
 pub agree_records-returns-then-not-names_there-clause-exact : goal.agree_records-returns-then-not-names_there-clause-exact
-agree_records-returns-then-not-names_there-clause-exact t c =
-    let names = subst (AreAmong c.has_names_of-names_there.result c.args.from.now) c.in_ok-new.ensures c.has_names_of-names_there.ensures in
-    no_records c.args.self.now c.args.from.now c.args.to.now c.has_names_of-names_there.result names c.if-not-names_there.true
+agree_records-returns-then-not-names_there-clause-exact t c = no_records c.args.self.now c.args.from.now c.args.to.now c.in_ok-names_there.names_there c.in_ok-names_there.ensures c.if-not-names_there.true
 
 pub agree_records-returns-clause-exact : goal.agree_records-returns-clause-exact
 agree_records-returns-clause-exact t c =
-    let names = subst (AreAmong c.has_names_of-names_there.result c.args.from.now) c.in_ok-new.ensures c.has_names_of-names_there.ensures in
     IfOk-weaker c.agree_fields.result (TellsFields c.args.self.now c.args.from.now c.args.to.now) (TellsRecords c.args.self.now c.args.from.now c.args.to.now)
-    (by_fields c.args.self.now c.args.from.now c.args.to.now c.has_names_of-names_there.result names c.if-not-names_there.false)
+    (by_fields c.args.self.now c.args.from.now c.args.to.now c.in_ok-names_there.names_there c.in_ok-names_there.ensures c.if-not-names_there.false)
     (subst (λ fs. IfOk c.agree_fields.result (TellsFields c.args.self.now fs c.args.to.now)) c.in_ok-source.ensures c.agree_fields.ensures.exact)
 
 -- ---- what is known
