@@ -13,6 +13,7 @@ pub mod Heights
 pub mod ImportTypes
 pub mod Layout
 pub mod Lending
+pub mod Live
 pub mod Ordered
 pub mod Shapes
 pub mod Signatures

@@ -1,6 +1,7 @@
 //! Look-ups in the tables of types.
 
-ghost use Rattle.std.specs.Prelude.{◌≡◌, ◌<◌, length, Option, Some, slice_get, option_copied};
+ghost use Rattle.std.specs.Prelude.{◌≡◌, ◌<◌, length, Option, Some, IsSome, slice_get, option_copied};
+ghost use Rattle.fact_types.specs.Live.{slice_get_live};
 ghost use Rattle.fact_types.specs.Tables.{module_type_at};
 
 use crate::externs::{TypeComponent, TypeComponentInstance, TypeModule};
@@ -29,9 +30,15 @@ pub trait Lookup<I> {
     // the entry of an index, where the index is live
     ghost found: { Self → I → Option Self.Item };
 
+    // whether an index is live
+    ghost live: { Self → I → Type 0 };
+
     /// The entry of an index, or `None` where the index is not live.
     fn get(&self, index: I) -> Option<&Self::Item>
         ensures { option_copied result ≡ found self.now index };
+
+    // a live index has an entry
+    ghost live_found: { (t : Self) (i : I) → live t i → IsSome (found t i) };
 }
 
 impl Lookup<TypeModuleIndex> for ComponentTypes {
@@ -39,20 +46,12 @@ impl Lookup<TypeModuleIndex> for ComponentTypes {
 
     ghost found = { λ t i. slice_get t.modules i.number };
 
+    ghost live = { λ t i. i.number < length t.modules };
+
+    ghost live_found = { λ t i. slice_get_live t.modules i.number };
+
     fn get(&self, index: TypeModuleIndex) -> Option<&TypeModule> {
         self.modules.get(index)
-    }
-}
-
-impl Index<TypeModuleIndex> for ComponentTypes {
-    type Output = TypeModule;
-
-    ghost can_index = { λ t i. i.number < length t.modules };
-
-    ghost index_gives = { λ t i entry. slice_get t.modules i.number ≡ Some entry };
-
-    fn index(&self, index: TypeModuleIndex) -> &TypeModule {
-        &self.modules[index]
     }
 }
 
@@ -61,20 +60,12 @@ impl Lookup<TypeComponentIndex> for ComponentTypes {
 
     ghost found = { λ t i. slice_get t.components i.number };
 
+    ghost live = { λ t i. i.number < length t.components };
+
+    ghost live_found = { λ t i. slice_get_live t.components i.number };
+
     fn get(&self, index: TypeComponentIndex) -> Option<&TypeComponent> {
         self.components.get(index)
-    }
-}
-
-impl Index<TypeComponentIndex> for ComponentTypes {
-    type Output = TypeComponent;
-
-    ghost can_index = { λ t i. i.number < length t.components };
-
-    ghost index_gives = { λ t i entry. slice_get t.components i.number ≡ Some entry };
-
-    fn index(&self, index: TypeComponentIndex) -> &TypeComponent {
-        &self.components[index]
     }
 }
 
@@ -83,20 +74,12 @@ impl Lookup<TypeComponentInstanceIndex> for ComponentTypes {
 
     ghost found = { λ t i. slice_get t.component_instances i.number };
 
+    ghost live = { λ t i. i.number < length t.component_instances };
+
+    ghost live_found = { λ t i. slice_get_live t.component_instances i.number };
+
     fn get(&self, index: TypeComponentInstanceIndex) -> Option<&TypeComponentInstance> {
         self.component_instances.get(index)
-    }
-}
-
-impl Index<TypeComponentInstanceIndex> for ComponentTypes {
-    type Output = TypeComponentInstance;
-
-    ghost can_index = { λ t i. i.number < length t.component_instances };
-
-    ghost index_gives = { λ t i entry. slice_get t.component_instances i.number ≡ Some entry };
-
-    fn index(&self, index: TypeComponentInstanceIndex) -> &TypeComponentInstance {
-        &self.component_instances[index]
     }
 }
 
@@ -105,20 +88,12 @@ impl Lookup<TypeFuncIndex> for ComponentTypes {
 
     ghost found = { λ t i. slice_get t.functions i.number };
 
+    ghost live = { λ t i. i.number < length t.functions };
+
+    ghost live_found = { λ t i. slice_get_live t.functions i.number };
+
     fn get(&self, index: TypeFuncIndex) -> Option<&TypeFunc> {
         self.functions.get(index)
-    }
-}
-
-impl Index<TypeFuncIndex> for ComponentTypes {
-    type Output = TypeFunc;
-
-    ghost can_index = { λ t i. i.number < length t.functions };
-
-    ghost index_gives = { λ t i entry. slice_get t.functions i.number ≡ Some entry };
-
-    fn index(&self, index: TypeFuncIndex) -> &TypeFunc {
-        &self.functions[index]
     }
 }
 
@@ -127,20 +102,12 @@ impl Lookup<TypeRecordIndex> for ComponentTypes {
 
     ghost found = { λ t i. slice_get t.records i.number };
 
+    ghost live = { λ t i. i.number < length t.records };
+
+    ghost live_found = { λ t i. slice_get_live t.records i.number };
+
     fn get(&self, index: TypeRecordIndex) -> Option<&TypeRecord> {
         self.records.get(index)
-    }
-}
-
-impl Index<TypeRecordIndex> for ComponentTypes {
-    type Output = TypeRecord;
-
-    ghost can_index = { λ t i. i.number < length t.records };
-
-    ghost index_gives = { λ t i entry. slice_get t.records i.number ≡ Some entry };
-
-    fn index(&self, index: TypeRecordIndex) -> &TypeRecord {
-        &self.records[index]
     }
 }
 
@@ -149,20 +116,12 @@ impl Lookup<TypeVariantIndex> for ComponentTypes {
 
     ghost found = { λ t i. slice_get t.variants i.number };
 
+    ghost live = { λ t i. i.number < length t.variants };
+
+    ghost live_found = { λ t i. slice_get_live t.variants i.number };
+
     fn get(&self, index: TypeVariantIndex) -> Option<&TypeVariant> {
         self.variants.get(index)
-    }
-}
-
-impl Index<TypeVariantIndex> for ComponentTypes {
-    type Output = TypeVariant;
-
-    ghost can_index = { λ t i. i.number < length t.variants };
-
-    ghost index_gives = { λ t i entry. slice_get t.variants i.number ≡ Some entry };
-
-    fn index(&self, index: TypeVariantIndex) -> &TypeVariant {
-        &self.variants[index]
     }
 }
 
@@ -171,20 +130,12 @@ impl Lookup<TypeTupleIndex> for ComponentTypes {
 
     ghost found = { λ t i. slice_get t.tuples i.number };
 
+    ghost live = { λ t i. i.number < length t.tuples };
+
+    ghost live_found = { λ t i. slice_get_live t.tuples i.number };
+
     fn get(&self, index: TypeTupleIndex) -> Option<&TypeTuple> {
         self.tuples.get(index)
-    }
-}
-
-impl Index<TypeTupleIndex> for ComponentTypes {
-    type Output = TypeTuple;
-
-    ghost can_index = { λ t i. i.number < length t.tuples };
-
-    ghost index_gives = { λ t i entry. slice_get t.tuples i.number ≡ Some entry };
-
-    fn index(&self, index: TypeTupleIndex) -> &TypeTuple {
-        &self.tuples[index]
     }
 }
 
@@ -193,20 +144,12 @@ impl Lookup<TypeFlagsIndex> for ComponentTypes {
 
     ghost found = { λ t i. slice_get t.flags i.number };
 
+    ghost live = { λ t i. i.number < length t.flags };
+
+    ghost live_found = { λ t i. slice_get_live t.flags i.number };
+
     fn get(&self, index: TypeFlagsIndex) -> Option<&TypeFlags> {
         self.flags.get(index)
-    }
-}
-
-impl Index<TypeFlagsIndex> for ComponentTypes {
-    type Output = TypeFlags;
-
-    ghost can_index = { λ t i. i.number < length t.flags };
-
-    ghost index_gives = { λ t i entry. slice_get t.flags i.number ≡ Some entry };
-
-    fn index(&self, index: TypeFlagsIndex) -> &TypeFlags {
-        &self.flags[index]
     }
 }
 
@@ -215,20 +158,12 @@ impl Lookup<TypeEnumIndex> for ComponentTypes {
 
     ghost found = { λ t i. slice_get t.enums i.number };
 
+    ghost live = { λ t i. i.number < length t.enums };
+
+    ghost live_found = { λ t i. slice_get_live t.enums i.number };
+
     fn get(&self, index: TypeEnumIndex) -> Option<&TypeEnum> {
         self.enums.get(index)
-    }
-}
-
-impl Index<TypeEnumIndex> for ComponentTypes {
-    type Output = TypeEnum;
-
-    ghost can_index = { λ t i. i.number < length t.enums };
-
-    ghost index_gives = { λ t i entry. slice_get t.enums i.number ≡ Some entry };
-
-    fn index(&self, index: TypeEnumIndex) -> &TypeEnum {
-        &self.enums[index]
     }
 }
 
@@ -237,20 +172,12 @@ impl Lookup<TypeOptionIndex> for ComponentTypes {
 
     ghost found = { λ t i. slice_get t.options i.number };
 
+    ghost live = { λ t i. i.number < length t.options };
+
+    ghost live_found = { λ t i. slice_get_live t.options i.number };
+
     fn get(&self, index: TypeOptionIndex) -> Option<&TypeOption> {
         self.options.get(index)
-    }
-}
-
-impl Index<TypeOptionIndex> for ComponentTypes {
-    type Output = TypeOption;
-
-    ghost can_index = { λ t i. i.number < length t.options };
-
-    ghost index_gives = { λ t i entry. slice_get t.options i.number ≡ Some entry };
-
-    fn index(&self, index: TypeOptionIndex) -> &TypeOption {
-        &self.options[index]
     }
 }
 
@@ -259,20 +186,12 @@ impl Lookup<TypeResultIndex> for ComponentTypes {
 
     ghost found = { λ t i. slice_get t.results i.number };
 
+    ghost live = { λ t i. i.number < length t.results };
+
+    ghost live_found = { λ t i. slice_get_live t.results i.number };
+
     fn get(&self, index: TypeResultIndex) -> Option<&TypeResult> {
         self.results.get(index)
-    }
-}
-
-impl Index<TypeResultIndex> for ComponentTypes {
-    type Output = TypeResult;
-
-    ghost can_index = { λ t i. i.number < length t.results };
-
-    ghost index_gives = { λ t i entry. slice_get t.results i.number ≡ Some entry };
-
-    fn index(&self, index: TypeResultIndex) -> &TypeResult {
-        &self.results[index]
     }
 }
 
@@ -281,20 +200,12 @@ impl Lookup<TypeListIndex> for ComponentTypes {
 
     ghost found = { λ t i. slice_get t.lists i.number };
 
+    ghost live = { λ t i. i.number < length t.lists };
+
+    ghost live_found = { λ t i. slice_get_live t.lists i.number };
+
     fn get(&self, index: TypeListIndex) -> Option<&TypeList> {
         self.lists.get(index)
-    }
-}
-
-impl Index<TypeListIndex> for ComponentTypes {
-    type Output = TypeList;
-
-    ghost can_index = { λ t i. i.number < length t.lists };
-
-    ghost index_gives = { λ t i entry. slice_get t.lists i.number ≡ Some entry };
-
-    fn index(&self, index: TypeListIndex) -> &TypeList {
-        &self.lists[index]
     }
 }
 
@@ -303,20 +214,12 @@ impl Lookup<TypeMapIndex> for ComponentTypes {
 
     ghost found = { λ t i. slice_get t.maps i.number };
 
+    ghost live = { λ t i. i.number < length t.maps };
+
+    ghost live_found = { λ t i. slice_get_live t.maps i.number };
+
     fn get(&self, index: TypeMapIndex) -> Option<&TypeMap> {
         self.maps.get(index)
-    }
-}
-
-impl Index<TypeMapIndex> for ComponentTypes {
-    type Output = TypeMap;
-
-    ghost can_index = { λ t i. i.number < length t.maps };
-
-    ghost index_gives = { λ t i entry. slice_get t.maps i.number ≡ Some entry };
-
-    fn index(&self, index: TypeMapIndex) -> &TypeMap {
-        &self.maps[index]
     }
 }
 
@@ -325,20 +228,12 @@ impl Lookup<TypeFixedLengthListIndex> for ComponentTypes {
 
     ghost found = { λ t i. slice_get t.fixed_length_lists i.number };
 
+    ghost live = { λ t i. i.number < length t.fixed_length_lists };
+
+    ghost live_found = { λ t i. slice_get_live t.fixed_length_lists i.number };
+
     fn get(&self, index: TypeFixedLengthListIndex) -> Option<&TypeFixedLengthList> {
         self.fixed_length_lists.get(index)
-    }
-}
-
-impl Index<TypeFixedLengthListIndex> for ComponentTypes {
-    type Output = TypeFixedLengthList;
-
-    ghost can_index = { λ t i. i.number < length t.fixed_length_lists };
-
-    ghost index_gives = { λ t i entry. slice_get t.fixed_length_lists i.number ≡ Some entry };
-
-    fn index(&self, index: TypeFixedLengthListIndex) -> &TypeFixedLengthList {
-        &self.fixed_length_lists[index]
     }
 }
 
@@ -347,20 +242,12 @@ impl Lookup<TypeFutureIndex> for ComponentTypes {
 
     ghost found = { λ t i. slice_get t.futures i.number };
 
+    ghost live = { λ t i. i.number < length t.futures };
+
+    ghost live_found = { λ t i. slice_get_live t.futures i.number };
+
     fn get(&self, index: TypeFutureIndex) -> Option<&TypeFuture> {
         self.futures.get(index)
-    }
-}
-
-impl Index<TypeFutureIndex> for ComponentTypes {
-    type Output = TypeFuture;
-
-    ghost can_index = { λ t i. i.number < length t.futures };
-
-    ghost index_gives = { λ t i entry. slice_get t.futures i.number ≡ Some entry };
-
-    fn index(&self, index: TypeFutureIndex) -> &TypeFuture {
-        &self.futures[index]
     }
 }
 
@@ -369,20 +256,12 @@ impl Lookup<TypeFutureTableIndex> for ComponentTypes {
 
     ghost found = { λ t i. slice_get t.future_tables i.number };
 
+    ghost live = { λ t i. i.number < length t.future_tables };
+
+    ghost live_found = { λ t i. slice_get_live t.future_tables i.number };
+
     fn get(&self, index: TypeFutureTableIndex) -> Option<&TypeFutureTable> {
         self.future_tables.get(index)
-    }
-}
-
-impl Index<TypeFutureTableIndex> for ComponentTypes {
-    type Output = TypeFutureTable;
-
-    ghost can_index = { λ t i. i.number < length t.future_tables };
-
-    ghost index_gives = { λ t i entry. slice_get t.future_tables i.number ≡ Some entry };
-
-    fn index(&self, index: TypeFutureTableIndex) -> &TypeFutureTable {
-        &self.future_tables[index]
     }
 }
 
@@ -391,20 +270,12 @@ impl Lookup<TypeStreamIndex> for ComponentTypes {
 
     ghost found = { λ t i. slice_get t.streams i.number };
 
+    ghost live = { λ t i. i.number < length t.streams };
+
+    ghost live_found = { λ t i. slice_get_live t.streams i.number };
+
     fn get(&self, index: TypeStreamIndex) -> Option<&TypeStream> {
         self.streams.get(index)
-    }
-}
-
-impl Index<TypeStreamIndex> for ComponentTypes {
-    type Output = TypeStream;
-
-    ghost can_index = { λ t i. i.number < length t.streams };
-
-    ghost index_gives = { λ t i entry. slice_get t.streams i.number ≡ Some entry };
-
-    fn index(&self, index: TypeStreamIndex) -> &TypeStream {
-        &self.streams[index]
     }
 }
 
@@ -413,20 +284,12 @@ impl Lookup<TypeStreamTableIndex> for ComponentTypes {
 
     ghost found = { λ t i. slice_get t.stream_tables i.number };
 
+    ghost live = { λ t i. i.number < length t.stream_tables };
+
+    ghost live_found = { λ t i. slice_get_live t.stream_tables i.number };
+
     fn get(&self, index: TypeStreamTableIndex) -> Option<&TypeStreamTable> {
         self.stream_tables.get(index)
-    }
-}
-
-impl Index<TypeStreamTableIndex> for ComponentTypes {
-    type Output = TypeStreamTable;
-
-    ghost can_index = { λ t i. i.number < length t.stream_tables };
-
-    ghost index_gives = { λ t i entry. slice_get t.stream_tables i.number ≡ Some entry };
-
-    fn index(&self, index: TypeStreamTableIndex) -> &TypeStreamTable {
-        &self.stream_tables[index]
     }
 }
 
@@ -434,6 +297,10 @@ impl Lookup<TypeComponentLocalErrorContextTableIndex> for ComponentTypes {
     type Item = TypeErrorContextTable;
 
     ghost found = { λ t i. slice_get t.error_context_tables i.number };
+
+    ghost live = { λ t i. i.number < length t.error_context_tables };
+
+    ghost live_found = { λ t i. slice_get_live t.error_context_tables i.number };
 
     fn get(
         &self,
@@ -443,37 +310,17 @@ impl Lookup<TypeComponentLocalErrorContextTableIndex> for ComponentTypes {
     }
 }
 
-impl Index<TypeComponentLocalErrorContextTableIndex> for ComponentTypes {
-    type Output = TypeErrorContextTable;
-
-    ghost can_index = { λ t i. i.number < length t.error_context_tables };
-
-    ghost index_gives = { λ t i entry. slice_get t.error_context_tables i.number ≡ Some entry };
-
-    fn index(&self, index: TypeComponentLocalErrorContextTableIndex) -> &TypeErrorContextTable {
-        &self.error_context_tables[index]
-    }
-}
-
 impl Lookup<TypeResourceTableIndex> for ComponentTypes {
     type Item = TypeResourceTable;
 
     ghost found = { λ t i. slice_get t.resource_tables i.number };
 
+    ghost live = { λ t i. i.number < length t.resource_tables };
+
+    ghost live_found = { λ t i. slice_get_live t.resource_tables i.number };
+
     fn get(&self, index: TypeResourceTableIndex) -> Option<&TypeResourceTable> {
         self.resource_tables.get(index)
-    }
-}
-
-impl Index<TypeResourceTableIndex> for ComponentTypes {
-    type Output = TypeResourceTable;
-
-    ghost can_index = { λ t i. i.number < length t.resource_tables };
-
-    ghost index_gives = { λ t i entry. slice_get t.resource_tables i.number ≡ Some entry };
-
-    fn index(&self, index: TypeResourceTableIndex) -> &TypeResourceTable {
-        &self.resource_tables[index]
     }
 }
 
@@ -481,6 +328,10 @@ impl Lookup<ModuleInternedTypeIndex> for ComponentTypes {
     type Item = FuncType;
 
     ghost found = { λ t i. module_type_at t i.number };
+
+    ghost live = { λ t i. IsSome (module_type_at t i.number) };
+
+    ghost live_found = { λ t i h. h };
 
     fn get(&self, index: ModuleInternedTypeIndex) -> Option<&FuncType> {
         match &self.module_types {
@@ -490,16 +341,18 @@ impl Lookup<ModuleInternedTypeIndex> for ComponentTypes {
     }
 }
 
-impl Index<ModuleInternedTypeIndex> for ComponentTypes {
-    ghost use Rattle.std.specs.Prelude.{IsSome};
+/// The entry of a live index, in the table of its type.
+impl<I> Index<I> for ComponentTypes
+where
+    ComponentTypes: Lookup<I>,
+{
+    type Output = <ComponentTypes as Lookup<I>>::Item;
 
-    type Output = FuncType;
+    ghost can_index = { ⟦<ComponentTypes as Lookup<I>>⟧.live };
 
-    ghost can_index = { λ t i. IsSome (module_type_at t i.number) };
+    ghost index_gives = { λ t i entry. ⟦<ComponentTypes as Lookup<I>>⟧.found t i ≡ Some entry };
 
-    ghost index_gives = { λ t i ty. module_type_at t i.number ≡ Some ty };
-
-    fn index(&self, index: ModuleInternedTypeIndex) -> &FuncType {
+    fn index(&self, index: I) -> &<ComponentTypes as Lookup<I>>::Item {
         self.get(index).unwrap()
     }
 }
