@@ -12,6 +12,7 @@ use Rattle.std.proofs.lemmas.Map.Keys.{apart_from_distinct}
 use Rattle.std.proofs.lemmas.Option.{get_or_from_slice_get, slice_get-get_or, slice_get_within}
 use Rattle.indexmap.specs.IndexSet.{insert_key}
 use Rattle.fact_entity.specs.Places.{IsOnlyPlace, IsInterned}
+use Rattle.fact_entity.proofs.Entries.{keeps_appended}
 
 -- the first place at which a test passes holds a value that passes it
 pub position_holds : {X : Type 0} (p : X → Bool) (xs : List X) (i : ℕ) → position p xs ≡ Some i → (x : X) × (slice_get xs i ≡ Some x) × (p x ≡ true)
@@ -29,11 +30,6 @@ only_passes true f = absurd (f refl)
 only_passes false f = refl
 
 -- values keep their places when one is added
-keeps_appended : {X : Type 0} (xs : List X) (v : X) (j : ℕ) (x : X) → slice_get xs j ≡ Some x → slice_get (xs ++ v ∷ []) j ≡ Some x
-keeps_appended [] v j x h = cc
-keeps_appended (y ∷ ys) v zero x h = h
-keeps_appended (y ∷ ys) v (suc j) x h = keeps_appended ys v j x h
-
 keeps_inserted : {X : Type 0} (b : Bool) (xs : List X) (v : X) (j : ℕ) (x : X) → slice_get xs j ≡ Some x → slice_get (cond b xs (xs ++ v ∷ [])) j ≡ Some x
 keeps_inserted true xs v j x h = h
 keeps_inserted false xs v j x h = keeps_appended xs v j x h

@@ -4,7 +4,7 @@ use fact_entity::TypeFuncIndex;
 use fact_wasm::{Seq, ValType};
 
 /// The core parameters and results of a lowered or lifted function.
-#[derive(Drop, PartialEq, Eq, Hash)]
+#[derive(Drop)]
 pub struct Signature {
     pub params: Seq<ValType>,
     pub results: Seq<ValType>,
