@@ -67,12 +67,7 @@ entry_by_key d =
     (at_or (codes "variant") (list_in (pair_in text_in (nullable ref_in))) ty.Variant d
     (at_or (codes "tuple") (list_in ref_in) ty.Tuple d
     (at_or (codes "list") ref_in ty.List d
-    (at_or (codes "option") ref_in ty.Option d
-    (at_or (codes "map") (pair_in ref_in ref_in) (λ p. ty.Map p.0 p.1) d
-    (at_or (codes "result") (pair_in (nullable ref_in) (nullable ref_in)) (λ p. ty.Result p.0 p.1) d
-    (at_or (codes "flags") (list_in text_in) ty.Flags d
-    (at_or (codes "enum") (list_in text_in) ty.Enum d
-    (at_or (codes "fixed-list") (pair_in ref_in u32_in) (λ p. ty.FixedList p.0 p.1) d (handle_by_key d))))))))))
+    (at_or (codes "option") ref_in ty.Option d (later_by_key d)))))
 
 -- an entry of the plan's types
 unfoldable pub entry_in : Data → Result PlanType PlanFault

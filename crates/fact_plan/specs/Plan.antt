@@ -150,11 +150,7 @@ plan_in d = do
   types ← field (list_in entry_in) (codes "types") d
   tables ← field (list_in (pair_in u32_in u32_in)) (codes "tables") d
   funcs ← field (list_in func_in) (codes "funcs") d
-  core_types ← field (list_in core_type_in) (codes "core_types") d
-  core_defs ← field (list_in core_def_in) (codes "core_defs") d
-  adapters ← field (list_in adapter_in) (codes "adapters") d
-  tunables ← field_or tunables_in default_tunables (codes "tunables") d
-  Ok (record { instances = instances; types = types; tables = tables; funcs = funcs; core_types = core_types; core_defs = core_defs; adapters = adapters; tunables = tunables })
+  rest_of_plan instances types tables funcs d
 
 -- the plan that stands in a JSON value, or a fault with its whole path
 unfoldable pub plan_of : Data → Result FusePlan PlanFault

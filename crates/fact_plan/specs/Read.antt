@@ -53,7 +53,7 @@ u32_from (negative z) = Err (WrongKind [])
 u32_from (float x) = Err (WrongKind [])
 
 -- a number of 32 bits
-abbrev pub u32_in : Data → Result ℕ PlanFault
+unfoldable pub u32_in : Data → Result ℕ PlanFault
 u32_in null = Err (WrongKind [])
 u32_in (boolean b) = Err (WrongKind [])
 u32_in (number n) = u32_from n
@@ -68,7 +68,7 @@ u8_from (negative z) = Err (WrongKind [])
 u8_from (float x) = Err (WrongKind [])
 
 -- a number of 8 bits
-abbrev pub u8_in : Data → Result ℕ PlanFault
+unfoldable pub u8_in : Data → Result ℕ PlanFault
 u8_in null = Err (WrongKind [])
 u8_in (boolean b) = Err (WrongKind [])
 u8_in (number n) = u8_from n
@@ -77,7 +77,7 @@ u8_in (array ds) = Err (WrongKind [])
 u8_in (object ms) = Err (WrongKind [])
 
 -- true or false
-abbrev pub bool_in : Data → Result Bool PlanFault
+unfoldable pub bool_in : Data → Result Bool PlanFault
 bool_in null = Err (WrongKind [])
 bool_in (boolean b) = Ok b
 bool_in (number n) = Err (WrongKind [])
@@ -86,7 +86,7 @@ bool_in (array ds) = Err (WrongKind [])
 bool_in (object ms) = Err (WrongKind [])
 
 -- a text
-abbrev pub text_in : Data → Result (List ℕ) PlanFault
+unfoldable pub text_in : Data → Result (List ℕ) PlanFault
 text_in null = Err (WrongKind [])
 text_in (boolean b) = Err (WrongKind [])
 text_in (number n) = Err (WrongKind [])
@@ -100,7 +100,7 @@ items_from f i no_items = Ok []
 items_from f i (item d ds) = at_step (place_step i) (f d) >>= (λ x. items_from f (i + 1) ds >>= (λ xs. Ok (x ∷ xs)))
 
 -- a list of any length
-abbrev pub list_in : {T : Type 0} → (Data → Result T PlanFault) → Data → Result (List T) PlanFault
+unfoldable pub list_in : {T : Type 0} → (Data → Result T PlanFault) → Data → Result (List T) PlanFault
 list_in f null = Err (WrongKind [])
 list_in f (boolean b) = Err (WrongKind [])
 list_in f (number n) = Err (WrongKind [])
@@ -123,7 +123,7 @@ present (Ok x) = Ok (Some x)
 present (Err e) = Err e
 
 -- null stands for an absent part
-abbrev pub nullable : {T : Type 0} → (Data → Result T PlanFault) → Data → Result (Option T) PlanFault
+unfoldable pub nullable : {T : Type 0} → (Data → Result T PlanFault) → Data → Result (Option T) PlanFault
 nullable f null = Ok None
 nullable f (boolean b) = present (f (boolean b))
 nullable f (number n) = present (f (number n))
@@ -139,5 +139,5 @@ pair_of f g (Some a) (Some b) (Some c) = Err (WrongKind [])
 pair_of f g (Some a) (Some b) None = at_step (place_step 0) (f a) >>= (λ x. at_step (place_step 1) (g b) >>= (λ y. Ok (x, y)))
 
 -- a list of two: it has a first and a second item, and no third
-abbrev pub pair_in : {S T : Type 0} → (Data → Result S PlanFault) → (Data → Result T PlanFault) → Data → Result (S × T) PlanFault
+unfoldable pub pair_in : {S T : Type 0} → (Data → Result S PlanFault) → (Data → Result T PlanFault) → Data → Result (S × T) PlanFault
 pair_in f g d = pair_of f g (at 0 d) (at 1 d) (at 2 d)

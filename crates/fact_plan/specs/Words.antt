@@ -16,7 +16,7 @@ use Rattle.fact_plan.specs.Fault.{◌>>=◌}
 use Rattle.fact_plan.specs.Read.{u32_from, text_in}
 
 -- the word of a scalar type or of a string; no other text is a type
-abbrev pub word_of : List ℕ → Result PrimitiveValType PlanFault
+unfoldable pub word_of : List ℕ → Result PrimitiveValType PlanFault
 word_of s =
     if bytes_eq s (codes "bool") then Ok word.Bool else
     (if bytes_eq s (codes "s8") then Ok word.S8 else
@@ -41,7 +41,7 @@ abbrev pub as_entry : Result ℕ PlanFault → Result PlanRef PlanFault
 as_entry r = r >>= (λ n. Ok (Entry n))
 
 -- a type: a word, or the place of an entry
-abbrev pub ref_in : Data → Result PlanRef PlanFault
+unfoldable pub ref_in : Data → Result PlanRef PlanFault
 ref_in null = Err (WrongKind [])
 ref_in (boolean b) = Err (WrongKind [])
 ref_in (number n) = as_entry (u32_from n)
@@ -58,7 +58,7 @@ val_type_of s =
     (if bytes_eq s (codes "f64") then Ok val.F64 else Err (OutOfRange []))))
 
 -- the type of a core parameter or result
-abbrev pub val_type_in : Data → Result ValType PlanFault
+unfoldable pub val_type_in : Data → Result ValType PlanFault
 val_type_in d = text_in d >>= val_type_of
 
 -- the encoding that a word names
@@ -69,5 +69,5 @@ encoding_of s =
     (if bytes_eq s (codes "compact") then Ok encoding.CompactUtf16 else Err (OutOfRange [])))
 
 -- how the texts of a side are encoded
-abbrev pub encoding_in : Data → Result StringEncoding PlanFault
+unfoldable pub encoding_in : Data → Result StringEncoding PlanFault
 encoding_in d = text_in d >>= encoding_of

@@ -45,7 +45,7 @@ fn check_one_key(alloc: Global, value: &Value) -> Result<(), PlanFault>
     }
 }
 
-#[tactic(auto, unfolding(crate::specs::Entries::entry_by_key, crate::specs::Entries::later_by_key))]
+#[tactic(auto, unfolding(crate::specs::Entries::entry_by_key))]
 fn entry_by_key(alloc: Global, value: &Value) -> Result<PlanType, PlanFault>
     ensures { Gives (entry_by_key (view value.now)) result }
 {

@@ -197,7 +197,7 @@ impl FromJson for PlanTunables {
 impl FromJson for FusePlan {
     ghost reads = { plan_in };
 
-    #[tactic(auto, unfolding(crate::specs::Plan::plan_in, crate::specs::Plan::rest_of_plan))]
+    #[tactic(auto, unfolding(crate::specs::Plan::plan_in))]
     fn from_json(alloc: Global, value: &Value) -> Result<FusePlan, PlanFault> {
         check_known(alloc, value, &PLAN_KEYS)?;
         check_required(alloc, value, &REQUIRED_PLAN_KEYS)?;

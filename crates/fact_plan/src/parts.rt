@@ -26,6 +26,7 @@ pub trait FromJson: Sized + Drop {
 impl FromJson for u8 {
     ghost reads = { u8_in };
 
+    #[tactic(auto, unfolding(crate::specs::Read::u8_in))]
     fn from_json(alloc: Global, value: &Value) -> Result<u8, PlanFault> {
         let Some(number) = value.as_u64() else {
             return Err(PlanFault::wrong_kind(alloc));
@@ -37,6 +38,7 @@ impl FromJson for u8 {
 impl FromJson for u32 {
     ghost reads = { u32_in };
 
+    #[tactic(auto, unfolding(crate::specs::Read::u32_in))]
     fn from_json(alloc: Global, value: &Value) -> Result<u32, PlanFault> {
         let Some(number) = value.as_u64() else {
             return Err(PlanFault::wrong_kind(alloc));
@@ -48,6 +50,7 @@ impl FromJson for u32 {
 impl FromJson for bool {
     ghost reads = { bool_in };
 
+    #[tactic(auto, unfolding(crate::specs::Read::bool_in))]
     fn from_json(alloc: Global, value: &Value) -> Result<bool, PlanFault> {
         value.as_bool().ok_or_else(|| PlanFault::wrong_kind(alloc))
     }
@@ -56,6 +59,7 @@ impl FromJson for bool {
 impl FromJson for Text {
     ghost reads = { text_in };
 
+    #[tactic(auto, unfolding(crate::specs::Read::text_in))]
     fn from_json(alloc: Global, value: &Value) -> Result<Text, PlanFault> {
         match value.as_str() {
             Some(text) => Ok(Text::from_str(alloc, text)?),
@@ -68,6 +72,7 @@ impl FromJson for Text {
 impl<T: FromJson> FromJson for Seq<T> {
     ghost reads = { list_in T.reads };
 
+    #[tactic(auto, unfolding(crate::specs::Read::list_in))]
     fn from_json(alloc: Global, value: &Value) -> Result<Seq<T>, PlanFault> {
         let Some(list) = value.as_array() else {
             return Err(PlanFault::wrong_kind(alloc));
@@ -84,6 +89,7 @@ impl<T: FromJson> FromJson for Seq<T> {
 impl<T: FromJson> FromJson for Option<T> {
     ghost reads = { nullable T.reads };
 
+    #[tactic(auto, unfolding(crate::specs::Read::nullable))]
     fn from_json(alloc: Global, value: &Value) -> Result<Option<T>, PlanFault> {
         if value.is_null() {
             return Ok(None);
@@ -96,6 +102,7 @@ impl<T: FromJson> FromJson for Option<T> {
 impl<S: FromJson, T: FromJson> FromJson for (S, T) {
     ghost reads = { pair_in S.reads T.reads };
 
+    #[tactic(auto, unfolding(crate::specs::Read::pair_in))]
     fn from_json(alloc: Global, value: &Value) -> Result<(S, T), PlanFault> {
         let Some(first) = value.get(0usize) else {
             return Err(PlanFault::wrong_kind(alloc));

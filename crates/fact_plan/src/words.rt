@@ -12,6 +12,7 @@ use serde_json::Value;
 use std::alloc::Global;
 
 /// The type that a word names. No word names an error context.
+#[tactic(auto, unfolding(crate::specs::Words::word_of))]
 fn word_of(alloc: Global, word: &str) -> Result<PrimitiveValType, PlanFault>
     ensures { Gives (word_of word.now) result }
 {
@@ -36,6 +37,7 @@ fn word_of(alloc: Global, word: &str) -> Result<PrimitiveValType, PlanFault>
 impl FromJson for PlanRef {
     ghost reads = { ref_in };
 
+    #[tactic(auto, unfolding(crate::specs::Words::ref_in, crate::specs::Read::u32_in))]
     fn from_json(alloc: Global, value: &Value) -> Result<PlanRef, PlanFault> {
         if let Some(word) = value.as_str() {
             return Ok(PlanRef::Word(word_of(alloc, word)?));
@@ -47,6 +49,7 @@ impl FromJson for PlanRef {
 impl FromJson for ValType {
     ghost reads = { val_type_in };
 
+    #[tactic(auto, unfolding(crate::specs::Words::val_type_in, crate::specs::Read::text_in))]
     fn from_json(alloc: Global, value: &Value) -> Result<ValType, PlanFault> {
         match value.as_str() {
             Some("i32") => Ok(ValType::I32),
@@ -62,6 +65,7 @@ impl FromJson for ValType {
 impl FromJson for StringEncoding {
     ghost reads = { encoding_in };
 
+    #[tactic(auto, unfolding(crate::specs::Words::encoding_in, crate::specs::Read::text_in))]
     fn from_json(alloc: Global, value: &Value) -> Result<StringEncoding, PlanFault> {
         match value.as_str() {
             Some("utf8") => Ok(StringEncoding::Utf8),
