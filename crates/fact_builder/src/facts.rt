@@ -66,7 +66,7 @@ impl ComponentTypesBuilder {
         ensures counts { (s : Shape) (w : MemoryWidth) → HasShape self.now.tables ty.now s → IsValid s → result.now.flat_count ≡ flat_within (length (flat w s)) }
         ensures within { IsWithin result.now }
     {
-        self.types.tables().canonical_abi(ty)
+        self.component_types().canonical_abi(ty)
     }
 
     /// The flat types of a live type, or `None` where there are more than 16 (canonical ABI, "Flattening").

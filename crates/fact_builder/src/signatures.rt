@@ -61,7 +61,7 @@ impl ComponentTypesBuilder {
         requires { All (IsLive self.now.tables) tys.now }
         ensures { (ss : List Shape) → HaveShapes self.now.tables tys.now ss → IfOk result (λ flat. flat ≡ flat_values memory64 max ss) }
     {
-        let mut values = Seq::new(self.types.allocator());
+        let mut values = self.no_values();
         for ty in tys {
             let Some(types) = self.flat_types_in(memory64, ty) else {
                 return Ok(None);
@@ -100,7 +100,7 @@ impl ComponentTypesBuilder {
             Some(results) => Ok(Signature { params, results }),
             None => {
                 params.push(address(side.memory64))?;
-                let results = Seq::new(self.types.allocator());
+                let results = self.no_values();
                 Ok(Signature { params, results })
             }
         }
@@ -137,7 +137,7 @@ impl ComponentTypesBuilder {
             let results = self.one_value(ValType::I32)?;
             return Ok(Signature { params, results });
         }
-        let results = Seq::new(self.types.allocator());
+        let results = self.no_values();
         Ok(Signature { params, results })
     }
 
@@ -149,7 +149,7 @@ impl ComponentTypesBuilder {
         ensures taken { (params results : List Shape) → HasSignature self.now.tables ty params results → HaveShapes self.now.tables result.0.now params }
         ensures given { (params results : List Shape) → HasSignature self.now.tables ty params results → HaveShapes self.now.tables result.1.now results }
     {
-        let types = self.types.tables();
+        let types = self.component_types();
         types.reveal();
         let func = &types[ty];
         (
@@ -197,11 +197,18 @@ impl ComponentTypesBuilder {
         }
     }
 
+    /// A list of no types.
+    fn no_values(&self) -> Seq<ValType>
+        ensures { result ≡ [] }
+    {
+        Seq::new(self.types.allocator())
+    }
+
     /// A list of one type.
     fn one_value(&self, ty: ValType) -> Result<Seq<ValType>, OutOfMemory>
         ensures { IfOk result (λ values. values ≡ ty ∷ []) }
     {
-        let mut values = Seq::new(self.types.allocator());
+        let mut values = self.no_values();
         values.push(ty)?;
         Ok(values)
     }

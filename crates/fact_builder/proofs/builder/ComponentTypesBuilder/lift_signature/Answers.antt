@@ -15,5 +15,5 @@ returns-then-side c = λ ps rs h.
 
 pub returns : goal.returns
 returns c = λ ps rs h.
-    (λ i. signature (c.in_ok-params.ensures ps (c.types_of.ensures.taken ps rs h) i) (c.new-results.ensures i))
+    (λ i. signature (c.in_ok-params.ensures ps (c.types_of.ensures.taken ps rs h) i) (c.no_values-results.ensures i))
     ∙ (λ i. lift_by (sym c.if-not-side.false i) (sym c.if-side.false i) c.args.side.now.memory64 ps rs)

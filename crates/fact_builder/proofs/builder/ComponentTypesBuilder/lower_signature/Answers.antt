@@ -20,7 +20,7 @@ returns-in-Some c = λ ps rs h.
 pub returns-in_ok-push-in-None : goal.returns-in_ok-push-in-None
 returns-in_ok-push-in-None c = λ ps rs h.
     let given = sym c.in-None.is ∙ c.in_ok-results.ensures rs (c.types_of.ensures.given ps rs h) in
-    (λ i. signature (c.in_ok-push-in-None.ensures.ok i) (c.new-results.ensures i))
+    (λ i. signature (c.in_ok-push-in-None.ensures.ok i) (c.no_values-results.ensures i))
     ∙ (λ i. signature (c.in_ok-params.ensures ps (c.types_of.ensures.taken ps rs h) i ++ c.address.ensures i ∷ []) [])
     ∙ (λ i. signature (flat_params c.args.side.now.memory64 16 ps ++ unless_flat (address c.args.side.now.memory64 ∷ []) (given i)) (flat_or [] (given i)))
     ∙ (λ i. lower_by (sym c.if-side.false i) c.args.side.now.memory64 ps rs)
