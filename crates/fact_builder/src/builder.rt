@@ -22,7 +22,6 @@ use std::marker::Model;
 
 /// Tables of types with one entry of each type, and core function types. Contracts see it as the number of the source that
 /// types come from, the tables and the list of the core function types. At all times equal types have one index.
-#[derive(Drop)]
 pub struct ComponentTypesBuilder {
     pub(crate) source: u64,
     pub(crate) types: KnownTypes,
@@ -59,6 +58,53 @@ impl Model for ComponentTypesBuilder {
 
     // the entries that are found by their value are those of the tables, and the resource tables are counted
     ghost invariant = { λ b. (record b.types { functions = b.functions; records = b.records; flags = b.flags; tuples = b.tuples; fixed_length_lists = b.fixed_length_lists; variants = b.variants; enums = b.enums; options = b.options; results = b.results; lists = b.lists; maps = b.maps; futures = b.futures; future_tables = b.future_tables; streams = b.streams; stream_tables = b.stream_tables; error_context_tables = b.error_context_tables } ≡ b.types) × (b.resource_table_count ≡ length b.types.resource_tables) };
+}
+
+// Written out, it is proved here once, where a derived one is proved anew in each crate that owns a builder. Each part is
+// dropped by a call: the walk of the end of a scope with so many parts does not end.
+impl Drop for ComponentTypesBuilder {
+    fn drop(self) {
+        let ComponentTypesBuilder {
+            source: _,
+            types,
+            module_types,
+            functions,
+            records,
+            flags,
+            tuples,
+            fixed_length_lists,
+            variants,
+            enums,
+            options,
+            results,
+            lists,
+            maps,
+            futures,
+            future_tables,
+            streams,
+            stream_tables,
+            error_context_tables,
+            resource_table_count: _,
+        } = self;
+        drop(error_context_tables);
+        drop(stream_tables);
+        drop(streams);
+        drop(future_tables);
+        drop(futures);
+        drop(maps);
+        drop(lists);
+        drop(results);
+        drop(options);
+        drop(enums);
+        drop(variants);
+        drop(fixed_length_lists);
+        drop(tuples);
+        drop(flags);
+        drop(records);
+        drop(functions);
+        drop(module_types);
+        drop(types);
+    }
 }
 
 impl ComponentTypesBuilder {
