@@ -4,7 +4,7 @@
 use crate::ends::rows_hold;
 use crate::entry_faults::OF_OTHERS;
 use crate::plans::EMPTY;
-use std::test::Fail;
+use std::alloc::AllocError;
 
 /// A plan with an entry of each kind, and with each key of each object.
 const RICH: &str =
@@ -150,14 +150,14 @@ UnknownIndex at type 10: "own":0 => "own":4294967295
 "#;
 
 #[test]
-fn faults_are_told(rt: HostRuntime) -> Result<(), Fail> {
+fn faults_are_told(rt: HostRuntime) -> Result<(), AllocError> {
     rows_hold(&rt, rt.alloc(), "bad plan", EMPTY, OF_EMPTY)?;
     rows_hold(&rt, rt.alloc(), "bad plan", RICH, OF_TYPES)?;
     rows_hold(&rt, rt.alloc(), "bad plan", RICH, OF_OTHERS)
 }
 
 #[test]
-fn plans_are_read(rt: HostRuntime) -> Result<(), Fail> {
+fn plans_are_read(rt: HostRuntime) -> Result<(), AllocError> {
     rows_hold(&rt, rt.alloc(), "bad plan", EMPTY, SOUND_EMPTY)?;
     rows_hold(&rt, rt.alloc(), "refused", RICH, SOUND_RICH)
 }

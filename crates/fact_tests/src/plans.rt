@@ -1,4 +1,4 @@
-//! The worked plan, and plans that differ from it.
+//! The worked plan, and plans that differ from it. Lines of what is printed are parted by `$`.
 
 use std::alloc::{AllocError, Global};
 
@@ -8,18 +8,18 @@ pub const PLAN: &str =
 
 /// Its module, printed.
 pub const PAGE: &str =
-    "0061736d0100000001080260017f0060000002430405666c61677309696e7374616e636531037f0105666c61677309696e7374616e636530037f010663616c6c656502663000000772756e74696d6505747261703000010302010007060102663000020a2a012801027f0240230122010d001001000b2300210241002400200020022400100041002401200124010b\n";
+    "0061736d0100000001080260017f0060000002430405666c61677309696e7374616e636531037f0105666c61677309696e7374616e636530037f010663616c6c656502663000000772756e74696d6505747261703000010302010007060102663000020a2a012801027f0240230122010d001001000b2300210241002400200020022400100041002401200124010b";
 
-/// The lines of its imports.
-pub const IMPORTS: &str =
-    "core-def instance-flags 1\ncore-def instance-flags 0\ncore-def export 0 72756e\ntrap 0\n";
+/// The same, with the lines of its imports.
+pub const LISTED: &str =
+    "0061736d0100000001080260017f0060000002430405666c61677309696e7374616e636531037f0105666c61677309696e7374616e636530037f010663616c6c656502663000000772756e74696d6505747261703000010302010007060102663000020a2a012801027f0240230122010d001001000b2300210241002400200020022400100041002401200124010b$core-def instance-flags 1$core-def instance-flags 0$core-def export 0 72756e$trap 0";
 
 /// A plan without entries.
 pub const EMPTY: &str =
     "{\"instances\":0,\"types\":[],\"tables\":[],\"funcs\":[],\"core_types\":[],\"core_defs\":[],\"adapters\":[]}";
 
 /// The module of every plan without adapters, printed.
-pub const EMPTY_PAGE: &str = "0061736d010000000101000201000301000701000a0100\n";
+pub const EMPTY_PAGE: &str = "0061736d010000000101000201000301000701000a0100";
 
 /// What [`replaced`] gives where the old part is not there.
 pub const NO_PART: &str = "no such part";
@@ -38,27 +38,6 @@ pub fn edited(alloc: Global, plan: &str, edits: &str) -> Result<String, AllocErr
     for edit in edits.split('|') {
         let (old, new) = edit.split_once("=>").unwrap_or((edit, NO_PART));
         text = replaced(alloc, text.as_str(), old.trim(), new.trim())?;
-    }
-    Ok(text)
-}
-
-/// Adds a piece, in which `%` stands for a number and `&` for the next one.
-pub fn add_piece(text: &mut String, piece: &str, number: u32) -> Result<(), AllocError> {
-    for letter in piece.chars() {
-        match letter {
-            '%' => write!(text, "{number}")?,
-            '&' => write!(text, "{}", number.wrapping_add(1))?,
-            _ => text.push(letter)?,
-        }
-    }
-    Ok(())
-}
-
-/// Such pieces, one for each number.
-pub fn series(alloc: Global, piece: &str, first: u32, end: u32) -> Result<String, AllocError> {
-    let mut text = String::new(alloc);
-    for number in first..end {
-        add_piece(&mut text, piece, number)?;
     }
     Ok(text)
 }

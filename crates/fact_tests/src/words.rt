@@ -1,8 +1,8 @@
 //! The words of the command line, each behind a `|`.
 
 use crate::ends::{Given, ends_with, plain};
-use crate::plans::{IMPORTS, PAGE, PLAN};
-use std::test::Fail;
+use crate::plans::{LISTED, PAGE, PLAN};
+use std::alloc::{AllocError, Global};
 
 /// Words that the command takes, of which the first line has none.
 const TAKEN: &str = "
@@ -113,32 +113,43 @@ const NOT_TAKEN: &str = "
 |version
 ";
 
+/// Whether the worked plan is printed for these words, with the lines of its imports where they ask for them.
+fn words_hold(alloc: Global, words: &str) -> Result<bool, AllocError> {
+    let page = if words.contains("--imports") {
+        LISTED
+    } else {
+        PAGE
+    };
+    let given = Given {
+        words,
+        ..plain(PLAN)
+    };
+    ends_with(alloc, &given, 0, page, "")
+}
+
 #[test]
-fn words_are_read(rt: HostRuntime) -> Result<(), Fail> {
-    let alloc = rt.alloc();
-    let listed = format!(in alloc; "{PAGE}{IMPORTS}")?;
+fn words_are_read(rt: HostRuntime) -> Result<(), AllocError> {
     for words in TAKEN.lines().skip(1) {
-        let is_listed = words.contains("--imports");
-        let page = if is_listed { listed.as_str() } else { PAGE };
-        let given = Given {
-            words,
-            ..plain(PLAN)
-        };
-        assert!(rt; ends_with(alloc, &given, 0, page, "")?, "{words}");
+        assert!(rt; words_hold(rt.alloc(), words)?, "{words}");
     }
     Ok(())
 }
 
+/// Whether these words are refused before a read that fails.
+fn are_refused(alloc: Global, words: &str) -> Result<bool, AllocError> {
+    let given = Given {
+        words,
+        failing_read: 1,
+        ..plain(PLAN)
+    };
+    let usage = "usage: factc [--debug] [--fuel N] [--imports]";
+    ends_with(alloc, &given, 2, "", usage)
+}
+
 #[test]
-fn other_words_are_refused(rt: HostRuntime) -> Result<(), Fail> {
-    let usage = "usage: factc [--debug] [--fuel N] [--imports]\n";
+fn other_words_are_refused(rt: HostRuntime) -> Result<(), AllocError> {
     for words in NOT_TAKEN.lines().skip(1) {
-        let given = Given {
-            words,
-            failing_read: 1,
-            ..plain(PLAN)
-        };
-        assert!(rt; ends_with(rt.alloc(), &given, 2, "", usage)?, "{words}");
+        assert!(rt; are_refused(rt.alloc(), words)?, "{words}");
     }
     Ok(())
 }
