@@ -11,7 +11,7 @@ use Rattle.fact_types.specs.declared.kinds.TypeTuple.{TypeTuple}
 use Rattle.fact_types.specs.Functions.{HaveShapes, HasSignature}
 use Rattle.fact_types.specs.Shapes.{k_tuple, Shape, s_node, Members, no_members, typed}
 use Rattle.fact_types.specs.Tables.{Tables, tuple_node, placed, HasShape, HasMembers, IsLive, IsLiveMember, IsSound}
-use Rattle.fact_builder.specs.Handles.{has_handle, have_handle, any_handle}
+use Rattle.fact_types.specs.Handles.{has_handle, have_handle, any_handle}
 
 abbrev placed_shapes : ℕ → List Shape → Members
 placed_shapes n [] = no_members

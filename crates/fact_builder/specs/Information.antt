@@ -13,7 +13,7 @@ use Rattle.fact_types.specs.Shapes.{Kind, k_record, k_variant, k_list, k_tuple, 
 use Rattle.fact_types.specs.Tables.{Tables, Node, node_of, is_plain}
 use Rattle.fact_types.specs.Valid.{nesting}
 use Rattle.fact_builder.specs.declared.information.TypeInformation.{TypeInformation}
-use Rattle.fact_builder.specs.Handles.{is_handle, is_borrow, has_handle, has_borrow}
+use Rattle.fact_types.specs.Handles.{is_handle, is_borrow, has_handle, has_borrow}
 use Rattle.fact_builder.specs.PointerPairs.{is_string, has_pointer_pair}
 
 -- What a shape says of a type. Of types that nest deeper than 101, it is 101 that is known.

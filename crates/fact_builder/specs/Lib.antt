@@ -1,6 +1,5 @@
 pub mod Builder
 pub mod ExactEntries
-pub mod Handles
 pub mod Information
 pub mod Joins
 pub mod Keeps

@@ -8,7 +8,7 @@ use Rattle.fact_types.specs.declared.interface.InterfaceType.{InterfaceType}
 use Rattle.fact_types.specs.Functions.{HaveShapes}
 use Rattle.fact_types.specs.Shapes.{Shape}
 use Rattle.fact_types.specs.Tables.{Tables}
-use Rattle.fact_builder.specs.Handles.{has_borrow, have_borrow}
+use Rattle.fact_types.specs.Handles.{has_borrow, have_borrow}
 use Rattle.fact_builder.specs.PointerPairs.{any_pointer_pair, has_pointer_pair, have_pointer_pair}
 use Rattle.fact_agreement.specs.Lists.{AgreeAll}
 use Rattle.fact_checks.specs.AdapterRules.{any_borrow}

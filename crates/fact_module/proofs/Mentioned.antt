@@ -19,7 +19,8 @@ use Rattle.fact_types.specs.declared.import.Import.{Import}
 use Rattle.fact_types.specs.declared.import.Import.TheVariants as known
 use Rattle.fact_module.specs.Emitted.{Emitted, HasType, Imports, with_import}
 use Rattle.fact_module.specs.Holding.{Lists}
-use Rattle.fact_module.specs.Imports.{AreNamed, IsTrap, Mention, Role, Sort, StandsFor, a_function, a_global, a_memory, def_of, imports_of, is_mentioned, is_of, same_def, same_sort, sort_of, with_mention}
+use Rattle.fact_types.specs.Adapters.{same_def}
+use Rattle.fact_module.specs.Imports.{AreNamed, IsTrap, Mention, Role, Sort, StandsFor, a_function, a_global, a_memory, def_of, imports_of, is_mentioned, is_of, same_sort, sort_of, with_mention}
 use Rattle.fact_types.specs.Exact.{exact_key}
 use Rattle.fact_module.proofs.Named.{function-sort, named-at, named-lengths, named-more, named-push, sort_for, stands-sort}
 use Rattle.fact_module.proofs.Sections.{get-map, get-there, map-push, there-get, unmap}

@@ -40,10 +40,10 @@ use Rattle.fact_machine.proofs.OutsideCalls.{leaves_import, leaves_import_lacks,
 use Rattle.fact_types.specs.declared.import.Import.{Import}
 use Rattle.fact_module.specs.declared.emit.Places.{Places}
 use Rattle.fact_module.specs.Body.{gets, entry_code, call_code, exit_code, body, has_result, saved}
-use Rattle.fact_module.specs.Imports.{same_def, imported_function}
+use Rattle.fact_module.specs.Imports.{imported_function}
 use Rattle.fact_module.specs.Plain.{core_of, core_type, IsPlain, IsPlainFunction, ImportsFlags}
 use Rattle.fact_module.specs.Runs.{is_def, is_transfer, is_trap, IsHonest, IsSet, flags_of, Carried, EndsSoon, Behaves}
-use Rattle.fact_types.specs.Adapters.{LinkedAdapter}
+use Rattle.fact_types.specs.Adapters.{LinkedAdapter, same_def}
 use Rattle.fact_module.proofs.PlainRuns.{locals, world, reset, result_local, front, front_runs, guard_stops, last, leave_runs}
 use Rattle.fact_module.proofs.Settled.{Settles, Passes, at-return, no-return, first-call, settles, passes}
 use Rattle.fact_module.proofs.PlainValues.{i32-is, are-typed, AllSame, all-same}

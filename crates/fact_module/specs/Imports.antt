@@ -1,7 +1,6 @@
 -- The core definitions that adapters mention, and the import section that names them.
-use Rattle.std.specs.Prelude.{◌≡◌, ◌≢◌, ℕ, Bool, true, false, nat_eq, ◌&&◌, List, [], ◌∷◌, ◌++◌, AllPairs, Contains, Option, Some, None, slice_get, map, codes, count_by, if◌then◌else◌}
+use Rattle.std.specs.Prelude.{◌≡◌, ◌≢◌, ℕ, Bool, true, false, nat_eq, List, [], ◌∷◌, ◌++◌, AllPairs, Contains, Option, Some, None, slice_get, map, codes, count_by, if◌then◌else◌}
 use Rattle.std.specs.List.{list_any, flat_map, filter_map}
-use Rattle.std.specs.Str.{bytes_eq}
 use Rattle.std.specs.Fmt.{decimal}
 use Rattle.fact_wasm.specs.declared.types.ValType.{ValType}
 use Rattle.fact_wasm.specs.declared.types.ValType.TheVariants as val
@@ -19,7 +18,7 @@ use Rattle.fact_types.specs.declared.outside.Trap.TheVariants as trap
 use Rattle.fact_types.specs.declared.import.Import.{Import}
 use Rattle.fact_types.specs.declared.import.Import.TheVariants as known
 use Rattle.fact_types.specs.declared.outside.MemoryOption.{MemoryOption}
-use Rattle.fact_types.specs.Adapters.{LinkedAdapter, Side, is_wide}
+use Rattle.fact_types.specs.Adapters.{LinkedAdapter, Side, is_wide, same_def}
 use Rattle.fact_types.specs.ImportTypes.{callback_type, post_return_type, realloc_type, trap_type}
 
 -- ---- what the adapters mention
@@ -56,13 +55,6 @@ abbrev pub adapter_mentions : LinkedAdapter → List Mention
 adapter_mentions a =
     side_mentions a.lift
     ++ (side_mentions a.lower ++ (record { def = a.callee; role = Callee a.name a.lift.core_type } ∷ mention (PostReturn a.name a.lift.core_type.results) a.lift.post_return))
-
--- definitions are equal by content
-abbrev pub same_def : CoreDef → CoreDef → Bool
-same_def (def.Export i x) (def.Export j y) = nat_eq i.number j.number && bytes_eq x y
-same_def (def.InstanceFlags i) (def.InstanceFlags j) = nat_eq i.number j.number
-same_def (def.Trampoline i) (def.Trampoline j) = nat_eq i.number j.number
-same_def _ _ = false
 
 -- the definition is mentioned
 abbrev pub is_mentioned : CoreDef → List Mention → Bool

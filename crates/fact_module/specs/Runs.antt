@@ -19,8 +19,8 @@ use Rattle.fact_machine.specs.Machine.{run_of}
 use Rattle.fact_machine.specs.Typed.{IsValue, TypedState, TypedAnswer}
 use Rattle.fact_types.specs.declared.import.Import.{Import}
 use Rattle.fact_types.specs.declared.import.Import.TheVariants as known
-use Rattle.fact_types.specs.Adapters.{LinkedAdapter}
-use Rattle.fact_module.specs.Imports.{a_global, same_def, imported_function, imports_of}
+use Rattle.fact_types.specs.Adapters.{LinkedAdapter, same_def}
+use Rattle.fact_module.specs.Imports.{a_global, imported_function, imports_of}
 use Rattle.fact_module.specs.Values.{Value, lift_all, carry_all, weights}
 
 -- ---- honest runs

@@ -20,7 +20,7 @@ use Rattle.fact_types.specs.Shapes.{k_tuple, Shape, s_node, Members, layout_of, 
 use Rattle.fact_types.specs.Tables.{Tables, Node, placed, record_node, variant_node, tuple_node, flags_node, enum_node, option_node, result_node, list_node, map_node, fixed_length_list_node, future_node, stream_node, HasShape, HasMembers, IsLive, IsLiveMember, IsSound, entries}
 use Rattle.fact_types.proofs.ShapeLaws.{shaped_members}
 use Rattle.fact_builder.specs.Builder.{Builder}
-use Rattle.fact_builder.specs.Handles.{has_borrow}
+use Rattle.fact_types.specs.Handles.{has_borrow}
 use Rattle.fact_builder.specs.Keeps.{Keeps}
 use Rattle.fact_making.specs.Makes.{Makes}
 use Rattle.fact_plan.specs.declared.plan.PlanFunc.{PlanFunc}

@@ -6,7 +6,7 @@ use Rattle.fact_types.specs.Shapes.{Shape}
 use Rattle.fact_types.specs.Tables.{IsLive}
 use Rattle.fact_types.specs.Valid.{IsValid}
 use Rattle.fact_builder.specs.Builder.{Builder}
-use Rattle.fact_builder.specs.Handles.{has_borrow}
+use Rattle.fact_types.specs.Handles.{has_borrow}
 use Rattle.fact_plan.specs.declared.plan.PlanFunc.{PlanFunc}
 use Rattle.fact_plan.specs.declared.plan.FusePlan.{FusePlan}
 use Rattle.fact_plan_types.specs.declared.rules.Rule.{Rule}

@@ -5,7 +5,7 @@ use Rattle.fact_types.specs.declared.abi.CanonicalAbiInfo.{CanonicalAbiInfo}
 use Rattle.fact_types.specs.Layout.{payloads, record_layout}
 use Rattle.fact_types.specs.Shapes.{k_map, Shape, s_node, layout_of, layouts_of}
 use Rattle.fact_types.specs.Valid.{nesting}
-use Rattle.fact_builder.specs.Handles.{has_borrow}
+use Rattle.fact_types.specs.Handles.{has_borrow}
 use Rattle.fact_plan.specs.declared.plain.PrimitiveValType.TheVariants as word
 use Rattle.fact_plan.specs.declared.plan.PlanRef.{PlanRef}
 use Rattle.fact_plan.specs.declared.plan.PlanRef.TheVariants.{Word, Entry}

@@ -2,7 +2,7 @@
 
 ghost use Rattle.std.specs.Prelude.{◌≡◌, ◌+◌, ◌↔◌, All, Any, IfOk, IfErr, IfSome, IsTrue, List, OnOk, Some, length, slice_get};
 ghost use Rattle.std.specs.List.{AllZip};
-ghost use Rattle.fact_builder.specs.Handles.{has_borrow};
+ghost use Rattle.fact_types.specs.Handles.{has_borrow};
 ghost use Rattle.fact_types.specs.Functions.{HaveShapes};
 ghost use Rattle.fact_types.specs.Shapes.{Shape};
 ghost use Rattle.fact_types.specs.Tables.{IsLive};

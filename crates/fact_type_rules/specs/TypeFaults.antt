@@ -5,7 +5,7 @@ use Rattle.fact_types.specs.declared.interface.InterfaceType.{InterfaceType}
 use Rattle.fact_types.specs.declared.interface.InterfaceType.TheVariants.{Own as t_own, Borrow as t_borrow}
 use Rattle.fact_types.specs.Agrees.{names_of}
 use Rattle.fact_types.specs.Shapes.{Kind, k_record, k_variant, k_tuple, k_flags, k_enum, k_fixed, Shape, s_plain, s_node, Members, no_members, bare, typed}
-use Rattle.fact_builder.specs.Handles.{has_borrow}
+use Rattle.fact_types.specs.Handles.{has_borrow}
 use Rattle.fact_plan_types.specs.TypeRules.{IsPast, IsRepeated, IsTooLarge, most_entries, tuple_layout}
 
 -- ---- a type with the types in it

@@ -4,7 +4,7 @@ ghost use Rattle.std.specs.Prelude.{◌≡◌, ◌↔◌, ◌⊎◌, ◌<◌, Li
 ghost use Rattle.fact_types.specs.Functions.{HasSignature, HaveShapes};
 ghost use Rattle.fact_types.specs.Shapes.{Shape};
 ghost use Rattle.fact_types.specs.Tables.{IsLive};
-ghost use Rattle.fact_builder.specs.Handles.{has_borrow};
+ghost use Rattle.fact_types.specs.Handles.{has_borrow};
 ghost use Rattle.fact_plan_types.specs.TypeRules.{IsPast, IsRepeated, most_entries, tuple_layout};
 ghost use Rattle.fact_type_rules.specs.TypeFaults.{AnyIn, HasManyTypes, IsBadFunction, IsLargeFunction, IsLongFunction};
 ghost use Rattle.fact_type_rules.specs.Walk.{BreaksRules, IsClean};

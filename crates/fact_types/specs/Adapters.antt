@@ -1,8 +1,10 @@
 -- Adapters, with all that they name looked up.
 -- Component Model, canonical ABI, "Canonical ABI options", `canon lift`, `canon lower`.
 use Rattle.std.specs.Prelude.{ℕ, Bool, false, ◌&&◌, ◌||◌, not, nat_eq, List, Option, Some, None}
+use Rattle.std.specs.Str.{bytes_eq}
 use Rattle.fact_wasm.specs.declared.types.FuncType.{FuncType}
 use Rattle.fact_types.specs.declared.outside.CoreDef.{CoreDef}
+use Rattle.fact_types.specs.declared.outside.CoreDef.TheVariants as def
 use Rattle.fact_types.specs.declared.outside.MemoryOption.{MemoryOption}
 use Rattle.fact_types.specs.declared.outside.StringEncoding.{StringEncoding}
 use Rattle.fact_types.specs.Shapes.{Shape}
@@ -41,3 +43,10 @@ is_crossing a = not (nat_eq a.lift.instance a.lower.instance)
 abbrev pub is_wide : Option MemoryOption → Bool
 is_wide None = false
 is_wide (Some m) = m.memory64
+
+-- whether two core definitions name one core item: they are equal by content
+abbrev pub same_def : CoreDef → CoreDef → Bool
+same_def (def.Export i x) (def.Export j y) = nat_eq i.number j.number && bytes_eq x y
+same_def (def.InstanceFlags i) (def.InstanceFlags j) = nat_eq i.number j.number
+same_def (def.Trampoline i) (def.Trampoline j) = nat_eq i.number j.number
+same_def _ _ = false

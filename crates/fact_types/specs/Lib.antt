@@ -9,6 +9,7 @@ pub mod Fits
 pub mod Flat
 pub mod FlatShapes
 pub mod Functions
+pub mod Handles
 pub mod Heights
 pub mod ImportTypes
 pub mod Layout

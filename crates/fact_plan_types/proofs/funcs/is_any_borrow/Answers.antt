@@ -2,7 +2,7 @@ use Rattle.std.proofs.Common.{◌∙◌, refl, subst, sym, List}
 use Rattle.std.specs.Prelude.{Any, IsTrue}
 use Rattle.std.proofs.lemmas.Bool.{false≢true, true≢false}
 use Rattle.std.proofs.lemmas.List.{take_all}
-use Rattle.fact_builder.specs.Handles.{has_borrow}
+use Rattle.fact_types.specs.Handles.{has_borrow}
 use Rattle.fact_plan.specs.declared.plan.PlanRef.{PlanRef}
 use Rattle.fact_plan_types.specs.PlanShapes.{shape_of, shapes_of}
 use Rattle.fact_plan_types.proofs.FuncLaws.{any_at, none_next}

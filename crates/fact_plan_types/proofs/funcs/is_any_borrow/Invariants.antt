@@ -2,7 +2,7 @@ use Rattle.std.proofs.Common.{List, take}
 use Rattle.std.specs.Prelude.{Any, IsTrue}
 use Rattle.fact_types.specs.Functions.{HaveShapes}
 use Rattle.fact_types.specs.Shapes.{Shape}
-use Rattle.fact_builder.specs.Handles.{has_borrow}
+use Rattle.fact_types.specs.Handles.{has_borrow}
 use Rattle.fact_plan_types.specs.PlanShapes.{shapes_of}
 use Rattle.fact_plan_types.proofs.funcs.is_any_borrow.Given as goal
 

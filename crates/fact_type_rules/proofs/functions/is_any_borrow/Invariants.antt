@@ -2,7 +2,7 @@ use Rattle.std.proofs.Common.{All, take}
 use Rattle.std.specs.Prelude.{IsTrue}
 use Rattle.fact_types.specs.Shapes.{Shape}
 use Rattle.fact_types.specs.Tables.{HasShape}
-use Rattle.fact_builder.specs.Handles.{has_borrow}
+use Rattle.fact_types.specs.Handles.{has_borrow}
 use Rattle.fact_type_rules.proofs.functions.is_any_borrow.Given as goal
 
 abbrev pub invariant-loop-ty : goal.invariant-loop-ty

@@ -1,6 +1,6 @@
 use Rattle.std.proofs.Common.{sym, ◌∙◌, ap}
 use Rattle.std.specs.Prelude.{◌||◌, slice_get}
-use Rattle.fact_builder.specs.Handles.{any_handle}
+use Rattle.fact_types.specs.Handles.{any_handle}
 use Rattle.fact_builder.proofs.HandleLaws.{tuple_of, tuple_handle, params_shape, results_shape}
 use Rattle.fact_builder.proofs.builder.ComponentTypesBuilder.func_contains_any_handle.Goals as goal
 
