@@ -16,9 +16,13 @@ pub mod Replays
 pub mod RowLaws
 pub mod Steps
 pub mod Structure
+pub mod Tests
 pub mod Traces
 pub mod Turns
 pub mod TypedTests
 pub mod Typing
+pub mod TypingCases
+pub mod TypingFrames
+pub mod TypingRows
 pub mod WholeRuns
 pub mod Worlds

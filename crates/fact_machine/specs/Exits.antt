@@ -1,5 +1,6 @@
 -- How a stretch of code is left, whatever stands behind and around it: at its end, by a branch, by a throw, or with the run's
--- end; and what that makes of blocks, calls and whole runs.
+-- end; and what that makes of blocks, calls and whole runs (core specification, "Execution", "Instructions", "Blocks" and
+-- "Function Calls").
 use Rattle.std.specs.Prelude.{◌≡◌, ℕ, zero, suc, ◌+◌, ◌<◌, Bool, true, false, List, [], ◌∷◌, ◌++◌, length, map, reverse, Option, Some, None, slice_get}
 use Rattle.fact_wasm.specs.declared.types.ValType.{ValType}
 use Rattle.fact_wasm.specs.declared.types.FuncType.{FuncType}

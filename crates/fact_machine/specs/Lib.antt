@@ -12,4 +12,6 @@ pub mod Running
 pub mod Trace
 pub mod Typed
 pub mod TypedLaws
+pub mod Typing
+pub mod TypingLaws
 pub mod World

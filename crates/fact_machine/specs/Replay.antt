@@ -1,4 +1,5 @@
--- A trace replayed: what its entries make of a state, one after another; and laws of what runs change.
+-- A trace replayed: what its entries make of a state, one after another; and laws of what runs change (core specification,
+-- "Execution", "Runtime Structure": the store; the trace is this project's).
 use Rattle.std.specs.Prelude.{◌≡◌, ◌≤◌, ℕ, List, [], ◌∷◌, ◌++◌, Option, Some, None, slice_get, slice_set, fold}
 use Rattle.fact_wasm.specs.declared.instr.Instr.{Instr}
 use Rattle.fact_wasm.specs.declared.module.WasmModule.{WasmModule}

@@ -21,6 +21,7 @@ mod settle;
 mod stack;
 mod typed_laws;
 mod types;
+mod typing_laws;
 mod values;
 
 pub use exit_laws::laws_of_exits;
@@ -30,6 +31,7 @@ pub use run::Machine;
 pub use run_laws::laws_of_runs;
 pub use typed_laws::laws_of_typed;
 pub use types::{Answer, CoreValue, End, Event, MachineState, Outcome, TraceEntry};
+pub use typing_laws::laws_of_typing;
 
 /// Want of memory, the one free answer of each call that allocates.
 pub type OutOfMemory = std::alloc::AllocError;
