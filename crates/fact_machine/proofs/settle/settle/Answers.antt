@@ -1,4 +1,4 @@
-use Rattle.std.proofs.Common.{◌∙◌}
+use Rattle.std.proofs.Common.{[], ◌∷◌, length-append, ap, length, ◌∙◌, arith}
 use Rattle.fact_machine.proofs.Entries.{left_label, left_frame, broken_frame}
 use Rattle.fact_machine.proofs.settle.settle.Goals as goal
 
@@ -22,3 +22,11 @@ loop-run-preserved c =
     left_frame c.loop-run.run c.lay_on-in-Some-Frame.new.self c.in-Some-Frame.below c.as_slice.result.now c.in-Some-Frame.locals c.pop.new.self c.in-Some-Frame.field-0 c.in-Some-Frame.results c.in-Some-Frame.rest
     c.loop-run-test.ensures c.in-Some-Frame.ensures c.in-Some-Frame.field-0-is c.as_slice.ensures c.if-not-have_types.ensures c.in_ok-lay_on-in-Some-Frame.ensures
     ∙ c.loop-run.invariant
+
+-- what stands around the code gets less
+
+pub loop-run-smaller-in-Some-Label : goal.loop-run-smaller-in-Some-Label
+loop-run-smaller-in-Some-Label c = omega (arith, ap length c.in-Some-Label.ensures, length-append c.pop.new.self (c.in-Some-Label.field-0 ∷ []))
+
+pub loop-run-smaller : goal.loop-run-smaller
+loop-run-smaller c = omega (arith, ap length c.in-Some-Frame.ensures, length-append c.pop.new.self (c.in-Some-Frame.field-0 ∷ []))
