@@ -109,7 +109,7 @@ fn copy_flat(instr: &Instr) -> Instr
     requires { is_flat (out-Instr instr.now) ≡ true }
     ensures { result ≡ instr.now }
 {
-    let copy = match instr {
+    match instr {
         Instr::Unreachable => Instr::Unreachable,
         Instr::Br(label) => Instr::Br(*label),
         Instr::BrIf(label) => Instr::BrIf(*label),
@@ -182,8 +182,7 @@ fn copy_flat(instr: &Instr) -> Instr
         | Instr::If(_, _, _)
         | Instr::BrTable(_, _)
         | Instr::TryTable(_, _, _) => unreachable!(),
-    };
-    copy
+    }
 }
 
 /// A `try_table` of this body with a copy of these labels.
