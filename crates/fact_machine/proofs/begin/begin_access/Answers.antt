@@ -1,4 +1,4 @@
-use Rattle.std.proofs.Common.{◌≡◌, Bool, true, false, sym, ◌∙◌}
+use Rattle.std.proofs.Common.{◌≡◌, true, sym, ◌∙◌}
 use Rattle.fact_wasm.specs.declared.instr.Instr.{Instr, Instr-F, out-Instr, roll-Instr, roll-out-Instr}
 use Rattle.fact_wasm.specs.declared.instr.Instr.TheOpen as o
 use Rattle.fact_wasm.specs.declared.instr.Instr.TheVariants as v
