@@ -1,5 +1,5 @@
 -- Places in a list of distinct values.
-use Rattle.std.proofs.Common.{◌≡◌, ◌<◌, ℕ, List, [], ◌∷◌, length, ◌++◌, zero, suc, Some, None, Bool, true, false, sym, subst, refl, ◌∙◌, arith, inl, inr, true≢false, slice_get, position}
+use Rattle.std.proofs.Common.{◌≡◌, ◌<◌, ℕ, List, [], ◌∷◌, length, ◌++◌, Some, None, Bool, true, false, sym, subst, refl, ◌∙◌, arith, inl, inr, true≢false, slice_get, position}
 use Rattle.std.specs.Cmp.{IsEquivalence}
 use Rattle.std.specs.List.{IsDistinct, position_or_len, list_any}
 use Rattle.std.specs.Prelude.{nat_lt, cond, get_or}

@@ -1,13 +1,8 @@
-use Rattle.std.proofs.Common.{◌≡◌, ◌∷◌, [], Some, length, slice_get, refl, sym, ap, subst, ◌∙◌, arith, length-append}
+use Rattle.std.proofs.Common.{◌≡◌, Some, length, slice_get, sym, ap, subst, ◌∙◌, arith}
 use Rattle.std.specs.Result.{IsErrAnd}
 use Rattle.fact_entity.specs.declared.error.PushError.TheVariants.{OutOfMemory, TooLarge}
 use Rattle.fact_entity.proofs.Entries.{keeps_appended, named_appended}
 use Rattle.fact_entity.proofs.map.PrimaryMap.push.Goals as goal
-
-pub returns-then-len-eq-MAX_ENTRIES-clause-too_large : goal.returns-then-len-eq-MAX_ENTRIES-clause-too_large
-returns-then-len-eq-MAX_ENTRIES-clause-too_large g c =
-    let v = ap length c.self.view_is in let n = c.self.inside.entries.ok.0 in
-    (λ _. omega (arith, v, n), λ _. refl)
 
 pub returns-in_err-push-clause-too_large : goal.returns-in_err-push-clause-too_large
 returns-in_err-push-clause-too_large g c =
@@ -15,11 +10,6 @@ returns-in_err-push-clause-too_large g c =
       λ e. let other : TooLarge ≡ OutOfMemory = subst (λ r. IsErrAnd r (λ x. x ≡ OutOfMemory)) e c.from_residual.ensures.1 in cc,
       λ e. absurd (omega (arith, v, n, e)),
     )
-
-pub invariant_of-self-2 : goal.invariant_of-self-2
-invariant_of-self-2 g c =
-    let n = c.self.inside.entries.ok.0 in
-    omega (arith, c.self.invariant, n, ap length c.in_ok-push.ensures.items, length-append c.self.inside.entries.items (c.args.value ∷ []))
 
 pub returns-clause-named : goal.returns-clause-named
 returns-clause-named g c =
