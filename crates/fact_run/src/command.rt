@@ -23,7 +23,7 @@ const MIN_FUEL: u32 = 1;
 const MAX_FUEL: u32 = 1_000_000;
 
 /// What the words ask for.
-#[derive(Clone, Copy, Debug, PartialEq, Eq)]
+#[derive(Clone, Copy)]
 pub struct CommandOptions {
     /// Debug checks are emitted, whatever the plan says.
     pub debug: bool,
