@@ -22,6 +22,13 @@ flag name = record (new_rule name) { long = Some name; action = Some SetTrue }
 abbrev pub option : List ℕ → Rule
 option name = record (new_rule name) { long = Some name; action = Some Set }
 
+-- the command without its options: neither help nor a version
+abbrev pub bare_command : App
+bare_command = record {
+  top = record (new_shape (codes "factc")) { no_binary_name = true; disable_help_flag = true; disable_version_flag = true };
+  subs = [];
+}
+
 -- all that the command knows: neither help nor a version
 abbrev pub command : App
 command = record {

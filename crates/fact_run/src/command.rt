@@ -5,10 +5,10 @@ ghost use Rattle.std.specs.Char.{is_ascii_digit};
 ghost use Rattle.std.specs.List.{list_all, list_any};
 ghost use Rattle.std.specs.Option.{option_map_or};
 ghost use Rattle.std.specs.Str.{bytes_eq};
-ghost use Rattle.clap.specs.Simple.{app_of};
+ghost use Rattle.clap.specs.Simple.{app_of, with_rule};
 ghost use Rattle.clap.specs.Walk.{first_of, rows_of, rule_of};
 ghost use Rattle.clap.specs.Matches.{found_of};
-ghost use Rattle.fact_run.specs.Command.{command, flag, fuel_in, fuel_or_default, is_from_words, is_plain_number, is_used, option, options_in, reading};
+ghost use Rattle.fact_run.specs.Command.{bare_command, command, flag, fuel_in, fuel_or_default, is_from_words, is_plain_number, is_used, option, options_in, reading};
 
 use clap::error::ErrorKind;
 use clap::parser::ValueSource;
@@ -47,17 +47,32 @@ fn option<'a>(alloc: Global, name: &'a str) -> Arg<'a>
     Arg::new(alloc, name).long(name).action(ArgAction::Set)
 }
 
-/// The command, which has neither help nor a version.
-fn command<'a>(alloc: Global) -> Result<Command<'a>, OutOfMemory>
-    ensures { IfOk result (λ c. app_of c ≡ command) }
+/// The command without its options. It has neither help nor a version.
+fn bare_command<'a>(alloc: Global) -> Command<'a>
+    ensures { app_of result ≡ bare_command }
 {
     Command::new(alloc, "factc")
         .no_binary_name(true)
         .disable_help_flag(true)
         .disable_version_flag(true)
-        .arg(flag(alloc, "debug"))?
-        .arg(option(alloc, "fuel"))?
-        .arg(flag(alloc, "imports"))
+}
+
+/// A command with one more option.
+fn with<'a>(command: Command<'a>, arg: Arg<'a>) -> Result<Command<'a>, OutOfMemory>
+    requires { arg.global ≡ false }
+    ensures { IfOk result (λ c. app_of c ≡ with_rule (app_of command.entry) (rule_of arg.entry)) }
+{
+    command.arg(arg)
+}
+
+/// The command.
+fn command<'a>(alloc: Global) -> Result<Command<'a>, OutOfMemory>
+    ensures { IfOk result (λ c. app_of c ≡ command) }
+{
+    let bare = bare_command(alloc);
+    let with_debug = with(bare, flag(alloc, "debug"))?;
+    let with_fuel = with(with_debug, option(alloc, "fuel"))?;
+    with(with_fuel, flag(alloc, "imports"))
 }
 
 fn are_digits(text: &[u8]) -> bool
