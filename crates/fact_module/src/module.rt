@@ -34,7 +34,6 @@ use std::marker::Model;
 
 /// A module to which adapters are added one after another, over the types of a builder. Contracts see it as the list of the
 /// adapters that it took, its tree, what its imports are, and what it was made with.
-#[derive(Drop)]
 pub struct Module<'a> {
     alloc: Global,
     builder: &'a ComponentTypesBuilder,
@@ -60,6 +59,26 @@ impl<'a> Model for Module<'a> {
     ghost view = { λ m. record { builder = m.builder.now; tunables = m.tunables.now; features = m.features; taken = m.taken.items; tree = module_of m.state; imports = m.state.imports; whole = m.state.whole } };
 
     ghost invariant = { λ m. IsMade (record { builder = m.builder.now; tunables = m.tunables.now; features = m.features; taken = m.taken.items; tree = module_of m.state; imports = m.state.imports; whole = m.state.whole }) m.checks m.state × (m.types ≡ m.builder.now) };
+}
+
+// It ends by a function of its own, so that crates that end one prove nothing of its parts.
+impl Drop for Module<'_> {
+    fn drop(self) {
+        let Module {
+            alloc: _,
+            builder: _,
+            tunables: _,
+            features: _,
+            types,
+            checks,
+            taken,
+            state,
+        } = self;
+        drop(types);
+        drop(checks);
+        drop(taken);
+        drop(state);
+    }
 }
 
 /// Whether an error is a want of memory.
@@ -272,11 +291,14 @@ impl<'a> Module<'a> {
         ensures promised { (adapters : List LinkedAdapter) → AreTaken self.entry adapters → Promised result.0 self.entry.imports self.entry.tunables self.entry.features adapters }
     {
         let Module {
+            alloc: _,
+            builder: _,
+            tunables: _,
+            features: _,
             types,
             checks,
             taken,
             state,
-            ..
         } = self;
         drop(types);
         drop(checks);

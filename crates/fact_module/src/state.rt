@@ -195,16 +195,21 @@ impl ModuleState {
     {
         let ModuleState {
             types,
+            flags,
+            imported,
             module,
             imports,
             ..
         } = self;
+        drop(flags);
+        drop(imported);
         let WasmModule {
+            types: none,
             imports: section,
             funcs,
             exports,
-            ..
         } = module;
+        drop(none);
         let module = WasmModule {
             types: types.into_types(),
             imports: section,
