@@ -12,7 +12,7 @@ ghost use Rattle.fact_wasm.specs.Spelling.{Spells};
 
 use crate::module::Module;
 use crate::tunables::{Tunables, WasmFeatures};
-use fact_checks::{Candidate, FuseError, linked_adapter};
+use fact_checks::{FuseError, candidate_of, linked_adapter};
 use fact_plan::{FusePlan, PlanAdapter};
 use fact_plan_types::PlanTypes;
 use fact_types::Import;
@@ -44,11 +44,7 @@ fn take_adapter(
 {
     types.builder.component_types().reveal();
     let linked = linked_adapter(plan, types, k, adapter)?;
-    let candidate = Candidate {
-        name: adapter.name.as_str(),
-        transparent: adapter.transparent,
-        adapter: &linked,
-    };
+    let candidate = candidate_of(adapter, &linked);
     let taken = made.take(k as u32, &candidate);
     drop(linked);
     taken
