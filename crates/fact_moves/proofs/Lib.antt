@@ -1,0 +1,32 @@
+pub mod AdapterEnds
+pub mod AlignedMoves
+pub mod Asking
+pub mod Avoids
+pub mod Barriers
+pub mod Binds
+pub mod CheckedMoves
+pub mod Checks
+pub mod Confines
+pub mod Few
+pub mod Follows
+mod HonestCases
+pub mod Kept
+pub mod Moved
+pub mod Multiples
+pub mod NamedPlain
+pub mod Names
+pub mod Once
+pub mod Ordered
+pub mod Orderly
+pub mod Owned
+pub mod OwnMoves
+pub mod OwnParts
+pub mod OwnValues
+pub mod Passed
+pub mod Rooms
+mod Rows
+pub mod Sources
+pub mod States
+pub mod Stays
+pub mod ValidTypes
+pub mod Whenever

@@ -1,0 +1,48 @@
+//! Laws of actions and of adapters.
+
+ghost use Rattle.fact_moves.specs.AdapterLaws.{CallsAreFew, StartCallsAreFew, ReturnCallsAreFew, SyncRunsFollow, CallsAreOrdered, CalleeIsCalledOnce, SourcesAreLeft, TypedRunsStay, TypedStartsStay, TypedReturnsStay, WritesAreOwn, StartWritesAreOwn, ReturnWritesAreOwn, OutcomesAreNamed, StartIsTransfer, ReturnIsTransfer, StartLeavesSource, ReturnLeavesSource, RequestsGrow, ChecksOnlyStop, ValidTypesServe, PlacesAreAligned, StartPlacesAreAligned, ReturnPlacesAreAligned, SameInstanceTraps, TypedSameInstanceStays, AsyncCallsTwice, TypedAsyncCallsStay};
+ghost use Rattle.fact_moves.specs.Laws.{BindsAssociate, BindsRun, RunsFollow, RunsAreNamed};
+
+/// What holds of actions and their runs, whatever they do. The call does nothing: its contract is the laws.
+pub fn laws_of_actions<A, B, C>()
+    ensures binds_associate { BindsAssociate A B C }
+    ensures binds_run { BindsRun A B }
+    ensures runs_follow { RunsFollow A }
+    ensures runs_are_named { RunsAreNamed A }
+{}
+
+/// What holds of runs of sync adapters, and of what they ask of types. The call does nothing: its contract is the laws.
+pub fn laws_of_adapters()
+    ensures calls_are_few { CallsAreFew }
+    ensures sync_runs_follow { SyncRunsFollow }
+    ensures calls_are_ordered { CallsAreOrdered }
+    ensures callee_is_called_once { CalleeIsCalledOnce }
+    ensures sources_are_left { SourcesAreLeft }
+    ensures typed_runs_stay { TypedRunsStay }
+    ensures writes_are_own { WritesAreOwn }
+    ensures outcomes_are_named { OutcomesAreNamed }
+    ensures same_instance_traps { SameInstanceTraps }
+    ensures typed_same_instance_stays { TypedSameInstanceStays }
+    ensures requests_grow { RequestsGrow }
+    ensures checks_only_stop { ChecksOnlyStop }
+    ensures places_are_aligned { PlacesAreAligned }
+    ensures valid_types_serve { ValidTypesServe }
+{}
+
+/// What holds of runs of the functions of async adapters. The call does nothing: its contract is the laws.
+pub fn laws_of_async_adapters()
+    ensures start_is_transfer { StartIsTransfer }
+    ensures return_is_transfer { ReturnIsTransfer }
+    ensures start_leaves_source { StartLeavesSource }
+    ensures return_leaves_source { ReturnLeavesSource }
+    ensures start_calls_are_few { StartCallsAreFew }
+    ensures return_calls_are_few { ReturnCallsAreFew }
+    ensures typed_starts_stay { TypedStartsStay }
+    ensures typed_returns_stay { TypedReturnsStay }
+    ensures start_writes_are_own { StartWritesAreOwn }
+    ensures return_writes_are_own { ReturnWritesAreOwn }
+    ensures start_places_are_aligned { StartPlacesAreAligned }
+    ensures return_places_are_aligned { ReturnPlacesAreAligned }
+    ensures async_calls_twice { AsyncCallsTwice }
+    ensures typed_async_calls_stay { TypedAsyncCallsStay }
+{}
