@@ -1,0 +1,193 @@
+-- The code of lists, its action, and its parts.
+use Rattle.std.proofs.Common.{◌≡◌, ◌≢◌, ℕ, suc, ◌+◌, ◌*◌, ◌^◌, ◌<◌, Bool, true, false, List, [], ◌∷◌, ◌++◌, Some, refl, sym, ap, ◌∙◌, subst, arith, append_assoc, append-nil, reverse, slice_get}
+use Rattle.std.specs.List.{AllByRecursion}
+use Rattle.std.specs.Prelude.{nat_lt}
+use Rattle.std.proofs.lemmas.Bool.{ltb-true}
+use Rattle.std.proofs.Math.Nat.{mod-eq_of_lt}
+use Rattle.fact_wasm.specs.declared.types.ValType.{ValType}
+use Rattle.fact_wasm.specs.declared.types.ValType.TheVariants as val
+use Rattle.fact_wasm.specs.declared.instr.FuncName.TheVariants as func
+use Rattle.fact_wasm.specs.declared.instr.Instr.{Instr}
+use Rattle.fact_wasm.specs.declared.instr.Instr.TheVariants as I
+use Rattle.fact_wasm.specs.declared.module.WasmModule.{WasmModule}
+use Rattle.fact_types.specs.declared.outside.CoreDef.{CoreDef}
+use Rattle.fact_types.specs.declared.outside.Trap.TheVariants.{ListOutOfBounds}
+use Rattle.fact_machine.specs.declared.types.CoreValue.{CoreValue}
+use Rattle.fact_machine.specs.declared.types.CoreValue.TheVariants.{I32, I64}
+use Rattle.fact_machine.specs.Numerics.{ieqz, iadd, isub}
+use Rattle.fact_machine.specs.Machine.{has_type}
+use Rattle.fact_machine.proofs.Laws.{leaves_next, leaves_as}
+use Rattle.fact_machine.proofs.RowLaws.{leaves_local_get, leaves_i32_const}
+use Rattle.fact_machine.proofs.NumericLaws.{leaves_i64_const, leaves_i32_add, leaves_i64_add, leaves_i64_sub, leaves_i64_eqz}
+use Rattle.fact_types.specs.declared.import.Import.TheVariants as import
+use Rattle.fact_moves.specs.Actions.{Action, Give, Ask, ◌>>=◌, unless, each}
+use Rattle.fact_moves.specs.Running.{ImportPlaces}
+use Rattle.fact_moves.specs.Sides.{LiftLowerOptions, get_slots, set_slots, Source, AtAddress, Target, Into, bits_of, first_bits, read_number, write_number, check_region}
+use Rattle.fact_pieces.specs.Does.{Locals, Way, Onward, held_types, Does, PushesValue}
+use Rattle.fact_pieces.specs.Knows.{KnowsFunction}
+use Rattle.fact_pieces.specs.Places.{To, Writable, ToUsed, MayGo, Stood, KeepsLocals, size_of, stacked, limit_of, widen, code_before, code_behind}
+use Rattle.fact_machine.specs.Typing.{address_type, address_operand}
+use Rattle.fact_pieces.proofs.Rules.{IsSet, within, in_turn, pushing, local_set, done}
+use Rattle.fact_pieces.proofs.Primitives.{ask}
+use Rattle.fact_pieces.proofs.Blocks.{weaker}
+use Rattle.fact_pieces.proofs.Numbers.{begins, writes, value_type}
+use Rattle.fact_pieces.proofs.Keeping.{keeps_then, goes_kept}
+use Rattle.fact_pieces.proofs.Temporaries.{Temporaries, Facts, without, Standing, standing_kept}
+use Rattle.fact_pieces.proofs.Slots.{ContextSlots, HasSlotsIf, others, in_slots, save_code, restore_code, slots_do}
+use Rattle.fact_pieces.proofs.Pointers.{pointer, address_is, address_code, pushes_address, gets_address, keep_number}
+use Rattle.fact_machine.specs.Exits.{Falls}
+use Rattle.fact_machine.specs.Typed.{is_value, are_values}
+use Rattle.fact_machine.proofs.Tests.{first_of, second_of, both}
+
+-- ---- the action
+
+-- a new region is asked for, with the slots of the context saved around the call
+abbrev pub region_action : {A : Type 0} (concurrency memory64 : Bool) (realloc : CoreDef) (align bytes : ℕ) → (List CoreValue → Action A) → Action A
+region_action concurrency memory64 realloc align bytes k =
+    get_slots concurrency (λ a b. set_slots concurrency (I32 0 ∷ []) (I32 0 ∷ [])
+    (Ask (import.CoreDef realloc) (address_operand memory64 0 ∷ address_operand memory64 0 ∷ address_operand memory64 align ∷ address_operand memory64 bytes ∷ []) (address_type memory64 ∷ []) (λ rs. set_slots concurrency a b (k rs))))
+
+-- what a list's move does, over the places of its pointer and its length
+abbrev pub list_action : (debug concurrency w1 w2 : Bool) (o1 o2 : LiftLowerOptions) (realloc : CoreDef) (e1 a1 e2 a2 : ℕ) → (Source → Target → Action (List CoreValue)) → (pointer1 length1 : Source) (pointer2 length2 : Target) → Action (List CoreValue)
+list_action debug concurrency w1 w2 o1 o2 realloc e1 a1 e2 a2 element pointer1 length1 pointer2 length2 =
+    read_number debug o1 (size_of (pointer w1)) pointer1 (λ p.
+    read_number debug o1 (size_of (pointer w1)) length1 (λ n.
+    unless ListOutOfBounds (nat_lt (n * e1) (2 ^ 32)) (
+    unless ListOutOfBounds (nat_lt (n * e2) (2 ^ 32)) (
+    check_region o1 ListOutOfBounds p (n * e1) a1 (
+    region_action concurrency w2 realloc a2 (n * e2) (λ rs.
+    check_region o2 ListOutOfBounds (first_bits rs) (n * e2) a2 (
+    each n (λ i. element (AtAddress (p + i * e1)) (Into (first_bits rs + i * e2))) >>= (λ vs.
+    write_number o2 (size_of (pointer w2)) pointer2 (first_bits rs) >>= (λ a.
+    write_number o2 (size_of (pointer w2)) length2 n >>= (λ b. Give (a ++ b)))))))))))
+
+-- ---- the code
+
+abbrev pub const_code : Bool → ℕ → Instr
+const_code true n = I.I64Const n
+const_code false n = I.I32Const n
+
+abbrev pub add_code : Bool → Instr
+add_code true = I.I64Add
+add_code false = I.I32Add
+
+-- an address goes on by a size
+abbrev pub bump_code : Bool → (local size : ℕ) → List Instr
+bump_code memory64 local size = I.LocalGet local ∷ const_code memory64 size ∷ add_code memory64 ∷ I.LocalSet local ∷ []
+
+-- one turn less is left
+abbrev pub count_code : ℕ → List Instr
+count_code local = I.LocalGet local ∷ I.I64Const 1 ∷ I.I64Sub ∷ I.LocalSet local ∷ []
+
+abbrev pub left_code : ℕ → List Instr
+left_code local = I.LocalGet local ∷ I.I64Eqz ∷ []
+
+-- a new region is asked for
+abbrev pub ask_code : Bool → (align bytes place : ℕ) → List Instr
+ask_code memory64 align bytes place = const_code memory64 0 ∷ const_code memory64 0 ∷ const_code memory64 align ∷ (address_code memory64 bytes ++ I.Call (func.Import place) ∷ [])
+
+-- with the slots saved around it, and its address is kept
+abbrev pub realloc_code : (concurrency : Bool) → ContextSlots → Bool → (align bytes address place : ℕ) → List Instr
+realloc_code concurrency s memory64 align bytes address place =
+    (save_code concurrency s ++ (ask_code memory64 align bytes place ++ restore_code concurrency s)) ++ (widen (pointer memory64) val.I64 ++ I.LocalSet address ∷ [])
+
+-- a number as wide as addresses, out of a local into a place
+abbrev pub put_code : Bool → ℕ → To → List Instr
+put_code memory64 local to = code_before to ++ (address_code memory64 local ++ code_behind (pointer memory64) to)
+
+-- ---- parts
+
+pushes_const : {M : WasmModule} {ls : Locals} (memory64 : Bool) (n : ℕ) → PushesValue M 1 ls (const_code memory64 n ∷ []) (address_operand memory64 n)
+pushes_const true n = record { by = λ w vs. leaves_i64_const }
+pushes_const false n = record { by = λ w vs. leaves_i32_const }
+
+-- past the last element the address may wrap, and nothing is said of it
+pushes_wrapped : {M : WasmModule} {ls : Locals} (memory64 : Bool) (local a size : ℕ) → slice_get ls local ≡ Some (Some (address_operand memory64 a))
+    → (x : ℕ) × PushesValue M 3 ls (I.LocalGet local ∷ const_code memory64 size ∷ add_code memory64 ∷ []) (address_operand memory64 x) × (a + size < limit_of (pointer memory64) → x ≡ a + size)
+pushes_wrapped true local a size h = (iadd 64 a size, record { by = λ w vs. leaves_next (leaves_local_get h) (leaves_next leaves_i64_const leaves_i64_add) }, λ lt. mod-eq_of_lt lt)
+pushes_wrapped false local a size h = (iadd 32 a size, record { by = λ w vs. leaves_next (leaves_local_get h) (leaves_next leaves_i32_const leaves_i32_add) }, λ lt. mod-eq_of_lt lt)
+
+pub address_typed : (memory64 : Bool) (x : ℕ) → has_type (address_operand memory64 x) (address_type memory64) ≡ true
+address_typed true x = refl
+address_typed false x = refl
+
+-- a local of an address is bumped
+pub bumps : {A : Type 0} {M : WasmModule} {p : ImportPlaces} {way : Way} {extra spare : ℕ} {ins : List CoreValue} {ls : Locals} {c : List Instr} {q : Action A} {out : A → List CoreValue} {Holds : A → Locals → Type 0}
+    (memory64 : Bool) (local a size : ℕ) → slice_get ls local ≡ Some (Some (address_operand memory64 a)) → slice_get (held_types ls) local ≡ Some (address_type memory64)
+    → ((x : ℕ) → (a + size < limit_of (pointer memory64) → x ≡ a + size) → (ls' : Locals) → IsSet local (address_operand memory64 x) ls ls' → Does M p way extra spare ins ls' c q out Holds)
+    → Does M p way (4 + extra) spare ins ls (bump_code memory64 local size ++ c) q out Holds
+bumps memory64 local a size h t go =
+    let b = pushes_wrapped memory64 local a size h in
+    within (omega arith) (pushing b.1 (local_set (address_type memory64) t (address_typed memory64 b.0) (λ ls' set. go b.0 b.2 ls' set)))
+
+-- one turn less
+pub counts : {A : Type 0} {M : WasmModule} {p : ImportPlaces} {way : Way} {extra spare : ℕ} {ins : List CoreValue} {ls : Locals} {c : List Instr} {q : Action A} {out : A → List CoreValue} {Holds : A → Locals → Type 0}
+    (local k : ℕ) → suc k < 2 ^ 64 → slice_get ls local ≡ Some (Some (I64 (suc k))) → slice_get (held_types ls) local ≡ Some val.I64
+    → ((ls' : Locals) → IsSet local (I64 k) ls ls' → Does M p way extra spare ins ls' c q out Holds) → Does M p way (4 + extra) spare ins ls (count_code local ++ c) q out Holds
+counts {M = M} {ls = ls} local k lt h t go =
+    let less : isub 64 (suc k) 1 ≡ k = omega arith in
+    let pushed : PushesValue M 3 ls (I.LocalGet local ∷ I.I64Const 1 ∷ I.I64Sub ∷ []) (I64 k) =
+    record { by = λ w vs. leaves_next (leaves_local_get h) (leaves_next leaves_i64_const (leaves_as (ap (λ n. Falls w (I64 n ∷ vs) ls) less) leaves_i64_sub)) } in
+    within (omega arith) (pushing pushed (local_set val.I64 t refl go))
+
+pub pushes_left : {M : WasmModule} {ls : Locals} (local k : ℕ) → slice_get ls local ≡ Some (Some (I64 k)) → PushesValue M 2 ls (left_code local) (I32 (ieqz k))
+pushes_left local k h = record { by = λ w vs. leaves_next (leaves_local_get h) leaves_i64_eqz }
+
+one_value : (memory64 : Bool) (v : CoreValue) → is_value v (address_type memory64) ≡ true → has_type v (address_type memory64) ≡ true → (v ≡ address_operand memory64 (bits_of v)) × (bits_of v < limit_of (pointer memory64))
+one_value true (I64 n) h t = (refl, ltb-true n (2 ^ 64) h)
+one_value false (I32 n) h t = (refl, ltb-true n (2 ^ 32) h)
+one_value _ _ h t = cc
+
+-- the address that an answer of realloc is
+pub answer_is : (memory64 : Bool) (rs : List CoreValue) → are_values rs (address_type memory64 ∷ []) ≡ true → (rs ≡ address_operand memory64 (first_bits rs) ∷ []) × (first_bits rs < limit_of (pointer memory64))
+answer_is memory64 [] h = cc
+answer_is memory64 (v ∷ []) h =
+    let value = first_of (is_value v (address_type memory64)) true h in
+    let one = one_value memory64 v value (value_type v (address_type memory64) value) in
+    (ap (λ u. u ∷ []) one.0, one.1)
+answer_is memory64 (v ∷ u ∷ rs) h = let no : false ≡ true = second_of (is_value v (address_type memory64)) false h in cc
+
+asks_region : {M : WasmModule} {p : ImportPlaces} {ls : Locals} (memory64 : Bool) (realloc : CoreDef) (place align local bytes : ℕ) → bytes < limit_of (pointer memory64) → slice_get ls local ≡ Some (Some (I64 bytes))
+    → KnowsFunction M p (import.CoreDef realloc) place (address_type memory64 ∷ address_type memory64 ∷ address_type memory64 ∷ address_type memory64 ∷ []) (address_type memory64 ∷ [])
+    → Does M p Onward 6 0 [] ls (ask_code memory64 align local place) (Ask (import.CoreDef realloc) (address_operand memory64 0 ∷ address_operand memory64 0 ∷ address_operand memory64 align ∷ address_operand memory64 bytes ∷ []) (address_type memory64 ∷ []) (λ rs. Give rs))
+    reverse (λ rs l. (are_values rs (address_type memory64 ∷ []) ≡ true) × (l ≡ ls))
+asks_region memory64 realloc place align local bytes small hb h =
+    let types = both (address_typed memory64 0) (both (address_typed memory64 0) (both (address_typed memory64 align) (both (address_typed memory64 bytes) refl))) in
+    within (omega arith) (pushing (pushes_const memory64 0) (pushing (pushes_const memory64 0) (pushing (pushes_const memory64 align) (gets_address memory64 local bytes small hb
+    (ask (address_operand memory64 0 ∷ address_operand memory64 0 ∷ address_operand memory64 align ∷ address_operand memory64 bytes ∷ []) h types (λ rs v. done (sym (append-nil (reverse rs))) (v, refl)))))))
+
+slots_then : {A : Type 0} (concurrency memory64 : Bool) (realloc : CoreDef) (align bytes : ℕ) (k : List CoreValue → Action A)
+    → (in_slots concurrency (Ask (import.CoreDef realloc) (address_operand memory64 0 ∷ address_operand memory64 0 ∷ address_operand memory64 align ∷ address_operand memory64 bytes ∷ []) (address_type memory64 ∷ []) (λ rs. Give rs)) >>= k) ≡ region_action concurrency memory64 realloc align bytes k
+slots_then false memory64 realloc align bytes k = refl
+slots_then true memory64 realloc align bytes k = refl
+
+-- a region is asked for: the answer is an address, which a temporary keeps
+module _ {locals : List ValType} {used : ℕ → Bool} {count : ℕ} {temp : ℕ → ℕ} {type : ℕ → ValType} (t : Temporaries locals used count temp type) {first ls : Locals} (e : held_types first ≡ locals) {fs : Facts} (s : Standing used count temp first ls fs)
+    (concurrency : Bool) (slots : ContextSlots) {A : Type 0} {M : WasmModule} {p : ImportPlaces} {way : Way} {extra spare : ℕ} {c : List Instr} {out : A → List CoreValue} {Holds : A → Locals → Type 0} where
+  pub reallocates : {k : List CoreValue → Action A} → HasSlotsIf concurrency M p slots → slots.saved0 ≢ slots.saved1 → slice_get locals slots.saved0 ≡ Some val.I32 → slice_get locals slots.saved1 ≡ Some val.I32
+      → ((i : ℕ) → used i ≡ true → others slots i ≡ true) → AllByRecursion (λ f. others slots (temp f.0) ≡ true) fs
+      → (memory64 : Bool) (realloc : CoreDef) (place align b j bytes : ℕ) → j < count → type j ≡ val.I64 → bytes < limit_of (pointer memory64) → slice_get ls (temp b) ≡ Some (Some (I64 bytes)) → others slots (temp b) ≡ true
+      → KnowsFunction M p (import.CoreDef realloc) place (address_type memory64 ∷ address_type memory64 ∷ address_type memory64 ∷ address_type memory64 ∷ []) (address_type memory64 ∷ [])
+      → ((rs : List CoreValue) → first_bits rs < limit_of (pointer memory64) → (ls' : Locals) → Standing used count temp first ls' ((j, I64 (first_bits rs)) ∷ without j fs) → Does M p way extra spare [] ls' c (k rs) out Holds)
+      → Does M p way (20 + extra) spare [] ls (realloc_code concurrency slots memory64 align (temp b) (temp j) place ++ c) (region_action concurrency memory64 realloc align bytes k) out Holds
+  reallocates {k} has apart t0 t1 outside free memory64 realloc place align b j bytes lt wide small hb hb' h go =
+      let keep = widen (pointer memory64) val.I64 ++ I.LocalSet (temp j) ∷ [] in
+      let code = save_code concurrency slots ++ (ask_code memory64 align (temp b) place ++ restore_code concurrency slots) in
+      let types : held_types ls ≡ locals = s.keeps.types ∙ e in
+      let asked = slots_do concurrency slots has apart (ap (λ l. slice_get l slots.saved0) types ∙ t0) (ap (λ l. slice_get l slots.saved1) types ∙ t1) (λ ls' k'. asks_region memory64 realloc place align (temp b) bytes small (k'.same (temp b) hb' ∙ hb) h) in
+      let all = in_turn asked (λ rs ls' r.
+      let a = answer_is memory64 rs r.0 in
+      let stack : stacked (pointer memory64) (first_bits rs) ∷ [] ≡ reverse rs = ap (λ u. u ∷ []) (address_is memory64 (first_bits rs)) ∙ ap reverse (sym a.0) in
+      subst (λ us. Does M p way (2 + extra) spare us ls' (keep ++ c) (k rs) out Holds) stack (keep_number t e (standing_kept s r.1 outside free) memory64 j (first_bits rs) lt wide (λ l st. go rs a.1 l st))) in
+      subst (λ r. Does M p way (20 + extra) spare [] ls r (region_action concurrency memory64 realloc align bytes k) out Holds) (sym (append_assoc code keep c))
+      (subst (λ q. Does M p way (20 + extra) spare [] ls (code ++ (keep ++ c)) q out Holds) (slots_then concurrency memory64 realloc align bytes k) (within (omega arith) all))
+
+-- a number as wide as addresses is put into a place
+pub puts : {M : WasmModule} {p : ImportPlaces} {first ls : Locals} (used : ℕ → Bool) (o : LiftLowerOptions) (memory64 : Bool) (to : To) (d : Target) (local x : ℕ) → Writable M p o memory64 (pointer memory64) to → ToUsed used to → MayGo used first memory64 to d → KeepsLocals used first ls
+    → x < limit_of (pointer memory64) → slice_get ls local ≡ Some (Some (I64 x))
+    → Does M p Onward 5 0 [] ls (put_code memory64 local to) (write_number o (size_of (pointer memory64)) d x) (λ vs. []) (λ vs ls'. Stood ls' to vs × KeepsLocals used first ls')
+puts {M} {p} {first} {ls} used o memory64 to d local x h u g k lt there =
+    let got = pushes_address memory64 local x lt there in
+    let g' = goes_kept k memory64 to d u g in
+    within (omega (arith, got.few)) (begins memory64 used to d g' (pushing got.pushes
+    (weaker (λ vs. refl) (λ vs ls' r. (r.0, keeps_then k r.1)) (writes used (pointer memory64) o memory64 to d h g' lt))))
