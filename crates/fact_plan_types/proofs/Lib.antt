@@ -4,6 +4,7 @@ pub mod FaultLaws
 pub mod FuncLaws
 pub mod HandleLaws
 pub mod ListedLaws
+pub mod LoopLaws
 pub mod MemberLaws
 pub mod NameLaws
 pub mod PushLaws

@@ -7,7 +7,7 @@ use std::alloc::{AllocError, AllocFailed};
 use thiserror::Error;
 
 /// The entry of a plan that a refusal speaks of, by its place in the list of its kind.
-#[derive(Clone, Copy, Debug, Drop, PartialEq, Eq, Hash)]
+#[derive(Clone, Copy, Debug, Drop)]
 pub enum Place {
     TypeEntry(u32),
     Func(u32),
@@ -15,7 +15,7 @@ pub enum Place {
 }
 
 /// Why no module was made.
-#[derive(Clone, Copy, Debug, Drop, PartialEq, Eq, Hash, Error)]
+#[derive(Clone, Copy, Debug, Drop, Error)]
 pub enum FuseError {
     /// There was no memory.
     #[error("out of memory")]

@@ -22,29 +22,12 @@ pub fn is_repeated(alloc: Global, names: &[&str]) -> Result<bool, OutOfMemory>
     Ok(false)
 }
 
-/// The names of fields, in order.
-fn names_of_fields<'a>(
-    alloc: Global,
-    fields: &'a [(Text, PlanRef)],
-) -> Result<Vec<&'a str>, OutOfMemory>
-    ensures { IfOk result (λ names. map (λ n. n.now) names.items ≡ map (λ f. f.0) fields.now) }
+/// The names of fields or of cases, in order.
+fn names_of<'a, T>(alloc: Global, members: &'a [(Text, T)]) -> Result<Vec<&'a str>, OutOfMemory>
+    ensures { IfOk result (λ names. map (λ n. n.now) names.items ≡ map (λ m. m.0) members.now) }
 {
     let mut names = Vec::new(alloc);
-    for (name, _) in fields {
-        names.push(name.as_str())?;
-    }
-    Ok(names)
-}
-
-/// The names of cases, in order.
-fn names_of_cases<'a>(
-    alloc: Global,
-    cases: &'a [(Text, Option<PlanRef>)],
-) -> Result<Vec<&'a str>, OutOfMemory>
-    ensures { IfOk result (λ names. map (λ n. n.now) names.items ≡ map (λ c. c.0) cases.now) }
-{
-    let mut names = Vec::new(alloc);
-    for (name, _) in cases {
+    for (name, _) in members {
         names.push(name.as_str())?;
     }
     Ok(names)
@@ -74,8 +57,8 @@ pub(crate) fn names_in<'a>(alloc: Global, entry: &'a PlanType) -> Result<Vec<&'a
     ensures { IfOk result (λ names. map (λ n. n.now) names.items ≡ names_in entry.now) }
 {
     match entry {
-        PlanType::Record(fields) => names_of_fields(alloc, fields.as_slice()),
-        PlanType::Variant(cases) => names_of_cases(alloc, cases.as_slice()),
+        PlanType::Record(fields) => names_of(alloc, fields.as_slice()),
+        PlanType::Variant(cases) => names_of(alloc, cases.as_slice()),
         PlanType::Flags(names) => names_of_texts(alloc, names.as_slice()),
         PlanType::Enum(names) => names_of_texts(alloc, names.as_slice()),
         _ => Ok(Vec::new(alloc)),
@@ -97,6 +80,6 @@ pub(crate) fn has_repeated_params(
 ) -> Result<bool, OutOfMemory>
     ensures { IfOk result (λ found. IsTrue found ↔ IsRepeated (map (λ x. x.0) params.now)) }
 {
-    let names = names_of_fields(alloc, params)?;
+    let names = names_of(alloc, params)?;
     is_repeated(alloc, names.as_slice())
 }

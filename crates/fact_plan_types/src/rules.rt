@@ -30,18 +30,19 @@ pub(crate) fn types_in(alloc: Global, entry: &PlanType) -> Result<Vec<PlanRef>, 
         PlanType::Record(fields) => types_of_fields(alloc, fields.as_slice()),
         PlanType::Variant(cases) => types_of_cases(alloc, cases.as_slice()),
         PlanType::Tuple(types) => Vec::from_slice(alloc, types.as_slice()),
-        PlanType::List(ty) => Ok(vec![in alloc; *ty]?),
-        PlanType::Option(ty) => Ok(vec![in alloc; *ty]?),
-        PlanType::FixedList(ty, _) => Ok(vec![in alloc; *ty]?),
-        PlanType::Map(key, value) => Ok(vec![in alloc; *key, *value]?),
+        PlanType::List(ty) | PlanType::Option(ty) | PlanType::FixedList(ty, _) => {
+            both_of(alloc, Some(*ty), None)
+        }
+        PlanType::Map(key, value) => both_of(alloc, Some(*key), Some(*value)),
         PlanType::Result(ok, err) => both_of(alloc, *ok, *err),
-        PlanType::Future(payload, _) => both_of(alloc, *payload, None),
-        PlanType::Stream(payload, _) => both_of(alloc, *payload, None),
-        PlanType::Flags(_) => Ok(Vec::new(alloc)),
-        PlanType::Enum(_) => Ok(Vec::new(alloc)),
-        PlanType::Own(_) => Ok(Vec::new(alloc)),
-        PlanType::Borrow(_) => Ok(Vec::new(alloc)),
-        PlanType::ErrorContext(_) => Ok(Vec::new(alloc)),
+        PlanType::Future(payload, _) | PlanType::Stream(payload, _) => {
+            both_of(alloc, *payload, None)
+        }
+        PlanType::Flags(_)
+        | PlanType::Enum(_)
+        | PlanType::Own(_)
+        | PlanType::Borrow(_)
+        | PlanType::ErrorContext(_) => Ok(Vec::new(alloc)),
     }
 }
 

@@ -1,5 +1,0 @@
-use Rattle.std.proofs.Common.{◌≡◌, map, take}
-use Rattle.fact_plan_types.proofs.names.names_of_fields.Given as goal
-
-abbrev pub invariant-loop-name : goal.invariant-loop-name
-invariant-loop-name l = map (λ n. n.now) l.names.items ≡ map (λ f. f.0) (take l.name-index l.fields)
