@@ -18,12 +18,27 @@ use std::alloc::Global;
 
 /// The types of a plan in a builder: the type of each entry, the function type of each function and the index of each core
 /// type, in the order of the plan.
-#[derive(Drop)]
 pub struct PlanTypes {
     pub builder: ComponentTypesBuilder,
     pub types: Seq<InterfaceType>,
     pub funcs: Seq<TypeFuncIndex>,
     pub core_types: Seq<ModuleInternedTypeIndex>,
+}
+
+// It ends by a function of its own, so that crates that end one prove nothing of its parts.
+impl Drop for PlanTypes {
+    fn drop(self) {
+        let PlanTypes {
+            builder,
+            types,
+            funcs,
+            core_types,
+        } = self;
+        drop(builder);
+        drop(types);
+        drop(funcs);
+        drop(core_types);
+    }
 }
 
 impl PlanTypes {
