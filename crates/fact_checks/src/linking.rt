@@ -14,6 +14,7 @@ use fact_plan::{FusePlan, PlanAdapter, PlanMemory, PlanSide};
 use fact_plan_types::PlanTypes;
 use fact_types::{CoreDef, MemoryOption};
 use fact_wasm::OutOfMemory;
+use std::alloc::AllocError;
 
 /// Whether a plan lacks the core definition of a number.
 fn lacks_def(plan: &FusePlan, def: u32) -> bool
@@ -110,13 +111,30 @@ fn options_of(
     requires there { SideLacks plan.now side.now → ⊥ }
     ensures { IfOk result (λ o. (ty : Id TypeFuncs) → slice_get types.now.funcs side.now.ty ≡ Some ty → LinksSide plan.now types.now.builder side.now ty o) }
 {
+    // What is owned ends by a call: the end of its scope would have a long proof.
+    let memory = memory_of(plan, side.memory)?;
+    let Ok(realloc) = def_of(plan, side.realloc) else {
+        drop(memory);
+        return Err(AllocError);
+    };
+    let Ok(callback) = def_of(plan, side.callback) else {
+        drop(memory);
+        drop(realloc);
+        return Err(AllocError);
+    };
+    let Ok(post_return) = def_of(plan, side.post_return) else {
+        drop(memory);
+        drop(realloc);
+        drop(callback);
+        return Err(AllocError);
+    };
     Ok(AdapterOptionsDfg {
         instance: RuntimeComponentInstanceIndex::from_u32(side.instance),
         string_encoding: side.encoding,
-        memory: memory_of(plan, side.memory)?,
-        realloc: def_of(plan, side.realloc)?,
-        callback: def_of(plan, side.callback)?,
-        post_return: def_of(plan, side.post_return)?,
+        memory,
+        realloc,
+        callback,
+        post_return,
         async_: side.async_,
         core_type: types.core_types.as_slice()[side.core_type as usize],
     })
@@ -133,8 +151,15 @@ pub(crate) fn adapter_of(
     ensures { IfOk result (LinksAdapter plan.now types.now.builder adapter.now) }
 {
     let func = plan.core_defs.as_slice()[adapter.func as usize].try_clone()?;
-    let lift_options = options_of(plan, types, &adapter.lift)?;
-    let lower_options = options_of(plan, types, &adapter.lower)?;
+    let Ok(lift_options) = options_of(plan, types, &adapter.lift) else {
+        drop(func);
+        return Err(AllocError);
+    };
+    let Ok(lower_options) = options_of(plan, types, &adapter.lower) else {
+        drop(func);
+        drop(lift_options);
+        return Err(AllocError);
+    };
     Ok(Adapter {
         lift_ty: types.funcs.as_slice()[adapter.lift.ty as usize],
         lift_options,

@@ -16,5 +16,5 @@ returns c =
     let lift = func-there _ _ c.args.adapter.now.lift c.requires.types (λ h. c.requires.there (inr (inl h))) in
     let lower = func-there _ _ c.args.adapter.now.lower c.requires.types (λ h. c.requires.there (inr (inr h))) in
     adapter-links _ _ _ _ callee
-    (c.in_ok-lift_options.ensures _ (rw c.as_slice-2.ensures (slice_get-get_or _ _ _ lift)))
-    (c.in_ok-lower_options.ensures _ (rw c.as_slice-3.ensures (slice_get-get_or _ _ _ lower)))
+    (c.in-Ok.ensures _ (rw c.as_slice-2.ensures (slice_get-get_or _ _ _ lift)))
+    (c.in-Ok-options_of.ensures _ (rw c.as_slice-3.ensures (slice_get-get_or _ _ _ lower)))
