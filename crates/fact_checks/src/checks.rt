@@ -70,7 +70,6 @@ fn check_behind(
 
 /// Checks adapters over the types of a builder, each behind those that it found sound. Contracts see it as the builder and
 /// what those adapters have bound and export.
-#[derive(Drop)]
 pub struct AdapterChecks<'a> {
     alloc: Global,
     builder: &'a ComponentTypesBuilder,
@@ -88,6 +87,21 @@ impl<'a> Model for AdapterChecks<'a> {
     ghost view = { λ c. record { builder = c.builder.now; concurrency = c.concurrency; bound = c.bound } };
 
     ghost invariant = { λ c. c.agreement ≡ c.builder.now.tables };
+}
+
+// They end by a function of their own, so that crates that end some prove nothing of their parts.
+impl Drop for AdapterChecks<'_> {
+    fn drop(self) {
+        let AdapterChecks {
+            alloc: _,
+            builder: _,
+            concurrency: _,
+            agreement,
+            bound,
+        } = self;
+        drop(agreement);
+        drop(bound);
+    }
 }
 
 impl<'a> AdapterChecks<'a> {
