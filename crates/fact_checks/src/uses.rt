@@ -21,7 +21,7 @@ use fact_wasm::{FuncType, OutOfMemory, ValType};
 use std::alloc::Global;
 
 /// What an adapter module imports a core definition as.
-#[derive(Drop, PartialEq, Eq, Hash)]
+#[derive(Drop, PartialEq, Eq)]
 pub enum Use {
     /// The flags of an instance.
     FlagGlobal,

@@ -1,4 +1,5 @@
 use Rattle.std.proofs.Common.{refl}
+use Rattle.fact_uses.proofs.FrontLaws.{IsFront-itself}
 use Rattle.fact_checks.proofs.Decisions.{denied, granted}
 use Rattle.fact_checks.proofs.StageLaws.{first-conflict, first-memory, first-mismatch, first-name, first-signature, none-at-all}
 use Rattle.fact_checks.proofs.checks.check_behind.Goals as goal
@@ -70,3 +71,147 @@ returns-clause-sound c = λ before a b l.
         distinct = c.in_ok-has_duplicate_name.ensures.distinct c.if-branch-5.false b.distinct;
       },
     )
+
+pub returns-then-has_bad_options-clause-memories : goal.returns-then-has_bad_options-clause-memories
+returns-then-has_bad_options-clause-memories c = IsFront-itself _
+
+pub returns-then-has_bad_options-clause-reallocs : goal.returns-then-has_bad_options-clause-reallocs
+returns-then-has_bad_options-clause-reallocs c = IsFront-itself _
+
+pub returns-then-has_bad_options-clause-uses : goal.returns-then-has_bad_options-clause-uses
+returns-then-has_bad_options-clause-uses c = IsFront-itself _
+
+pub returns-then-has_bad_options-clause-names : goal.returns-then-has_bad_options-clause-names
+returns-then-has_bad_options-clause-names c = IsFront-itself _
+
+pub returns-in_err-has_type_mismatch-clause-memories : goal.returns-in_err-has_type_mismatch-clause-memories
+returns-in_err-has_type_mismatch-clause-memories c = IsFront-itself _
+
+pub returns-in_err-has_type_mismatch-clause-reallocs : goal.returns-in_err-has_type_mismatch-clause-reallocs
+returns-in_err-has_type_mismatch-clause-reallocs c = IsFront-itself _
+
+pub returns-in_err-has_type_mismatch-clause-uses : goal.returns-in_err-has_type_mismatch-clause-uses
+returns-in_err-has_type_mismatch-clause-uses c = IsFront-itself _
+
+pub returns-in_err-has_type_mismatch-clause-names : goal.returns-in_err-has_type_mismatch-clause-names
+returns-in_err-has_type_mismatch-clause-names c = IsFront-itself _
+
+pub returns-then-branch-clause-memories : goal.returns-then-branch-clause-memories
+returns-then-branch-clause-memories c = IsFront-itself _
+
+pub returns-then-branch-clause-reallocs : goal.returns-then-branch-clause-reallocs
+returns-then-branch-clause-reallocs c = IsFront-itself _
+
+pub returns-then-branch-clause-uses : goal.returns-then-branch-clause-uses
+returns-then-branch-clause-uses c = IsFront-itself _
+
+pub returns-then-branch-clause-names : goal.returns-then-branch-clause-names
+returns-then-branch-clause-names c = IsFront-itself _
+
+pub returns-in_err-has_bad_memory-clause-memories : goal.returns-in_err-has_bad_memory-clause-memories
+returns-in_err-has_bad_memory-clause-memories c = c.has_bad_memory.ensures.memories_front
+
+pub returns-in_err-has_bad_memory-clause-reallocs : goal.returns-in_err-has_bad_memory-clause-reallocs
+returns-in_err-has_bad_memory-clause-reallocs c = c.has_bad_memory.ensures.reallocs_front
+
+pub returns-in_err-has_bad_memory-clause-uses : goal.returns-in_err-has_bad_memory-clause-uses
+returns-in_err-has_bad_memory-clause-uses c = IsFront-itself _
+
+pub returns-in_err-has_bad_memory-clause-names : goal.returns-in_err-has_bad_memory-clause-names
+returns-in_err-has_bad_memory-clause-names c = IsFront-itself _
+
+pub returns-then-branch-2-clause-memories : goal.returns-then-branch-2-clause-memories
+returns-then-branch-2-clause-memories c = c.has_bad_memory.ensures.memories_front
+
+pub returns-then-branch-2-clause-reallocs : goal.returns-then-branch-2-clause-reallocs
+returns-then-branch-2-clause-reallocs c = c.has_bad_memory.ensures.reallocs_front
+
+pub returns-then-branch-2-clause-uses : goal.returns-then-branch-2-clause-uses
+returns-then-branch-2-clause-uses c = IsFront-itself _
+
+pub returns-then-branch-2-clause-names : goal.returns-then-branch-2-clause-names
+returns-then-branch-2-clause-names c = IsFront-itself _
+
+pub returns-in_err-has_bad_signature-clause-memories : goal.returns-in_err-has_bad_signature-clause-memories
+returns-in_err-has_bad_signature-clause-memories c = c.has_bad_memory.ensures.memories_front
+
+pub returns-in_err-has_bad_signature-clause-reallocs : goal.returns-in_err-has_bad_signature-clause-reallocs
+returns-in_err-has_bad_signature-clause-reallocs c = c.has_bad_memory.ensures.reallocs_front
+
+pub returns-in_err-has_bad_signature-clause-uses : goal.returns-in_err-has_bad_signature-clause-uses
+returns-in_err-has_bad_signature-clause-uses c = IsFront-itself _
+
+pub returns-in_err-has_bad_signature-clause-names : goal.returns-in_err-has_bad_signature-clause-names
+returns-in_err-has_bad_signature-clause-names c = IsFront-itself _
+
+pub returns-then-branch-3-clause-memories : goal.returns-then-branch-3-clause-memories
+returns-then-branch-3-clause-memories c = c.has_bad_memory.ensures.memories_front
+
+pub returns-then-branch-3-clause-reallocs : goal.returns-then-branch-3-clause-reallocs
+returns-then-branch-3-clause-reallocs c = c.has_bad_memory.ensures.reallocs_front
+
+pub returns-then-branch-3-clause-uses : goal.returns-then-branch-3-clause-uses
+returns-then-branch-3-clause-uses c = IsFront-itself _
+
+pub returns-then-branch-3-clause-names : goal.returns-then-branch-3-clause-names
+returns-then-branch-3-clause-names c = IsFront-itself _
+
+pub returns-in_err-has_import_conflict-clause-memories : goal.returns-in_err-has_import_conflict-clause-memories
+returns-in_err-has_import_conflict-clause-memories c = c.has_bad_memory.ensures.memories_front
+
+pub returns-in_err-has_import_conflict-clause-reallocs : goal.returns-in_err-has_import_conflict-clause-reallocs
+returns-in_err-has_import_conflict-clause-reallocs c = c.has_bad_memory.ensures.reallocs_front
+
+pub returns-in_err-has_import_conflict-clause-uses : goal.returns-in_err-has_import_conflict-clause-uses
+returns-in_err-has_import_conflict-clause-uses c = c.has_import_conflict.ensures.front
+
+pub returns-in_err-has_import_conflict-clause-names : goal.returns-in_err-has_import_conflict-clause-names
+returns-in_err-has_import_conflict-clause-names c = IsFront-itself _
+
+pub returns-then-branch-4-clause-memories : goal.returns-then-branch-4-clause-memories
+returns-then-branch-4-clause-memories c = c.has_bad_memory.ensures.memories_front
+
+pub returns-then-branch-4-clause-reallocs : goal.returns-then-branch-4-clause-reallocs
+returns-then-branch-4-clause-reallocs c = c.has_bad_memory.ensures.reallocs_front
+
+pub returns-then-branch-4-clause-uses : goal.returns-then-branch-4-clause-uses
+returns-then-branch-4-clause-uses c = c.has_import_conflict.ensures.front
+
+pub returns-then-branch-4-clause-names : goal.returns-then-branch-4-clause-names
+returns-then-branch-4-clause-names c = IsFront-itself _
+
+pub returns-in_err-has_duplicate_name-clause-memories : goal.returns-in_err-has_duplicate_name-clause-memories
+returns-in_err-has_duplicate_name-clause-memories c = c.has_bad_memory.ensures.memories_front
+
+pub returns-in_err-has_duplicate_name-clause-reallocs : goal.returns-in_err-has_duplicate_name-clause-reallocs
+returns-in_err-has_duplicate_name-clause-reallocs c = c.has_bad_memory.ensures.reallocs_front
+
+pub returns-in_err-has_duplicate_name-clause-uses : goal.returns-in_err-has_duplicate_name-clause-uses
+returns-in_err-has_duplicate_name-clause-uses c = c.has_import_conflict.ensures.front
+
+pub returns-in_err-has_duplicate_name-clause-names : goal.returns-in_err-has_duplicate_name-clause-names
+returns-in_err-has_duplicate_name-clause-names c = c.has_duplicate_name.ensures.front
+
+pub returns-then-branch-5-clause-memories : goal.returns-then-branch-5-clause-memories
+returns-then-branch-5-clause-memories c = c.has_bad_memory.ensures.memories_front
+
+pub returns-then-branch-5-clause-reallocs : goal.returns-then-branch-5-clause-reallocs
+returns-then-branch-5-clause-reallocs c = c.has_bad_memory.ensures.reallocs_front
+
+pub returns-then-branch-5-clause-uses : goal.returns-then-branch-5-clause-uses
+returns-then-branch-5-clause-uses c = c.has_import_conflict.ensures.front
+
+pub returns-then-branch-5-clause-names : goal.returns-then-branch-5-clause-names
+returns-then-branch-5-clause-names c = c.has_duplicate_name.ensures.front
+
+pub returns-clause-memories : goal.returns-clause-memories
+returns-clause-memories c = c.has_bad_memory.ensures.memories_front
+
+pub returns-clause-reallocs : goal.returns-clause-reallocs
+returns-clause-reallocs c = c.has_bad_memory.ensures.reallocs_front
+
+pub returns-clause-uses : goal.returns-clause-uses
+returns-clause-uses c = c.has_import_conflict.ensures.front
+
+pub returns-clause-names : goal.returns-clause-names
+returns-clause-names c = c.has_duplicate_name.ensures.front
