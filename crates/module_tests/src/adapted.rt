@@ -2,16 +2,17 @@
 
 ghost use Rattle.std.specs.Prelude.{◌<◌, length};
 
-use crate::types::{Kind, Nested, add_func, fill};
+use crate::types::{add_func, fill};
 use fact_builder::ComponentTypesBuilder as Builder;
 use fact_entity::{AdapterId, EntityRef};
 use fact_module::{
     Adapter, AdapterOptionsDfg, ComponentDfg, CoreDef, FuseError, MemoryOption, Module,
     RuntimeComponentInstanceIndex, RuntimeInstanceIndex, StringEncoding, Tunables, WasmFeatures,
 };
-use fact_types::{InterfaceType, ModuleInternedTypeIndex, TypeFuncIndex};
+use fact_types::{ModuleInternedTypeIndex, TypeFuncIndex};
 use fact_wasm::{Text, WasmModule, encode};
 use std::alloc::{AllocError, Global};
+use std::mem::replace;
 use std::process::Abort;
 use std::test::Fail;
 
@@ -75,11 +76,18 @@ fn apply_memory(
         shared: false,
         page_size_log2: size.parse::<u8>().unwrap_or(0),
     };
-    match kind {
-        "lift-memory" => adapter.lift_options.memory = Some(memory),
-        _ => adapter.lower_options.memory = Some(memory),
-    }
+    let side = if kind == "lift-memory" {
+        &mut adapter.lift_options
+    } else {
+        &mut adapter.lower_options
+    };
+    drop(side.memory.replace(memory));
     Ok(())
+}
+
+/// Sets a function of a side.
+fn set(option: &mut Option<CoreDef>, def: CoreDef) {
+    drop(option.replace(def));
 }
 
 /// Sets a function of a name: the callee, or an option of a side.
@@ -91,11 +99,11 @@ fn apply_name(
 ) -> Result<(), AllocError> {
     let def = export(alloc, name)?;
     match kind {
-        "callee" => adapter.func = def,
-        "lift-realloc" => adapter.lift_options.realloc = Some(def),
-        "lift-callback" => adapter.lift_options.callback = Some(def),
-        "lift-post-return" => adapter.lift_options.post_return = Some(def),
-        _ => adapter.lower_options.post_return = Some(def),
+        "callee" => drop(replace(&mut adapter.func, def)),
+        "lift-realloc" => set(&mut adapter.lift_options.realloc, def),
+        "lift-callback" => set(&mut adapter.lift_options.callback, def),
+        "lift-post-return" => set(&mut adapter.lift_options.post_return, def),
+        _ => set(&mut adapter.lower_options.post_return, def),
     }
     Ok(())
 }
@@ -120,62 +128,106 @@ fn apply(alloc: Global, adapter: &mut Adapter, edit: &str) -> Result<(), AllocEr
     apply_name(alloc, adapter, kind, value)
 }
 
+/// Does each of these edits.
+fn apply_all(alloc: Global, adapter: &mut Adapter, edits: &str) -> Result<(), AllocError> {
+    for edit in edits.split_whitespace() {
+        apply(alloc, adapter, edit)?;
+    }
+    Ok(())
+}
+
 /// The worked adapter with these edits.
 fn edited(alloc: Global, edits: &str) -> Result<Adapter, AllocError> {
+    let func = export(alloc, "run")?;
     let mut adapter = Adapter {
         lift_ty: TypeFuncIndex::from_u32(0),
         lift_options: side(1),
         lower_ty: TypeFuncIndex::from_u32(0),
         lower_options: side(0),
-        func: export(alloc, "run")?,
+        func,
     };
-    for edit in edits.split_whitespace() {
-        apply(alloc, &mut adapter, edit)?;
+    match apply_all(alloc, &mut adapter, edits) {
+        Ok(()) => Ok(adapter),
+        Err(error) => {
+            drop(adapter);
+            Err(error)
+        }
     }
-    Ok(adapter)
 }
 
-/// Asks a module to take an adapter, if it is built, and tells the answer.
-fn adapted(
+/// Asks a module to take an adapter, and answers whether it did, or whether it is not built.
+fn taken(
+    made: &mut Module<'_>,
+    name: &str,
+    component: &ComponentDfg,
+    id: AdapterId,
+) -> Result<bool, FuseError>
+    requires { id.number < length component.now.adapters }
+{
+    if !made.may_adapt(name, component, id)? {
+        return Ok(false);
+    }
+    made.adapt(name, component, id)?;
+    Ok(true)
+}
+
+/// Whether a refusal of the adapter of an id is told by this line, but for its place.
+fn is_refusal(
+    alloc: Global,
+    error: FuseError,
+    id: AdapterId,
+    wanted: &str,
+) -> Result<bool, AllocError> {
+    let line = format!(in alloc; "{error}")?;
+    let Ok(place) = format!(in alloc; " at Adapter({})", id.as_u32()) else {
+        drop(line);
+        return Err(AllocError);
+    };
+    let is = matches!(line.as_str().strip_suffix(place.as_str()), Some(kind) if kind == wanted);
+    drop(line);
+    drop(place);
+    Ok(is)
+}
+
+/// Asks a module to take an adapter, if it is built, and answers whether it says this.
+fn says(
     alloc: Global,
     made: &mut Module<'_>,
     name: &str,
     component: &ComponentDfg,
     id: AdapterId,
-) -> Result<String, FuseError>
+    wanted: &str,
+) -> Result<bool, FuseError>
     requires { id.number < length component.now.adapters }
 {
-    if !made.may_adapt(name, component, id)? {
-        return Ok(String::from_str(alloc, "not built")?);
-    }
-    match made.adapt(name, component, id) {
-        Ok(()) => Ok(String::from_str(alloc, "taken")?),
-        Err(error) => Ok(format!(in alloc; "{error}")?),
+    match taken(made, name, component, id) {
+        Ok(true) => Ok(wanted == "taken"),
+        Ok(false) => Ok(wanted == "not built"),
+        Err(FuseError::OutOfMemory) => Err(FuseError::OutOfMemory),
+        Err(error) => Ok(is_refusal(alloc, error, id, wanted)?),
     }
 }
 
-/// The end of the line that tells a refusal: the number of the adapter.
-fn without_place<'a>(alloc: Global, line: &'a str, id: AdapterId) -> Result<&'a str, AllocError> {
-    let place = format!(in alloc; " at Adapter({})", id.as_u32())?;
-    Ok(line.strip_suffix(place.as_str()).unwrap_or(line))
+/// Adds an adapter of these edits to a component.
+fn added(alloc: Global, component: &mut ComponentDfg, edits: &str) -> Result<AdapterId, Fail> {
+    let adapter = edited(alloc, edits)?;
+    Ok(component.add(adapter, edits.contains("transparent"))?)
 }
 
-/// Adds an adapter to a component, and says what the module answers to it.
-fn say_answer(
-    rt: &impl Abort,
+/// Adds an adapter to a component, and answers whether the module says this to it.
+fn is_answered(
     alloc: Global,
     made: &mut Module<'_>,
     component: &mut ComponentDfg,
     call: &str,
     wanted: &str,
-) -> Result<(), Fail> {
+) -> Result<bool, Fail> {
     let (name, edits) = call.split_once(" ").unwrap_or((call, ""));
-    let id = component.add(edited(alloc, edits)?, edits.contains("transparent"))?;
-    assert!(rt; component.adapters.get(id).is_some());
-    let answer = adapted(alloc, made, name, component, id)?;
-    let told = without_place(alloc, answer.as_str(), id)?;
-    assert_eq!(rt; told, wanted, "{call}");
-    Ok(())
+    let id = added(alloc, component, edits)?;
+    if component.adapters.get(id).is_none() {
+        return Ok(false);
+    }
+    Ok(says(alloc, made, name, component, id, wanted)?)
 }
 
 /// Whether a module is in range and is spelled by the bytes.
@@ -195,12 +247,35 @@ fn is_built(alloc: Global, made: &mut Module<'_>, bytes: &[u8]) -> Result<bool, 
     Ok(spelled?)
 }
 
-/// The bytes in hex that a module is encoded as and built as, and what its imports are.
-fn page_of(rt: &impl Abort, alloc: Global, made: &mut Module<'_>) -> Result<String, Fail> {
+/// The bytes in hex, and what the imports of a module are.
+fn page_with(alloc: Global, made: &Module<'_>, bytes: &[u8]) -> Result<String, Fail> {
+    let text = hex::encode(alloc, bytes)?;
+    let page = format!(in alloc; "{text} {:?}", made.imports());
+    drop(text);
+    Ok(page?)
+}
+
+/// Whether a module is encoded and built as these bytes, and has this page: the bytes in hex, and what its imports are.
+fn has_page(
+    alloc: Global,
+    made: &mut Module<'_>,
+    bytes: &[u8],
+    wanted: &str,
+) -> Result<bool, Fail> {
+    if !is_built(alloc, made, bytes)? {
+        return Ok(false);
+    }
+    let page = page_with(alloc, made, bytes)?;
+    let is = page.as_str() == wanted;
+    drop(page);
+    Ok(is)
+}
+
+fn is_page(alloc: Global, made: &mut Module<'_>, wanted: &str) -> Result<bool, Fail> {
     let bytes = made.encode()?;
-    assert!(rt; is_built(alloc, made, bytes.as_slice())?);
-    let text = hex::encode(alloc, bytes.as_slice())?;
-    Ok(format!(in alloc; "{text} {:?}", made.imports())?)
+    let is = has_page(alloc, made, bytes.as_slice(), wanted);
+    drop(bytes);
+    is
 }
 
 /// A page by its name: without adapters; with the worked one; with two that share all but their names; and with two that share
@@ -228,9 +303,11 @@ fn say_step(
 ) -> Result<(), Fail> {
     let (call, end) = step.split_once(" = ").ok_or("no answer")?;
     let (answer, page) = end.split_once(", ").ok_or("no page")?;
-    say_answer(rt, alloc, made, component, call, answer)?;
-    let told = page_of(rt, alloc, made)?;
-    assert_eq!(rt; told.as_str(), page_named(page), "{step}");
+    assert!(rt;
+        is_answered(alloc, made, component, call, answer)?,
+        "{step}"
+    );
+    assert!(rt; is_page(alloc, made, page_named(page))?, "{step}");
     Ok(())
 }
 
@@ -245,19 +322,6 @@ fn say_steps_of(
         say_step(rt, alloc, made, component, step)?;
     }
     Ok(())
-}
-
-/// As [`say_steps`], of a module.
-fn say_steps_in(
-    rt: &impl Abort,
-    alloc: Global,
-    made: &mut Module<'_>,
-    steps: &str,
-) -> Result<(), Fail> {
-    let mut component = ComponentDfg::new(alloc);
-    let said = say_steps_of(rt, alloc, made, &mut component, steps);
-    drop(component);
-    said
 }
 
 /// A module over a builder, without adapters at first, goes through these steps. The settings are words.
@@ -275,7 +339,9 @@ fn say_steps(
     };
     let exceptions = settings == "exceptions";
     let mut made = Module::new(alloc, builder, &tunables, WasmFeatures { exceptions });
-    let said = say_steps_in(rt, alloc, &mut made, steps);
+    let mut component = ComponentDfg::new(alloc);
+    let said = say_steps_of(rt, alloc, &mut made, &mut component, steps);
+    drop(component);
     drop(made);
     said
 }
@@ -326,41 +392,6 @@ not built: lift-callback:resume
 not built: lower-memory:memory,0
 ";
 
-/// Each row of steps holds.
-fn say_rows(rt: &impl Abort, alloc: Global, builder: &Builder) -> Result<(), Fail> {
-    for row in STEPS.trim().lines() {
-        let (settings, steps) = row.split_once(": ").ok_or("no steps")?;
-        say_steps(rt, alloc, builder, settings, steps)?;
-    }
-    Ok(())
-}
-
-/// Each row of answers holds, and the module takes a third adapter as if there had been no second.
-fn say_answers(rt: &impl Abort, alloc: Global, builder: &Builder) -> Result<(), Fail> {
-    for row in ANSWERS.trim().lines() {
-        let (answer, edits) = row.split_once(": ").ok_or("no edits")?;
-        let steps = format!(in alloc;
-            "f0 = taken, one; f1 {edits} = {answer}, one; f1 = taken, two"
-        )?;
-        say_steps(rt, alloc, builder, "plain", steps.as_str())?;
-    }
-    Ok(())
-}
-
-fn say_adapters(rt: &impl Abort, alloc: Global, builder: &mut Builder) -> Result<(), Fail> {
-    fill(rt, alloc, builder)?;
-    say_rows(rt, alloc, builder)?;
-    say_answers(rt, alloc, builder)
-}
-
-#[test]
-fn adapters_are_taken_or_not(rt: HostRuntime) -> Result<(), Fail> {
-    let mut builder = Builder::new(rt.alloc(), 7);
-    let said = say_adapters(&rt, rt.alloc(), &mut builder);
-    drop(builder);
-    said
-}
-
 /// Types, each as its kind, its number of names and the options around it; and the answers where one side has it, and where
 /// both have it. The last two are 100 types in one another, and 101.
 const TYPES: &str = "
@@ -381,19 +412,19 @@ enum 1 99: type mismatch, bad memory
 enum 1 100: too large, too large
 ";
 
-/// The type of a row.
-fn nested_of(text: &str) -> Option<Nested> {
-    let (kind, numbers) = text.split_once(" ")?;
-    let (names, options) = numbers.split_once(" ")?;
-    let names = names.parse::<u32>().ok()?;
-    let kind = match kind {
-        "record" => Kind::Record(names),
-        "variant" => Kind::Variant(names),
-        "enum" => Kind::Enum(names),
-        "flags" => Kind::Flags(names),
-        _ => Kind::Plain(InterfaceType::Bool),
-    };
-    Some((kind, options.parse::<u32>().ok()?))
+/// The module that took the worked adapter answers this to a second one of these edits, and takes a third one as if there had
+/// been no second.
+fn say_second(
+    rt: &impl Abort,
+    alloc: Global,
+    builder: &Builder,
+    answer: &str,
+    edits: &str,
+) -> Result<(), Fail> {
+    let steps = format!(in alloc; "f0 = taken, one; f1 {edits} = {answer}, one; f1 = taken, two")?;
+    let said = say_steps(rt, alloc, builder, "plain", steps.as_str());
+    drop(steps);
+    said
 }
 
 /// A module without adapters answers this to the worked adapter with function types of these numbers.
@@ -406,7 +437,9 @@ fn say_first(
     answer: &str,
 ) -> Result<(), Fail> {
     let step = format!(in alloc; "f0 types:{lift},{lower} = {answer}, empty")?;
-    say_steps(rt, alloc, builder, "plain", step.as_str())
+    let said = say_steps(rt, alloc, builder, "plain", step.as_str());
+    drop(step);
+    said
 }
 
 /// Functions that take and give a type get these answers.
@@ -414,12 +447,12 @@ fn say_type(
     rt: &impl Abort,
     alloc: Global,
     builder: &mut Builder,
-    nested: Nested,
-    one: &str,
-    both: &str,
+    ty: &str,
+    answers: &str,
 ) -> Result<(), Fail> {
-    let takes = add_func(rt, alloc, builder, &[nested], &[])?;
-    let gives = add_func(rt, alloc, builder, &[], &[nested])?;
+    let (one, both) = answers.split_once(", ").ok_or("no second answer")?;
+    let takes = add_func(rt, alloc, builder, ty, "")?;
+    let gives = add_func(rt, alloc, builder, "", ty)?;
     say_first(rt, alloc, builder, takes, 0, one)?;
     say_first(rt, alloc, builder, 0, takes, one)?;
     say_first(rt, alloc, builder, gives, 0, one)?;
@@ -427,31 +460,62 @@ fn say_type(
     say_first(rt, alloc, builder, takes, takes, both)
 }
 
-/// Each row of types holds.
-fn say_types(rt: &impl Abort, alloc: Global, builder: &mut Builder) -> Result<(), Fail> {
-    fill(rt, alloc, builder)?;
-    for row in TYPES.trim().lines() {
-        let (ty, answers) = row.split_once(": ").ok_or("no answers")?;
-        let (one, both) = answers.split_once(", ").ok_or("no second answer")?;
-        let nested = nested_of(ty).ok_or("no type")?;
-        say_type(rt, alloc, builder, nested, one, both)?;
+/// A row of a table holds.
+fn say_row(
+    rt: &impl Abort,
+    alloc: Global,
+    builder: &mut Builder,
+    table: &str,
+    row: &str,
+) -> Result<(), Fail> {
+    let (front, end) = row.split_once(": ").ok_or("no second part")?;
+    match table {
+        "steps" => say_steps(rt, alloc, builder, front, end),
+        "answers" => say_second(rt, alloc, builder, front, end),
+        _ => say_type(rt, alloc, builder, front, end),
+    }
+}
+
+/// Each row of a table holds.
+fn say_rows(
+    rt: &impl Abort,
+    alloc: Global,
+    builder: &mut Builder,
+    table: &str,
+    rows: &str,
+) -> Result<(), Fail> {
+    for row in rows.trim().lines() {
+        say_row(rt, alloc, builder, table, row)?;
     }
     Ok(())
 }
 
+fn say_tables(rt: &impl Abort, alloc: Global, builder: &mut Builder) -> Result<(), Fail> {
+    fill(rt, alloc, builder)?;
+    say_rows(rt, alloc, builder, "steps", STEPS)?;
+    say_rows(rt, alloc, builder, "answers", ANSWERS)?;
+    say_rows(rt, alloc, builder, "types", TYPES)
+}
+
 #[test]
-fn types_are_judged_first(rt: HostRuntime) -> Result<(), Fail> {
+fn adapters_are_taken_or_not(rt: HostRuntime) -> Result<(), Fail> {
     let mut builder = Builder::new(rt.alloc(), 7);
-    let said = say_types(&rt, rt.alloc(), &mut builder);
+    let said = say_tables(&rt, rt.alloc(), &mut builder);
     drop(builder);
     said
+}
+
+/// Whether a further adapter gets this number. Those of odd numbers are marked.
+fn is_next(alloc: Global, component: &mut ComponentDfg, number: u32) -> Result<bool, Fail> {
+    let edits = if number % 2 == 1 { "transparent" } else { "" };
+    let id = added(alloc, component, edits)?;
+    Ok(id.as_u32() == number)
 }
 
 /// Says that adapters get their numbers, and which of them are marked.
 fn say_added(rt: &impl Abort, alloc: Global, component: &mut ComponentDfg) -> Result<(), Fail> {
     for number in 0..4u32 {
-        let id = component.add(edited(alloc, "")?, number % 2 == 1)?;
-        assert_eq!(rt; id.as_u32(), number);
+        assert!(rt; is_next(alloc, component, number)?);
     }
     assert_eq!(rt; component.adapters.len(), 4);
     let marked = [AdapterId::from_u32(1), AdapterId::from_u32(3)];

@@ -18,21 +18,25 @@ use std::process::Abort;
 /// A type that was added.
 type Added = Result<InterfaceType, PushError>;
 
-/// A type: a plain one, an own, a record of so many fields of one name, or one of so many names.
-#[derive(Clone, Copy)]
-pub enum Kind {
-    Plain(InterfaceType),
-    Own,
-    Record(u32),
-    Variant(u32),
-    Enum(u32),
-    Flags(u32),
+fn plain_of(kind: &str) -> InterfaceType {
+    match kind {
+        "u32" => InterfaceType::U32,
+        "u64" => InterfaceType::U64,
+        "string" => InterfaceType::String,
+        _ => InterfaceType::Bool,
+    }
 }
 
-/// A type, and how many options are around it.
-pub type Nested = (Kind, u32);
-
-const U32: Nested = (Kind::Plain(InterfaceType::U32), 0);
+/// The type of three words: its kind, its number of names, and the options around it.
+fn nested_of(text: &str) -> Option<(&str, u32, u32)> {
+    let (kind, numbers) = text.split_once(" ")?;
+    let (names, options) = numbers.split_once(" ")?;
+    Some((
+        kind,
+        names.parse::<u32>().ok()?,
+        options.parse::<u32>().ok()?,
+    ))
+}
 
 /// Whether a type is a plain one, or names an entry that the builder holds.
 fn is_live(builder: &Builder, ty: &InterfaceType) -> bool
@@ -101,23 +105,31 @@ fn names(alloc: Global, count: u32) -> Result<IndexSet<Text>, AllocError> {
     Ok(names)
 }
 
-fn add_type(rt: &impl Abort, alloc: Global, builder: &mut Builder, kind: Kind) -> Added {
+/// Adds a type of so many names: of a record, whose fields have one name, a variant, an enum or flags. Others have none.
+fn add_type(
+    rt: &impl Abort,
+    alloc: Global,
+    builder: &mut Builder,
+    kind: &str,
+    count: u32,
+) -> Added {
     match kind {
-        Kind::Plain(ty) => Ok(ty),
-        Kind::Own => {
+        "own" => {
             let table = TypeResourceTable::Abstract(AbstractResourceIndex::from_u32(0));
             Ok(InterfaceType::Own(builder.push_resource_table(table)?))
         }
-        Kind::Record(count) => add_record(rt, alloc, builder, count),
-        Kind::Variant(count) => add_variant(rt, alloc, builder, count),
-        Kind::Enum(count) => make_enum(builder, names(alloc, count)?),
-        Kind::Flags(count) => make_flags(builder, names(alloc, count)?),
+        "record" => add_record(rt, alloc, builder, count),
+        "variant" => add_variant(rt, alloc, builder, count),
+        "enum" => make_enum(builder, names(alloc, count)?),
+        "flags" => make_flags(builder, names(alloc, count)?),
+        _ => Ok(plain_of(kind)),
     }
 }
 
-fn add_nested(rt: &impl Abort, alloc: Global, builder: &mut Builder, nested: Nested) -> Added {
-    let (kind, options) = nested;
-    let mut ty = add_type(rt, alloc, builder, kind)?;
+/// Adds a type of three words: its kind, its number of names, and the options around it.
+fn add_nested(rt: &impl Abort, alloc: Global, builder: &mut Builder, nested: &str) -> Added {
+    let (kind, names, options) = nested_of(nested).ok_or(PushError::TooLarge)?;
+    let mut ty = add_type(rt, alloc, builder, kind, names)?;
     for _ in 0..options {
         assert!(rt; is_live(builder, &ty));
         ty = make_option(builder, ty)?;
@@ -125,17 +137,32 @@ fn add_nested(rt: &impl Abort, alloc: Global, builder: &mut Builder, nested: Nes
     Ok(ty)
 }
 
-/// The tuple of parameters or results.
+/// Adds types, parted by commas.
+fn push_types(
+    rt: &impl Abort,
+    alloc: Global,
+    builder: &mut Builder,
+    types: &mut Seq<InterfaceType>,
+    members: &str,
+) -> Result<(), PushError> {
+    for nested in members.split_terminator(", ") {
+        let ty = add_nested(rt, alloc, builder, nested)?;
+        types.push(ty)?;
+    }
+    Ok(())
+}
+
+/// The tuple of parameters or results, parted by commas.
 fn add_tuple(
     rt: &impl Abort,
     alloc: Global,
     builder: &mut Builder,
-    members: &[Nested],
+    members: &str,
 ) -> Result<TypeTupleIndex, PushError> {
     let mut types = Seq::new(alloc);
-    for nested in members {
-        let ty = add_nested(rt, alloc, builder, *nested)?;
-        types.push(ty)?;
+    if let Err(error) = push_types(rt, alloc, builder, &mut types, members) {
+        drop(types);
+        return Err(error);
     }
     assert!(rt; are_live(builder, types.as_slice()));
     match make_tuple(alloc, builder, types)? {
@@ -144,20 +171,26 @@ fn add_tuple(
     }
 }
 
+/// One name for each of these parameters.
+fn param_names(alloc: Global, takes: &str) -> Result<Seq<Text>, AllocError> {
+    let mut names = Seq::new(alloc);
+    for _ in takes.split_terminator(", ") {
+        names.push(Text::from_str(alloc, "x")?)?;
+    }
+    Ok(names)
+}
+
 /// A function, whose parameters have one name.
 pub fn add_func(
     rt: &impl Abort,
     alloc: Global,
     builder: &mut Builder,
-    takes: &[Nested],
-    gives: &[Nested],
+    takes: &str,
+    gives: &str,
 ) -> Result<u32, PushError> {
-    let mut param_names = Seq::new(alloc);
-    for _ in takes {
-        param_names.push(Text::from_str(alloc, "x")?)?;
-    }
     let params = add_tuple(rt, alloc, builder, takes)?;
     let results = add_tuple(rt, alloc, builder, gives)?;
+    let param_names = param_names(alloc, takes)?;
     let types = builder.component_types();
     assert!(rt; types.get(params).is_some() && types.get(results).is_some());
     let index = builder.add_func_type(TypeFunc {
@@ -170,32 +203,42 @@ pub fn add_func(
 }
 
 /// Six functions, which are named by their places: the parameters, and the results.
-const FUNCS: &[(&[Nested], &[Nested])] = &[
-    (&[U32], &[]),
-    (&[(Kind::Plain(InterfaceType::U64), 0)], &[U32]),
-    (&[(Kind::Plain(InterfaceType::String), 0)], &[]),
-    (&[(Kind::Own, 0)], &[]),
-    (&[U32, U32], &[]),
-    (&[(Kind::Variant(4097), 0)], &[]),
-];
+const FUNCS: &str = "
+u32 0 0 ->
+u64 0 0 -> u32 0 0
+string 0 0 ->
+own 0 0 ->
+u32 0 0, u32 0 0 ->
+variant 4097 0 ->
+";
 
-/// The parameters and results of two core types.
-const CORE_TYPES: &[(&[ValType], &[ValType])] = &[
-    (&[ValType::I32], &[]),
-    (&[ValType::I64], &[ValType::I32]),
-];
-
-/// Adds the functions and the core types.
-pub fn fill(rt: &impl Abort, alloc: Global, builder: &mut Builder) -> Result<(), PushError> {
-    for (takes, gives) in FUNCS {
-        add_func(rt, alloc, builder, takes, gives)?;
-    }
-    for (params, results) in CORE_TYPES {
-        let params = Seq::from_vec(params.to_vec(alloc)?);
-        let results = Seq::from_vec(results.to_vec(alloc)?);
-        builder
-            .module_types_builder_mut()
-            .intern(FuncType { params, results })?;
-    }
+/// Adds a core type.
+fn add_core_type(
+    alloc: Global,
+    builder: &mut Builder,
+    params: &[ValType],
+    results: &[ValType],
+) -> Result<(), PushError> {
+    let ty = FuncType::from_slices(alloc, params, results)?;
+    builder.module_types_builder_mut().intern(ty)?;
     Ok(())
+}
+
+fn add_row(
+    rt: &impl Abort,
+    alloc: Global,
+    builder: &mut Builder,
+    row: &str,
+) -> Result<u32, PushError> {
+    let (takes, gives) = row.split_once(" ->").unwrap_or((row, ""));
+    add_func(rt, alloc, builder, takes, gives.trim())
+}
+
+/// Adds the functions, and two core types.
+pub fn fill(rt: &impl Abort, alloc: Global, builder: &mut Builder) -> Result<(), PushError> {
+    for row in FUNCS.trim().lines() {
+        add_row(rt, alloc, builder, row)?;
+    }
+    add_core_type(alloc, builder, &[ValType::I32], &[])?;
+    add_core_type(alloc, builder, &[ValType::I64], &[ValType::I32])
 }
