@@ -26,15 +26,18 @@ use Rattle.fact_types.specs.Shapes.{Kind, k_record, k_variant, k_list, k_tuple, 
 use Rattle.fact_types.specs.Signatures.{flat_values, lower_limit, lift_results_limit}
 use Rattle.fact_machine.specs.declared.types.CoreValue.{CoreValue}
 use Rattle.fact_machine.specs.World.{Throw, Trap, Lack}
+use Rattle.fact_abi.specs.Limits.{CaseType, case_type}
+use Rattle.fact_abi.specs.Places.{payload_place, case_bytes, flags_bytes}
+use Rattle.fact_abi.specs.Texts.{form_of}
 use Rattle.fact_moves.specs.Actions.{Action, Give, Unreachable, ◌>>◌, trap, unless}
 use Rattle.fact_moves.specs.AdapterLaws.{EachSync, EachStart, EachReturn, is_misplaced, NoneMisplaced, HasCountedTypes}
 use Rattle.fact_moves.specs.Plain.{guarded_if}
 use Rattle.fact_moves.specs.Running.{ImportPlaces, Ended, Gave, Halted, Strayed, run}
 use Rattle.fact_moves.specs.Adapters.{AdapterTunables, Slotted, params_transfer, results_transfer, tuple_members, check_tuple, from_values, flat_results, move_params, move_results, last_bits, when_due, make_call, cleared, enters, read_slots, write_slots, finish_call, sync, async_start, async_return, lift_signature_of}
-use Rattle.fact_moves.specs.Moves.{SourceCase, MovingMembers, case_at, offset_of, entry_extent, element_flats, part, spot, past, payload_part, payload_spot, canonical_number, plain_size, case_bytes, flags_bytes, aligned_source, aligned_target, aligned_node, move_number, move_char, move_handle, move_enum, read_case, write_case, move_list, move_fixed, move_plain, move_to_plain, move_sum, move_node, move_to_node, with_field, move, move_fields, move_case}
+use Rattle.fact_moves.specs.Moves.{MovingMembers, entry_extent, element_flats, part, spot, past, payload_part, payload_spot, canonical_number, plain_size, aligned_source, aligned_target, aligned_node, move_number, move_char, move_handle, move_enum, read_case, write_case, move_list, move_fixed, move_plain, move_to_plain, move_sum, move_node, move_to_node, with_field, move, move_fields, move_case}
 use Rattle.fact_moves.specs.Paths.{Path, End, Limit, Resize, Pass, If, Tag, Assert, TextForm, AsUtf8, AsUtf16, AsCompactLatin1, AsCompactUtf16, path}
-use Rattle.fact_moves.specs.Sides.{LiftLowerOptions, Transfer, Source, Values, AtAddress, Target, Slots, Into, options_of, width_of_side, nth_part, nth_spot, first_bits, address_value, reallocate}
-use Rattle.fact_moves.specs.Strings.{PathPoint, path_start, holds, with_tag, asserted, choose_action, transcode, walk, form_in, units_in, move_string}
+use Rattle.fact_moves.specs.Sides.{LiftLowerOptions, Transfer, Source, Values, AtAddress, Target, Slots, Into, options_of, width_of_side, nth_part, nth_spot, first_bits, address_value, reallocate, side_abi}
+use Rattle.fact_moves.specs.Strings.{PathPoint, path_start, holds, with_tag, asserted, choose_action, transcode, walk, form_in, move_string}
 use Rattle.fact_moves.proofs.Avoids.{Misses, misses, misses_later, Avoids, avoids_give, avoids_stop, avoids_visit, avoids_ask, avoids_get, avoids_set, avoids_bind, avoids_unless, avoids_each, avoids_memory, avoids_number, avoids_written, avoids_pair, avoids_pair_written, avoids_region, avoids_realloc}
 use Rattle.fact_moves.proofs.States.{false_true}
 use Rattle.fact_moves.proofs.Multiples.{align_in, record_align, Covers, covers_record, place_divides, size_divides, offset_divides, sum_divides, fixed_divides, FieldFits, FitsField, field_fits, PayloadFits, CaseFits, case_fits}
@@ -113,7 +116,7 @@ module _ (tr : Transfer) where
       avoids_pair tr.debug tr.from s (λ p n.
       let f = form_in tr.from.encoding n in
       avoids_region tr.from StringOutOfBounds p _ _ refl (λ is.
-      avoids_bind (avoids_walk (path f tr.to.encoding) (path_start p (units_in tr.from.encoding n)) (other_tests f tr.to.encoding)) (λ v. avoids_pair_written tr.to d v.region v.written)))
+      avoids_bind (avoids_walk (path f tr.to.encoding) (path_start p (form_of tr.from.encoding n).units) (other_tests f tr.to.encoding)) (λ v. avoids_pair_written tr.to d v.region v.written)))
 
   -- ---- plain types
 
@@ -182,11 +185,11 @@ module _ (tr : Transfer) where
   avoids_field n None fits h = avoids_stop
   avoids_field n (Some f) fits h = h f fits
 
-  payload_on : (ms : Members) (p : Shape) (s : Source) → align_in wf p ∣ record_align wf ms → SourceOn (record_align wf ms) s → SourceOn (align_in wf p) (payload_part tr.from p (offset_of tr.from ms) s)
+  payload_on : (ms : Members) (p : Shape) (s : Source) → align_in wf p ∣ record_align wf ms → SourceOn (record_align wf ms) s → SourceOn (align_in wf p) (payload_part tr.from p (payload_place (side_abi tr.from) ms) s)
   payload_on ms p (Values vs) k on = tt
   payload_on ms p (AtAddress a) k on = dvd_trans _ k (dvd-add _ on (offset_divides wf (case_bytes ms) ms))
 
-  payload_to : (ns : Members) (u : Shape) (d : Target) → align_in wt u ∣ record_align wt ns → TargetOn (record_align wt ns) d → TargetOn (align_in wt u) (payload_spot tr.to u (offset_of tr.to ns) d)
+  payload_to : (ns : Members) (u : Shape) (d : Target) → align_in wt u ∣ record_align wt ns → TargetOn (record_align wt ns) d → TargetOn (align_in wt u) (payload_spot tr.to u (payload_place (side_abi tr.to) ns) d)
   payload_to ns u (Slots ts) k on = tt
   payload_to ns u (Into a) k on = dvd_trans _ k (dvd-add _ on (offset_divides wt (case_bytes ns) ns))
 
@@ -226,13 +229,13 @@ module _ (tr : Transfer) where
   -- how members are moved, between places that fit them
   record MovesMembers (ns : Members) (m : MovingMembers) : Type 0 where
     fields : (ms : Members) (s : Source) (d : Target) → AreCounted ms → SourceOn (record_align wf ms) s → TargetOn (record_align wt ns) d → Avoids (m.fields ms s d)
-    case : (ms : Members) (c : SourceCase) (s : Source) (d : Target) → PayloadFits wf (record_align wf ms) c.payload → SourceOn (record_align wf ms) s → TargetOn (record_align wt ns) d → Avoids (m.case ms c s d)
+    case : (ms : Members) (c : CaseType) (s : Source) (d : Target) → PayloadFits wf (record_align wf ms) c.payload → SourceOn (record_align wf ms) s → TargetOn (record_align wt ns) d → Avoids (m.case ms c s d)
 
-  avoids_read_case : (ms : Members) (s : Source) (k : SourceCase → Action (List CoreValue)) → AreCounted ms → ((c : SourceCase) → PayloadFits wf (record_align wf ms) c.payload → Avoids (k c)) → Avoids (read_case tr ms s k)
+  avoids_read_case : (ms : Members) (s : Source) (k : CaseType → Action (List CoreValue)) → AreCounted ms → ((c : CaseType) → PayloadFits wf (record_align wf ms) c.payload → Avoids (k c)) → Avoids (read_case tr ms s k)
   unfolding CaseFits
-  avoids_read_case ms s k counted h = avoids_number tr.debug tr.from (case_bytes ms) s (λ n. by_case (case_at ms n) (case_fits wf (record_align wf ms) ms n (covers_record wf ms) counted))
+  avoids_read_case ms s k counted h = avoids_number tr.debug tr.from (case_bytes ms) s (λ n. by_case (case_type ms n) (case_fits wf (record_align wf ms) ms n (covers_record wf ms) counted))
     where
-      by_case : (o : Option SourceCase) → CaseFits wf (record_align wf ms) o → Avoids {A = List CoreValue} (elim o [ None ↦ trap InvalidDiscriminant | Some c ↦ k c ])
+      by_case : (o : Option CaseType) → CaseFits wf (record_align wf ms) o → Avoids {A = List CoreValue} (elim o [ None ↦ trap InvalidDiscriminant | Some c ↦ k c ])
       by_case None fits = avoids_ask _ [] [] refl (λ rs. avoids_stop)
       by_case (Some c) fits = h c fits
 
@@ -320,7 +323,7 @@ module _ (tr : Transfer) where
         avoids_bind (avoids_move f.shape u _ _ fits.counted cu.0 (part_on _ f s fits on) (spot_on n u end d covers.0 to)) (λ vs.
         avoids_bind (avoids_fields ms ns _ n s _ ct cu.1 covers.1 on (past_on n u d to)) (λ us. avoids_give _)))
 
-    avoids_case : (ms all : Members) (c : SourceCase) (ns : Members) (n : ℕ) (s : Source) (d : Target) → PayloadFits wf (record_align wf ms) c.payload → AreCounted ns → Covers wt (record_align wt all) ns
+    avoids_case : (ms all : Members) (c : CaseType) (ns : Members) (n : ℕ) (s : Source) (d : Target) → PayloadFits wf (record_align wf ms) c.payload → AreCounted ns → Covers wt (record_align wt all) ns
         → SourceOn (record_align wf ms) s → TargetOn (record_align wt all) d → Avoids (move_case tr ms all c ns n s d)
     avoids_case ms all c no_members n s d fits cu covers on to = avoids_stop
     avoids_case ms all c (bare x ns) n s d fits cu covers on to =

@@ -16,10 +16,11 @@ use Rattle.fact_machine.specs.declared.types.CoreValue.TheVariants.{I32, I64, F3
 use Rattle.fact_machine.specs.declared.types.Answer.{Answer}
 use Rattle.fact_machine.specs.World.{World, Res, Done, Halt, read, write, outside, set_global}
 use Rattle.fact_machine.specs.Machine.{i32_of}
+use Rattle.fact_abi.specs.Lift.{bits_of}
 use Rattle.fact_moves.specs.Actions.{Action, Give, Visit, Read, Write, MemoryLength, GetFlags, SetFlags, Ask, Unreachable, ◌>>=◌, unless, each_from}
 use Rattle.fact_moves.specs.AdapterLaws.{is_misplaced}
 use Rattle.fact_moves.specs.Running.{ImportPlaces, Call, Ended, Gave, Halted, Strayed, calls_in, heavier, later, or_strayed, ended, if_typed, is_answer, call_of, run}
-use Rattle.fact_moves.specs.Sides.{LiftLowerOptions, Source, Values, AtAddress, Target, Slots, Into, bits_of, with_memory, low_half, in_value, read_number, write_number, nth_part, nth_spot, bytes_of_addresses, read_pair, write_pair, check_region, get_slots, set_slots, reallocate, first_bits, address_value, type_of_addresses}
+use Rattle.fact_moves.specs.Sides.{LiftLowerOptions, Source, Values, AtAddress, Target, Slots, Into, with_memory, low_half, in_value, read_number, write_number, nth_part, nth_spot, bytes_of_addresses, read_pair, write_pair, check_region, get_slots, set_slots, reallocate, first_bits, address_value, type_of_addresses}
 
 -- whatever is read and answered
 Never : {A : Type 0} → Action A → Type 0

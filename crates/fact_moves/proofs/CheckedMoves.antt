@@ -16,12 +16,15 @@ use Rattle.fact_types.specs.Fields.{Field, field_of}
 use Rattle.fact_types.specs.Shapes.{Kind, k_record, k_variant, k_list, k_tuple, k_map, k_flags, k_enum, k_option, k_result, k_fixed, k_future, k_stream, Shape, s_plain, s_node, Members, no_members, bare, typed}
 use Rattle.fact_types.specs.Signatures.{flat_values, lower_limit, lift_results_limit}
 use Rattle.fact_machine.specs.declared.types.CoreValue.{CoreValue}
+use Rattle.fact_abi.specs.Limits.{CaseType, case_type}
+use Rattle.fact_abi.specs.Places.{case_bytes, flags_bytes}
+use Rattle.fact_abi.specs.Texts.{form_of}
 use Rattle.fact_moves.specs.Actions.{Action, Give, Unreachable, ◌>>◌, trap}
 use Rattle.fact_moves.specs.Adapters.{into_params, into_results, enter_call, exit_call, AdapterTunables, params_transfer, results_transfer, tuple_members, check_tuple, from_values, flat_results, move_params, move_results, last_bits, make_call, cleared, read_slots, sync, async_start, async_return, lift_signature_of}
-use Rattle.fact_moves.specs.Moves.{SourceCase, MovingMembers, case_at, entry_extent, canonical_number, plain_size, case_bytes, flags_bytes, aligned_source, aligned_target, aligned_node, move_number, move_char, move_handle, write_case, move_list, move_fixed, move_plain, move_to_plain, move_sum, move_node, move_to_node, with_field, move, move_fields, move_case}
+use Rattle.fact_moves.specs.Moves.{MovingMembers, entry_extent, canonical_number, plain_size, aligned_source, aligned_target, aligned_node, move_number, move_char, move_handle, write_case, move_list, move_fixed, move_plain, move_to_plain, move_sum, move_node, move_to_node, with_field, move, move_fields, move_case}
 use Rattle.fact_moves.specs.Paths.{Path, End, Limit, Resize, Pass, If, Tag, Assert, TextForm, AsUtf8, AsUtf16, AsCompactLatin1, AsCompactUtf16, path}
 use Rattle.fact_moves.specs.Sides.{write_pair, LiftLowerOptions, Transfer, Source, Values, AtAddress, Target, Slots, Into, options_of, first_bits, address_value, reallocate}
-use Rattle.fact_moves.specs.Strings.{PathPoint, path_start, holds, with_tag, asserted, choose_action, transcode, walk, form_in, units_in, move_string}
+use Rattle.fact_moves.specs.Strings.{PathPoint, path_start, holds, with_tag, asserted, choose_action, transcode, walk, form_in, move_string}
 use Rattle.fact_moves.specs.AdapterLaws.{is_check, EachChecked}
 use Rattle.fact_moves.proofs.Checks.{Checks, same, visits, gets, sets, checks_bind, checks_unless, checks_more, checks_each, checks_number, checks_pair, checks_region, checks_realloc, checks_run}
 
@@ -79,7 +82,7 @@ module _ (tr : Transfer) where
       checks_pair tr.debug tr.from s (λ p n.
       let f = form_in tr.from.encoding n in
       checks_region tr.from StringOutOfBounds p _ _
-      (checks_bind (checks_walk (path f tr.to.encoding) (path_start p (units_in tr.from.encoding n)) (asserts_checks f tr.to.encoding)) (λ v. same _)))
+      (checks_bind (checks_walk (path f tr.to.encoding) (path_start p (form_of tr.from.encoding n).units) (asserts_checks f tr.to.encoding)) (λ v. same _)))
 
   -- ---- plain types
 
@@ -137,12 +140,12 @@ module _ (tr : Transfer) where
   -- how members are moved, with checks and without them
   record ChecksMembers (m n : MovingMembers) : Type 0 where
     fields : (ms : Members) (s : Source) (d : Target) → Checks (m.fields ms s d) (n.fields ms s d)
-    case : (ms : Members) (c : SourceCase) (s : Source) (d : Target) → Checks (m.case ms c s d) (n.case ms c s d)
+    case : (ms : Members) (c : CaseType) (s : Source) (d : Target) → Checks (m.case ms c s d) (n.case ms c s d)
 
   checks_sum : (ms : Members) (m n : MovingMembers) (s : Source) (d : Target) → ChecksMembers m n → Checks (move_sum tr ms m s d) (move_sum off ms n s d)
-  checks_sum ms m n s d h = checks_number tr.debug tr.from (case_bytes ms) s (λ x. by_case (case_at ms x))
+  checks_sum ms m n s d h = checks_number tr.debug tr.from (case_bytes ms) s (λ x. by_case (case_type ms x))
     where
-      by_case : (o : Option SourceCase) → Checks {A = List CoreValue} (elim o [ None ↦ trap InvalidDiscriminant | Some c ↦ m.case ms c s d ]) (elim o [ None ↦ trap InvalidDiscriminant | Some c ↦ n.case ms c s d ])
+      by_case : (o : Option CaseType) → Checks {A = List CoreValue} (elim o [ None ↦ trap InvalidDiscriminant | Some c ↦ m.case ms c s d ]) (elim o [ None ↦ trap InvalidDiscriminant | Some c ↦ n.case ms c s d ])
       by_case None = same _
       by_case (Some c) = h.case ms c s d
 
@@ -198,7 +201,7 @@ module _ (tr : Transfer) where
     checks_fields ms (typed x u ns) end s d =
         checks_field (field_of x ms) (λ f. checks_bind (checks_move f.shape u _ _) (λ vs. checks_bind (checks_fields ms ns _ s _) (λ us. same _)))
 
-    checks_case : (ms all : Members) (c : SourceCase) (ns : Members) (n : ℕ) (s : Source) (d : Target) → Checks (move_case tr ms all c ns n s d) (move_case off ms all c ns n s d)
+    checks_case : (ms all : Members) (c : CaseType) (ns : Members) (n : ℕ) (s : Source) (d : Target) → Checks (move_case tr ms all c ns n s d) (move_case off ms all c ns n s d)
     checks_case ms all c no_members n s d = same _
     checks_case ms all c (bare x ns) n s d = checks_if (bytes_eq x c.name) (checks_write_case ms all s d n c.payload None (λ p s' d'. same Unreachable)) (checks_case ms all c ns (suc n) s d)
     checks_case ms all c (typed x u ns) n s d =

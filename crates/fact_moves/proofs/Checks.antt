@@ -15,10 +15,11 @@ use Rattle.fact_machine.specs.declared.types.Answer.TheVariants.{Returns, Traps,
 use Rattle.fact_machine.specs.declared.types.TraceEntry.TheVariants.{Called}
 use Rattle.fact_machine.specs.World.{World, Res, Done, Halt, read, write, asked, outside, set_global}
 use Rattle.fact_machine.specs.World as world
+use Rattle.fact_abi.specs.Lift.{bits_of}
 use Rattle.fact_moves.specs.Actions.{Action, Give, Visit, Read, Write, MemoryLength, GetFlags, SetFlags, Ask, Unreachable, ◌>>=◌, trap, unless, each_from}
 use Rattle.fact_moves.specs.AdapterLaws.{is_check, HasNotGiven, HasLacked, IsCutShort, IsChecked}
 use Rattle.fact_moves.specs.Running.{ImportPlaces, Call, Ended, Gave, Halted, Strayed, calls_in, world_in, heavier, later, or_strayed, ended, if_typed, is_answer, with_answer, call_of, run}
-use Rattle.fact_moves.specs.Sides.{LiftLowerOptions, Source, Values, AtAddress, bits_of, with_memory, low_half, in_value, read_number, nth_part, bytes_of_addresses, read_pair, check_region, get_slots, set_slots, reallocate, first_bits, address_value, type_of_addresses}
+use Rattle.fact_moves.specs.Sides.{LiftLowerOptions, Source, Values, AtAddress, with_memory, low_half, in_value, read_number, nth_part, bytes_of_addresses, read_pair, check_region, get_slots, set_slots, reallocate, first_bits, address_value, type_of_addresses}
 use Rattle.fact_machine.specs.Trace.{Grows}
 use Rattle.fact_machine.specs.Machine.{i32_of}
 use Rattle.fact_moves.proofs.Follows.{runs_follow}

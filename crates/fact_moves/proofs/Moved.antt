@@ -14,12 +14,15 @@ use Rattle.fact_types.specs.Fields.{Field, field_of}
 use Rattle.fact_machine.specs.declared.types.CoreValue.{CoreValue}
 use Rattle.fact_types.specs.declared.import.Import.{Import}
 use Rattle.fact_types.specs.declared.import.Import.TheVariants as import
+use Rattle.fact_abi.specs.Limits.{CaseType, case_type}
+use Rattle.fact_abi.specs.Places.{case_bytes}
+use Rattle.fact_abi.specs.Texts.{form_of}
 use Rattle.fact_moves.specs.Actions.{Action, trap}
 use Rattle.fact_moves.specs.Sides.{LiftLowerOptions, Transfer, Source, Target, Values, AtAddress, Slots, Into}
 use Rattle.fact_moves.specs.Transcoders.{transcode_kind}
 use Rattle.fact_moves.specs.Paths.{Path, End, Limit, Resize, Pass, If, Tag, Assert, TextForm, AsUtf8, AsUtf16, AsCompactLatin1, AsCompactUtf16, path}
-use Rattle.fact_moves.specs.Strings.{PathPoint, path_start, most_string_bytes, holds, asserted, choose_action, with_tag, passed, transcode, walk, form_in, units_in, move_string}
-use Rattle.fact_moves.specs.Moves.{SourceCase, case_at, case_bytes, read_case, write_case, MovingMembers, move, move_fields, move_case, move_node, move_to_node, plain_size, canonical_number, move_plain, move_to_plain, move_number, move_char, move_handle, move_enum, move_list, move_fixed, move_sum, aligned_node, aligned_source, aligned_target, weight_of, entry_extent, with_field}
+use Rattle.fact_moves.specs.Strings.{PathPoint, path_start, most_string_bytes, holds, asserted, choose_action, with_tag, passed, transcode, walk, form_in, move_string}
+use Rattle.fact_moves.specs.Moves.{read_case, write_case, MovingMembers, move, move_fields, move_case, move_node, move_to_node, plain_size, canonical_number, move_plain, move_to_plain, move_number, move_char, move_handle, move_enum, move_list, move_fixed, move_sum, aligned_node, aligned_source, aligned_target, weight_of, entry_extent, with_field}
 use Rattle.fact_moves.specs.Order.{IsValueCall}
 use Rattle.fact_moves.specs.TypedAnswers.{result_types}
 use Rattle.fact_wasm.specs.declared.types.ValType.{ValType}
@@ -86,7 +89,7 @@ module _ {tr : Transfer} {P : ℕ → (A : Type 0) → Action A → Type 0} (kep
       let f = form_in tr.from.encoding n in
       from_region kept 30 _ StringOutOfBounds p _ _ _ (
       kept.plain.more (path_calls (path f tr.to.encoding) + 0) 30 _ _ (few f)
-      (kept.binds (path_calls (path f tr.to.encoding)) 0 _ _ _ _ (walk_kept (path f tr.to.encoding) (path_start p (units_in tr.from.encoding n))) (λ v. write_pair_kept kept d v.region v.written))))
+      (kept.binds (path_calls (path f tr.to.encoding)) 0 _ _ _ _ (walk_kept (path f tr.to.encoding) (path_start p (form_of tr.from.encoding n).units)) (λ v. write_pair_kept kept d v.region v.written))))
     where
       few : (f : TextForm) → path_calls (path f tr.to.encoding) + 0 ≤ 30
       few f = let h = few_calls f tr.to.encoding in omega arith
@@ -133,10 +136,10 @@ module _ {tr : Transfer} {P : ℕ → (A : Type 0) → Action A → Type 0} (kep
 
   -- ---- sums
 
-  case_kept : (c : ℕ) (ms : Members) (s : Source) (k : SourceCase → Action (List CoreValue)) → ((x : SourceCase) → P c (List CoreValue) (k x)) → P c (List CoreValue) (read_case tr ms s k)
-  case_kept c ms s k h = from_read kept c _ (case_bytes ms) s _ (λ n. found (case_at ms n))
+  case_kept : (c : ℕ) (ms : Members) (s : Source) (k : CaseType → Action (List CoreValue)) → ((x : CaseType) → P c (List CoreValue) (k x)) → P c (List CoreValue) (read_case tr ms s k)
+  case_kept c ms s k h = from_read kept c _ (case_bytes ms) s _ (λ n. found (case_type ms n))
     where
-      found : (x : Option SourceCase) → P c (List CoreValue) (elim x [ None ↦ trap InvalidDiscriminant | Some y ↦ k y ])
+      found : (x : Option CaseType) → P c (List CoreValue) (elim x [ None ↦ trap InvalidDiscriminant | Some y ↦ k y ])
       found None = from_none kept.plain c _ _ (kept.plain.traps _ InvalidDiscriminant)
       found (Some y) = h y
 
@@ -169,7 +172,7 @@ module _ {tr : Transfer} {P : ℕ → (A : Type 0) → Action A → Type 0} (kep
 
   record AreKept (m : MovingMembers) : Type 0 where
     fields : (ms : Members) (s : Source) (d : Target) → P 0 (List CoreValue) (m.fields ms s d)
-    case : (ms : Members) (c : SourceCase) (s : Source) (d : Target) → P 0 (List CoreValue) (m.case ms c s d)
+    case : (ms : Members) (c : CaseType) (s : Source) (d : Target) → P 0 (List CoreValue) (m.case ms c s d)
 
   sum_kept : (ms : Members) (m : MovingMembers) (s : Source) (d : Target) → AreKept m → P 30 (List CoreValue) (move_sum tr ms m s d)
   sum_kept ms m s d h = case_kept 30 ms s _ (λ c. from_none kept.plain 30 _ _ (h.case ms c s d))
@@ -217,7 +220,7 @@ module _ {tr : Transfer} {P : ℕ → (A : Type 0) → Action A → Type 0} (kep
     fields_kept ms (typed x u ns) end s d =
         field_kept (field_of x ms) _ (λ f. kept.binds 0 0 _ _ _ _ (move_kept f.shape u _ _) (λ vs. kept.binds 0 0 _ _ _ _ (fields_kept ms ns _ s _) (λ us. kept.plain.gives _ _)))
 
-    case_by_name : (ms all : Members) (c : SourceCase) (ns : Members) (n : ℕ) (s : Source) (d : Target) → P 0 (List CoreValue) (move_case tr ms all c ns n s d)
+    case_by_name : (ms all : Members) (c : CaseType) (ns : Members) (n : ℕ) (s : Source) (d : Target) → P 0 (List CoreValue) (move_case tr ms all c ns n s d)
     case_by_name ms all c no_members n s d = kept.plain.stops _
     case_by_name ms all c (bare x ns) n s d = if_kept kept.plain 0 _ (bytes_eq x c.name) _ _ (write_case_kept ms all s d n c.payload None _ (λ p s' d'. kept.plain.stops _)) (case_by_name ms all c ns (suc n) s d)
     case_by_name ms all c (typed x u ns) n s d =

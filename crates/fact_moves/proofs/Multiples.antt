@@ -16,7 +16,7 @@ use Rattle.fact_types.specs.Layout.{extent, extents, aligned, payload_offset, pa
 use Rattle.fact_types.specs.Shapes.{k_record, k_variant, k_fixed, Shape, s_node, Members, no_members, bare, typed, layout_of, layouts_of, place_of, next_of}
 use Rattle.fact_types.proofs.AlignLaws.{power_pos}
 use Rattle.fact_types.proofs.PlaceLaws.{sound_in}
-use Rattle.fact_moves.specs.Moves.{SourceCase, case_at, at_width}
+use Rattle.fact_abi.specs.Limits.{CaseType, case_type, place_in}
 
 -- the alignment of a value, and of a record of members
 abbrev pub align_in : MemoryWidth → Shape → ℕ
@@ -119,7 +119,7 @@ fixed_divides w n (typed x s (typed y t ms)) e = absurd (omega (arith, e))
 
 -- a field that was found stands at a multiple of its alignment, which divides what those of all members divide
 pub record FieldFits (w : MemoryWidth) (n : ℕ) (f : Field) : Type 0 where
-  pub place : align_in w f.shape ∣ at_width w f.place32 f.place64
+  pub place : align_in w f.shape ∣ place_in w f
   pub covered : align_in w f.shape ∣ n
   pub counted : IsCounted f.shape
 
@@ -134,12 +134,12 @@ found_fits x w n (bare y ms) f a b h k = found_fits x w n ms f a b h k
 found_fits x w n (typed y s ms) f a b h k =
     by_name (bytes_eq y x) _ (found_fits x w n ms (f + length (flat Memory32 s)) (next_of Memory32 s a) (next_of Memory64 s b) h.1 k.1)
   where
-    stands : (w : MemoryWidth) → align_in w s ∣ at_width w (place_of Memory32 s a) (place_of Memory64 s b)
-    stands Memory32 = place_divides Memory32 s a
-    stands Memory64 = place_divides Memory64 s b
-
     here : Field
     here = record { shape = s; flat_place = f; place32 = place_of Memory32 s a; place64 = place_of Memory64 s b }
+
+    stands : (w : MemoryWidth) → align_in w s ∣ place_in w here
+    stands Memory32 = place_divides Memory32 s a
+    stands Memory64 = place_divides Memory64 s b
 
     by_name : (c : Bool) (later : Option Field) → FitsField w n later → FitsField w n (if c then Some here else later)
     by_name true later g = record { place = stands w; covered = h.0; counted = k.0 }
@@ -153,11 +153,11 @@ unfoldable pub PayloadFits : MemoryWidth → ℕ → Option Shape → Type 0
 PayloadFits w n None = Unit {0}
 PayloadFits w n (Some s) = (align_in w s ∣ n) × IsCounted s
 
-unfoldable pub CaseFits : MemoryWidth → ℕ → Option SourceCase → Type 0
+unfoldable pub CaseFits : MemoryWidth → ℕ → Option CaseType → Type 0
 CaseFits w n None = Unit {0}
 CaseFits w n (Some c) = PayloadFits w n c.payload
 
-pub case_fits : (w : MemoryWidth) (n : ℕ) (ms : Members) (i : ℕ) → Covers w n ms → AreCounted ms → CaseFits w n (case_at ms i)
+pub case_fits : (w : MemoryWidth) (n : ℕ) (ms : Members) (i : ℕ) → Covers w n ms → AreCounted ms → CaseFits w n (case_type ms i)
 unfolding PayloadFits CaseFits
 case_fits w n no_members i h k = tt
 case_fits w n (bare x ms) zero h k = tt

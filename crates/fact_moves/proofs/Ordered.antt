@@ -12,10 +12,11 @@ use Rattle.fact_machine.specs.Machine.{i32_of}
 use Rattle.fact_types.specs.declared.import.Import.{Import}
 use Rattle.fact_types.specs.declared.import.Import.TheVariants as import
 use Rattle.fact_types.specs.Adapters.{LinkedAdapter}
+use Rattle.fact_abi.specs.Lift.{bits_of}
 use Rattle.fact_moves.specs.Actions.{Action, Give, SetFlags, ◌>>=◌, ◌>>◌, trap, unless}
 use Rattle.fact_moves.specs.Running.{ImportPlaces, Call, Ended, Gave, Halted, Strayed, later, run}
 use Rattle.fact_moves.specs.Adapters.{AdapterTunables, Slotted, none, when_due, get_flags, cleared, make_call, enters, enter_call, exit_call, read_slots, finish_call, last_bits, params_transfer, results_transfer, move_params, move_results, sync, async_start, async_return}
-use Rattle.fact_moves.specs.Sides.{LiftLowerOptions, bits_of, options_of}
+use Rattle.fact_moves.specs.Sides.{LiftLowerOptions, options_of}
 use Rattle.fact_moves.specs.Order.{asks, get_slot, set_slot, result_of, where_due, post_return_calls, KeepsGlobals, flag_in, with_flag, AreOrderedCalls, IsTransfer}
 use Rattle.fact_moves.specs.Plain.{guarded_if, ended_sync}
 use Rattle.fact_moves.proofs.Passed.{params_kept, results_kept}

@@ -10,15 +10,20 @@ use Rattle.fact_types.specs.declared.outside.Transcode.{Transcode}
 use Rattle.fact_types.specs.declared.outside.Trap.{Trap as Reason}
 use Rattle.fact_types.specs.declared.outside.Trap.TheVariants.{StringOutOfBounds}
 use Rattle.fact_machine.specs.declared.types.CoreValue.{CoreValue}
+use Rattle.fact_types.specs.declared.widths.MemoryWidth.{MemoryWidth}
+use Rattle.fact_types.specs.declared.widths.MemoryWidth.TheVariants.{Memory32, Memory64}
+use Rattle.fact_machine.specs.Typing.{address_bits}
 use Rattle.fact_machine.specs.World.{World}
 use Rattle.fact_types.specs.declared.import.Import.TheVariants as import
 use Rattle.fact_types.specs.Adapters.{is_wide, same_def}
+use Rattle.fact_abi.specs.Places.{pointer_bytes}
+use Rattle.fact_abi.specs.Texts.{form_of}
 use Rattle.fact_moves.specs.Actions.{Action, Give}
 use Rattle.fact_moves.specs.Running.{ImportPlaces, Call}
-use Rattle.fact_moves.specs.Sides.{LiftLowerOptions, Transfer, Source, Target, Slots, Into, wrap, bits_of_addresses, bytes_of_addresses, nth_spot, write_number, write_pair}
+use Rattle.fact_moves.specs.Sides.{LiftLowerOptions, Transfer, Source, Target, Slots, Into, wrap, width_of_side, bytes_of_addresses, nth_spot, write_number, write_pair}
 use Rattle.fact_moves.specs.Transcoders.{TranscodeKind, AllUnits, Counted, Fitting, Narrow, Tagged, Widening, transcode_kind}
 use Rattle.fact_moves.specs.Paths.{Amount, SourceUnits, WrittenUnits, Path, End, Limit, Resize, Pass, If, Tag, Assert, TextForm, AsUtf8, AsUtf16, AsCompactLatin1, AsCompactUtf16, align_of, path}
-use Rattle.fact_moves.specs.Strings.{PathPoint, path_start, most_string_bytes, amount, holds, asserted, choose_action, with_tag, passed, transcode, walk, form_in, units_in, move_string}
+use Rattle.fact_moves.specs.Strings.{PathPoint, path_start, most_string_bytes, amount, holds, asserted, choose_action, with_tag, passed, transcode, walk, form_in, move_string}
 use Rattle.fact_moves.specs.Calls.{is_call_of}
 use Rattle.fact_moves.specs.Regions.{Region, Landing, Position, without, moved_on}
 use Rattle.fact_moves.specs.Confined.{LiesInSound}
@@ -194,7 +199,7 @@ module _ (p : ImportPlaces) (next : Call → Position → Position) (tr : Transf
       (λ v live' w' h. behind (region 0 (amount tr (SourceUnits zero) (path_start a n)) (align_of tr.to.encoding)) live w live' w' h.0 nothing (let k = h.1 in omega arith))))
     where
       nothing : amount tr (SourceUnits zero) (path_start a n) ≡ 0
-      nothing = let z : zero * n ≡ 0 = omega arith in ap (λ x. x % 2 ^ bits_of_addresses tr.to) z ∙ zero-mod (2 ^ bits_of_addresses tr.to)
+      nothing = let z : zero * n ≡ 0 = omega arith in ap (λ x. x % 2 ^ address_bits (is_wide tr.to.memory)) z ∙ zero-mod (2 ^ address_bits (is_wide tr.to.memory))
 
       behind : (g : Region) (live : List Region) (w : World) (live' : List Region) (w' : World) → Heads (without g live) live' → g.size ≡ 0 → rm w ≤ rm w' → Kept p next l callee plain_next (rm w) live (rm w') live'
       behind g live w live' w' h e more =
@@ -212,11 +217,11 @@ module _ (p : ImportPlaces) (next : Call → Position → Position) (tr : Transf
 
   -- a pointer and a length
   pub some_bytes : (o : LiftLowerOptions) → 4 ≤ bytes_of_addresses o
-  some_bytes o = by_width (is_wide o.memory)
+  some_bytes o = by_width (width_of_side o)
     where
-      by_width : (b : Bool) → 4 ≤ elim b as (λ x. ℕ) [ false ↦ 4 | true ↦ 8 ]
-      by_width false = omega arith
-      by_width true = omega arith
+      by_width : (w : MemoryWidth) → 4 ≤ pointer_bytes w
+      by_width Memory32 = omega arith
+      by_width Memory64 = omega arith
 
   pub write_pair_w : (live : List Region) (w : World) (d : Target) (a n : ℕ) → Owned live w d (2 * bytes_of_addresses tr.to) → W live w (write_pair tr.to d a n) (Fine live w)
   write_pair_w live w d a n own =
@@ -237,5 +242,5 @@ module _ (p : ImportPlaces) (next : Call → Position → Position) (tr : Transf
       parts.pair_w p next l callee plain_next live w tr.debug tr.from s _ _ (λ a n.
       let f = form_in tr.from.encoding n in
       parts.region_w p next l callee plain_next live w tr.from StringOutOfBounds a _ _ _ _ (
-      writes_bind p next l (walk tr (path f tr.to.encoding) (path_start a (units_in tr.from.encoding n))) _ (λ v live' w'. Fine live w v live' w') _ (path_w (path f tr.to.encoding) live w a (units_in tr.from.encoding n) (begins f tr.to.encoding)) (λ v live' w' k.
+      writes_bind p next l (walk tr (path f tr.to.encoding) (path_start a (form_of tr.from.encoding n).units)) _ (λ v live' w'. Fine live w v live' w') _ (path_w (path f tr.to.encoding) live w a (form_of tr.from.encoding n).units (begins f tr.to.encoding)) (λ v live' w' k.
       writes_so p next l (write_pair_w live' w' d v.region v.written (owned_kept live w live' w' d (2 * bytes_of_addresses tr.to) (let b = some_bytes tr.to in omega arith) k own)) (λ vs live'' w'' k'. on k k'))))

@@ -10,15 +10,16 @@ use Rattle.fact_types.specs.declared.outside.Trap.{Trap as Reason}
 use Rattle.fact_types.specs.declared.outside.Trap.TheVariants.{UnalignedPointer, DebugAssertUpperBitsUnset}
 use Rattle.fact_machine.specs.declared.types.CoreValue.{CoreValue}
 use Rattle.fact_machine.specs.declared.types.CoreValue.TheVariants.{I32, I64, F32, F64, Func}
+use Rattle.fact_machine.specs.Typing.{address_operand}
 use Rattle.fact_machine.specs.World.{World}
 use Rattle.fact_types.specs.declared.import.Import.{Import}
 use Rattle.fact_types.specs.declared.import.Import.TheVariants as import
 use Rattle.fact_types.specs.declared.outside.MemoryOption.{MemoryOption}
 use Rattle.fact_types.specs.Adapters.{is_wide, same_def}
+use Rattle.fact_abi.specs.Lift.{bits_of}
 use Rattle.fact_moves.specs.Actions.{Action, Ask, Unreachable, trap, unless}
-use Rattle.fact_types.specs.Signatures.{address as pointer_type}
 use Rattle.fact_moves.specs.Running.{ImportPlaces, Call}
-use Rattle.fact_moves.specs.Sides.{LiftLowerOptions, Source, Values, AtAddress, bits_of, core_value, address_value, bytes_of_addresses, type_of_addresses, first_bits, low_half, in_value, with_memory, nth_part, read_number, read_pair, check_region, get_slots, set_slots, reallocate}
+use Rattle.fact_moves.specs.Sides.{LiftLowerOptions, Source, Values, AtAddress, address_value, bytes_of_addresses, type_of_addresses, first_bits, low_half, in_value, with_memory, nth_part, read_number, read_pair, check_region, get_slots, set_slots, reallocate}
 use Rattle.fact_moves.specs.Calls.{is_import_of, is_call_of, is_call_of_any, nth_number}
 use Rattle.fact_moves.specs.Regions.{Region, Landing, Position, is_request, given_region, given_up, without, moved_on, IsSoundRegion}
 use Rattle.fact_moves.specs.Confined.{LiesInSound}
@@ -30,7 +31,7 @@ use Rattle.fact_moves.proofs.States.{both}
 pub bits_address : (o : LiftLowerOptions) (n : ℕ) → bits_of (address_value o n) ≡ n
 bits_address o n = by_width (is_wide o.memory)
   where
-    by_width : (b : Bool) → bits_of (core_value (pointer_type b) n) ≡ n
+    by_width : (b : Bool) → bits_of (address_operand b n) ≡ n
     by_width false = refl
     by_width true = refl
 

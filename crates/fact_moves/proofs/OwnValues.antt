@@ -12,10 +12,12 @@ use Rattle.fact_machine.specs.declared.types.CoreValue.{CoreValue}
 use Rattle.fact_machine.specs.World.{World}
 use Rattle.fact_types.specs.declared.import.Import.{Import}
 use Rattle.fact_types.specs.declared.import.Import.TheVariants as import
+use Rattle.fact_abi.specs.Limits.{CaseType, case_type}
+use Rattle.fact_abi.specs.Places.{case_bytes, payload_place, flags_bytes}
 use Rattle.fact_moves.specs.Actions.{Action, Unreachable, trap, each_from}
 use Rattle.fact_moves.specs.Running.{ImportPlaces, Call}
-use Rattle.fact_moves.specs.Sides.{LiftLowerOptions, Transfer, Source, Values, AtAddress, Target, Slots, Into, width_of_side, bytes_of_addresses, nth_spot, write_number, write_pair}
-use Rattle.fact_moves.specs.Moves.{SourceCase, case_at, case_bytes, offset_of, payload_part, payload_spot, spot, past, part, read_case, write_case, MovingMembers, move, move_fields, move_case, move_node, move_to_node, move_plain, move_to_plain, plain_size, canonical_number, move_number, move_char, move_handle, flags_bytes, move_enum, move_list, move_fixed, move_sum, element_flats, entry_extent, aligned_node, aligned_source, aligned_target, weight_of, with_field}
+use Rattle.fact_moves.specs.Sides.{LiftLowerOptions, Transfer, Source, Values, AtAddress, Target, Slots, Into, width_of_side, bytes_of_addresses, nth_spot, write_number, write_pair, side_abi}
+use Rattle.fact_moves.specs.Moves.{payload_part, payload_spot, spot, past, part, read_case, write_case, MovingMembers, move, move_fields, move_case, move_node, move_to_node, move_plain, move_to_plain, plain_size, canonical_number, move_number, move_char, move_handle, move_enum, move_list, move_fixed, move_sum, element_flats, entry_extent, aligned_node, aligned_source, aligned_target, weight_of, with_field}
 use Rattle.fact_types.specs.Adapters.{same_def}
 use Rattle.fact_moves.specs.Calls.{is_import_of, is_call_of}
 use Rattle.fact_moves.specs.Regions.{Region, Landing, Position, moved_on}
@@ -130,16 +132,16 @@ module _ (p : ImportPlaces) (next : Call → Position → Position) (tr : Transf
   enum_w : (live : List Region) (w : World) (ms ns : Members) (s : Source) (d : Target) → Owned live w d (case_bytes ns) → Moves live w (move_enum tr ms ns s d)
   enum_w live w ms ns s d o = parts.read_w p next l callee plain_next live w tr.debug tr.from (case_bytes ms) s _ _ (λ n. parts.unless_w p next l callee plain_next live w InvalidDiscriminant _ _ _ (λ e. written_w live w (case_bytes ns) d n o))
 
-  case_read_w : (live : List Region) (w : World) (ms : Members) (s : Source) (k : SourceCase → Action (List CoreValue)) → ((c : SourceCase) → Moves live w (k c)) → Moves live w (read_case tr ms s k)
-  case_read_w live w ms s k h = parts.read_w p next l callee plain_next live w tr.debug tr.from (case_bytes ms) s _ _ (λ n. found (case_at ms n))
+  case_read_w : (live : List Region) (w : World) (ms : Members) (s : Source) (k : CaseType → Action (List CoreValue)) → ((c : CaseType) → Moves live w (k c)) → Moves live w (read_case tr ms s k)
+  case_read_w live w ms s k h = parts.read_w p next l callee plain_next live w tr.debug tr.from (case_bytes ms) s _ _ (λ n. found (case_type ms n))
     where
-      found : (x : Option SourceCase) → Moves live w (elim x [ None ↦ trap InvalidDiscriminant | Some y ↦ k y ])
+      found : (x : Option CaseType) → Moves live w (elim x [ None ↦ trap InvalidDiscriminant | Some y ↦ k y ])
       found None = parts.trapped p next l callee plain_next live w InvalidDiscriminant _
       found (Some y) = h y
 
-  payload_owned : (live : List Region) (w : World) (ns : Members) (q : Shape) (d : Target) → node_size tr.to q ≤ greatest_of tr.to ns → Owned live w d (sum_bytes tr.to ns) → Owned live w (payload_spot tr.to q (offset_of tr.to ns) d) (node_size tr.to q)
+  payload_owned : (live : List Region) (w : World) (ns : Members) (q : Shape) (d : Target) → node_size tr.to q ≤ greatest_of tr.to ns → Owned live w d (sum_bytes tr.to ns) → Owned live w (payload_spot tr.to q (payload_place (side_abi tr.to) ns) d) (node_size tr.to q)
   payload_owned live w ns q (Slots ts) h o = tt
-  payload_owned live w ns q (Into a) h o = own_part (rm w) (live ++ area) a (sum_bytes tr.to ns) (a + offset_of tr.to ns) (node_size tr.to q) (omega arith) (omega (arith, payload_room tr.to ns)) o
+  payload_owned live w ns q (Into a) h o = own_part (rm w) (live ++ area) a (sum_bytes tr.to ns) (a + payload_place (side_abi tr.to) ns) (node_size tr.to q) (omega arith) (omega (arith, payload_room tr.to ns)) o
 
   case_written_w : (live : List Region) (w : World) (ms ns : Members) (s : Source) (d : Target) (n : ℕ) (c q : Option Shape) (m : Shape → Source → Target → Action (List CoreValue))
       → 0 < sum_bytes tr.to ns → Owned live w d (sum_bytes tr.to ns)
@@ -148,7 +150,7 @@ module _ (p : ImportPlaces) (next : Call → Position → Position) (tr : Transf
       → Moves live w (write_case tr ms ns s d n c q m)
   case_written_w live w ms ns s d n (Some t) (Some u) m z o fits h =
       writes_bind p next l (write_number tr.to (case_bytes ns) d n) _ (λ vs live' w'. Fine live w vs live' w') _ (written_w live w (case_bytes ns) d n (less live w d (case_bytes ns) _ (tag_room tr.to ns) o)) (λ tag live' w' k.
-      writes_bind p next l (m t (payload_part tr.from t (offset_of tr.from ms) s) (payload_spot tr.to u (offset_of tr.to ns) d)) _ (λ vs live'' w''. Fine live' w' vs live'' w'') _
+      writes_bind p next l (m t (payload_part tr.from t (payload_place (side_abi tr.from) ms) s) (payload_spot tr.to u (payload_place (side_abi tr.to) ns) d)) _ (λ vs live'' w''. Fine live' w' vs live'' w'') _
       (h t u live' w' _ _ refl (payload_owned live' w' ns u d (fits t u refl) (later_owned live w live' w' d (sum_bytes tr.to ns) z k o))) (λ vs live'' w'' k'.
       writes_give p next l live'' w'' _ _ (on k k')))
   case_written_w live w ms ns s d n None None m z o fits h =
@@ -211,7 +213,7 @@ module _ (p : ImportPlaces) (next : Call → Position → Position) (tr : Transf
 
   record AreOwn (ns : Members) (m : MovingMembers) : Type 0 where
     fields : (ms : Members) → FieldsOwn ns (m.fields ms)
-    case : (ms : Members) (c : SourceCase) (live : List Region) (w : World) (s : Source) (d : Target) → 0 < sum_bytes tr.to ns → Owned live w d (sum_bytes tr.to ns) → Moves live w (m.case ms c s d)
+    case : (ms : Members) (c : CaseType) (live : List Region) (w : World) (s : Source) (d : Target) → 0 < sum_bytes tr.to ns → Owned live w d (sum_bytes tr.to ns) → Moves live w (m.case ms c s d)
 
   sum_w : (live : List Region) (w : World) (ms ns : Members) (m : MovingMembers) (s : Source) (d : Target) → AreOwn ns m → 0 < sum_bytes tr.to ns → Owned live w d (sum_bytes tr.to ns) → Moves live w (move_sum tr ms m s d)
   sum_w live w ms ns m s d h z o = case_read_w live w ms s _ (λ c. h.case ms c live w s d z o)
@@ -283,7 +285,7 @@ module _ (p : ImportPlaces) (next : Call → Position → Position) (tr : Transf
         (fields_w live' w' ms ns (next_of (width_of_side tr.to) u end) s (past tr.to u d) n e z r.1 (past_owned live' w' u n d (later_owned live w live' w' d n z k o))) (λ us live'' w'' k'.
         writes_give p next l live'' w'' _ _ (on k k'))))
 
-    case_w : (live : List Region) (w : World) (ms all : Members) (c : SourceCase) (ns : Members) (n : ℕ) (s : Source) (d : Target)
+    case_w : (live : List Region) (w : World) (ms all : Members) (c : CaseType) (ns : Members) (n : ℕ) (s : Source) (d : Target)
         → greatest_of tr.to ns ≤ greatest_of tr.to all → HaveRoom tr.to ns → 0 < sum_bytes tr.to all → Owned live w d (sum_bytes tr.to all) → Moves live w (move_case tr ms all c ns n s d)
     case_w live w ms all c no_members n s d g r z o = stop_w live w
     case_w live w ms all c (bare x ns) n s d g r z o =

@@ -1,20 +1,19 @@
 -- The parts of values lie within the room of the whole.
-use Rattle.std.proofs.Common.{◌≡◌, ℕ, suc, ◌+◌, ◌*◌, ◌<◌, ◌≤◌, Bool, true, false, List, refl, ap, sym, arith, length}
+use Rattle.std.proofs.Common.{◌≡◌, ℕ, suc, ◌+◌, ◌*◌, ◌<◌, ◌≤◌, List, refl, ap, arith, length}
 use Rattle.std.proofs.Math.Nat.{le-max_left, le-max_right, mul-le-mul_right}
 use Rattle.fact_types.specs.declared.interface.InterfaceType.{InterfaceType}
 use Rattle.fact_types.specs.declared.interface.InterfaceType.TheVariants as ty
 use Rattle.fact_types.specs.declared.widths.MemoryWidth.{MemoryWidth}
 use Rattle.fact_types.specs.declared.widths.MemoryWidth.TheVariants.{Memory32, Memory64}
 use Rattle.fact_types.specs.Layout.{extent, extents, greatest_align, greatest_size, payloads, payload_offset, discriminant_size, discriminant_bytes, pointer_pair_layout, enum_layout, scalar_layout, variant_extent}
-use Rattle.fact_types.specs.Shapes.{k_record, k_variant, k_enum, k_flags, Shape, s_plain, s_node, Members, no_members, bare, typed, layout_of, layouts_of, plain_layout, place_of, next_of, ends_of}
-use Rattle.fact_types.specs.Signatures.{width}
+use Rattle.fact_types.specs.Shapes.{k_record, k_variant, k_enum, k_flags, Shape, s_plain, s_node, Members, bare, typed, layout_of, layouts_of, plain_layout, place_of, next_of, ends_of}
 use Rattle.fact_types.proofs.AlignLaws.{aligned_bounds, inside_tagged}
 use Rattle.fact_types.proofs.FieldLaws.{greatest_align_pos}
 use Rattle.fact_types.proofs.PayloadLaws.{enum_is_scalar}
 use Rattle.fact_types.proofs.PlaceLaws.{ends_grow, ends_within}
-use Rattle.fact_types.specs.Adapters.{is_wide}
-use Rattle.fact_moves.specs.Sides.{LiftLowerOptions, width_of_side, bytes_of_addresses}
-use Rattle.fact_moves.specs.Moves.{count_of_members, case_bytes, offset_of, flags_bytes, plain_size}
+use Rattle.fact_abi.specs.Places.{pointer_bytes, case_bytes, payload_place, flags_bytes}
+use Rattle.fact_moves.specs.Sides.{LiftLowerOptions, width_of_side, bytes_of_addresses, side_abi}
+use Rattle.fact_moves.specs.Moves.{plain_size}
 use Rattle.fact_moves.specs.Confined.{node_size}
 
 -- ---- plain types
@@ -30,11 +29,11 @@ plain_room o u = plain_in (width_of_side o) u
 
 -- a pointer and a length
 pub pair_room : (o : LiftLowerOptions) → 2 * bytes_of_addresses o ≤ (extent (width_of_side o) pointer_pair_layout).size
-pair_room o = by_width (is_wide o.memory)
+pair_room o = by_width (width_of_side o)
   where
-    by_width : (b : Bool) → 2 * elim b as (λ x. ℕ) [ false ↦ 4 | true ↦ 8 ] ≤ (extent (width b) pointer_pair_layout).size
-    by_width false = omega arith
-    by_width true = omega arith
+    by_width : (w : MemoryWidth) → 2 * pointer_bytes w ≤ (extent w pointer_pair_layout).size
+    by_width Memory32 = omega arith
+    by_width Memory64 = omega arith
 
 pub four_room : (o : LiftLowerOptions) → 4 ≤ (extent (width_of_side o) (scalar_layout 4)).size
 four_room o = by_width (width_of_side o)
@@ -45,19 +44,11 @@ four_room o = by_width (width_of_side o)
 
 -- ---- sums
 
-pub count_is : (ms : Members) → length (layouts_of ms) ≡ count_of_members ms
-count_is no_members = refl
-count_is (bare x ms) = ap suc (count_is ms)
-count_is (typed x t ms) = ap suc (count_is ms)
-
-tag_is : (ms : Members) → discriminant_bytes (discriminant_size (length (layouts_of ms))) ≡ case_bytes ms
-tag_is ms = ap (λ n. discriminant_bytes (discriminant_size n)) (count_is ms)
-
 pub enum_room : (o : LiftLowerOptions) (ms : Members) → case_bytes ms ≤ node_size o (s_node k_enum ms)
 enum_room o ms = by_width (width_of_side o)
   where
     by_width : (w : MemoryWidth) → case_bytes ms ≤ (extent w (enum_layout (length (layouts_of ms)))).size
-    by_width w = let e : (extent w (enum_layout (length (layouts_of ms)))).size ≡ (extent w (scalar_layout (discriminant_bytes (discriminant_size (length (layouts_of ms)))))).size = ap (λ c. (extent w c).size) (enum_is_scalar (length (layouts_of ms))) in omega (arith, tag_is ms, scalar_in w (discriminant_bytes (discriminant_size (length (layouts_of ms)))))
+    by_width w = let e : (extent w (enum_layout (length (layouts_of ms)))).size ≡ (extent w (scalar_layout (discriminant_bytes (discriminant_size (length (layouts_of ms)))))).size = ap (λ c. (extent w c).size) (enum_is_scalar (length (layouts_of ms))) in omega (arith, scalar_in w (discriminant_bytes (discriminant_size (length (layouts_of ms)))))
       where
         scalar_in : (w : MemoryWidth) (n : ℕ) → (extent w (scalar_layout n)).size ≡ n
         scalar_in Memory32 n = refl
@@ -87,19 +78,18 @@ unfolding sum_bytes
 tag_room o ms =
     let ps = extents (width_of_side o) (payloads (layouts_of ms)) in
     let d = discriminant_bytes (discriminant_size (length (layouts_of ms))) in
-    let e = tag_is ms in
     omega (arith, inside_tagged d (greatest_size ps) (greatest_align ps) (greatest_align_pos ps), (aligned_bounds d (greatest_align ps) (greatest_align_pos ps)).0)
 
 -- the greatest payload of cases
 pub greatest_of : LiftLowerOptions → Members → ℕ
 greatest_of o ms = greatest_size (extents (width_of_side o) (payloads (layouts_of ms)))
 
-pub payload_room : (o : LiftLowerOptions) (ms : Members) → offset_of o ms + greatest_of o ms ≤ sum_bytes o ms
+pub payload_room : (o : LiftLowerOptions) (ms : Members) → payload_place (side_abi o) ms + greatest_of o ms ≤ sum_bytes o ms
 unfolding sum_bytes greatest_of
 payload_room o ms =
     let ps = extents (width_of_side o) (payloads (layouts_of ms)) in
     let d = discriminant_bytes (discriminant_size (length (layouts_of ms))) in
-    let e : offset_of o ms ≡ payload_offset d ps = ap (λ n. payload_offset n ps) (sym (tag_is ms)) in
+    let e : payload_place (side_abi o) ms ≡ payload_offset d ps = refl in
     omega (arith, inside_tagged d (greatest_size ps) (greatest_align ps) (greatest_align_pos ps))
 
 pub greatest_head : (o : LiftLowerOptions) (x : List ℕ) (t : Shape) (ms : Members) → (node_size o t ≤ greatest_of o (typed x t ms)) × (greatest_of o ms ≤ greatest_of o (typed x t ms))

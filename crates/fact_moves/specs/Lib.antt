@@ -14,6 +14,5 @@ pub mod Requests
 pub mod Running
 pub mod Sides
 pub mod Strings
-pub mod Texts
 pub mod Transcoders
 pub mod TypedAnswers

@@ -1,15 +1,13 @@
 -- Moving a value of a source type from its place to a place of a destination type (canonical ABI, "Loading", "Storing", "Flat
 -- Lifting" and "Flat Lowering").
-use Rattle.std.specs.Prelude.{ℕ, zero, suc, ◌+◌, ◌*◌, ◌%◌, ◌^◌, ◌++◌, ◌&&◌, ◌||◌, Bool, true, false, List, [], ◌∷◌, length, take, drop, Option, Some, None, nat_lt, nat_eq, if◌then◌else◌}
+use Rattle.std.specs.Prelude.{ℕ, suc, ◌+◌, ◌*◌, ◌%◌, ◌^◌, ◌++◌, Bool, true, false, List, [], ◌∷◌, length, take, drop, Option, Some, None, nat_lt, nat_eq, if◌then◌else◌}
 use Rattle.std.specs.Str.{bytes_eq}
 use Rattle.fact_wasm.specs.declared.types.ValType.TheVariants as val
 use Rattle.fact_types.specs.declared.widths.Extent.{Extent}
-use Rattle.fact_types.specs.declared.widths.MemoryWidth.{MemoryWidth}
-use Rattle.fact_types.specs.declared.widths.MemoryWidth.TheVariants.{Memory32, Memory64}
 use Rattle.fact_types.specs.declared.interface.InterfaceType.{InterfaceType}
 use Rattle.fact_types.specs.declared.interface.InterfaceType.TheVariants as ty
 use Rattle.fact_types.specs.declared.outside.Trap.TheVariants.{ListOutOfBounds, InvalidChar, InvalidDiscriminant, DebugAssertPointerAligned}
-use Rattle.fact_types.specs.Layout.{extent, record_layout, payloads, discriminant_size, discriminant_bytes, payload_offset, extents}
+use Rattle.fact_types.specs.Layout.{extent, record_layout, payloads}
 use Rattle.fact_types.specs.Shapes.{Kind, k_record, k_variant, k_list, k_tuple, k_map, k_flags, k_enum, k_option, k_result, k_fixed, k_future, k_stream, Shape, s_plain, s_node, Members, no_members, bare, typed, layout_of, layouts_of, plain_layout, place_of, next_of}
 use Rattle.fact_types.specs.FlatShapes.{flat, flat_members}
 use Rattle.fact_types.specs.Fields.{Field, field_of}
@@ -18,23 +16,22 @@ use Rattle.fact_machine.specs.declared.types.CoreValue.{CoreValue}
 use Rattle.fact_machine.specs.declared.types.CoreValue.TheVariants.{I32}
 use Rattle.fact_types.specs.declared.import.Import.{Import}
 use Rattle.fact_types.specs.declared.import.Import.TheVariants as import
+use Rattle.fact_abi.specs.Limits.{CaseType, case_type, place_in}
+use Rattle.fact_abi.specs.Numbers.{is_scalar_value}
+use Rattle.fact_abi.specs.Places.{count_of_members, case_bytes, payload_place, flags_bytes}
 use Rattle.fact_moves.specs.Actions.{Action, Give, Visit, Ask, Unreachable, ◌>>=◌, trap, unless, each}
 use Rattle.fact_moves.specs.Strings.{move_string}
-use Rattle.fact_moves.specs.Sides.{LiftLowerOptions, Transfer, Source, Values, AtAddress, Target, Slots, Into, width_of_side, first_bits, zeros, read_number, write_number, nth_part, nth_spot, read_pair, write_pair, check_region, reallocate}
+use Rattle.fact_moves.specs.Sides.{LiftLowerOptions, Transfer, Source, Values, AtAddress, Target, Slots, Into, side_abi, width_of_side, first_bits, zeros, read_number, write_number, nth_part, nth_spot, read_pair, write_pair, check_region, reallocate}
 
 -- ---- places of parts
 
 abbrev pub flat_length : LiftLowerOptions → Shape → ℕ
 flat_length o s = length (flat (width_of_side o) s)
 
-abbrev pub at_width : MemoryWidth → (memory32 memory64 : ℕ) → ℕ
-at_width Memory32 a b = a
-at_width Memory64 a b = b
-
 -- a field of a record at a source
 abbrev pub part : LiftLowerOptions → Field → Source → Source
 part o f (Values vs) = Values (take (flat_length o f.shape) (drop f.flat_place vs))
-part o f (AtAddress a) = AtAddress (a + at_width (width_of_side o) f.place32 f.place64)
+part o f (AtAddress a) = AtAddress (a + place_in (width_of_side o) f)
 
 -- the room of the next field of a record, which ends so many bytes behind its begin, and what is left for later fields
 abbrev pub spot : LiftLowerOptions → Shape → ℕ → Target → Target
@@ -78,9 +75,6 @@ abbrev pub move_number : Transfer → (from_size to_size : ℕ) → (ℕ → ℕ
 move_number tr from_size to_size f s d = read_number tr.debug tr.from from_size s (λ n. write_number tr.to to_size d (f n))
 
 -- a Unicode scalar value
-abbrev pub is_scalar_value : ℕ → Bool
-is_scalar_value n = nat_lt n 0xD800 || (nat_lt 0xDFFF n && nat_lt n 0x110000)
-
 abbrev pub move_char : Transfer → Source → Target → Action (List CoreValue)
 move_char tr s d = read_number tr.debug tr.from 4 s (λ n. unless InvalidChar (is_scalar_value n) (write_number tr.to 4 d n))
 
@@ -90,42 +84,16 @@ move_handle tr f from_table to_table s d =
     read_number tr.debug tr.from 4 s (λ n.
     Ask f (I32 n ∷ I32 from_table ∷ I32 to_table ∷ []) (val.I32 ∷ []) (λ rs. write_number tr.to 4 d (first_bits rs)))
 
--- how many members there are
-abbrev pub count_of_members : Members → ℕ
-count_of_members no_members = 0
-count_of_members (bare x ms) = suc (count_of_members ms)
-count_of_members (typed x s ms) = suc (count_of_members ms)
-
 -- flags, of which those that have names are moved
-abbrev pub flags_bytes : Members → ℕ
-flags_bytes ms = (layout_of (s_node k_flags ms)).size32
-
 abbrev pub move_flags : Transfer → (ms ns : Members) → Source → Target → Action (List CoreValue)
 move_flags tr ms ns s d = move_number tr (flags_bytes ms) (flags_bytes ns) (λ n. n % 2 ^ count_of_members ms) s d
 
 -- ---- sums
 
-pub record SourceCase : Type 0 where
-  pub name : List ℕ
-  pub payload : Option Shape
-
-abbrev pub case_at : Members → ℕ → Option SourceCase
-case_at no_members n = None
-case_at (bare x ms) zero = Some (record { name = x; payload = None })
-case_at (bare x ms) (suc n) = case_at ms n
-case_at (typed x s ms) zero = Some (record { name = x; payload = Some s })
-case_at (typed x s ms) (suc n) = case_at ms n
-
-abbrev pub case_bytes : Members → ℕ
-case_bytes ms = discriminant_bytes (discriminant_size (count_of_members ms))
-
-abbrev pub offset_of : LiftLowerOptions → Members → ℕ
-offset_of o ms = payload_offset (case_bytes ms) (extents (width_of_side o) (payloads (layouts_of ms)))
-
 -- the case that a discriminant names, with a trap past the last one
-abbrev pub read_case : Transfer → Members → Source → (SourceCase → Action (List CoreValue)) → Action (List CoreValue)
+abbrev pub read_case : Transfer → Members → Source → (CaseType → Action (List CoreValue)) → Action (List CoreValue)
 read_case tr ms s k =
-    read_number tr.debug tr.from (case_bytes ms) s (λ n. elim (case_at ms n) [ None ↦ trap InvalidDiscriminant | Some c ↦ k c ])
+    read_number tr.debug tr.from (case_bytes ms) s (λ n. elim (case_type ms n) [ None ↦ trap InvalidDiscriminant | Some c ↦ k c ])
 
 abbrev pub move_enum : Transfer → (ms ns : Members) → Source → Target → Action (List CoreValue)
 move_enum tr ms ns s d =
@@ -135,7 +103,7 @@ move_enum tr ms ns s d =
 abbrev pub write_case : Transfer → (ms ns : Members) → Source → Target → ℕ → Option Shape → Option Shape → (Shape → Source → Target → Action (List CoreValue)) → Action (List CoreValue)
 write_case tr ms ns s d n (Some p) (Some q) move =
     write_number tr.to (case_bytes ns) d n >>= (λ tag.
-    move p (payload_part tr.from p (offset_of tr.from ms) s) (payload_spot tr.to q (offset_of tr.to ns) d) >>= (λ vs. Give (padded d (tag ++ vs))))
+    move p (payload_part tr.from p (payload_place (side_abi tr.from) ms) s) (payload_spot tr.to q (payload_place (side_abi tr.to) ns) d) >>= (λ vs. Give (padded d (tag ++ vs))))
 write_case tr ms ns s d n None None move = write_number tr.to (case_bytes ns) d n >>= (λ tag. Give (padded d tag))
 write_case tr ms ns s d n _ _ move = Unreachable
 
@@ -194,7 +162,7 @@ aligned_node tr t u s d p = aligned_source tr.debug tr.from t s (aligned_target 
 -- and a case of a name with its payload.
 pub record MovingMembers : Type 0 where
   pub fields : Members → Source → Target → Action (List CoreValue)
-  pub case : Members → SourceCase → Source → Target → Action (List CoreValue)
+  pub case : Members → CaseType → Source → Target → Action (List CoreValue)
 
 -- nodes of this kind weigh one, and one for each case of a sum
 abbrev pub weight_of : Kind → Members → ℕ
@@ -255,7 +223,7 @@ unfoldable mutual
       move_fields tr ms ns (next_of (width_of_side tr.to) u end) s (past tr.to u d) >>= (λ us. Give (vs ++ us))))
 
   -- a case of the source, to the case of its name among those of the destination
-  pub move_case : Transfer → Members → Members → SourceCase → Members → ℕ → Source → Target → Action (List CoreValue)
+  pub move_case : Transfer → Members → Members → CaseType → Members → ℕ → Source → Target → Action (List CoreValue)
   move_case tr ms all c no_members n s d = Unreachable
   move_case tr ms all c (bare x ns) n s d =
       if bytes_eq x c.name then write_case tr ms all s d n c.payload None (λ p s' d'. Unreachable) else move_case tr ms all c ns (suc n) s d

@@ -1,7 +1,6 @@
 -- How texts are moved: for each pair of forms a path of checks, calls of realloc and calls of transcoders (canonical ABI,
 -- "Storing", `store_string_into_range`).
 use Rattle.std.specs.Prelude.{ℕ, Bool, true, false}
-use Rattle.fact_types.specs.declared.outside.FixedEncoding.{FixedEncoding}
 use Rattle.fact_types.specs.declared.outside.FixedEncoding.TheVariants.{Utf8, Utf16, Latin1}
 use Rattle.fact_types.specs.declared.outside.StringEncoding.{StringEncoding}
 use Rattle.fact_types.specs.declared.outside.StringEncoding.TheVariants as string
@@ -72,19 +71,7 @@ pub data TextForm : Type 0 where
   AsCompactLatin1 : TextForm
   AsCompactUtf16 : TextForm
 
-abbrev pub fixed : TextForm → FixedEncoding
-fixed AsUtf8 = Utf8
-fixed AsUtf16 = Utf16
-fixed AsCompactLatin1 = Latin1
-fixed AsCompactUtf16 = Utf16
-
--- the alignment of a text in a form, and of one that is written
-abbrev pub form_align : TextForm → ℕ
-form_align AsUtf8 = 1
-form_align AsUtf16 = 2
-form_align AsCompactLatin1 = 2
-form_align AsCompactUtf16 = 2
-
+-- the alignment of a text that is written
 abbrev pub align_of : StringEncoding → ℕ
 align_of string.Utf8 = 1
 align_of string.Utf16 = 2

@@ -11,10 +11,14 @@ use Rattle.fact_types.specs.declared.outside.Trap.TheVariants.{UnalignedPointer,
 use Rattle.fact_types.specs.declared.outside.UnsafeIntrinsic.TheVariants as slot
 use Rattle.fact_types.specs.declared.widths.MemoryWidth.{MemoryWidth}
 use Rattle.fact_types.specs.Adapters.{Side, is_wide}
-use Rattle.fact_types.specs.Signatures.{width, address as pointer_type}
+use Rattle.fact_types.specs.Signatures.{address as pointer_type}
 use Rattle.fact_machine.specs.declared.types.CoreValue.{CoreValue}
-use Rattle.fact_machine.specs.declared.types.CoreValue.TheVariants.{I32, I64, F32, F64, Func}
+use Rattle.fact_machine.specs.declared.types.CoreValue.TheVariants.{I32, I64, F32, F64}
+use Rattle.fact_machine.specs.Typing.{address_bits, address_operand}
 use Rattle.fact_types.specs.declared.import.Import.TheVariants as import
+use Rattle.fact_abi.specs.declared.side.SideAbi.{SideAbi}
+use Rattle.fact_abi.specs.Lift.{bits_of}
+use Rattle.fact_abi.specs.Places.{width_of, pointer_bytes}
 use Rattle.fact_moves.specs.Actions.{Action, Give, Read, Write, MemoryLength, Ask, Unreachable, ◌>>=◌, unless}
 
 -- How a side keeps values in memory: all that a move asks of a side.
@@ -44,14 +48,6 @@ pub data Target : Type 0 where
   Into : (address : ℕ) → Target
 
 -- ---- core values
-
--- the number that a core value's bits spell
-abbrev pub bits_of : CoreValue → ℕ
-bits_of (I32 n) = n
-bits_of (I64 n) = n
-bits_of (F32 n) = n
-bits_of (F64 n) = n
-bits_of (Func f) = 0
 
 -- the core value of a type with a number as its bits
 abbrev pub core_value : ValType → ℕ → CoreValue
@@ -84,25 +80,26 @@ in_value debug size (v ∷ vs) k = if nat_eq size 8 then k (bits_of v) else low_
 abbrev pub with_memory : {A : Type 0} → LiftLowerOptions → (MemoryOption → Action A) → Action A
 with_memory o k = elim o.memory [ None ↦ Unreachable | Some m ↦ k m ]
 
+-- by what the values of a side are read
+abbrev pub side_abi : LiftLowerOptions → SideAbi
+side_abi o = record { memory64 = is_wide o.memory; encoding = o.encoding }
+
 abbrev pub width_of_side : LiftLowerOptions → MemoryWidth
-width_of_side o = width (is_wide o.memory)
+width_of_side o = width_of (side_abi o)
 
--- bits and bytes of addresses, and their type
-abbrev pub bits_of_addresses : LiftLowerOptions → ℕ
-bits_of_addresses o = elim (is_wide o.memory) [ false ↦ 32 | true ↦ 64 ]
-
+-- the bytes of addresses, their type, and an address
 abbrev pub bytes_of_addresses : LiftLowerOptions → ℕ
-bytes_of_addresses o = elim (is_wide o.memory) [ false ↦ 4 | true ↦ 8 ]
+bytes_of_addresses o = pointer_bytes (width_of_side o)
 
 abbrev pub type_of_addresses : LiftLowerOptions → ValType
 type_of_addresses o = pointer_type (is_wide o.memory)
 
 abbrev pub address_value : LiftLowerOptions → ℕ → CoreValue
-address_value o n = core_value (type_of_addresses o) n
+address_value o n = address_operand (is_wide o.memory) n
 
 -- modulo the width of addresses
 abbrev pub wrap : LiftLowerOptions → ℕ → ℕ
-wrap o n = n % 2 ^ bits_of_addresses o
+wrap o n = n % 2 ^ address_bits (is_wide o.memory)
 
 -- a number of so many bytes at a source
 abbrev pub read_number : {A : Type 0} → Bool → LiftLowerOptions → ℕ → Source → (ℕ → Action A) → Action A

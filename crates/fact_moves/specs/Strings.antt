@@ -6,14 +6,16 @@ use Rattle.fact_types.specs.declared.outside.StringEncoding.TheVariants as strin
 use Rattle.fact_types.specs.declared.outside.Transcode.{Transcode}
 use Rattle.fact_types.specs.declared.outside.Trap.{Trap}
 use Rattle.fact_types.specs.declared.outside.Trap.TheVariants.{StringOutOfBounds}
+use Rattle.fact_types.specs.Adapters.{is_wide}
 use Rattle.fact_machine.specs.declared.types.CoreValue.{CoreValue}
 use Rattle.fact_machine.specs.declared.types.CoreValue.TheVariants.{I32}
 use Rattle.fact_types.specs.declared.import.Import.TheVariants as import
+use Rattle.fact_machine.specs.Typing.{address_bits}
+use Rattle.fact_abi.specs.Texts.{unit_bytes, Form, has_tag, form_of, byte_length}
 use Rattle.fact_moves.specs.Actions.{Action, Give, Ask, ◌>>=◌, unless}
-use Rattle.fact_moves.specs.Sides.{LiftLowerOptions, Transfer, Source, Target, address_value, bits_of_addresses, wrap, first_bits, with_memory, check_region, reallocate, read_pair, write_pair}
-use Rattle.fact_moves.specs.Texts.{unit_bytes}
+use Rattle.fact_moves.specs.Sides.{LiftLowerOptions, Transfer, Source, Target, address_value, wrap, first_bits, with_memory, check_region, reallocate, read_pair, write_pair}
 use Rattle.fact_moves.specs.Transcoders.{TranscodeKind, AllUnits, Counted, Fitting, Narrow, Tagged, Widening, transcode_kind, from_encoding, transcode_types}
-use Rattle.fact_moves.specs.Paths.{Amount, SourceUnits, WrittenUnits, Test, AllRead, WrittenIs, HasNoTag, KeepsUnits, Path, End, Limit, Resize, Pass, If, Tag, Assert, TextForm, AsUtf8, AsUtf16, AsCompactLatin1, AsCompactUtf16, fixed, form_align, align_of, path}
+use Rattle.fact_moves.specs.Paths.{Amount, SourceUnits, WrittenUnits, Test, AllRead, WrittenIs, HasNoTag, KeepsUnits, Path, End, Limit, Resize, Pass, If, Tag, Assert, TextForm, AsUtf8, AsUtf16, AsCompactLatin1, AsCompactUtf16, align_of, path}
 
 -- Where a path stands: the source's pointer and length, how many of its units are read, the region, and what is written, in
 -- code units of the destination.
@@ -29,16 +31,12 @@ path_start p n = record { source = p; length = n; read = 0; region = 0; written 
 
 -- the difference modulo the width of addresses
 abbrev pub minus : LiftLowerOptions → ℕ → ℕ → ℕ
-minus o m n = wrap o (m + (2 ^ bits_of_addresses o - n))
+minus o m n = wrap o (m + (2 ^ address_bits (is_wide o.memory) - n))
 
 -- Numbers of the source are modulo the width of the source's addresses, all others modulo that of the destination's.
 abbrev pub amount : Transfer → Amount → PathPoint → ℕ
 amount tr (SourceUnits c) v = wrap tr.to (c * v.length)
 amount tr (WrittenUnits c) v = wrap tr.to (c * v.written)
-
--- bit 31 of a length is set
-abbrev pub has_tag : ℕ → Bool
-has_tag n = not (nat_eq (n / 2 ^ 31 % 2) 0)
 
 abbrev pub holds : Transfer → Test → PathPoint → Bool
 holds tr AllRead v = nat_eq v.read v.length
@@ -114,26 +112,19 @@ walk tr (Assert t test p) v = asserted tr.debug t (holds tr test v) (walk tr p v
 
 -- ---- whole texts
 
--- The form of a text and its code units, by its encoding and the length that is given: in the compact encoding bit 31 is the
--- tag of UTF-16.
+-- the form of a text, by its encoding and the length that is given
 abbrev pub form_in : StringEncoding → (length : ℕ) → TextForm
 form_in string.Utf8 n = AsUtf8
 form_in string.Utf16 n = AsUtf16
 form_in string.CompactUtf16 n = if has_tag n then AsCompactUtf16 else AsCompactLatin1
 
-abbrev pub units_in : StringEncoding → (length : ℕ) → ℕ
-units_in string.Utf8 n = n
-units_in string.Utf16 n = n
-units_in string.CompactUtf16 n = if has_tag n then n - 2 ^ 31 else n
-
 -- The source of a text is checked. Its bytes may wrap, and then there are more units than the limit that follows lets pass.
-abbrev pub check_text : {A : Type 0} → LiftLowerOptions → TextForm → (pointer units : ℕ) → Action A → Action A
-check_text o f p n k = check_region o StringOutOfBounds p (wrap o (unit_bytes (fixed f) * n)) (form_align f) k
+abbrev pub check_text : {A : Type 0} → LiftLowerOptions → Form → (pointer : ℕ) → Action A → Action A
+check_text o f p k = check_region o StringOutOfBounds p (wrap o (byte_length f)) f.align k
 
 abbrev pub move_string : Transfer → Source → Target → Action (List CoreValue)
 move_string tr s d =
     read_pair tr.debug tr.from s (λ p n.
-    let form = form_in tr.from.encoding n in
-    let units = units_in tr.from.encoding n in
-    check_text tr.from form p units (
-    walk tr (path form tr.to.encoding) (path_start p units) >>= (λ v. write_pair tr.to d v.region v.written)))
+    let form = form_of tr.from.encoding n in
+    check_text tr.from form p (
+    walk tr (path (form_in tr.from.encoding n) tr.to.encoding) (path_start p form.units) >>= (λ v. write_pair tr.to d v.region v.written)))

@@ -4,11 +4,12 @@ use Rattle.std.specs.Prelude.{nat_eq}
 use Rattle.fact_wasm.specs.declared.types.ValType.{ValType}
 use Rattle.fact_wasm.specs.declared.instr.Instr.{Instr}
 use Rattle.fact_machine.specs.declared.types.CoreValue.{CoreValue}
+use Rattle.fact_abi.specs.Limits.{place_in}
 use Rattle.fact_moves.specs.Actions.{Action, Give, ◌>>=◌, Visit}
 use Rattle.fact_moves.specs.Sides.{Transfer, width_of_side, Source, Values, AtAddress, Target, Slots, Into}
 use Rattle.fact_types.specs.Fields.{Field, field_of}
 use Rattle.fact_types.specs.Shapes.{Shape, Members, no_members, typed, place_of, next_of, s_node, k_record, k_tuple}
-use Rattle.fact_moves.specs.Moves.{flat_length, at_width, part, spot, past, with_field, move, move_fields}
+use Rattle.fact_moves.specs.Moves.{flat_length, part, spot, past, with_field, move, move_fields}
 use Rattle.fact_pieces.specs.Does.{Locals, Onward, Does}
 use Rattle.fact_pieces.specs.Places.{Setting, transfer, Slot, From, InLocals, InMemory, To, ToLocals, ToMemory, AreHeld, StandsAt, AreFree, MayGo, Stood, KeepsLocals, Moves, AreUsed, FromUsed, ToUsed, node_check}
 use Rattle.fact_pieces.proofs.Rules.{in_turn, done, visit}
@@ -193,7 +194,7 @@ module _ (tr : Transfer) (ms ns : Members) (x : List ℕ) (u : Shape) (end : ℕ
   -- the first member at its parts, and then the others
   abbrev member_first : Source → Target → Action (List CoreValue)
   member_first s d =
-      move tr f.shape u (source_part (flat_length tr.from f.shape) f.flat_place (at_width (width_of_side tr.from) f.place32 f.place64) s) (target_spot (flat_length tr.to u) (place_of (width_of_side tr.to) u end) d) >>= (λ vs.
+      move tr f.shape u (source_part (flat_length tr.from f.shape) f.flat_place (place_in (width_of_side tr.from) f) s) (target_spot (flat_length tr.to u) (place_of (width_of_side tr.to) u end) d) >>= (λ vs.
       move_fields tr ms ns (next_of (width_of_side tr.to) u end) s (target_past (flat_length tr.to u) d) >>= (λ us. Give (vs ++ us)))
 
   abbrev by_field : Source → Target → Field → Action (List CoreValue)
@@ -210,12 +211,12 @@ module _ (tr : Transfer) (ms ns : Members) (x : List ℕ) (u : Shape) (end : ℕ
 
 -- Code for the fields of a record, one after another: the first is moved from the source field of its name.
 pub moves_member : {S : Setting} {used : ℕ → Bool} {e1 e2 s1 s2 : ℕ} {from : From} {to : To} {code1 code2 : List Instr} (ms ns : Members) (x : List ℕ) (u : Shape) (end : ℕ) (f : Field) → field_of x ms ≡ Some f → FromUsed used from → ToUsed used to → IsApartAt (flat_length S.to u) to
-    → Moves S used e1 s1 (from_part (flat_length S.from f.shape) f.flat_place (at_width (width_of_side S.from) f.place32 f.place64) from) (to_spot (flat_length S.to u) (place_of (width_of_side S.to) u end) to) (move (transfer S) f.shape u) code1
+    → Moves S used e1 s1 (from_part (flat_length S.from f.shape) f.flat_place (place_in (width_of_side S.from) f) from) (to_spot (flat_length S.to u) (place_of (width_of_side S.to) u end) to) (move (transfer S) f.shape u) code1
     → Moves S (with_to used (to_spot (flat_length S.to u) (place_of (width_of_side S.to) u end) to)) e2 s2 from (to_past (flat_length S.to u) to) (move_fields (transfer S) ms ns (next_of (width_of_side S.to) u end)) code2
     → Moves S used (e1 + e2) (s1 + s2) from to (move_fields (transfer S) ms (typed x u ns) end) (code1 ++ code2)
 moves_member {S} ms ns x u end f h fu tu apart one two =
     moves_same (member_is (transfer S) ms ns x u end f h)
-    (moves_field (flat_length S.from f.shape) f.flat_place (at_width (width_of_side S.from) f.place32 f.place64) (flat_length S.to u) (place_of (width_of_side S.to) u end) fu tu apart one two)
+    (moves_field (flat_length S.from f.shape) f.flat_place (place_in (width_of_side S.from) f) (flat_length S.to u) (place_of (width_of_side S.to) u end) fu tu apart one two)
 
 -- no field is left
 pub moves_no_member : {S : Setting} {used : ℕ → Bool} {from : From} {memory base offset : ℕ} (ms : Members) (end : ℕ) → Moves S used 0 0 from (ToMemory memory base offset) (move_fields (transfer S) ms no_members end) []

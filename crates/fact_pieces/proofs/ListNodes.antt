@@ -9,15 +9,16 @@ use Rattle.fact_types.specs.declared.import.Import.TheVariants as import
 use Rattle.fact_types.specs.declared.widths.Extent.{Extent}
 use Rattle.fact_types.specs.Adapters.{is_wide}
 use Rattle.fact_types.specs.Shapes.{k_list, k_map, s_node, Members}
-use Rattle.fact_types.specs.Signatures.{address as pointer_type}
+use Rattle.fact_types.specs.Signatures.{width, address as pointer_type}
 use Rattle.fact_machine.specs.declared.types.CoreValue.{CoreValue}
 use Rattle.fact_machine.specs.declared.types.CoreValue.TheVariants.{I32}
 use Rattle.fact_machine.specs.Typing.{address_type, address_operand}
+use Rattle.fact_abi.specs.Places.{pointer_bytes}
 use Rattle.fact_moves.specs.Actions as action
 use Rattle.fact_moves.specs.Actions.{Action, Give, Visit, Ask, ◌>>=◌, unless, each}
 use Rattle.fact_moves.specs.Moves.{entry_extent, move_list, move, move_fields}
 use Rattle.fact_moves.specs.Running.{ImportPlaces}
-use Rattle.fact_moves.specs.Sides.{LiftLowerOptions, Transfer, Source, AtAddress, Target, Into, core_value, first_bits, read_number, write_number, nth_part, nth_spot, check_region, get_slots, set_slots}
+use Rattle.fact_moves.specs.Sides.{LiftLowerOptions, Transfer, Source, AtAddress, Target, Into, first_bits, read_number, write_number, nth_part, nth_spot, check_region, get_slots, set_slots}
 use Rattle.fact_pieces.specs.Does.{Locals, Onward, held_types, Does}
 use Rattle.fact_pieces.specs.Knows.{KnowsFunction}
 use Rattle.fact_pieces.specs.Places.{Setting, transfer, SideMemory, Readable, Writable, FromUsed, ToUsed, FromTyped, ToTyped, Stood, KeepsLocals, Moves, node_check, size_of}
@@ -40,7 +41,7 @@ use Rattle.fact_pieces.proofs.ListTyped.{typed_list}
 
 -- bytes of addresses
 abbrev bytes_of_width : Bool → ℕ
-bytes_of_width w = elim w [ false ↦ 4 | true ↦ 8 ]
+bytes_of_width w = pointer_bytes (width w)
 
 abbrev region_with : {A : Type 0} → Bool → LiftLowerOptions → Bool → Option CoreDef → (align size : ℕ) → (ℕ → Action A) → Action A
 region_with concurrency o w realloc align size k =
@@ -48,7 +49,7 @@ region_with concurrency o w realloc align size k =
       | None ↦ action.Unreachable
       | Some f ↦
           get_slots concurrency (λ a b. set_slots concurrency (I32 0 ∷ []) (I32 0 ∷ [])
-          (Ask (import.CoreDef f) (core_value (pointer_type w) 0 ∷ core_value (pointer_type w) 0 ∷ core_value (pointer_type w) align ∷ core_value (pointer_type w) size ∷ []) (pointer_type w ∷ []) (λ rs.
+          (Ask (import.CoreDef f) (address_operand w 0 ∷ address_operand w 0 ∷ address_operand w align ∷ address_operand w size ∷ []) (pointer_type w ∷ []) (λ rs.
           set_slots concurrency a b (check_region o ListOutOfBounds (first_bits rs) size align (k (first_bits rs))))))
     ]
 

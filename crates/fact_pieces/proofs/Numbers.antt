@@ -19,11 +19,12 @@ use Rattle.fact_machine.proofs.RowLaws.{leaves_local_get}
 use Rattle.fact_machine.proofs.NumericLaws.{leaves_i32_wrap_i64, leaves_i32_reinterpret_f32, leaves_i64_reinterpret_f64, leaves_i64_extend_i32_u, leaves_f32_reinterpret_i32, leaves_f64_reinterpret_i64, leaves_i64_const, leaves_i64_shr_u, leaves_i64_eqz}
 use Rattle.fact_machine.specs.Typing.{address_operand}
 use Rattle.fact_types.specs.declared.outside.CoreDef.{CoreDef}
+use Rattle.fact_abi.specs.Lift.{bits_of}
 use Rattle.fact_moves.specs.Actions as action
 use Rattle.fact_moves.specs.Actions.{Action, Give, Read, Write, unless}
 use Rattle.fact_moves.specs.Running.{ImportPlaces}
 use Rattle.fact_types.specs.declared.outside.MemoryOption.{MemoryOption}
-use Rattle.fact_moves.specs.Sides.{LiftLowerOptions, Source, Values, AtAddress, Target, Slots, Into, bits_of, core_value, in_value, read_number, write_number, low_half}
+use Rattle.fact_moves.specs.Sides.{LiftLowerOptions, Source, Values, AtAddress, Target, Slots, Into, core_value, in_value, read_number, write_number, low_half}
 use Rattle.fact_pieces.specs.Does.{Locals, Way, Onward, held_types, Does, PushesValue}
 use Rattle.fact_pieces.specs.Knows.{KnowsMemory}
 use Rattle.fact_pieces.specs.Places.{Readable, Writable, From, InLocals, InMemory, To, ToLocals, ToMemory, AreHeld, StandsAt, MayGo, Stood, KeepsLocals, Number, N8, N16, N32, N64, size_of, stacked, limit_of, MayHoldI32, MayHoldI64, MayHold, to_i32, to_i64, from_i32, from_i64, narrow, widen, memarg_at, read_code, code_before, code_behind, DebugChecks, Off, On, is_on, is_halved, HasUpper, upper_test, upper_check, load_of}

@@ -18,10 +18,11 @@ use Rattle.fact_machine.specs.Numerics.{truth, extend_s}
 use Rattle.fact_machine.proofs.Laws.{leaves_next, leaves_none, leaves_as}
 use Rattle.fact_machine.proofs.RowLaws.{leaves_i32_const}
 use Rattle.fact_machine.proofs.NumericLaws.{leaves_i32_ne, leaves_i32_and, leaves_i32_extend8_s, leaves_i32_extend16_s}
+use Rattle.fact_abi.specs.Places.{flags_bytes, count_of_members}
 use Rattle.fact_moves.specs.Actions.{Action, Visit}
 use Rattle.fact_moves.specs.Running.{ImportPlaces}
 use Rattle.fact_moves.specs.Sides.{Source, Target}
-use Rattle.fact_moves.specs.Moves.{canonical_number, move_number, move, flags_bytes, count_of_members}
+use Rattle.fact_moves.specs.Moves.{canonical_number, move_number, move}
 use Rattle.fact_types.specs.Shapes.{s_plain, s_node, k_flags, Members}
 use Rattle.fact_pieces.specs.Does.{Locals, Way, Onward, Does}
 use Rattle.fact_pieces.specs.Places.{Setting, transfer, FitsNumber, From, To, StandsAt, MayGo, Stood, KeepsLocals, Moves, Number, N8, N16, N32, N64, size_of, stack_type, stacked, limit_of, read_code, code_before, code_behind, DebugChecks, node_check, FromChecked, ToChecked}

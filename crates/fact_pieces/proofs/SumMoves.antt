@@ -10,8 +10,10 @@ use Rattle.fact_types.specs.Shapes.{s_node, k_variant, k_option, k_result, Membe
 use Rattle.fact_machine.specs.declared.types.CoreValue.{CoreValue}
 use Rattle.fact_machine.proofs.Laws.{leaves_next, leaves_none}
 use Rattle.fact_machine.proofs.RowLaws.{leaves_local_get}
+use Rattle.fact_abi.specs.Limits.{CaseType, case_type}
+use Rattle.fact_abi.specs.Places.{count_of_members, case_bytes}
 use Rattle.fact_moves.specs.Actions.{Action, Visit, trap}
-use Rattle.fact_moves.specs.Moves.{SourceCase, case_at, count_of_members, case_bytes, move, move_case}
+use Rattle.fact_moves.specs.Moves.{move, move_case}
 use Rattle.fact_moves.specs.Sides.{Source, Target, read_number}
 use Rattle.fact_pieces.specs.Does.{Locals, Onward, held_types, Does}
 use Rattle.fact_pieces.specs.Knows.{KnowsFunction}
@@ -41,7 +43,7 @@ pub record MovesCase (S : Setting) (used : ℕ → Bool) (from : From) (to : To)
   pub there : slice_get codes k ≡ Some code
   pub moves : Moves S used 300 0 from to act code
 
-module _ (S : Setting) (used : ℕ → Bool) (from : From) (to : To) (ms : Members) (case : SourceCase → Source → Target → Action (List CoreValue)) (codes : List (List Instr)) (temp trap_at : ℕ) (n : Number) where
+module _ (S : Setting) (used : ℕ → Bool) (from : From) (to : To) (ms : Members) (case : CaseType → Source → Target → Action (List CoreValue)) (codes : List (List Instr)) (temp trap_at : ℕ) (n : Number) where
   -- what a sum's code needs of its setting, and of its cases
   pub record IsSum : Type 0 where
     pub narrow : IsNarrow n
@@ -53,12 +55,12 @@ module _ (S : Setting) (used : ℕ → Bool) (from : From) (to : To) (ms : Membe
     pub to_used : ToUsed used to
     pub temporary : Temporary S used temp val.I32
     pub traps : KnowsFunction S.whole S.places (import.Trap InvalidDiscriminant) trap_at [] []
-    pub cases : (k : ℕ) (c : SourceCase) → case_at ms k ≡ Some c → MovesCase S used from to (case c) codes k
+    pub cases : (k : ℕ) (c : CaseType) → case_type ms k ≡ Some c → MovesCase S used from to (case c) codes k
     pub typed : AllByRecursion (IsClosedCode S.whole S.locals) codes
 
   module _ (h : IsSum) where
     abbrev chosen : Source → Target → ℕ → Action (List CoreValue)
-    chosen s d x = elim (case_at ms x) as (λ (o : Option SourceCase). Action (List CoreValue)) [ None ↦ trap InvalidDiscriminant | Some c ↦ case c s d ]
+    chosen s d x = elim (case_type ms x) as (λ (o : Option CaseType). Action (List CoreValue)) [ None ↦ trap InvalidDiscriminant | Some c ↦ case c s d ]
 
     sum_moves_so : (ls : Locals) (s : Source) (d : Target) → held_types ls ≡ S.locals → StandsAt ls S.from64 from s → MayGo used ls S.to64 to d
         → Does S.whole S.places Onward (315 + count_of_members ms) 0 [] ls (tagged_code S.checks n temp trap_at from codes) (read_number (is_on S.checks) S.from (size_of n) s (chosen s d)) (λ vs. []) (λ vs ls'. Stood ls' to vs × KeepsLocals used ls ls')

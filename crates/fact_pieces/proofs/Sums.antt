@@ -10,8 +10,9 @@ use Rattle.fact_types.specs.Shapes.{Members, no_members, bare, typed}
 use Rattle.fact_machine.specs.declared.types.CoreValue.TheVariants.{I32}
 use Rattle.fact_machine.specs.Machine.{label_at}
 use Rattle.fact_types.specs.declared.import.Import.TheVariants as import
+use Rattle.fact_abi.specs.Limits.{CaseType, case_type}
+use Rattle.fact_abi.specs.Places.{count_of_members}
 use Rattle.fact_moves.specs.Actions.{Action, trap}
-use Rattle.fact_moves.specs.Moves.{SourceCase, case_at, count_of_members}
 use Rattle.fact_moves.specs.Running.{ImportPlaces}
 use Rattle.fact_pieces.specs.Code.{trap_code, cases_code}
 use Rattle.fact_pieces.specs.Does.{Locals, Onward, Does, PushesValue}
@@ -44,14 +45,14 @@ numbers_below : (i n most : ℕ) → i + n ≤ suc most → AllByRecursion (λ l
 numbers_below i zero most le = tt
 numbers_below i (suc n) most le = (omega arith, numbers_below (suc i) n most (omega arith))
 
-case_within : (ms : Members) (n : ℕ) (c : SourceCase) → case_at ms n ≡ Some c → n < count_of_members ms
+case_within : (ms : Members) (n : ℕ) (c : CaseType) → case_type ms n ≡ Some c → n < count_of_members ms
 case_within no_members n c h = cc
 case_within (bare x ms) zero c h = omega arith
 case_within (bare x ms) (suc n) c h = let lt = case_within ms n c h in omega arith
 case_within (typed x s ms) zero c h = omega arith
 case_within (typed x s ms) (suc n) c h = let lt = case_within ms n c h in omega arith
 
-case_past : (ms : Members) (n : ℕ) → case_at ms n ≡ None → count_of_members ms ≤ n
+case_past : (ms : Members) (n : ℕ) → case_type ms n ≡ None → count_of_members ms ≤ n
 case_past no_members n h = omega arith
 case_past (bare x ms) zero h = cc
 case_past (bare x ms) (suc n) h = let le = case_past ms n h in omega arith
@@ -69,11 +70,11 @@ last_of (x ∷ xs) y (suc n) e = last_of xs y n (omega arith)
 abbrev pub sum_code : (number : List Instr) → (trap : ℕ) → List (List Instr) → List Instr
 sum_code number trap codes = cases_code number (numbers 0 (length codes)) (length codes) (codes ++ trap_code trap ∷ [])
 
-module _ {A : Type 0} {M : WasmModule} {p : ImportPlaces} {ls : Locals} {Holds : A → Locals → Type 0} {extra spare steps : ℕ} {number : List Instr} (ms : Members) (codes : List (List Instr)) (trap_at x : ℕ) (k : SourceCase → Action A) (all : length codes ≡ count_of_members ms)
+module _ {A : Type 0} {M : WasmModule} {p : ImportPlaces} {ls : Locals} {Holds : A → Locals → Type 0} {extra spare steps : ℕ} {number : List Instr} (ms : Members) (codes : List (List Instr)) (trap_at x : ℕ) (k : CaseType → Action A) (all : length codes ≡ count_of_members ms)
     (traps : KnowsFunction M p (import.Trap InvalidDiscriminant) trap_at [] []) (pushes : PushesValue M steps ls number (I32 x))
-    (each : (n : ℕ) (c : SourceCase) → case_at ms n ≡ Some c → (code : List Instr) × (slice_get codes n ≡ Some code) × Does M p Onward extra spare [] ls code (k c) (λ a. []) Holds) where
-  by_case : (o : Option SourceCase) → case_at ms x ≡ o
-      → Does M p Onward (extra + steps + length codes + 5) spare [] ls (sum_code number trap_at codes) (elim o as (λ (o : Option SourceCase). Action A) [ None ↦ trap InvalidDiscriminant | Some c ↦ k c ]) (λ a. []) Holds
+    (each : (n : ℕ) (c : CaseType) → case_type ms n ≡ Some c → (code : List Instr) × (slice_get codes n ≡ Some code) × Does M p Onward extra spare [] ls code (k c) (λ a. []) Holds) where
+  by_case : (o : Option CaseType) → case_type ms x ≡ o
+      → Does M p Onward (extra + steps + length codes + 5) spare [] ls (sum_code number trap_at codes) (elim o as (λ (o : Option CaseType). Action A) [ None ↦ trap InvalidDiscriminant | Some c ↦ k c ]) (λ a. []) Holds
   by_case (Some c) e =
       let one = each x c e in
       let lt : x < length codes = subst (λ n. x < n) (sym all) (case_within ms x c e) in
@@ -89,8 +90,8 @@ module _ {A : Type 0} {M : WasmModule} {p : ImportPlaces} {ls : Locals} {Holds :
       within (omega (arith, length-append codes (trap_code trap_at ∷ []))) (cases (numbers 0 (length codes)) (length codes) x (codes ++ trap_code trap_at ∷ []) pushes there trapped)
 
   -- what is done with the case of a number, or a trap where there is none
-  pub sum_does : Does M p Onward (extra + steps + length codes + 5) spare [] ls (sum_code number trap_at codes) (elim (case_at ms x) as (λ (o : Option SourceCase). Action A) [ None ↦ trap InvalidDiscriminant | Some c ↦ k c ]) (λ a. []) Holds
-  sum_does = by_case (case_at ms x) refl
+  pub sum_does : Does M p Onward (extra + steps + length codes + 5) spare [] ls (sum_code number trap_at codes) (elim (case_type ms x) as (λ (o : Option CaseType). Action A) [ None ↦ trap InvalidDiscriminant | Some c ↦ k c ]) (λ a. []) Holds
+  sum_does = by_case (case_type ms x) refl
 
 closed_append : {M : WasmModule} {locals : List ValType} (cs : List (List Instr)) (c : List Instr) → AllByRecursion (IsClosedCode M locals) cs → IsClosedCode M locals c → AllByRecursion (IsClosedCode M locals) (cs ++ c ∷ [])
 closed_append [] c h l = (l, tt)
