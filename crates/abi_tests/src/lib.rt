@@ -1,0 +1,15 @@
+//! Tests of values that are read from memory and from core values.
+#![tactic(auto)]
+
+#[cfg(test)]
+mod handles;
+#[cfg(test)]
+mod kinds;
+#[cfg(test)]
+mod lifted;
+#[cfg(test)]
+mod live;
+#[cfg(test)]
+mod loaded;
+#[cfg(test)]
+mod words;
