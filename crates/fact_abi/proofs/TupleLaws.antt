@@ -15,7 +15,8 @@ use Rattle.fact_abi.specs.Lift.{can_stand, number_as, lift}
 use Rattle.fact_abi.specs.Load.{load_members}
 use Rattle.fact_abi.specs.Places.{width_of, extent_on}
 use Rattle.fact_abi.specs.Texts.{lies_aligned}
-use Rattle.fact_abi.specs.Tuples.{members_from, tuple_of_types, lift_all, load_tuple, behind, behind_only, behind_last, where_flat, flat_or_behind, lower_result_values}
+use Rattle.fact_abi.specs.Tuples.{lift_all, load_tuple, behind, behind_only, behind_last, where_flat, flat_or_behind, lower_result_values}
+use Rattle.fact_types.specs.Tuples.{members_from, tuple_of}
 use Rattle.fact_abi.proofs.IsALaws.{load_members_are}
 use Rattle.fact_abi.proofs.LiftLaws.{cores_take, cores_drop, lift_is_a}
 use Rattle.fact_abi.proofs.NumberLaws.{then_some, when_some}
@@ -35,7 +36,7 @@ behind_are : (side : SideAbi) (bytes : List ℕ) → AreBytes bytes → (ss : Li
 behind_are side bytes h ss r c vs e =
     let p = number_as (pointer (width_of side)) c in
     let (stands, there) = when_some (can_stand (pointer (width_of side)) c) (load_tuple side bytes ss p) vs e in
-    let (inside, is) = when_some (lies_aligned bytes (extent_on side (tuple_of_types ss)).align p (extent_on side (tuple_of_types ss)).size) (load_members side bytes (members_from 0 ss) p 0) vs there in
+    let (inside, is) = when_some (lies_aligned bytes (extent_on side (tuple_of ss)).align p (extent_on side (tuple_of ss)).size) (load_members side bytes (members_from 0 ss) p 0) vs there in
     load_members_are side bytes h (members_from 0 ss) r p 0 vs is
 
 only_are : (side : SideAbi) (bytes : List ℕ) → AreBytes bytes → (ss : List Shape) → AreRuled (members_from 0 ss) → (cs : List CoreValue) (vs : List Value) → behind_only side bytes ss cs ≡ Some vs → AreMembers (members_from 0 ss) vs

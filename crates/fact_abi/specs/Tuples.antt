@@ -1,26 +1,19 @@
 -- The values of the parameters and of the results of a function, as the core values of a side stand for them.
 -- Component Model, canonical ABI, "Flattening" (`flatten_functype`) and "Lifting and Lowering Values".
-use Rattle.std.specs.Prelude.{ℕ, suc, List, [], ◌∷◌, length, take, drop, Option, Some, None, Bool, true, false, if◌then◌else◌}
+use Rattle.std.specs.Prelude.{ℕ, List, [], ◌∷◌, length, take, drop, Option, Some, None, Bool, true, false, if◌then◌else◌}
 use Rattle.fact_machine.specs.declared.types.CoreValue.{CoreValue}
 use Rattle.fact_types.specs.declared.flats.FlatType.{FlatType}
 use Rattle.fact_types.specs.FlatShapes.{pointer, flat, flat_all}
-use Rattle.fact_types.specs.Shapes.{k_tuple, Shape, s_node, Members, no_members, typed}
+use Rattle.fact_types.specs.Shapes.{Shape}
 use Rattle.fact_types.specs.Signatures.{flat_params, lower_limit, lift_results_limit}
 use Rattle.fact_types.specs.Steps.{◌>>=◌}
+use Rattle.fact_types.specs.Tuples.{tuple_members, tuple_of}
 use Rattle.fact_abi.specs.declared.side.SideAbi.{SideAbi}
 use Rattle.fact_abi.specs.declared.value.Value.{Value}
 use Rattle.fact_abi.specs.Lift.{can_stand, number_as, lift}
 use Rattle.fact_abi.specs.Load.{load_members}
 use Rattle.fact_abi.specs.Places.{width_of, extent_on}
 use Rattle.fact_abi.specs.Texts.{lies_aligned}
-
--- The tuple of types: its members are named by their places.
-abbrev pub members_from : ℕ → List Shape → Members
-members_from n [] = no_members
-members_from n (s ∷ ss) = typed (n ∷ []) s (members_from (suc n) ss)
-
-abbrev pub tuple_of_types : List Shape → Shape
-tuple_of_types ss = s_node k_tuple (members_from 0 ss)
 
 -- Values of types one behind the other, each lifted from as many core values as it has flat types.
 abbrev pub lift_all : SideAbi → List ℕ → List Shape → List CoreValue → Option (List Value)
@@ -33,8 +26,8 @@ lift_all side bytes (s ∷ ss) cs =
 -- The values of a tuple that stands at a place of a memory, aligned and all there.
 abbrev pub load_tuple : SideAbi → List ℕ → List Shape → ℕ → Option (List Value)
 load_tuple side bytes ss p =
-    if lies_aligned bytes (extent_on side (tuple_of_types ss)).align p (extent_on side (tuple_of_types ss)).size
-    then load_members side bytes (members_from 0 ss) p 0 else None
+    if lies_aligned bytes (extent_on side (tuple_of ss)).align p (extent_on side (tuple_of ss)).size
+    then load_members side bytes (tuple_members ss) p 0 else None
 
 -- The values behind a core value that is a pointer.
 abbrev pub behind : SideAbi → List ℕ → List Shape → CoreValue → Option (List Value)

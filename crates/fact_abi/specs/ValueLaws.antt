@@ -17,7 +17,8 @@ use Rattle.fact_abi.specs.Lift.{lift}
 use Rattle.fact_abi.specs.Load.{load}
 use Rattle.fact_abi.specs.Own.{StandsWhole, SameBytes}
 use Rattle.fact_abi.specs.Places.{extent_on}
-use Rattle.fact_abi.specs.Tuples.{members_from, flat_or_behind, lower_result_values}
+use Rattle.fact_abi.specs.Tuples.{flat_or_behind, lower_result_values}
+use Rattle.fact_types.specs.Tuples.{members_from}
 
 -- A value that is loaded is a value of its type, and so is one that is lifted.
 abbrev pub LoadedIsA : Type 0

@@ -9,25 +9,18 @@ use Rattle.fact_types.specs.declared.interface.InterfaceType.TheVariants.{Tuple 
 use Rattle.fact_types.specs.declared.kinds.TypeFunc.{TypeFunc}
 use Rattle.fact_types.specs.declared.kinds.TypeTuple.{TypeTuple}
 use Rattle.fact_types.specs.Functions.{HaveShapes, HasSignature}
-use Rattle.fact_types.specs.Shapes.{k_tuple, Shape, s_node, Members, no_members, typed}
+use Rattle.fact_types.specs.Shapes.{Shape}
 use Rattle.fact_types.specs.Tables.{Tables, tuple_node, placed, HasShape, HasMembers, IsLive, IsLiveMember, IsSound}
 use Rattle.fact_types.specs.Handles.{has_handle, have_handle, any_handle}
+use Rattle.fact_types.specs.Tuples.{members_from, tuple_of}
 
-abbrev placed_shapes : ℕ → List Shape → Members
-placed_shapes n [] = no_members
-placed_shapes n (s ∷ ss) = typed (n ∷ []) s (placed_shapes (suc n) ss)
-
--- a tuple of members of these shapes
-abbrev pub tuple_of : List Shape → Shape
-tuple_of ss = s_node k_tuple (placed_shapes 0 ss)
-
-have_members : (t : Tables) (n : ℕ) (xs : List InterfaceType) (ss : List Shape) → HaveShapes t xs ss → HasMembers t (placed n xs) (placed_shapes n ss)
+have_members : (t : Tables) (n : ℕ) (xs : List InterfaceType) (ss : List Shape) → HaveShapes t xs ss → HasMembers t (placed n xs) (members_from n ss)
 have_members t n [] [] h = tt
 have_members t n [] (s ∷ ss) h = absurd h
 have_members t n (x ∷ xs) [] h = absurd h
 have_members t n (x ∷ xs) (s ∷ ss) (h, hs) = (refl, (x, refl, h), have_members t (suc n) xs ss hs)
 
-placed_handles : (n : ℕ) (ss : List Shape) → have_handle (placed_shapes n ss) ≡ any_handle ss
+placed_handles : (n : ℕ) (ss : List Shape) → have_handle (members_from n ss) ≡ any_handle ss
 placed_handles n [] = refl
 placed_handles n (s ∷ ss) = ap (λ b. has_handle s || b) (placed_handles (suc n) ss)
 

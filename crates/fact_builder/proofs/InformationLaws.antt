@@ -15,7 +15,7 @@ use Rattle.fact_types.specs.Valid.{nesting, deepest_nesting}
 use Rattle.fact_types.proofs.JoinLaws.{joined_joins}
 use Rattle.fact_builder.specs.declared.information.TypeInformation.{TypeInformation}
 use Rattle.fact_types.specs.Handles.{has_handle, have_handle, has_borrow, have_borrow}
-use Rattle.fact_builder.specs.PointerPairs.{has_pointer_pair, have_pointer_pair}
+use Rattle.fact_types.specs.PointerPairs.{has_pointer_pair, have_pointer_pair}
 use Rattle.fact_builder.specs.Information.{information_of, plain_information, nothing, followed, product_from, joined_information, sum_from, with_flat, as_pointer_pair, words, tagged, repeated, as_handle, made_of, deeper, information_by, known, known_members, AllKept}
 use Rattle.fact_builder.proofs.FlatLaws.{after_is, joined_is, joined_nil, tagged_is, repeated_is, append_nil, append_joins}
 

@@ -14,7 +14,7 @@ use Rattle.fact_types.specs.Tables.{Tables, Node, node_of, is_plain}
 use Rattle.fact_types.specs.Valid.{nesting}
 use Rattle.fact_builder.specs.declared.information.TypeInformation.{TypeInformation}
 use Rattle.fact_types.specs.Handles.{is_handle, is_borrow, has_handle, has_borrow}
-use Rattle.fact_builder.specs.PointerPairs.{is_string, has_pointer_pair}
+use Rattle.fact_types.specs.PointerPairs.{is_string, has_pointer_pair}
 
 -- What a shape says of a type. Of types that nest deeper than 101, it is 101 that is known.
 abbrev pub information_of : Shape → TypeInformation

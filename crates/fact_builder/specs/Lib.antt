@@ -5,5 +5,4 @@ pub mod Joins
 pub mod Keeps
 pub mod Kinds
 pub mod Lending
-pub mod PointerPairs
 pub mod Pointers

@@ -12,7 +12,7 @@ ghost use Rattle.fact_types.specs.Sound.{IsSoundLayout, TakesBytes};
 ghost use Rattle.fact_types.specs.Tables.{abi_at, IsLive, HasShape, IsSound};
 ghost use Rattle.fact_types.specs.Valid.{IsValid, nesting};
 ghost use Rattle.fact_types.specs.Handles.{has_borrow, any_handle};
-ghost use Rattle.fact_builder.specs.PointerPairs.{has_pointer_pair};
+ghost use Rattle.fact_types.specs.PointerPairs.{has_pointer_pair};
 
 use crate::builder::ComponentTypesBuilder;
 use fact_types::{

@@ -7,7 +7,7 @@ ghost use Rattle.fact_types.specs.Shapes.{Shape};
 ghost use Rattle.fact_types.specs.Tables.{no_tables, IsLive, HasShape};
 ghost use Rattle.fact_types.specs.Valid.{nesting};
 ghost use Rattle.fact_types.specs.Handles.{has_handle, has_borrow};
-ghost use Rattle.fact_builder.specs.PointerPairs.{has_pointer_pair};
+ghost use Rattle.fact_types.specs.PointerPairs.{has_pointer_pair};
 
 use crate::information::{TypeInformation, plain_flat_types};
 use crate::known::known;

@@ -10,7 +10,7 @@ use Rattle.fact_types.specs.Tables.{Tables, HasShape}
 use Rattle.fact_agreement.specs.Lists.{AgreeAll}
 use Rattle.fact_checks.specs.AdapterRules.{HasTypeMismatch, any_borrow}
 use Rattle.fact_types.specs.Adapters.{LinkedAdapter}
-use Rattle.fact_checks.specs.Tuples.{tuple_of}
+use Rattle.fact_types.specs.Tuples.{tuple_of}
 use Rattle.fact_checks.proofs.TupleLaws.{placed_agree}
 
 -- What is told of the tuples of two functions' parameters, or results, is told of their members.

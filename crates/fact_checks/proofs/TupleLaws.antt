@@ -9,20 +9,20 @@ use Rattle.fact_types.specs.Functions.{HaveShapes}
 use Rattle.fact_types.specs.Shapes.{Shape}
 use Rattle.fact_types.specs.Tables.{Tables}
 use Rattle.fact_types.specs.Handles.{has_borrow, have_borrow}
-use Rattle.fact_builder.specs.PointerPairs.{any_pointer_pair, has_pointer_pair, have_pointer_pair}
+use Rattle.fact_types.specs.PointerPairs.{any_pointer_pair, has_pointer_pair, have_pointer_pair}
 use Rattle.fact_agreement.specs.Lists.{AgreeAll}
 use Rattle.fact_checks.specs.AdapterRules.{any_borrow}
-use Rattle.fact_checks.specs.Tuples.{placed_shapes}
+use Rattle.fact_types.specs.Tuples.{members_from}
 
-pub placed_borrow : (n : ℕ) (ss : List Shape) → have_borrow (placed_shapes n ss) ≡ any_borrow ss
+pub placed_borrow : (n : ℕ) (ss : List Shape) → have_borrow (members_from n ss) ≡ any_borrow ss
 placed_borrow n [] = refl
 placed_borrow n (s ∷ ss) = ap (λ b. has_borrow s || b) (placed_borrow (suc n) ss)
 
-pub placed_pointer_pair : (n : ℕ) (ss : List Shape) → have_pointer_pair (placed_shapes n ss) ≡ any_pointer_pair ss
+pub placed_pointer_pair : (n : ℕ) (ss : List Shape) → have_pointer_pair (members_from n ss) ≡ any_pointer_pair ss
 placed_pointer_pair n [] = refl
 placed_pointer_pair n (s ∷ ss) = ap (λ b. has_pointer_pair s || b) (placed_pointer_pair (suc n) ss)
 
-pub placed_agree : (n m : ℕ) (ss ds : List Shape) → AgreesPlaces (placed_shapes n ss) (placed_shapes m ds) ↔ AgreeAll ss ds
+pub placed_agree : (n m : ℕ) (ss ds : List Shape) → AgreesPlaces (members_from n ss) (members_from m ds) ↔ AgreeAll ss ds
 placed_agree n m [] [] = (λ h. h, λ h. h)
 placed_agree n m [] (d ∷ ds) = (λ h. h, λ h. h)
 placed_agree n m (s ∷ ss) [] = (λ h. h, λ h. h)

@@ -12,7 +12,7 @@ use Rattle.fact_types.specs.ImportTypes.{callback_type, post_return_type, reallo
 use Rattle.fact_types.specs.Shapes.{Shape}
 use Rattle.fact_types.specs.Signatures.{flat_values, lower_by, lift_by, lift_results_limit, lower_limit}
 use Rattle.fact_types.specs.Handles.{any_handle, has_borrow}
-use Rattle.fact_builder.specs.PointerPairs.{any_pointer_pair}
+use Rattle.fact_types.specs.PointerPairs.{any_pointer_pair}
 use Rattle.fact_agreement.specs.Lists.{AgreeAll}
 use Rattle.fact_uses.specs.Bindings.{AreConsistent}
 use Rattle.fact_plan.specs.declared.plan.PlanMemory.{PlanMemory}

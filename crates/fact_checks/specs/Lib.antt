@@ -5,4 +5,3 @@ pub mod Checked
 pub mod FirstFault
 pub mod Linked
 pub mod Links
-pub mod Tuples

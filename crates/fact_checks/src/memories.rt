@@ -8,7 +8,7 @@ ghost use Rattle.fact_types.specs.Shapes.{Shape};
 ghost use Rattle.fact_types.specs.Signatures.{lift_results_limit as lift_results_limit_of, lower_limit as lower_limit_of};
 ghost use Rattle.fact_types.specs.Tables.{IsLive};
 ghost use Rattle.fact_builder.specs.Builder.{Builder};
-ghost use Rattle.fact_builder.specs.PointerPairs.{any_pointer_pair};
+ghost use Rattle.fact_types.specs.PointerPairs.{any_pointer_pair};
 ghost use Rattle.fact_checks.specs.declared.adapter.AdapterOptionsDfg.{AdapterOptionsDfg as Options};
 ghost use Rattle.fact_checks.specs.AdapterRules.{CannotUseMemory, HasOddMemory, HoldsPointer, IsByPointer, IsOdd, LacksMemory, LiftLacksMemory, LiftNeedsMemory, LiftNeedsRealloc, LiftParamsByPointer, LiftResultsByPointer, LowerLacksMemory, LowerNeedsMemory, LowerNeedsRealloc, LowerParamsByPointer, LowerResultsByPointer};
 ghost use Rattle.fact_types.specs.Adapters.{LinkedAdapter, Side};

@@ -6,7 +6,7 @@ ghost use Rattle.fact_types.specs.Shapes.{Shape};
 ghost use Rattle.fact_types.specs.Tables.{HasShape, IsLive};
 ghost use Rattle.fact_types.specs.Adapters.{LinkedAdapter, is_async as is_async_adapter, is_crossing as is_crossing_adapter, is_wide as is_wide_memory};
 ghost use Rattle.fact_checks.specs.Linked.{HasSides, NamesTypesOf, sig_of};
-ghost use Rattle.fact_checks.specs.Tuples.{tuple_of};
+ghost use Rattle.fact_types.specs.Tuples.{tuple_of};
 
 use crate::adapter::{Adapter, AdapterOptionsDfg};
 use fact_builder::ComponentTypesBuilder;

@@ -33,7 +33,8 @@ use Rattle.fact_moves.specs.Actions.{Action, Give, Unreachable, ◌>>◌, trap, 
 use Rattle.fact_moves.specs.AdapterLaws.{EachSync, EachStart, EachReturn, is_misplaced, NoneMisplaced, HasCountedTypes}
 use Rattle.fact_moves.specs.Plain.{guarded_if}
 use Rattle.fact_moves.specs.Running.{ImportPlaces, Ended, Gave, Halted, Strayed, run}
-use Rattle.fact_moves.specs.Adapters.{AdapterTunables, Slotted, params_transfer, results_transfer, tuple_members, check_tuple, from_values, flat_results, move_params, move_results, last_bits, when_due, make_call, cleared, enters, read_slots, write_slots, finish_call, sync, async_start, async_return, lift_signature_of}
+use Rattle.fact_moves.specs.Adapters.{AdapterTunables, Slotted, params_transfer, results_transfer, check_tuple, from_values, flat_results, move_params, move_results, last_bits, when_due, make_call, cleared, enters, read_slots, write_slots, finish_call, sync, async_start, async_return, lift_signature_of}
+use Rattle.fact_types.specs.Tuples.{tuple_members}
 use Rattle.fact_moves.specs.Moves.{MovingMembers, entry_extent, element_flats, part, spot, past, payload_part, payload_spot, canonical_number, plain_size, aligned_source, aligned_target, aligned_node, move_number, move_char, move_handle, move_enum, read_case, write_case, move_list, move_fixed, move_plain, move_to_plain, move_sum, move_node, move_to_node, with_field, move, move_fields, move_case}
 use Rattle.fact_moves.specs.Paths.{Path, End, Limit, Resize, Pass, If, Tag, Assert, TextForm, AsUtf8, AsUtf16, AsCompactLatin1, AsCompactUtf16, path}
 use Rattle.fact_moves.specs.Sides.{LiftLowerOptions, Transfer, Source, Values, AtAddress, Target, Slots, Into, options_of, width_of_side, nth_part, nth_spot, first_bits, address_value, reallocate, side_abi}

@@ -20,7 +20,8 @@ use Rattle.fact_abi.specs.Limits.{CaseType, case_type}
 use Rattle.fact_abi.specs.Places.{case_bytes, flags_bytes}
 use Rattle.fact_abi.specs.Texts.{form_of}
 use Rattle.fact_moves.specs.Actions.{Action, Give, Unreachable, ◌>>◌, trap}
-use Rattle.fact_moves.specs.Adapters.{into_params, into_results, enter_call, exit_call, AdapterTunables, params_transfer, results_transfer, tuple_members, check_tuple, from_values, flat_results, move_params, move_results, last_bits, make_call, cleared, read_slots, sync, async_start, async_return, lift_signature_of}
+use Rattle.fact_moves.specs.Adapters.{into_params, into_results, enter_call, exit_call, AdapterTunables, params_transfer, results_transfer, check_tuple, from_values, flat_results, move_params, move_results, last_bits, make_call, cleared, read_slots, sync, async_start, async_return, lift_signature_of}
+use Rattle.fact_types.specs.Tuples.{tuple_members}
 use Rattle.fact_moves.specs.Moves.{MovingMembers, entry_extent, canonical_number, plain_size, aligned_source, aligned_target, aligned_node, move_number, move_char, move_handle, write_case, move_list, move_fixed, move_plain, move_to_plain, move_sum, move_node, move_to_node, with_field, move, move_fields, move_case}
 use Rattle.fact_moves.specs.Paths.{Path, End, Limit, Resize, Pass, If, Tag, Assert, TextForm, AsUtf8, AsUtf16, AsCompactLatin1, AsCompactUtf16, path}
 use Rattle.fact_moves.specs.Sides.{write_pair, LiftLowerOptions, Transfer, Source, Values, AtAddress, Target, Slots, Into, options_of, first_bits, address_value, reallocate}

@@ -19,7 +19,8 @@ use Rattle.fact_types.specs.Adapters.{LinkedAdapter, is_wide}
 use Rattle.fact_moves.specs.Actions.{Action, Give, Ask, Unreachable, SetFlags, ◌>>=◌, ◌>>◌, trap, unless}
 use Rattle.fact_moves.specs.Running.{ImportPlaces, Call, Ended, Gave, Halted, Strayed, calls_in, world_in, heavier, later, then_ended, or_strayed, if_typed, is_answer, with_answer, call_of, run}
 use Rattle.fact_moves.specs.Sides.{Source, Values, AtAddress, Slots, Into, address_value, first_bits, reallocate, options_of}
-use Rattle.fact_moves.specs.Adapters.{async_start, async_return, AdapterTunables, Slotted, none, when_due, get_flags, cleared, make_call, enters, enter_call, exit_call, read_slots, finish_call, last_bits, params_transfer, results_transfer, tuple_members, check_tuple, into_params, flat_results, into_results, move_params, move_results, sync}
+use Rattle.fact_moves.specs.Adapters.{async_start, async_return, AdapterTunables, Slotted, none, when_due, get_flags, cleared, make_call, enters, enter_call, exit_call, read_slots, finish_call, last_bits, params_transfer, results_transfer, check_tuple, into_params, flat_results, into_results, move_params, move_results, sync}
+use Rattle.fact_types.specs.Tuples.{tuple_members}
 use Rattle.fact_moves.specs.Moves.{entry_extent, move_fields}
 use Rattle.fact_machine.specs.Exits.{first_world}
 use Rattle.fact_machine.specs.Machine.{i32_of}

@@ -9,7 +9,8 @@ use Rattle.fact_types.specs.declared.outside.MemoryOption.{MemoryOption}
 use Rattle.fact_types.specs.Adapters.{Side, LinkedAdapter, is_wide}
 use Rattle.fact_moves.specs.Actions.{Action, Give, ◌>>◌}
 use Rattle.fact_moves.specs.Sides.{LiftLowerOptions, Transfer, Source, Values, AtAddress, Target, Slots, Into, address_value, first_bits, reallocate, options_of}
-use Rattle.fact_moves.specs.Adapters.{AdapterTunables, params_transfer, results_transfer, tuple_members, check_tuple, from_values, into_params, flat_results, into_results, move_params, move_results}
+use Rattle.fact_moves.specs.Adapters.{AdapterTunables, params_transfer, results_transfer, check_tuple, from_values, into_params, flat_results, into_results, move_params, move_results}
+use Rattle.fact_types.specs.Tuples.{tuple_members}
 use Rattle.fact_moves.specs.Moves.{entry_extent}
 use Rattle.fact_moves.proofs.Kept.{IsPlain, IsKept, from_none, region_kept, from_seen, to_seen}
 use Rattle.fact_types.specs.declared.outside.CoreDef.{CoreDef}

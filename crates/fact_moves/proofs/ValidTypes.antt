@@ -13,8 +13,8 @@ use Rattle.fact_types.specs.Sound.{IsSoundExtent}
 use Rattle.fact_types.specs.Valid.{AreEnough, AreRuled, IsValid, nesting, deepest_nesting}
 use Rattle.fact_types.proofs.PlaceLaws.{sound_in, align_pos, ends_grow, ends_within}
 use Rattle.fact_types.proofs.ValidLaws.{valid_takes_bytes, valid_counted}
-use Rattle.fact_abi.specs.Tuples.{members_from}
-use Rattle.fact_moves.specs.Adapters.{tuple_members, flat_results}
+use Rattle.fact_types.specs.Tuples.{members_from, tuple_members}
+use Rattle.fact_moves.specs.Adapters.{flat_results}
 use Rattle.fact_moves.specs.AdapterLaws.{HasCountedTypes}
 use Rattle.fact_moves.specs.Confined.{HasRoomBy, HasRoom, HaveRoom, HasRoomForValues, HasElementsBy, HasElements, HaveElements, AreValidTypes, HasValidTypes}
 use Rattle.fact_moves.specs.Moves.{entry_extent}

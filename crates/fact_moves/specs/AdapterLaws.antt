@@ -24,7 +24,8 @@ use Rattle.fact_moves.specs.Sides.{Transfer, options_of}
 use Rattle.fact_moves.specs.Running.{ImportPlaces, Call, Ended, Gave, Halted, Strayed, moved_weight, calls_in, world_in, is_state, run}
 use Rattle.fact_moves.specs.TypedAnswers.{result_types, HaveCoreTypes, HasPlaces, HaveTypedAnswers}
 use Rattle.fact_moves.specs.Actions.{Action}
-use Rattle.fact_moves.specs.Adapters.{AdapterTunables, References, lower_signature_of, tuple_members, def_of_memory, prepare_args, start_args, same_instance, sync, async_start, async_return, async_call}
+use Rattle.fact_moves.specs.Adapters.{AdapterTunables, References, lower_signature_of, def_of_memory, prepare_args, start_args, same_instance, sync, async_start, async_return, async_call}
+use Rattle.fact_types.specs.Tuples.{tuple_members}
 use Rattle.fact_machine.specs.Exits.{first_world}
 use Rattle.fact_moves.specs.Plain.{NamedOutcome, action_outcome, ended_sync, sync_outcome}
 use Rattle.fact_moves.specs.Honest.{IsStraight}

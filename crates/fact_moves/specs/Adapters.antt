@@ -10,7 +10,7 @@ use Rattle.fact_types.specs.declared.outside.Trap.TheVariants.{CannotLeaveCompon
 use Rattle.fact_types.specs.declared.flats.FlatType.{FlatType}
 use Rattle.fact_types.specs.declared.signature.Signature.{Signature}
 use Rattle.fact_types.specs.FlatShapes.{flat_each}
-use Rattle.fact_types.specs.Shapes.{Shape, Members}
+use Rattle.fact_types.specs.Shapes.{Shape}
 use Rattle.fact_types.specs.Adapters.{Side, LinkedAdapter, is_wide}
 use Rattle.fact_types.specs.Handles.{has_borrow}
 use Rattle.fact_types.specs.Signatures.{flat_values, flat_params, lower_pointer, lower_by, lift_by, lower_limit, lift_results_limit}
@@ -20,7 +20,7 @@ use Rattle.fact_machine.specs.declared.types.CoreValue.TheVariants.{I32, Func}
 use Rattle.fact_types.specs.declared.import.Import.{Import}
 use Rattle.fact_types.specs.declared.import.Import.TheVariants as import
 use Rattle.fact_abi.specs.Lift.{bits_of}
-use Rattle.fact_abi.specs.Tuples.{members_from}
+use Rattle.fact_types.specs.Tuples.{tuple_members}
 use Rattle.fact_moves.specs.Actions.{Action, Give, GetFlags, SetFlags, Ask, ◌>>=◌, ◌>>◌, trap, unless}
 use Rattle.fact_moves.specs.Sides.{LiftLowerOptions, Transfer, Source, Values, AtAddress, Target, Slots, Into, options_of, width_of_side, address_value, first_bits, check_region, reallocate, get_slots, set_slots}
 use Rattle.fact_moves.specs.Moves.{entry_extent, move_fields}
@@ -53,10 +53,6 @@ return_params a =
     ++ lower_pointer a.lower.async_side (is_wide a.lower.memory) a.lower.results
 
 -- ---- parameters and results, flat or through a pointer
-
--- values of these types as the members of a tuple, named by their places
-abbrev pub tuple_members : List Shape → Members
-tuple_members ss = members_from 0 ss
 
 -- the region of a tuple at a pointer
 abbrev pub check_tuple : {A : Type 0} → LiftLowerOptions → List Shape → ℕ → Action A → Action A

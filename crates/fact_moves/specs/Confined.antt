@@ -18,7 +18,8 @@ use Rattle.fact_moves.specs.Moves.{entry_extent}
 use Rattle.fact_moves.specs.Transcoders.{TranscodeKind, AllUnits, Counted, Fitting, Narrow, Tagged, Widening, transcode_kind, from_encoding, to_encoding}
 use Rattle.fact_moves.specs.Sides.{LiftLowerOptions, width_of_side, options_of}
 use Rattle.fact_moves.specs.Running.{ImportPlaces, Call, Ended, calls_in, world_in}
-use Rattle.fact_moves.specs.Adapters.{tuple_members, flat_results}
+use Rattle.fact_moves.specs.Adapters.{flat_results}
+use Rattle.fact_types.specs.Tuples.{tuple_members}
 use Rattle.fact_moves.specs.Calls.{arg_number, state_after, side_memory}
 use Rattle.fact_moves.specs.Order.{IsMemoryOf}
 use Rattle.fact_moves.specs.Honest.{HasReturned, IsHonestTranscode}

@@ -5,7 +5,8 @@ use Rattle.fact_machine.specs.declared.types.CoreValue.{CoreValue}
 use Rattle.fact_types.specs.Adapters.{LinkedAdapter}
 use Rattle.fact_moves.specs.Sides.{LiftLowerOptions, options_of}
 use Rattle.fact_moves.specs.Running.{ImportPlaces, Call}
-use Rattle.fact_moves.specs.Adapters.{last_bits, flat_results, tuple_members}
+use Rattle.fact_moves.specs.Adapters.{last_bits, flat_results}
+use Rattle.fact_types.specs.Tuples.{tuple_members}
 use Rattle.fact_moves.specs.Moves.{entry_extent}
 use Rattle.fact_moves.specs.Calls.{is_call_of, is_call_of_any, arg_number, nth_number, results, state_after, side_memory}
 

@@ -11,7 +11,7 @@ use Rattle.fact_moves.specs.Transcoders.{transcode_kind}
 use Rattle.fact_moves.specs.Paths.{Path, End, Limit, Resize, Pass, If, Tag, Assert, TextForm, align_of, path}
 use Rattle.fact_moves.specs.Strings.{PathPoint, path_start, amount, holds, with_tag, passed}
 use Rattle.fact_moves.specs.Moves.{entry_extent}
-use Rattle.fact_moves.specs.Adapters.{tuple_members}
+use Rattle.fact_types.specs.Tuples.{tuple_members}
 use Rattle.fact_moves.specs.Running.{Call}
 use Rattle.fact_moves.specs.Calls.{arg_number, results}
 use Rattle.fact_moves.specs.Regions.{Landing, is_request}

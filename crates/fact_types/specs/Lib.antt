@@ -16,9 +16,11 @@ pub mod Layout
 pub mod Lending
 pub mod Live
 pub mod Ordered
+pub mod PointerPairs
 pub mod Shapes
 pub mod Signatures
 pub mod Sound
 pub mod Steps
 pub mod Tables
+pub mod Tuples
 pub mod Valid

@@ -1,5 +1,5 @@
 use Rattle.std.proofs.Common.{◌∙◌}
-use Rattle.fact_checks.specs.Tuples.{tuple_of}
+use Rattle.fact_types.specs.Tuples.{tuple_of}
 use Rattle.fact_checks.proofs.TupleLaws.{placed_pointer_pair}
 use Rattle.fact_checks.proofs.memories.gives_pointer.Goals as goal
 

@@ -1,7 +1,8 @@
 use Rattle.std.proofs.Common.{sym, ◌∙◌, ap}
 use Rattle.std.specs.Prelude.{◌||◌, slice_get}
 use Rattle.fact_types.specs.Handles.{any_handle}
-use Rattle.fact_builder.proofs.HandleLaws.{tuple_of, tuple_handle, params_shape, results_shape}
+use Rattle.fact_types.specs.Tuples.{tuple_of}
+use Rattle.fact_builder.proofs.HandleLaws.{tuple_handle, params_shape, results_shape}
 use Rattle.fact_builder.proofs.builder.ComponentTypesBuilder.func_contains_any_handle.Goals as goal
 
 pub returns-then-has_handle : goal.returns-then-has_handle
