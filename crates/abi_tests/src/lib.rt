@@ -1,6 +1,8 @@
-//! Tests of values that are read from memory and from core values.
+//! Tests of values that are read from memory and from core values, and carried from a type to another one.
 #![tactic(auto)]
 
+#[cfg(test)]
+mod carried;
 #[cfg(test)]
 mod handles;
 #[cfg(test)]

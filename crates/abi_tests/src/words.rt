@@ -28,7 +28,7 @@ pub fn bytes_of(alloc: Global, word: &str) -> Result<Vec<u8>, Fail> {
 }
 
 /// A core value by its type and its bits.
-fn core_value_of(word: &str) -> Option<CoreValue> {
+pub fn core_value_of(word: &str) -> Option<CoreValue> {
     let (ty, digits) = word.split_once(":")?;
     match ty {
         "i32" => Some(CoreValue::I32(digits.parse::<u32>().ok()?)),

@@ -1,3 +1,4 @@
+pub mod BelongLaws
 pub mod CarriedLaws
 pub mod CarryLaws
 pub mod CrossLaws
@@ -10,6 +11,7 @@ pub mod LiftLaws
 pub mod LiftingLaws
 pub mod LoadLaws
 pub mod MapLaws
+pub mod NodeWalkLaws
 pub mod NumberLaws
 pub mod OwnLaws
 pub mod PartLaws
@@ -18,3 +20,4 @@ pub mod StepLaws
 pub mod TextLaws
 pub mod ToldLaws
 pub mod TupleLaws
+pub mod WalkLaws

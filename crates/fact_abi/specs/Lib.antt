@@ -1,7 +1,9 @@
 pub mod Bytes
 pub mod Canonical
 pub mod Carry
+pub mod CrossingWalks
 pub mod Decoding
+pub mod Finding
 pub mod Formed
 pub mod Handles
 pub mod IsA

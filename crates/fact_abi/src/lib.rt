@@ -5,6 +5,8 @@
 //! records, cases of variants and flags.
 #![tactic(auto)]
 
+mod belonging;
+mod carrying;
 mod copies;
 mod laws;
 mod lifting;
@@ -16,6 +18,7 @@ mod standing;
 mod texts;
 mod value;
 
+pub use carrying::carry;
 pub use fact_wasm::OutOfMemory;
 pub use laws::laws_of_values;
 pub use lifting::lift;
