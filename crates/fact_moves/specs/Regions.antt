@@ -1,7 +1,9 @@
 -- Regions of memory that realloc gave, and which of its answers are honest (canonical ABI, "Canonical ABI options",
 -- `realloc`).
 use Rattle.std.specs.Prelude.{◌≡◌, ℕ, ◌+◌, ◌%◌, ◌<◌, ◌≤◌, ◌⊎◌, Bool, ◌&&◌, nat_eq, List, [], ◌∷◌, ◌++◌, length, get_or, Some, None, if◌then◌else◌}
+use Rattle.std.specs.List.{AllByRecursion}
 use Rattle.fact_machine.specs.declared.types.CoreValue.{CoreValue}
+use Rattle.fact_machine.specs.declared.types.MachineState.{MachineState}
 use Rattle.fact_types.specs.Adapters.{LinkedAdapter}
 use Rattle.fact_moves.specs.Sides.{LiftLowerOptions, options_of}
 use Rattle.fact_moves.specs.Running.{ImportPlaces, Call}
@@ -96,6 +98,10 @@ in_use x c = without (given_up c) x.live ++ x.landing.area
 pub record IsSoundRegion (bytes : ℕ) (r : Region) : Type 0 where
   pub aligned : r.at % r.align ≡ 0
   pub inside : r.at + r.size ≤ bytes
+
+-- The return area, where there is one, is aligned and lies within the memory of its side.
+abbrev pub IsAreaSound : ImportPlaces → LinkedAdapter → (args : List CoreValue) → MachineState → Type 0
+IsAreaSound p a args state = AllByRecursion (IsSoundRegion (length (side_memory p (options_of a.lower) state))) (return_area a args)
 
 -- An honest answer of realloc. The region is sound and apart from what is in use, holds the bytes of the one given up as far as
 -- there is room, and nothing else that is in use has changed, nor the memory that values come from.
