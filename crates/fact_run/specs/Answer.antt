@@ -12,6 +12,7 @@ use Rattle.fact_run.specs.declared.status.Status.{Status}
 use Rattle.fact_run.specs.declared.status.Status.TheVariants as status
 use Rattle.fact_run.specs.declared.answer.Reply.{Reply}
 use Rattle.fact_run.specs.declared.answer.Reply.TheVariants as reply
+use Rattle.fact_run.specs.declared.ending.Ending.{Ending}
 use Rattle.fact_plan_types.specs.declared.error.Place.{Place}
 use Rattle.fact_plan_types.specs.Faults.{Fault}
 use Rattle.fact_checks.specs.FirstFault.{IsFaultlessPlan, IsFirstAt}
@@ -77,6 +78,17 @@ IsReply o left left' fault reply.ReadFault = fault
 IsReply o left left' fault reply.TooLong = TakesPast left left' limit
 IsReply o left left' fault reply.OutOfMemory = Unit {0}
 IsReply o left left' fault r = Read left left' (λ bytes. IsReplyTo o bytes r)
+
+-- how a run ends with a reply, where the page of one that has a page was written
+abbrev pub ending_with : Reply → Ending
+ending_with (reply.Page text) = record { status = status.Done; told = None }
+ending_with reply.ReadFault = record { status = status.ReadFault; told = None }
+ending_with reply.TooLong = record { status = status.TooLong; told = None }
+ending_with reply.NotJson = record { status = status.NotJson; told = None }
+ending_with (reply.BadPlan line) = record { status = status.BadPlan; told = Some line }
+ending_with (reply.Refused line) = record { status = status.Refused; told = Some line }
+ending_with reply.NotBuilt = record { status = status.NotBuilt; told = None }
+ending_with reply.OutOfMemory = record { status = status.OutOfMemory; told = None }
 
 -- the line of an ending
 abbrev pub line_in : Status → Option (List ℕ) → List ℕ

@@ -4,6 +4,7 @@ ghost use Rattle.std.specs.Prelude.{◌≡◌, ◌≢◌, ◌≤◌, ◌+◌, le
 ghost use Rattle.fact_io.specs.Faults.{Rose};
 ghost use Rattle.fact_io.specs.Transfers.{TakesUpTo};
 ghost use Rattle.fact_plan.specs.Built.{IsBuiltPlan};
+ghost use Rattle.fact_plan.specs.declared.plan.FusePlan.{FusePlan};
 ghost use Rattle.fact_plan_types.specs.PlanTypes.{told};
 ghost use Rattle.fact_run.specs.declared.answer.Reply.TheVariants as reply;
 ghost use Rattle.fact_run.specs.declared.command.CommandOptions.{CommandOptions};
@@ -82,22 +83,38 @@ fn configure(plan: FusePlan, options: CommandOptions) -> FusePlan
     FusePlan { tunables, ..plan }
 }
 
+/// The text that prints the module of a plan that is configured.
+fn fused_page(
+    alloc: Global,
+    plan: &FusePlan,
+    options: CommandOptions,
+) -> Result<String, OutOfMemory>
+    requires built { IsBuiltPlan plan.now }
+    requires fuel { 1 ≤ plan.now.tunables.fuel }
+    ensures { (p : FusePlan) → plan.now ≡ configured options p → IfOk result (λ text. Prints options p (string_bytes text)) }
+{
+    bytes_spell_one_module();
+    match fuse(alloc, plan) {
+        Ok(fused) => {
+            let bytes = fused.bytes.as_slice();
+            let imports = fused.imports.as_slice();
+            let text = page_text(alloc, bytes, imports, options.imports);
+            drop(fused);
+            text
+        }
+        Err(_) => Err(AllocError),
+    }
+}
+
 fn print(alloc: Global, plan: FusePlan, options: CommandOptions) -> Result<String, OutOfMemory>
     requires built { IsBuiltPlan plan }
     requires fuel { 1 ≤ options.fuel }
     ensures { IfOk result (λ text. Prints options plan (string_bytes text)) }
 {
-    bytes_spell_one_module();
-    let plan = configure(plan, options);
-    match fuse(alloc, &plan) {
-        Ok(fused) => {
-            let bytes = fused.bytes.as_slice();
-            let imports = fused.imports.as_slice();
-            let text = page_text(alloc, bytes, imports, options.imports)?;
-            Ok(text)
-        }
-        Err(_) => Err(AllocError),
-    }
+    let configured = configure(plan, options);
+    let text = fused_page(alloc, &configured, options);
+    drop(configured);
+    text
 }
 
 /// What a refusal of a plan comes to.
@@ -119,9 +136,11 @@ fn reply_to_plan(alloc: Global, plan: FusePlan, options: CommandOptions) -> Repl
     ensures { IsReplyToPlan options plan result }
 {
     if let Err(error) = check_plan(alloc, &plan) {
+        drop(plan);
         return reply_to_refusal(alloc, &error);
     }
     if !plan.built() {
+        drop(plan);
         return Reply::NotBuilt;
     }
     match print(alloc, plan, options) {

@@ -11,7 +11,7 @@ ghost use Rattle.fact_plan_types.specs.Faults.{Fault};
 ghost use Rattle.fact_run.specs.declared.command.CommandOptions.{CommandOptions};
 ghost use Rattle.fact_run.specs.Command.{reading};
 ghost use Rattle.fact_run.specs.Refusal.{refusal_line};
-ghost use Rattle.fact_run.specs.Answer.{IsEndUnder, IsEnding, line_in};
+ghost use Rattle.fact_run.specs.Answer.{IsEndUnder, IsEnding, ending_with, line_in};
 ghost use Rattle.fact_run.specs.Run.{HoldsBuilt, HoldsFault, HoldsNoJson, HoldsRefusal, HoldsUnbuilt, IsOrMemory, IsTooLong, IsUndisturbed, Read, SendsPage, TellsLine, limit};
 ghost use Rattle.fact_run.specs.Status.{line_of};
 
@@ -21,6 +21,22 @@ use crate::ending::Ending;
 use crate::status::Status;
 use fact_io::{Sink, Source, write_text};
 use std::alloc::Global;
+
+/// How a run ends with a reply, where the page of one that has a page was written.
+fn ending_with(reply: Reply) -> Ending
+    ensures { result ≡ ending_with reply }
+{
+    match reply {
+        Reply::Page(_) => Ending::of(Status::Done),
+        Reply::ReadFault => Ending::of(Status::ReadFault),
+        Reply::TooLong => Ending::of(Status::TooLong),
+        Reply::NotJson => Ending::of(Status::NotJson),
+        Reply::BadPlan(line) => Ending::telling(Status::BadPlan, line),
+        Reply::Refused(line) => Ending::telling(Status::Refused, line),
+        Reply::NotBuilt => Ending::of(Status::NotBuilt),
+        Reply::OutOfMemory => Ending::of(Status::OutOfMemory),
+    }
+}
 
 /// Reads the source and writes the text of its module.
 fn end<S: Source, K: Sink>(
@@ -42,13 +58,7 @@ fn end<S: Source, K: Sink>(
             Ok(()) => Ending::of(Status::Done),
             Err(_) => Ending::of(Status::WriteFault),
         },
-        Reply::ReadFault => Ending::of(Status::ReadFault),
-        Reply::TooLong => Ending::of(Status::TooLong),
-        Reply::NotJson => Ending::of(Status::NotJson),
-        Reply::BadPlan(line) => Ending::telling(Status::BadPlan, line),
-        Reply::Refused(line) => Ending::telling(Status::Refused, line),
-        Reply::NotBuilt => Ending::of(Status::NotBuilt),
-        Reply::OutOfMemory => Ending::of(Status::OutOfMemory),
+        reply => ending_with(reply),
     }
 }
 
