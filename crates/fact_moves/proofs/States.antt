@@ -58,7 +58,7 @@ zip_there test (x ∷ xs) (y ∷ ys) zero h l e = none_some (sym e)
 zip_there test (x ∷ xs) (y ∷ ys) (suc i) h l e = zip_there test xs ys i (and_right (test x y) (all_zip test xs ys) h) (omega arith) e
 
 -- and what stands there passes
-zip_at : {A B : Type 0} (test : A → B → Bool) (xs : List A) (ys : List B) (i : ℕ) (x : A) → all_zip test xs ys ≡ true → slice_get xs i ≡ Some x → (y : B) × (slice_get ys i ≡ Some y) × (test x y ≡ true)
+pub zip_at : {A B : Type 0} (test : A → B → Bool) (xs : List A) (ys : List B) (i : ℕ) (x : A) → all_zip test xs ys ≡ true → slice_get xs i ≡ Some x → (y : B) × (slice_get ys i ≡ Some y) × (test x y ≡ true)
 zip_at test [] ys i x h e = none_some e
 zip_at test (x' ∷ xs) [] i x h e = false_true h
 zip_at test (x' ∷ xs) (y ∷ ys) zero x h e = (y, refl, subst (λ u. test u y ≡ true) (ap (or_else x') e) (and_left (test x' y) (all_zip test xs ys) h))

@@ -1,0 +1,11 @@
+pub mod Faithful
+pub mod FaithfulLaws
+pub mod Footprints
+pub mod Honest
+pub mod Items
+pub mod Judged
+pub mod Law
+pub mod Lawful
+pub mod Places
+pub mod Regions
+pub mod TransferLaws
