@@ -1,0 +1,27 @@
+-- Adapters move texts, and so whole runs of theirs are faithful.
+use Rattle.fact_moves.specs.Adapters.{AdapterTunables}
+use Rattle.fact_moves.specs.Running.{ImportPlaces}
+use Rattle.fact_types.specs.Adapters.{LinkedAdapter}
+use Rattle.fact_carry.specs.FaithfulLaws.{setting_of_params, setting_of_results, quiet, IsCheckedAdapter, TextsMove}
+use Rattle.fact_carry.proofs.FaithfulRuns.{runs_are_faithful, runs_weigh}
+use Rattle.fact_carry.proofs.Ending.{runs_come_to_end}
+use Rattle.fact_texts.specs.Laws.{TextsAreMoved, TextsMoveInAdapters, AdaptersAreFaithful, AdaptersWeigh, AdaptersComeToEnd}
+use Rattle.fact_texts.proofs.ForTypes.{texts}
+
+pub texts_are_moved : TextsAreMoved
+texts_are_moved c g from to = texts c g from to
+
+pub texts_move : TextsMoveInAdapters
+texts_move p u a k = record {
+  params = λ source g. texts (setting_of_params p (quiet u) a source) g k.lower_memory k.lift_memory;
+  results = λ area source g. texts (setting_of_results p (quiet u) a area source) g k.lift_memory k.lower_memory;
+}
+
+pub adapters_are_faithful : AdaptersAreFaithful
+adapters_are_faithful p u a args w k sync honest = runs_are_faithful p u a args w k sync (texts_move p u a k) honest
+
+pub adapters_weigh : AdaptersWeigh
+adapters_weigh p u a args w k sync honest = runs_weigh p u a args w k sync (texts_move p u a k) honest
+
+pub adapters_come_to_end : AdaptersComeToEnd
+adapters_come_to_end p u a args w off k sync honest limits = runs_come_to_end p u a args w off k sync (texts_move p u a k) honest limits

@@ -1,0 +1,251 @@
+-- Whole adapters ask of realloc what the parts of their values do.
+use Rattle.std.proofs.Common.{◌≡◌, ◌≢◌, ℕ, Bool, true, false, List, [], ◌∷◌, ◌++◌, Option, None, refl, sym, ap, ◌∙◌, subst}
+use Rattle.std.proofs.lemmas.List.{append-nil}
+use Rattle.fact_types.specs.Adapters.{LinkedAdapter}
+use Rattle.fact_types.specs.declared.import.Import.{Import}
+use Rattle.fact_types.specs.declared.import.Import.TheVariants as import
+use Rattle.fact_types.specs.declared.outside.CoreDef.{CoreDef}
+use Rattle.fact_types.specs.declared.outside.Trap.TheVariants.{UncaughtException}
+use Rattle.fact_machine.specs.declared.types.CoreValue.{CoreValue}
+use Rattle.fact_machine.specs.declared.types.CoreValue.TheVariants.{I32}
+use Rattle.fact_machine.specs.declared.types.MachineState.{MachineState}
+use Rattle.fact_machine.specs.World.{World, Stop, Trap, Throw, Lack}
+use Rattle.fact_moves.specs.Actions.{trap}
+use Rattle.fact_moves.specs.Adapters.{AdapterTunables, params_transfer, results_transfer, last_bits, move_params, move_results, sync}
+use Rattle.fact_moves.specs.Calls.{results, side_memory, state_after}
+use Rattle.fact_moves.specs.Honest.{AreHonest, AreHonestSync}
+use Rattle.fact_moves.specs.Order.{flag_in, IsValueCall}
+use Rattle.fact_moves.specs.Plain.{guarded_if}
+use Rattle.fact_moves.specs.Regions.{landed, params_landing, results_landing, return_area, moved_on, sync_moved_on}
+use Rattle.fact_moves.specs.Running.{ImportPlaces, Call, Ended, Gave, Halted, Strayed, calls_in, is_state, run}
+use Rattle.fact_moves.specs.Sides.{LiftLowerOptions, options_of}
+use Rattle.fact_moves.proofs.OwnParts.{same_self}
+use Rattle.fact_carry.specs.FaithfulLaws.{setting_of_params, setting_of_results, IsCheckedAdapter}
+use Rattle.fact_carry.specs.Honest.{AreHonestCalls}
+use Rattle.fact_carry.specs.Regions.{TransferSetting}
+use Rattle.fact_carry.proofs.Apart.{advance, honest_apart}
+use Rattle.fact_carry.proofs.Called.{AllCalled, params_called, results_called}
+use Rattle.fact_carry.proofs.Ending.{ParamsApart, ResultsApart, params_apart, results_apart, honest_returned, calls_behind}
+use Rattle.fact_carry.proofs.Framed.{IsAround, AreAround, IsParted, parted}
+use Rattle.fact_carry.proofs.Grounding.{has_bytes, still_there}
+use Rattle.fact_carry.proofs.Honestly.{IsOfTransfer, params_of_transfer, results_of_transfer, honest_are}
+use Rattle.fact_carry.proofs.Once.{NoneCalls, none_calls, params_differ, results_differ, Differs}
+use Rattle.fact_carry.proofs.Parts.{honest_parts}
+use Rattle.fact_carry.proofs.Stopping.{Stopping, IsPassedOn, IsAnswered, calls_before, calls_answered as answered_calls, moves_back}
+use Rattle.fact_texts.specs.Laws.{RequestsAreCalledFor}
+use Rattle.fact_texts.specs.Premises.{KnowsMemories}
+use Rattle.fact_texts.specs.Requested.{AsksFor, IsOwnRealloc, CallOwnRealloc, params_parts, results_parts, IsOutsideTransfers, AreOutsideTransfers, AreFromCallee, ArePassed, AreAnswered, AreFinished, AreSoFar, StopsEntering, StopsInParams, StopsCalling, StopsInResults, StopsFinishing, AreRequested}
+use Rattle.fact_texts.proofs.AdapterAsks.{HonestlyAsks, asks_for, params_sides, results_sides, params_ask, results_ask}
+use Rattle.fact_texts.proofs.Halting.{HaltsAt, AtEntry, AtParams, AtCallee, AtResults, AtEnd, FromCallee, halts_sync}
+use Rattle.fact_texts.proofs.Thrown.{Unthrown, never_thrown}
+
+-- ---- calls beside transfers
+
+beside : (r : Option CoreDef) (i : Import) → IsAround r i → IsOutsideTransfers r i
+beside r (import.CoreDef d) h = h
+beside r (import.Transcode o from from64 to to64) h = absurd h
+beside r (import.PrepareCall memory) h = absurd h
+beside r (import.StartCall callback function) h = absurd h
+beside r import.ResourceTransferOwn h = absurd h
+beside r import.ResourceTransferBorrow h = absurd h
+beside r import.FutureTransfer h = absurd h
+beside r import.StreamTransfer h = absurd h
+beside r import.ErrorContextTransfer h = absurd h
+beside r (import.Trap t) h = absurd h
+beside r import.EnterSyncCall h = tt
+beside r import.ExitSyncCall h = tt
+beside r (import.UnsafeIntrinsic s) h = tt
+
+are_beside : (r : Option CoreDef) (cs : List Call) → AreAround r cs → AreOutsideTransfers r cs
+are_beside r [] h = tt
+are_beside r (c ∷ cs) h = (beside r c.what h.0, are_beside r cs h.1)
+
+from_callee : (a : LinkedAdapter) (cs : List Call) → FromCallee a cs → AreFromCallee a cs
+from_callee a [] h = tt
+from_callee a (c ∷ cs) h = (h.0, are_beside None cs h.1)
+
+-- ---- core functions that transfers call
+
+value_own : (from to other : LiftLowerOptions) (i : Import) → IsValueCall from to i → IsOwnRealloc other i
+value_own from to other (import.CoreDef d) h = absurd h
+value_own from to other (import.Transcode o from_def from64 to_def to64) h = tt
+value_own from to other (import.PrepareCall memory) h = tt
+value_own from to other (import.StartCall callback function) h = tt
+value_own from to other import.ResourceTransferOwn h = tt
+value_own from to other import.ResourceTransferBorrow h = tt
+value_own from to other import.FutureTransfer h = tt
+value_own from to other import.StreamTransfer h = tt
+value_own from to other import.ErrorContextTransfer h = tt
+value_own from to other (import.Trap t) h = tt
+value_own from to other import.EnterSyncCall h = tt
+value_own from to other import.ExitSyncCall h = tt
+value_own from to other (import.UnsafeIntrinsic s) h = tt
+
+own_calls : (to : LiftLowerOptions) (cs : List Call) → AllCalled (IsOwnRealloc to) cs → CallOwnRealloc to cs
+own_calls to [] h = tt
+own_calls to (c ∷ cs) h = (h.0, own_calls to cs h.1)
+
+module _ (p : ImportPlaces) (u : AdapterTunables) (a : LinkedAdapter) (w : World) where
+  params_own : (args : List CoreValue) (e : Ended (List CoreValue)) → run p (move_params u a args) w ≡ e → CallOwnRealloc (options_of a.lift) (calls_in e)
+  params_own args e is = own_calls (options_of a.lift) (calls_in e) (subst (λ e. AllCalled (IsOwnRealloc (options_of a.lift)) (calls_in e)) is
+      (params_called (IsOwnRealloc (options_of a.lift)) (λ t. tt) (λ s. tt) u a (λ f e. (f, e, same_self f)) (value_own (options_of a.lower) (options_of a.lift) (options_of a.lift)) args p w))
+
+  results_own : (given : List CoreValue) (pointer : ℕ) (e : Ended (List CoreValue)) → run p (move_results u a given pointer) w ≡ e → CallOwnRealloc (options_of a.lower) (calls_in e)
+  results_own given pointer e is = own_calls (options_of a.lower) (calls_in e) (subst (λ e. AllCalled (IsOwnRealloc (options_of a.lower)) (calls_in e)) is
+      (results_called (IsOwnRealloc (options_of a.lower)) (λ t. tt) (λ s. tt) u a (λ f e. (f, e, same_self f)) (value_own (options_of a.lift) (options_of a.lower) (options_of a.lower)) given pointer p w))
+
+-- ---- honest transfers
+
+module _ (p : ImportPlaces) (u : AdapterTunables) (a : LinkedAdapter) (known : KnowsMemories p a) where
+  -- The parameters, from a state whose memories are those of a typed one.
+  module _ (args : List CoreValue) (s : MachineState) (typed : is_state p s ≡ true) (w : World) (same : w.state.memories ≡ s.memories) where
+    abbrev of_p : TransferSetting
+    of_p = setting_of_params p u a (side_memory p (options_of a.lower) s)
+
+    params_honest : (e : Ended (List CoreValue)) → run p (move_params u a args) w ≡ e → AreHonest p a moved_on (landed (params_landing a)) (calls_in e) → AreHonestCalls of_p [] (calls_in e)
+    params_honest e is h = honest_are of_p known.two a [] (calls_in e) (subst (λ e. AllCalled (IsOfTransfer (options_of a.lower) (options_of a.lift)) (calls_in e)) is (params_of_transfer u a p w args)) h
+
+    pub params_asked : (e : Ended (List CoreValue)) → run p (move_params u a args) w ≡ e → AreHonest p a moved_on (landed (params_landing a)) (calls_in e) → AsksFor (params_transfer u a) (params_landing a) (params_parts p u a args s) e
+    params_asked e is h =
+        by_end e (subst (HonestlyAsks of_p (params_parts p u a args s)) is
+        (asks_for of_p (params_sides p u a known (side_memory p (options_of a.lower) s)) (params_parts p u a args s) (move_params u a args) w (params_ask p u a known (side_memory p (options_of a.lower) s) args)
+        (still_there p (options_of a.lower) s w.state (side_memory p (options_of a.lower) s) same (has_bytes p (options_of a.lower) s known.lower typed).there))) (params_honest e is h)
+      where
+        by_end : (e : Ended (List CoreValue)) → HonestlyAsks of_p (params_parts p u a args s) e → AreHonestCalls of_p [] (calls_in e) → AsksFor (params_transfer u a) (params_landing a) (params_parts p u a args s) e
+        by_end (Gave n cs vs w') j o = j o
+        by_end (Halted n cs s w') j o = j o
+        by_end (Strayed n cs w') j o = tt
+
+  -- The results, from the state that the callee left.
+  module _ (args given : List CoreValue) (s : MachineState) (typed : is_state p s ≡ true) (w : World) (same : w.state.memories ≡ s.memories) where
+    abbrev of_r : TransferSetting
+    of_r = setting_of_results p u a (return_area a args) (side_memory p (options_of a.lift) s)
+
+    results_honest : (e : Ended (List CoreValue)) → run p (move_results u a given (last_bits args)) w ≡ e → AreHonest p a moved_on (landed (results_landing a args)) (calls_in e) → AreHonestCalls of_r [] (calls_in e)
+    results_honest e is h =
+        honest_are of_r (λ m n e f k. known.two n m f e (sym k)) a [] (calls_in e) (subst (λ e. AllCalled (IsOfTransfer (options_of a.lift) (options_of a.lower)) (calls_in e)) is (results_of_transfer u a p w given (last_bits args))) h
+
+    pub results_asked : (e : Ended (List CoreValue)) → run p (move_results u a given (last_bits args)) w ≡ e → AreHonest p a moved_on (landed (results_landing a args)) (calls_in e) → AsksFor (results_transfer u a) (results_landing a args) (results_parts p u a args given s) e
+    results_asked e is h =
+        by_end e (subst (HonestlyAsks of_r (results_parts p u a args given s)) is
+        (asks_for of_r (results_sides p u a known (side_memory p (options_of a.lift) s) (return_area a args)) (results_parts p u a args given s) (move_results u a given (last_bits args)) w
+        (results_ask p u a known (side_memory p (options_of a.lift) s) (return_area a args) given (last_bits args))
+        (still_there p (options_of a.lift) s w.state (side_memory p (options_of a.lift) s) same (has_bytes p (options_of a.lift) s known.lift typed).there))) (results_honest e is h)
+      where
+        by_end : (e : Ended (List CoreValue)) → HonestlyAsks of_r (results_parts p u a args given s) e → AreHonestCalls of_r [] (calls_in e) → AsksFor (results_transfer u a) (results_landing a args) (results_parts p u a args given s) e
+        by_end (Gave n cs vs w') j o = j o
+        by_end (Halted n cs s w') j o = j o
+        by_end (Strayed n cs w') j o = tt
+
+-- ---- sync adapters
+
+knows_memories : (p : ImportPlaces) (a : LinkedAdapter) → IsCheckedAdapter p a → KnowsMemories p a
+knows_memories p a x = record { lower = x.lower_memory; lift = x.lift_memory; two = x.memories }
+
+module _ (p : ImportPlaces) (u : AdapterTunables) (a : LinkedAdapter) (x : IsCheckedAdapter p a) (args : List CoreValue) (w : World) (typed : is_state p w.state ≡ true) where
+  abbrev known : KnowsMemories p a
+  known = knows_memories p a x
+
+  -- a run that gave something
+  finished : (n : ℕ) (cs : List Call) (vs : List CoreValue) (w' : World) → IsParted p u a args w n cs vs w' → AreHonestSync p a args cs → AreFinished p u a args w.state cs
+  finished n cs vs w' k honest =
+      let parts = honest_parts p u a args w n cs vs w' x k honest in
+      record {
+        answered = record {
+          passed = record {
+            enter = k.enter;
+            params = k.params;
+            enter_is = are_beside None k.enter k.entered.around;
+            params_are = params_own p u a k.before_params args (Gave k.params_weight k.params k.core k.behind_params) k.params_run;
+            params_ask = params_asked p u a known args w.state typed k.before_params parts.begins (Gave k.params_weight k.params k.core k.behind_params) k.params_run parts.params;
+          };
+          callee = k.callee;
+          between = k.between;
+          callee_is = k.callee_is;
+          between_is = are_beside None k.between k.left.around;
+        };
+        back = k.back;
+        finish = k.finish;
+        calls_are = k.calls_are;
+        back_is = results_own p u a k.before_results (results k.callee) (last_bits args) (Gave k.results_weight k.back vs k.behind_results) k.results_run;
+        back_asks = results_asked p u a known args (results k.callee) (state_after k.callee) k.answer_state k.before_results parts.returns (Gave k.results_weight k.back vs k.behind_results) k.results_run parts.results;
+        finish_is = are_beside a.lift.post_return k.finish k.finished.around;
+      }
+
+  -- ---- runs that stop
+
+  params_none : (args : List CoreValue) (v : World) (e : Ended (List CoreValue)) → run p (move_params u a args) v ≡ e → NoneCalls a (calls_in e)
+  params_none args v e is = none_calls a (calls_in e) (subst (λ e. AllCalled (Differs a) (calls_in e)) is (params_differ p u a x v args))
+
+  results_none : (given : List CoreValue) (v : World) (e : Ended (List CoreValue)) → run p (move_results u a given (last_bits args)) v ≡ e → NoneCalls a (calls_in e)
+  results_none given v e is = none_calls a (calls_in e) (subst (λ e. AllCalled (Differs a) (calls_in e)) is (results_differ p u a x v given (last_bits args)))
+
+  passed_apart : (t : IsPassedOn p u a args w) (others : List Call) → AreHonestSync p a args (calls_before p u a args w t others) → ParamsApart p u a args w t.start t.params others
+  passed_apart t others h = params_apart p u a args w t.start t.params others (params_none args t.start.before_params _ t.params_run) h
+
+  abbrev passed : (t : IsPassedOn p u a args w) (others : List Call) → AreHonestSync p a args (calls_before p u a args w t others) → ArePassed p u a args w.state
+  passed t others h =
+      let r = passed_apart t others h in
+      record {
+        enter = t.start.enter;
+        params = t.params;
+        enter_is = are_beside None t.start.enter t.start.entered.around;
+        params_are = params_own p u a t.start.before_params args (Gave t.params_weight t.params t.core t.behind_params) t.params_run;
+        params_ask = params_asked p u a known args w.state typed t.start.before_params r.begins (Gave t.params_weight t.params t.core t.behind_params) t.params_run r.params;
+      }
+
+  abbrev answered : (t : IsAnswered p u a args w) (others : List Call) → AreHonestSync p a args (answered_calls p u a args w t others) → AreAnswered p u a args w.state
+  answered t others h = record {
+    passed = passed t.passed (t.callee ∷ (t.between ++ others)) h;
+    callee = t.callee;
+    between = t.between;
+    callee_is = t.callee_is;
+    between_is = are_beside None t.between t.left.around;
+  }
+
+  back_apart : (t : IsAnswered p u a args w) (back more : List Call) → NoneCalls a back → AreHonestSync p a args (answered_calls p u a args w t (back ++ more)) → ResultsApart p u a args w t back
+  back_apart t back more none h = results_apart p u a args w t back more (advance (sync_moved_on a args) (landed (params_landing a)) t.passed.params) none (passed_apart t.passed (t.callee ∷ (t.between ++ (back ++ more))) h).remain
+
+  back_asked : (t : IsAnswered p u a args w) (e : Ended (List CoreValue)) → run p (moves_back p u a args w t) t.before_results ≡ e → ResultsApart p u a args w t (calls_in e) → AsksFor (results_transfer u a) (results_landing a args) (results_parts p u a args (results t.callee) (state_after t.callee)) e
+  back_asked t e is r = results_asked p u a known args (results t.callee) (state_after t.callee) t.answer_state t.before_results r.returns e is r.back_honest
+
+  pub so_far : (s : Stop) (cs : List Call) → HaltsAt p u a args w s cs → AreHonestSync p a args cs → AreSoFar p u a args w.state cs
+  so_far s cs (AtEntry h) honest = StopsEntering (are_beside None cs h)
+  so_far s cs (AtParams t n params v is e) honest =
+      let r = params_apart p u a args w t params [] (params_none args t.before_params _ is) (subst (AreHonestSync p a args) (e ∙ ap (λ l. t.enter ++ l) (sym (append-nil params))) honest) in
+      StopsInParams t.enter params (are_beside None t.enter t.entered.around) e (params_own p u a t.before_params args (Halted n params s v) is) (params_asked p u a known args w.state typed t.before_params r.begins (Halted n params s v) is r.params)
+  so_far s cs (AtCallee t others h e) honest = StopsCalling (passed t others (subst (AreHonestSync p a args) e honest)) others (from_callee a others h) e
+  so_far s cs (AtResults t n back v is e) honest =
+      let o = subst (AreHonestSync p a args) e honest in
+      let o2 = subst (λ l. AreHonestSync p a args (answered_calls p u a args w t l)) (sym (append-nil back)) o in
+      StopsInResults (answered t back o) back e (results_own p u a t.before_results (results t.callee) (last_bits args) (Halted n back s v) is) (back_asked t (Halted n back s v) is (back_apart t back [] (results_none (results t.callee) t.before_results _ is) o2))
+  so_far s cs (AtEnd t n back vs v others is h e) honest =
+      let o = subst (AreHonestSync p a args) e honest in
+      StopsFinishing (record {
+        answered = answered t (back ++ others) o;
+        back = back;
+        finish = others;
+        calls_are = e;
+        back_is = results_own p u a t.before_results (results t.callee) (last_bits args) (Gave n back vs v) is;
+        back_asks = back_asked t (Gave n back vs v) is (back_apart t back others (results_none (results t.callee) t.before_results _ is) o);
+        finish_is = are_beside a.lift.post_return others h;
+      })
+
+  -- ---- with the barrier
+
+  guarded : (b : Bool) (e : Ended (List CoreValue)) → (flag_in p a.lower.instance w.state.globals ≢ I32 0 → Stopping e (HaltsAt p u a args w)) → Stopping e Unthrown → ((n : ℕ) (cs : List Call) (vs : List CoreValue) (w' : World) → guarded_if b p e ≡ Gave n cs vs w' → IsParted p u a args w n cs vs w')
+      → AreHonestSync p a args (calls_in (guarded_if b p e)) → AreRequested p u a args w.state (guarded_if b p e)
+  guarded true (Gave n cs vs v) halts thrown gives honest = finished n cs vs v (gives n cs vs v refl) honest
+  guarded false (Gave n cs vs v) halts thrown gives honest = finished n cs vs v (gives n cs vs v refl) honest
+  guarded true (Strayed n cs v) halts thrown gives honest = tt
+  guarded false (Strayed n cs v) halts thrown gives honest = tt
+  guarded true (Halted n cs Lack v) halts thrown gives honest = λ may. so_far Lack cs (halts may) honest
+  guarded true (Halted n cs Trap v) halts thrown gives honest = λ may. so_far Trap cs (halts may) honest
+  guarded false (Halted n cs s v) halts thrown gives honest = λ may. so_far s cs (halts may) honest
+  guarded true (Halted n cs Throw v) halts thrown gives honest =
+      let e = run p (trap {A = List CoreValue} UncaughtException) v in
+      absurd (thrown (honest_returned p a (sync_moved_on a args) (landed (params_landing a)) cs (honest_apart p a (sync_moved_on a args) (landed (params_landing a)) cs (calls_in e) (subst (AreHonestSync p a args) (calls_behind n cs e) honest)).0) tt)
+
+pub requests_are_called_for : RequestsAreCalledFor
+requests_are_called_for p u a args w x honest =
+    guarded p u a x args w honest.state_typed u.exceptions (run p (sync u a args) w) (λ may. (halts_sync p u a args w may).so) (never_thrown p (sync u a args) w) (λ n cs vs w' e. parted p u a args w w' n cs vs e) honest.honest

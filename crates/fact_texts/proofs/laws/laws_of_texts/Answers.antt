@@ -1,0 +1,22 @@
+use Rattle.fact_texts.proofs.AdapterRanges.{transcoders_are_ranged, start_transcoders_are_ranged, return_transcoders_are_ranged}
+use Rattle.fact_texts.proofs.Finished.{texts_are_moved, texts_move, adapters_are_faithful, adapters_weigh, adapters_come_to_end}
+use Rattle.fact_texts.proofs.Means.{transcoders_need_means}
+use Rattle.fact_texts.proofs.Requests.{requests_are_called_for}
+use Rattle.fact_texts.proofs.FlaggedRequests.{start_requests_are_called_for, return_requests_are_called_for}
+use Rattle.fact_texts.proofs.laws.laws_of_texts.Goals as goal
+
+pub returns : goal.returns
+returns c = record {
+  transcoders_are_ranged = transcoders_are_ranged;
+  start_transcoders_are_ranged = start_transcoders_are_ranged;
+  return_transcoders_are_ranged = return_transcoders_are_ranged;
+  transcoders_need_means = transcoders_need_means;
+  texts_are_moved = texts_are_moved;
+  texts_move = texts_move;
+  adapters_are_faithful = adapters_are_faithful;
+  adapters_weigh = adapters_weigh;
+  adapters_come_to_end = adapters_come_to_end;
+  requests_are_called_for = requests_are_called_for;
+  start_requests_are_called_for = start_requests_are_called_for;
+  return_requests_are_called_for = return_requests_are_called_for;
+}

@@ -1,0 +1,111 @@
+-- Laws of texts in adapters: where transcoders alone answer honestly, and in honest runs.
+use Rattle.std.specs.Prelude.{◌≡◌, ℕ, true, false, List, [], ◌∷◌}
+use Rattle.fact_types.specs.Adapters.{LinkedAdapter}
+use Rattle.fact_machine.specs.declared.types.CoreValue.{CoreValue}
+use Rattle.fact_machine.specs.World.{World}
+use Rattle.fact_moves.specs.Adapters.{AdapterTunables, params_transfer, results_transfer, move_params, move_results, async_start, async_return}
+use Rattle.fact_moves.specs.Calls.{HasOwnCallee}
+use Rattle.fact_moves.specs.Confined.{HaveHonestTranscoders, AreRangedSync, AreRangedStart, AreRangedReturn}
+use Rattle.fact_moves.specs.Honest.{IsStraight, IsHonestRun, IsHonestStart, IsHonestReturn}
+use Rattle.fact_moves.specs.Plain.{ended_sync}
+use Rattle.fact_moves.specs.Regions.{params_landing, results_landing}
+use Rattle.fact_moves.specs.Requests.{is_transcode}
+use Rattle.fact_moves.specs.Running.{ImportPlaces, Call, Ended, calls_in, is_state, moved_weight, run}
+use Rattle.fact_moves.specs.Sides.{options_of}
+use Rattle.fact_carry.specs.Faithful.{IsFaithful, WhereGiven, IsInLimits, ComesToEnd, whole_weight}
+use Rattle.fact_carry.specs.FaithfulLaws.{IsCheckedAdapter, HasSyncSides, TextsMove}
+use Rattle.fact_carry.specs.Lawful.{Texts}
+use Rattle.fact_carry.specs.Places.{IsGrounded, HasKnownMemory}
+use Rattle.fact_carry.specs.Regions.{TransferSetting}
+use Rattle.fact_texts.specs.Premises.{KnowsMemories, HasMeans}
+use Rattle.fact_texts.specs.Requested.{AsksFor, params_parts, results_parts, AreRequested}
+
+-- ---- ranges of transcoders
+
+-- Each transcoder of a run that does not go astray reads whole units within the memory that values come from, and may write
+-- within a sound live region alone.
+abbrev pub IsRangedRun : ImportPlaces → (List Call → Type 0) → Ended (List CoreValue) → Type 0
+IsRangedRun p Ranged e = IsStraight e → HaveHonestTranscoders p (calls_in e) → Ranged (calls_in e)
+
+-- So it is in each run of a sync adapter from a typed state on, whatever all others answer.
+abbrev pub TranscodersAreRanged : Type 0
+TranscodersAreRanged =
+    (p : ImportPlaces) (u : AdapterTunables) (a : LinkedAdapter) (args : List CoreValue) (w : World)
+    → HasOwnCallee a → KnowsMemories p a → is_state p w.state ≡ true → IsRangedRun p (AreRangedSync p a args) (ended_sync p u a args w)
+
+-- And in those of the functions of an async adapter that move parameters and results.
+abbrev pub StartTranscodersAreRanged : Type 0
+StartTranscodersAreRanged =
+    (p : ImportPlaces) (u : AdapterTunables) (a : LinkedAdapter) (args : List CoreValue) (w : World)
+    → HasOwnCallee a → KnowsMemories p a → is_state p w.state ≡ true → IsRangedRun p (AreRangedStart p a) (run p (async_start u a args) w)
+
+abbrev pub ReturnTranscodersAreRanged : Type 0
+ReturnTranscodersAreRanged =
+    (p : ImportPlaces) (u : AdapterTunables) (a : LinkedAdapter) (args : List CoreValue) (w : World)
+    → HasOwnCallee a → KnowsMemories p a → is_state p w.state ≡ true → IsRangedRun p (AreRangedReturn p a args) (run p (async_return u a args) w)
+
+-- A transfer between sides that lack what texts need calls no transcoder, whatever is answered.
+abbrev pub AreOfNoTranscoder : List Call → Type 0
+AreOfNoTranscoder [] = Unit {0}
+AreOfNoTranscoder (c ∷ cs) = (is_transcode c.what ≡ false) × AreOfNoTranscoder cs
+
+abbrev pub TranscodersNeedMeans : Type 0
+TranscodersNeedMeans =
+    (p : ImportPlaces) (u : AdapterTunables) (a : LinkedAdapter) (w : World)
+    → ((args : List CoreValue) → (HasMeans (options_of a.lower) (options_of a.lift) → ⊥) → AreOfNoTranscoder (calls_in (run p (move_params u a args) w)))
+    × ((given : List CoreValue) (pointer : ℕ) → (HasMeans (options_of a.lift) (options_of a.lower) → ⊥) → AreOfNoTranscoder (calls_in (run p (move_results u a given pointer) w)))
+
+-- ---- honest runs
+
+-- A text is moved from any form to any encoding, in memories of both widths, within the limits of its form; and where none stands
+-- at the source, nothing is moved.
+abbrev pub TextsAreMoved : Type 0
+TextsAreMoved = (c : TransferSetting) → IsGrounded c → HasKnownMemory c.places c.transfer.from.memory → HasKnownMemory c.places c.transfer.to.memory → Texts c
+
+-- So they are in both transfers of a checked adapter.
+abbrev pub TextsMoveInAdapters : Type 0
+TextsMoveInAdapters = (p : ImportPlaces) (u : AdapterTunables) (a : LinkedAdapter) → IsCheckedAdapter p a → TextsMove p u a
+
+-- So an honest run of a sync adapter that gives something is faithful, whatever types its values have.
+abbrev pub AdaptersAreFaithful : Type 0
+AdaptersAreFaithful =
+    (p : ImportPlaces) (u : AdapterTunables) (a : LinkedAdapter) (args : List CoreValue) (w : World)
+    → IsCheckedAdapter p a → HasSyncSides a → IsHonestRun p a args w.state (ended_sync p u a args w)
+    → WhereGiven (ended_sync p u a args w) (λ cs vs w'. IsFaithful p a args w.state cs vs w'.state)
+
+-- And the nodes that it moved weigh what came in and what the callee answered.
+abbrev pub AdaptersWeigh : Type 0
+AdaptersWeigh =
+    (p : ImportPlaces) (u : AdapterTunables) (a : LinkedAdapter) (args : List CoreValue) (w : World)
+    → IsCheckedAdapter p a → HasSyncSides a → IsHonestRun p a args w.state (ended_sync p u a args w)
+    → WhereGiven (ended_sync p u a args w) (λ cs vs w'. moved_weight (ended_sync p u a args w) ≡ whole_weight p a args w.state cs)
+
+-- Within limits, and without debug checks, it gives something or lacks an answer, and makes few calls.
+abbrev pub AdaptersComeToEnd : Type 0
+AdaptersComeToEnd =
+    (p : ImportPlaces) (u : AdapterTunables) (a : LinkedAdapter) (args : List CoreValue) (w : World)
+    → u.debug ≡ false → IsCheckedAdapter p a → HasSyncSides a → IsHonestRun p a args w.state (ended_sync p u a args w)
+    → IsInLimits p a args w.state (calls_in (ended_sync p u a args w))
+    → ComesToEnd p a args w.state (ended_sync p u a args w)
+
+-- ---- requests of realloc
+
+-- Each transfer of an honest run asks of realloc all that the parts of its values ask for, in the order of the destination and the
+-- outer before the inner; where the run stops, so far a front of it.
+abbrev pub RequestsAreCalledFor : Type 0
+RequestsAreCalledFor =
+    (p : ImportPlaces) (u : AdapterTunables) (a : LinkedAdapter) (args : List CoreValue) (w : World)
+    → IsCheckedAdapter p a → IsHonestRun p a args w.state (ended_sync p u a args w) → AreRequested p u a args w.state (ended_sync p u a args w)
+
+-- So do the functions of an async adapter that move parameters and results.
+abbrev pub StartRequestsAreCalledFor : Type 0
+StartRequestsAreCalledFor =
+    (p : ImportPlaces) (u : AdapterTunables) (a : LinkedAdapter) (args : List CoreValue) (w : World)
+    → KnowsMemories p a → IsHonestStart p a args w.state (run p (async_start u a args) w)
+    → AsksFor (params_transfer u a) (params_landing a) (params_parts p u a args w.state) (run p (async_start u a args) w)
+
+abbrev pub ReturnRequestsAreCalledFor : Type 0
+ReturnRequestsAreCalledFor =
+    (p : ImportPlaces) (u : AdapterTunables) (a : LinkedAdapter) (args : List CoreValue) (w : World)
+    → KnowsMemories p a → IsHonestReturn p a args w.state (run p (async_return u a args) w)
+    → AsksFor (results_transfer u a) (results_landing a args) (results_parts p u a args args w.state) (run p (async_return u a args) w)

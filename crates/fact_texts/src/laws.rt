@@ -1,0 +1,20 @@
+//! Laws of the moves of texts.
+
+ghost use Rattle.fact_texts.specs.Laws.{TranscodersAreRanged, StartTranscodersAreRanged, ReturnTranscodersAreRanged, TranscodersNeedMeans, TextsAreMoved, TextsMoveInAdapters, AdaptersAreFaithful, AdaptersWeigh, AdaptersComeToEnd, RequestsAreCalledFor, StartRequestsAreCalledFor, ReturnRequestsAreCalledFor};
+
+/// What holds of the moves of texts: of the ranges of their transcoders, whatever all others answer; and in honest runs of
+/// what is moved, and of what is asked of realloc. The call does nothing: its contract is the laws.
+pub fn laws_of_texts()
+    ensures transcoders_are_ranged { TranscodersAreRanged }
+    ensures start_transcoders_are_ranged { StartTranscodersAreRanged }
+    ensures return_transcoders_are_ranged { ReturnTranscodersAreRanged }
+    ensures transcoders_need_means { TranscodersNeedMeans }
+    ensures texts_are_moved { TextsAreMoved }
+    ensures texts_move { TextsMoveInAdapters }
+    ensures adapters_are_faithful { AdaptersAreFaithful }
+    ensures adapters_weigh { AdaptersWeigh }
+    ensures adapters_come_to_end { AdaptersComeToEnd }
+    ensures requests_are_called_for { RequestsAreCalledFor }
+    ensures start_requests_are_called_for { StartRequestsAreCalledFor }
+    ensures return_requests_are_called_for { ReturnRequestsAreCalledFor }
+{}
