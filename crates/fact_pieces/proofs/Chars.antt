@@ -3,7 +3,6 @@ use Rattle.std.proofs.Common.{◌≡◌, ℕ, Bool, true, false, ◌&&◌, List,
 use Rattle.std.specs.Prelude.{nat_lt, ◌||◌, bit_and, bit_or}
 use Rattle.fact_wasm.specs.declared.types.ValType.{ValType}
 use Rattle.fact_wasm.specs.declared.types.ValType.TheVariants as val
-use Rattle.fact_wasm.specs.declared.instr.Instr.{Instr}
 use Rattle.fact_wasm.specs.declared.instr.Instr.TheVariants as I
 use Rattle.fact_wasm.specs.declared.instr.Instr.TheOpen as o
 use Rattle.fact_wasm.specs.declared.module.WasmModule.{WasmModule}
@@ -32,16 +31,9 @@ use Rattle.fact_moves.specs.Actions.{Visit, unless}
 use Rattle.fact_pieces.proofs.Tested.{tested_code, Temporary, IsTest, moves_tested}
 use Rattle.fact_pieces.proofs.FieldMoves.{moves_same}
 use Rattle.fact_pieces.proofs.Scalars.{IsNarrow, narrow_32}
+use Rattle.fact_pieces.specs.Tests.{scalar_test, case_test}
 
 -- ---- the test of a Unicode scalar value
-
--- below the surrogates, or past them and below the end
-abbrev pub scalar_test : ℕ → List Instr
-scalar_test temp =
-    I.LocalGet temp ∷ I.I32Const 0xD800 ∷ I.I32LtU
-    ∷ I.LocalGet temp ∷ I.I32Const 0xDFFF ∷ I.I32GtU
-    ∷ I.LocalGet temp ∷ I.I32Const 0x110000 ∷ I.I32LtU
-    ∷ I.I32And ∷ I.I32Or ∷ []
 
 joined : (a b c : Bool) → bit_or (truth a) (bit_and (truth b) (truth c)) ≡ truth (a || (b && c))
 joined true true true = refl
@@ -69,16 +61,12 @@ typed_scalar temp h =
     (typed_next (takes_local_get h) (typed_next (takes_plain (o.I32Const _) (I.outs-I32Const _) refl) (typed_next (takes_plain o.I32LtU I.outs-I32LtU refl)
     (typed_next (takes_plain o.I32And I.outs-I32And refl) (typed_one (takes_plain o.I32Or I.outs-I32Or refl)))))))))))
 
-scalar_is : IsTest is_scalar_value scalar_test
+pub scalar_is : IsTest is_scalar_value scalar_test
 scalar_is = record { steps = 11; few = omega arith; pushes = pushes_scalar; typed = typed_scalar }
 
 -- ---- the test of a case
 
--- below the number of cases
-abbrev pub case_test : (cases temp : ℕ) → List Instr
-case_test cases temp = I.LocalGet temp ∷ I.I32Const cases ∷ I.I32LtU ∷ []
-
-case_is : (cases : ℕ) → IsTest (λ x. nat_lt x cases) (case_test cases)
+pub case_is : (cases : ℕ) → IsTest (λ x. nat_lt x cases) (case_test cases)
 case_is cases = record {
   steps = 3;
   few = omega arith;

@@ -1,6 +1,5 @@
 -- One field of a record, and then the others.
 use Rattle.std.proofs.Common.{◌≡◌, ℕ, zero, suc, ◌+◌, Bool, true, false, List, [], ◌∷◌, ◌++◌, Some, refl, sym, ap, ◌∙◌, subst, arith, take, drop}
-use Rattle.std.specs.Prelude.{nat_eq}
 use Rattle.fact_wasm.specs.declared.types.ValType.{ValType}
 use Rattle.fact_wasm.specs.declared.instr.Instr.{Instr}
 use Rattle.fact_machine.specs.declared.types.CoreValue.{CoreValue}
@@ -11,7 +10,7 @@ use Rattle.fact_types.specs.Fields.{Field, field_of}
 use Rattle.fact_types.specs.Shapes.{Shape, Members, no_members, typed, place_of, next_of, s_node, k_record, k_tuple}
 use Rattle.fact_moves.specs.Moves.{flat_length, part, spot, past, with_field, move, move_fields}
 use Rattle.fact_pieces.specs.Does.{Locals, Onward, Does}
-use Rattle.fact_pieces.specs.Places.{Setting, transfer, Slot, From, InLocals, InMemory, To, ToLocals, ToMemory, AreHeld, StandsAt, AreFree, MayGo, Stood, KeepsLocals, Moves, AreUsed, FromUsed, ToUsed, node_check}
+use Rattle.fact_pieces.specs.Places.{Setting, transfer, Slot, From, InLocals, InMemory, To, ToLocals, ToMemory, AreHeld, StandsAt, AreFree, MayGo, Stood, KeepsLocals, Moves, AreUsed, FromUsed, ToUsed, node_check, to_past, IsNone}
 use Rattle.fact_pieces.proofs.Rules.{in_turn, done, visit}
 use Rattle.fact_pieces.proofs.Blocks.{mapped}
 use Rattle.fact_pieces.proofs.Keeping.{keeps_all, keeps_then, held_kept, stands_kept, goes_kept}
@@ -36,10 +35,6 @@ to_spot count bytes (ToMemory memory base offset) = ToMemory memory base (offset
 abbrev pub target_spot : (count bytes : ℕ) → Target → Target
 target_spot count bytes (Slots ts) = Slots (take count ts)
 target_spot count bytes (Into a) = Into (a + bytes)
-
-abbrev pub to_past : (count : ℕ) → To → To
-to_past count (ToLocals ss) = ToLocals (drop count ss)
-to_past count (ToMemory memory base offset) = ToMemory memory base offset
 
 abbrev pub target_past : (count : ℕ) → Target → Target
 target_past count (Slots ts) = Slots (drop count ts)
@@ -94,11 +89,6 @@ with_slots used (s ∷ ss) = with_local (with_slots used ss) s.0
 abbrev pub with_to : (ℕ → Bool) → To → ℕ → Bool
 with_to used (ToLocals ss) = with_slots used ss
 with_to used (ToMemory memory base offset) = used
-
--- a local is none of these
-abbrev pub IsNone : ℕ → List Slot → Type 0
-IsNone i [] = Unit {0}
-IsNone i (s ∷ ss) = (nat_eq i s.0 ≡ false) × IsNone i ss
 
 -- no local of the second is one of the first
 abbrev pub AreApart : List Slot → List Slot → Type 0

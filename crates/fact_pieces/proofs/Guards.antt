@@ -18,20 +18,11 @@ use Rattle.fact_pieces.specs.Knows.{KnowsFunction}
 use Rattle.fact_pieces.specs.Typed.{OperandsBehind, IsTyped}
 use Rattle.fact_pieces.proofs.Rules.{within}
 use Rattle.fact_pieces.proofs.Blocks.{guard}
-use Rattle.fact_pieces.proofs.Regions.{few_code, aligned_code, pushes_few, pushes_aligned, typed_few, typed_aligned}
+use Rattle.fact_pieces.proofs.Regions.{few_code, pushes_few, pushes_aligned, typed_few, typed_aligned}
+use Rattle.fact_pieces.specs.Tests.{aligned_guard, HasUnaligned}
 use Rattle.fact_pieces.proofs.TypedShapes.{takes_guard}
 
 -- ---- code
-
--- a pointer is a multiple of its alignment, which needs no test where that is one byte
-abbrev pub aligned_guard : (one : Bool) → (pointer align place : ℕ) → List Instr
-aligned_guard true pointer align place = []
-aligned_guard false pointer align place = guard_code (aligned_code pointer align) place
-
--- the function of the trap is there where there is a test
-abbrev pub HasUnaligned : (one : Bool) → WasmModule → ImportPlaces → (place : ℕ) → Type 0
-HasUnaligned true M p place = Unit {0}
-HasUnaligned false M p place = KnowsFunction M p (import.Trap UnalignedPointer) place [] []
 
 -- a number of things of a size have fewer than 2 to the power of 32 bytes, which needs no test where they are single bytes and the
 -- addresses of their side have 32 bits

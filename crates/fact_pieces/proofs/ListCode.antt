@@ -35,7 +35,8 @@ use Rattle.fact_pieces.proofs.Numbers.{begins, writes, value_type}
 use Rattle.fact_pieces.proofs.Keeping.{keeps_then, goes_kept}
 use Rattle.fact_pieces.proofs.Temporaries.{Temporaries, Facts, without, Standing, standing_kept}
 use Rattle.fact_pieces.proofs.Slots.{ContextSlots, HasSlotsIf, others, in_slots, save_code, restore_code, slots_do}
-use Rattle.fact_pieces.proofs.Pointers.{pointer, address_is, address_code, pushes_address, gets_address, keep_number}
+use Rattle.fact_pieces.proofs.Pointers.{address_is, address_code, pushes_address, gets_address, keep_number}
+use Rattle.fact_pieces.specs.Tests.{pointer}
 use Rattle.fact_machine.specs.Exits.{Falls}
 use Rattle.fact_machine.specs.Typed.{is_value, are_values}
 use Rattle.fact_machine.proofs.Tests.{first_of, second_of, both}

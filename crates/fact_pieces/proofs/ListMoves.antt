@@ -23,8 +23,9 @@ use Rattle.fact_pieces.proofs.Keeping.{keeps_all, keeps_then}
 use Rattle.fact_pieces.proofs.Temporaries.{Temporaries, standing, Standing, set_temp}
 use Rattle.fact_pieces.proofs.Lengths.{IsLength}
 use Rattle.fact_pieces.proofs.Regions.{bytes_code, pushes_bytes}
-use Rattle.fact_pieces.proofs.Guards.{HasUnaligned, is_few, few_guard, few_bytes, checks_few}
-use Rattle.fact_pieces.proofs.Pointers.{pointer, limit_wide, read_into, reads_into, region_code, region, address_code, gets_address}
+use Rattle.fact_pieces.proofs.Guards.{is_few, few_guard, few_bytes, checks_few}
+use Rattle.fact_pieces.specs.Tests.{HasUnaligned, pointer, read_into, region_code}
+use Rattle.fact_pieces.proofs.Pointers.{limit_wide, reads_into, region, address_code, gets_address}
 use Rattle.fact_pieces.proofs.Slots.{ContextSlots, HasSlotsIf, others}
 use Rattle.fact_pieces.proofs.ListCode.{list_action, realloc_code, reallocates, put_code, puts, left_code, address_typed}
 use Rattle.fact_pieces.proofs.ListTurns.{list_type, turn_body, elements}

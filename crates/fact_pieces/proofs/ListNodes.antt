@@ -27,8 +27,7 @@ use Rattle.fact_pieces.proofs.Rules.{visit}
 use Rattle.fact_pieces.proofs.Blocks.{weaker}
 use Rattle.fact_pieces.proofs.Aligned.{Checked, moves_checked}
 use Rattle.fact_pieces.proofs.Temporaries.{Temporaries}
-use Rattle.fact_pieces.proofs.Pointers.{pointer}
-use Rattle.fact_pieces.proofs.Guards.{HasUnaligned}
+use Rattle.fact_pieces.specs.Tests.{HasUnaligned, pointer}
 use Rattle.fact_pieces.proofs.Slots.{HasSlotsIf}
 use Rattle.fact_pieces.proofs.Pairs.{PairFrom, PairTo, PairToLocals, PairToMemory, all_from, first_from, second_from, all_to, first_to, second_to, stands_first, stands_second, behind_first, IsApart, goes_first, goes_second, first_stays, both_stand}
 use Rattle.fact_pieces.proofs.UsedLocals.{with_local, with_temps, local_here, local_more, temps_more, temps_here}

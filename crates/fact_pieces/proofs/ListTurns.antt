@@ -22,7 +22,7 @@ use Rattle.fact_pieces.proofs.Lengths.{IsLength}
 use Rattle.fact_pieces.proofs.Numbers.{set_keeps}
 use Rattle.fact_pieces.proofs.Keeping.{keeps_then}
 use Rattle.fact_pieces.proofs.Temporaries.{Temporaries}
-use Rattle.fact_pieces.proofs.Pointers.{pointer}
+use Rattle.fact_pieces.specs.Tests.{pointer}
 use Rattle.fact_pieces.proofs.ListCode.{bump_code, count_code, left_code, bumps, counts, pushes_left}
 use Rattle.fact_machine.proofs.Tests.{first_of, second_of}
 

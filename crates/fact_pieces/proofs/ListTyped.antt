@@ -20,8 +20,9 @@ use Rattle.fact_pieces.proofs.TypedRows.{takes_plain, takes_local_get, takes_loc
 use Rattle.fact_pieces.proofs.TypedShapes.{takes_guard, typed_counted, typed_length}
 use Rattle.fact_pieces.proofs.TypedPlaces.{typed_narrow, typed_widen, typed_read, typed_before, typed_behind}
 use Rattle.fact_pieces.proofs.Regions.{typed_bytes, typed_bounds}
-use Rattle.fact_pieces.proofs.Guards.{HasUnaligned, is_few, takes_aligned, takes_few}
-use Rattle.fact_pieces.proofs.Pointers.{pointer, may_hold, read_into, region_code, address_code}
+use Rattle.fact_pieces.proofs.Guards.{is_few, takes_aligned, takes_few}
+use Rattle.fact_pieces.specs.Tests.{HasUnaligned, pointer, read_into, region_code}
+use Rattle.fact_pieces.proofs.Pointers.{may_hold, address_code}
 use Rattle.fact_pieces.proofs.ListCode.{const_code, add_code, bump_code, count_code, left_code, ask_code, realloc_code, put_code}
 use Rattle.fact_pieces.proofs.Slots.{ContextSlots, HasSlotsIf, typed_slots}
 use Rattle.fact_pieces.proofs.ListTurns.{list_type}

@@ -22,20 +22,16 @@ use Rattle.fact_moves.specs.Sides.{LiftLowerOptions, Source, read_number, check_
 use Rattle.fact_pieces.specs.Code.{guard_code, length_code}
 use Rattle.fact_pieces.specs.Does.{Locals, Way, held_types, Does}
 use Rattle.fact_pieces.specs.Knows.{KnowsFunction}
-use Rattle.fact_pieces.specs.Places.{From, MayHold, Readable, FromUsed, SideMemory, StandsAt, Number, N32, N64, size_of, stacked, limit_of, narrow, widen, read_code, DebugChecks, is_on}
+use Rattle.fact_pieces.specs.Places.{From, MayHold, Readable, FromUsed, SideMemory, StandsAt, N32, N64, size_of, stacked, limit_of, narrow, widen, read_code, DebugChecks, is_on}
 use Rattle.fact_pieces.proofs.Rules.{within, stretch, pushing, local_set}
 use Rattle.fact_pieces.proofs.Blocks.{guard}
 use Rattle.fact_pieces.proofs.Lengths.{IsLength, measure}
 use Rattle.fact_pieces.proofs.Numbers.{Gets, out_of_local, out_of_stack, reads}
 use Rattle.fact_pieces.proofs.Keeping.{stands_kept}
 use Rattle.fact_pieces.proofs.Temporaries.{Temporaries, Facts, without, Standing, temp_type, standing_set, set_temp}
-use Rattle.fact_pieces.proofs.Regions.{bounds_code, pushes_bounds}
-use Rattle.fact_pieces.proofs.Guards.{aligned_guard, HasUnaligned, checks_aligned}
-
--- a number as wide as addresses
-abbrev pub pointer : Bool → Number
-pointer true = N64
-pointer false = N32
+use Rattle.fact_pieces.proofs.Regions.{pushes_bounds}
+use Rattle.fact_pieces.specs.Tests.{bounds_code, aligned_guard, HasUnaligned, pointer, read_into, region_code}
+use Rattle.fact_pieces.proofs.Guards.{checks_aligned}
 
 pub address_is : (memory64 : Bool) (x : ℕ) → stacked (pointer memory64) x ≡ address_operand memory64 x
 address_is true x = refl
@@ -62,10 +58,6 @@ gets_address {M = M} {p} {way} {extra} {spare} {ins} {ls} {c} {q} {out} {Holds} 
     let got = pushes_address {M = M} {ls = ls} memory64 i x lt h in
     within (omega (arith, got.few)) (pushing got.pushes (subst (λ v. Does M p way extra spare (v ∷ ins) ls c q out Holds) (sym (address_is memory64 x)) d))
 
--- a pointer or length is read into a temporary
-abbrev pub read_into : DebugChecks → Bool → From → ℕ → List Instr
-read_into checks memory64 from i = read_code checks (pointer memory64) from ++ (widen (pointer memory64) val.I64 ++ I.LocalSet i ∷ [])
-
 pub may_hold : (memory64 : Bool) → MayHold (pointer memory64) val.I64
 may_hold true = tt
 may_hold false = tt
@@ -90,11 +82,6 @@ module _ {locals : List ValType} {used : ℕ → Bool} {count : ℕ} {temp : ℕ
       (within (omega arith) (reads checks (pointer memory64) o memory64 from src h (stands_kept s.keeps memory64 from src u st) (λ x below. keep_number memory64 j x lt wide (go x below))))
 
 -- ---- regions
-
--- the checks of a region of so many bytes at a pointer, by temporaries that hold them, with one for the memory's length
-abbrev pub region_code : (memory : ℕ) (memory64 : Bool) (log2 : Option ℕ) (align : ℕ) (pointer bytes length unaligned outside : ℕ) → List Instr
-region_code memory memory64 log2 align pointer bytes length unaligned outside =
-    aligned_guard (nat_eq align 1) pointer align unaligned ++ (length_code memory memory64 log2 ++ (I.LocalSet length ∷ guard_code (bounds_code pointer bytes length) outside))
 
 length_wide : (memory64 : Bool) (n : ℕ) → IsLength memory64 n → n < 2 ^ 64
 length_wide true n h = h

@@ -20,6 +20,7 @@ use Rattle.fact_pieces.specs.Typed.{OnStack, IsTyped}
 use Rattle.fact_pieces.proofs.TypingLaws.{typed_next, typed_one}
 use Rattle.fact_pieces.proofs.TypedRows.{takes_plain, takes_local_get}
 use Rattle.fact_machine.specs.Exits.{Falls}
+use Rattle.fact_pieces.specs.Tests.{aligned_code, bounds_code}
 
 -- ---- code
 
@@ -30,15 +31,6 @@ few_code number size = I.LocalGet number ∷ I.I64Const ((2 ^ 32 - 1) / size + 1
 -- their bytes
 abbrev pub bytes_code : (number size : ℕ) → List Instr
 bytes_code number size = I.LocalGet number ∷ I.I64Const size ∷ I.I64Mul ∷ []
-
--- whether a pointer is a multiple of an alignment
-abbrev pub aligned_code : (pointer align : ℕ) → List Instr
-aligned_code pointer align = I.LocalGet pointer ∷ I.I64Const (align - 1) ∷ I.I64And ∷ I.I64Eqz ∷ []
-
--- whether so many bytes from a pointer on are within a length; no sum is made that could wrap
-abbrev pub bounds_code : (pointer bytes length : ℕ) → List Instr
-bounds_code pointer bytes length =
-    I.LocalGet length ∷ I.LocalGet bytes ∷ I.I64GeU ∷ I.LocalGet length ∷ I.LocalGet bytes ∷ I.I64Sub ∷ I.LocalGet pointer ∷ I.I64GeU ∷ I.I32And ∷ []
 
 -- ---- what it computes
 

@@ -5,4 +5,5 @@ pub mod PieceLaws
 pub mod Places
 pub mod Rows
 pub mod Runs
+pub mod Tests
 pub mod Typed

@@ -1,5 +1,5 @@
 -- Where code finds the values that it moves and where it puts them, and what is said of code that moves values of two types.
-use Rattle.std.specs.Prelude.{◌≡◌, ℕ, ◌+◌, ◌-◌, ◌^◌, ◌<◌, nat_eq, Bool, true, false, List, [], ◌∷◌, ◌++◌, Option, Some, slice_get}
+use Rattle.std.specs.Prelude.{◌≡◌, ℕ, ◌+◌, ◌-◌, ◌^◌, ◌<◌, nat_eq, Bool, true, false, List, [], ◌∷◌, ◌++◌, Option, Some, drop, slice_get}
 use Rattle.fact_wasm.specs.declared.types.ValType.{ValType}
 use Rattle.fact_wasm.specs.declared.types.ValType.TheVariants as val
 use Rattle.fact_wasm.specs.declared.instr.MemArg.{MemArg}
@@ -342,3 +342,14 @@ FromUsed used (InMemory memory base offset) = used base ≡ true
 abbrev pub ToUsed : (ℕ → Bool) → To → Type 0
 ToUsed used (ToLocals slots) = Unit {0}
 ToUsed used (ToMemory memory base offset) = used base ≡ true
+
+-- ---- parts
+
+abbrev pub to_past : (count : ℕ) → To → To
+to_past count (ToLocals ss) = ToLocals (drop count ss)
+to_past count (ToMemory memory base offset) = ToMemory memory base offset
+
+-- a local is none of these
+abbrev pub IsNone : ℕ → List Slot → Type 0
+IsNone i [] = Unit {0}
+IsNone i (s ∷ ss) = (nat_eq i s.0 ≡ false) × IsNone i ss

@@ -1,0 +1,5 @@
+//! Tests of code that is written, run on the machine.
+#![tactic(auto)]
+
+#[cfg(test)]
+mod moved;

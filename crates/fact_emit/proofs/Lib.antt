@@ -1,0 +1,17 @@
+pub mod Alignments
+pub mod AreaMoves
+pub mod CheckMoves
+pub mod Emitting
+pub mod FieldJoin
+pub mod FlagMoves
+pub mod Found
+pub mod Locals
+pub mod MemberRuns
+pub mod NodeMoves
+pub mod NumberMoves
+pub mod Once
+pub mod PartPlaces
+pub mod ScalarMoves
+pub mod TupleFinds
+pub mod TypeKinds
+pub mod Using

@@ -1,0 +1,8 @@
+use Rattle.fact_emit.proofs.CheckMoves.{aligned_emits, no_aligned_emits}
+use Rattle.fact_emit.proofs.pointers.check_aligned.Goals as goal
+
+pub returns-in_ok-put_guard : goal.returns-in_ok-put_guard
+returns-in_ok-put_guard c = aligned_emits _ _ c.if-align-ne1.true c.in_ok-test.ensures c.in_ok-put_guard.ensures
+
+pub returns-else-align-ne1 : goal.returns-else-align-ne1
+returns-else-align-ne1 c = no_aligned_emits _ _ _ c.if-align-ne1.false

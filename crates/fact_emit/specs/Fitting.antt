@@ -1,0 +1,99 @@
+-- Places that have room for values of shapes.
+use Rattle.std.specs.Prelude.{◌≡◌, ℕ, ◌+◌, ◌≤◌, Bool, List, [], ◌∷◌, length, Some, slice_get}
+use Rattle.fact_wasm.specs.declared.types.ValType.{ValType}
+use Rattle.fact_wasm.specs.declared.module.WasmModule.{WasmModule}
+use Rattle.fact_machine.specs.Typing.{address_type}
+use Rattle.fact_types.specs.declared.flats.FlatType.{FlatType}
+use Rattle.fact_types.specs.declared.flats.FlatType.TheVariants as flat_type
+use Rattle.fact_types.specs.declared.widths.MemoryWidth.{MemoryWidth}
+use Rattle.fact_types.specs.Adapters.{is_wide}
+use Rattle.fact_types.specs.FlatShapes.{flat, flat_members}
+use Rattle.fact_types.specs.Layout.{extent}
+use Rattle.fact_types.specs.Shapes.{Shape, s_plain, s_node, Members, layout_of, ends_of}
+use Rattle.fact_moves.specs.Actions.{Visit}
+use Rattle.fact_moves.specs.Moves.{move, move_fields, move_case, move_to_plain, move_to_node}
+use Rattle.fact_moves.specs.Running.{ImportPlaces}
+use Rattle.fact_moves.specs.Sides.{LiftLowerOptions, width_of_side}
+use Rattle.fact_pieces.specs.Places.{Slot, From, InLocals, InMemory, To, ToLocals, ToMemory, Number, N32, N64, MayHold, SideMemory, AreLocals, Setting}
+use Rattle.fact_emit.specs.declared.places.Sides.{Sides}
+use Rattle.fact_emit.specs.Emits.{Piece}
+use Rattle.fact_emit.specs.MovesValue.{Act, MovesValue}
+
+-- ---- room
+
+-- a flat type as a number on the operand stack
+abbrev pub number_for_flat : FlatType → Number
+number_for_flat flat_type.I32 = N32
+number_for_flat flat_type.I64 = N64
+number_for_flat flat_type.F32 = N32
+number_for_flat flat_type.F64 = N64
+
+-- slots that may hold values of these flat types, one for each
+abbrev pub AreRoom : List Slot → List FlatType → Type 0
+AreRoom [] [] = Unit {0}
+AreRoom (s ∷ ss) (t ∷ ts) = MayHold (number_for_flat t) s.1 × AreRoom ss ts
+AreRoom [] (t ∷ ts) = ⊥
+AreRoom (s ∷ ss) [] = ⊥
+
+pub record SlotsFit (locals : List ValType) (slots : List Slot) (types : List FlatType) : Type 0 where
+  pub room : AreRoom slots types
+  pub typed : AreLocals locals slots
+  pub few : length slots ≤ 16
+
+-- an address in a side's memory, behind which so many bytes have offsets
+pub record AddressFits (M : WasmModule) (p : ImportPlaces) (locals : List ValType) (o : LiftLowerOptions) (memory64 : Bool) (memory base offset bytes : ℕ) : Type 0 where
+  pub side : SideMemory M p o memory64 memory
+  pub local : slice_get locals base ≡ Some (address_type memory64)
+  pub reach : offset + bytes ≤ 4294967295
+
+-- a value of these flat types and of so many bytes can be read there
+abbrev pub CanRead : WasmModule → ImportPlaces → List ValType → LiftLowerOptions → Bool → From → List FlatType → ℕ → Type 0
+CanRead M p locals o memory64 (InLocals slots) types bytes = SlotsFit locals slots types
+CanRead M p locals o memory64 (InMemory memory base offset) types bytes = AddressFits M p locals o memory64 memory base offset bytes
+
+-- and written there
+abbrev pub CanWrite : WasmModule → ImportPlaces → List ValType → LiftLowerOptions → Bool → To → List FlatType → ℕ → Type 0
+CanWrite M p locals o memory64 (ToLocals slots) types bytes = SlotsFit locals slots types
+CanWrite M p locals o memory64 (ToMemory memory base offset) types bytes = AddressFits M p locals o memory64 memory base offset bytes
+
+abbrev pub bytes_of_shape : MemoryWidth → Shape → ℕ
+bytes_of_shape w t = (extent w (layout_of t)).size
+
+-- A value of a source type can be read, and one of a destination type written, in this setting.
+pub record FitsShapes (S : Setting) (t u : Shape) (src : From) (dst : To) : Type 0 where
+  pub from_wide : is_wide S.from.memory ≡ S.from64
+  pub to_wide : is_wide S.to.memory ≡ S.to64
+  pub reads : CanRead S.whole S.places S.locals S.from S.from64 src (flat (width_of_side S.from) t) (bytes_of_shape (width_of_side S.from) t)
+  pub writes : CanWrite S.whole S.places S.locals S.to S.to64 dst (flat (width_of_side S.to) u) (bytes_of_shape (width_of_side S.to) u)
+
+-- The same of the fields of a record, where its last fields are still to be written, behind so many bytes.
+pub record FitsFields (S : Setting) (ms ns : Members) (end : ℕ) (src : From) (dst : To) : Type 0 where
+  pub from_wide : is_wide S.from.memory ≡ S.from64
+  pub to_wide : is_wide S.to.memory ≡ S.to64
+  pub reads : CanRead S.whole S.places S.locals S.from S.from64 src (flat_members (width_of_side S.from) ms) (ends_of (width_of_side S.from) ms 0)
+  pub writes : CanWrite S.whole S.places S.locals S.to S.to64 dst (flat_members (width_of_side S.to) ns) (ends_of (width_of_side S.to) ns end)
+
+-- ---- what the code does
+
+abbrev pub shape_moves : Shape → Shape → Act
+shape_moves t u tr s d = move tr t u s d
+
+-- the same behind the debug checks of its places
+abbrev pub node_moves : Shape → Shape → Act
+node_moves t (s_plain u) tr s d = Visit 1 (move_to_plain tr t u s d)
+node_moves t (s_node l ns) tr s d = move_to_node tr t l ns (record { fields = λ ms s' d'. move_fields tr ms ns 0 s' d'; case = λ ms c s' d'. move_case tr ms ns c ns 0 s' d' }) s d
+
+abbrev pub field_moves : Members → Members → ℕ → Act
+field_moves ms ns end tr s d = move_fields tr ms ns end s d
+
+-- Code that moves a value of a source type to a place of a destination type, and leaves 500 of the steps of its weight.
+abbrev pub MovesShape : Sides → From → To → (ℕ → Bool) → Shape → Shape → Piece
+MovesShape sides src dst taken t u = MovesValue sides src dst taken 500 (λ S. FitsShapes S t u src dst) (shape_moves t u)
+
+-- The same behind the debug checks of its places, which take 16 steps.
+abbrev pub MovesNode : Sides → From → To → (ℕ → Bool) → Shape → Shape → Piece
+MovesNode sides src dst taken t u = MovesValue sides src dst taken 516 (λ S. FitsShapes S t u src dst) (node_moves t u)
+
+-- Code that moves the fields of a record that are left.
+abbrev pub MovesFields : Sides → From → To → (ℕ → Bool) → Members → Members → ℕ → Piece
+MovesFields sides src dst taken ms ns end = MovesValue sides src dst taken 0 (λ S. FitsFields S ms ns end src dst) (field_moves ms ns end)

@@ -1,0 +1,14 @@
+pub mod Areas
+pub mod Checks
+pub mod Emits
+pub mod Fitting
+pub mod Imports
+pub mod Kinds
+pub mod Movable
+pub mod Moved
+pub mod MovesValue
+pub mod Numbers
+pub mod Parts
+pub mod Places
+pub mod Scalars
+pub mod Writers

@@ -1,0 +1,62 @@
+-- What the functions of a writer do to it.
+use Rattle.std.specs.Prelude.{◌≡◌, ◌≢◌, ℕ, Bool, true, false, List, [], ◌++◌, map, Option, Some, None, slice_get}
+use Rattle.fact_wasm.specs.declared.types.ValType.{ValType}
+use Rattle.fact_wasm.specs.declared.instr.Instr.{Instr}
+use Rattle.fact_types.specs.declared.outside.Trap.{Trap}
+use Rattle.fact_machine.specs.Trace.{Grows}
+use Rattle.fact_types.specs.declared.import.Import.TheVariants as import
+use Rattle.fact_emit.specs.declared.writer.Local.{Local}
+use Rattle.fact_emit.specs.declared.writer.Writer.{Writer}
+use Rattle.fact_emit.specs.Imports.{HasImport, Extended, AreOnce}
+
+abbrev pub types_of_locals : Writer → List ValType
+types_of_locals w = map (λ l. l.ty) w.locals.items
+
+-- a local of a type that is not in use
+abbrev pub free_local_of : ValType → Local
+free_local_of t = record { ty = t; in_use = false }
+
+abbrev pub is_local_in_use : Option Local → Bool
+is_local_in_use None = false
+is_local_in_use (Some l) = l.in_use
+
+-- the locals that are in use
+abbrev pub taken_in : Writer → ℕ → Bool
+taken_in w i = is_local_in_use (slice_get w.locals.items i)
+
+-- nothing changed but which local is taken first
+pub record Same (old new : Writer) : Type 0 where
+  pub code : new.code ≡ old.code
+  pub locals : new.locals ≡ old.locals
+  pub imports : new.imports ≡ old.imports
+
+-- these instructions were put behind the code, and nothing else changed
+pub record Wrote (old new : Writer) (added : List Instr) : Type 0 where
+  pub code : new.code.items ≡ old.code.items ++ added
+  pub locals : new.locals ≡ old.locals
+  pub imports : new.imports ≡ old.imports
+
+-- a local of a type was taken: it was not in use, and now is
+pub record Took (old new : Writer) (ty : ValType) (local : ℕ) : Type 0 where
+  pub code : new.code.items ≡ old.code.items
+  pub imports : new.imports ≡ old.imports
+  pub was_free : taken_in old local ≡ false
+  pub taken : taken_in new local ≡ true
+  pub others : (i : ℕ) → i ≢ local → taken_in new i ≡ taken_in old i
+  pub grows : Grows (types_of_locals old) (types_of_locals new)
+  pub typed : slice_get (types_of_locals new) local ≡ Some ty
+
+pub record Freed (old new : Writer) (local : ℕ) : Type 0 where
+  pub code : new.code.items ≡ old.code.items
+  pub imports : new.imports ≡ old.imports
+  pub free : taken_in new local ≡ false
+  pub others : (i : ℕ) → i ≢ local → taken_in new i ≡ taken_in old i
+  pub types : types_of_locals new ≡ types_of_locals old
+
+-- a trap has a place among the imported functions
+pub record TookTrap (old new : Writer) (trap : Trap) (place : ℕ) : Type 0 where
+  pub code : new.code.items ≡ old.code.items
+  pub locals : new.locals ≡ old.locals
+  pub imports : Extended old.imports new.imports
+  pub once : AreOnce old.imports → AreOnce new.imports
+  pub there : HasImport new.imports (import.Trap trap) place [] []

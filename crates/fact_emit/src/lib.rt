@@ -1,0 +1,13 @@
+//! The parts of adapter code as it is written: what a module imports, the locals of a function, and the code pieces that read,
+//! check, convert and write values at places. What each function ensures is what the code does that it has written.
+#![tactic(auto)]
+
+pub mod checks;
+pub mod imports;
+pub mod numbers;
+pub mod places;
+pub mod pointers;
+pub mod products;
+pub mod scalars;
+pub mod tuples;
+pub mod writer;

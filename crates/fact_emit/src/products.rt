@@ -1,0 +1,294 @@
+//! Records and tuples, and values of any type that these functions move.
+
+ghost use Rattle.std.specs.Prelude.{OnOk, ◌≡◌, ◌<◌, ◌+◌, unwrap_or};
+ghost use Rattle.fact_types.specs.declared.interface.InterfaceType.TheVariants as ty;
+ghost use Rattle.fact_types.specs.Fits.{FieldFits};
+ghost use Rattle.fact_types.specs.Layout.{extent, aligned};
+ghost use Rattle.fact_types.specs.Shapes.{Shape, layout_of};
+ghost use Rattle.fact_types.specs.Signatures.{width};
+ghost use Rattle.fact_types.specs.Tables.{IsLive, HasShape};
+ghost use Rattle.fact_emit.specs.Moved.{MovedFrom, MovedNode, MovedValue, MovedMember, CheckedPlaces, IsLiveFound};
+ghost use Rattle.fact_emit.specs.Kinds.{flags_number_of, discriminant_number_of};
+ghost use Rattle.fact_emit.specs.Numbers.{number_sized};
+ghost use Rattle.fact_emit.specs.Parts.{bytes_by};
+ghost use Rattle.fact_emit.specs.Places.{from_of, to_of};
+
+use crate::checks::{check_source, check_target};
+use crate::numbers::NumberSize;
+use crate::places::{Sides, SourcePlace, TargetPlace};
+use crate::scalars::{Canonical, NumberTest, move_number, move_scalar, move_tested};
+use crate::tuples::find_member;
+use crate::writer::Writer;
+use fact_entity::{TypeEnumIndex, TypeFlagsIndex, TypeRecordIndex, TypeTupleIndex};
+use fact_types::{CanonicalAbiInfo, ComponentTypes, DiscriminantSize, FieldPlace, InterfaceType};
+use fact_wasm::{Instr, OutOfMemory};
+use std::alloc::AllocError;
+
+/// The number of flat types of a live type that has at most 16.
+fn flat_length(types: &ComponentTypes, ty: &InterfaceType) -> usize
+    requires { IsLive types.now ty.now }
+    ensures { (s : Shape) → HasShape types.now ty.now s → result ≡ unwrap_or (layout_of s).flat_count 0 }
+{
+    usize::from(types.canonical_abi(ty).flat_count.unwrap_or(0))
+}
+
+/// Takes the place of a field behind others in a width of memory.
+fn next_place(abi: &CanonicalAbiInfo, memory64: bool, end: &mut u32) -> u32
+    requires { FieldFits (extent (width memory64) abi.now) end.old }
+    ensures place { result ≡ aligned end.old (extent (width memory64) abi.now).align }
+    ensures moved { end.new ≡ aligned end.old (extent (width memory64) abi.now).align + (extent (width memory64) abi.now).size }
+{
+    if memory64 {
+        abi.next_field64(end)
+    } else {
+        abi.next_field32(end)
+    }
+}
+
+/// The place of a field in a width of memory.
+fn byte_place(found: FieldPlace, memory64: bool) -> u32
+    ensures { result ≡ bytes_by (width memory64) found.place32 found.place64 }
+{
+    if memory64 {
+        found.place64
+    } else {
+        found.place32
+    }
+}
+
+/// The alignment of a live type in a width of memory.
+fn alignment(types: &ComponentTypes, ty: &InterfaceType, memory64: bool) -> u32
+    requires { IsLive types.now ty.now }
+    ensures some { 0 < result }
+    ensures is { (s : Shape) → HasShape types.now ty.now s → result ≡ (extent (width memory64) (layout_of s)).align }
+{
+    let abi = types.canonical_abi(ty);
+    if memory64 { abi.align64 } else { abi.align32 }
+}
+
+/// The number that holds flags of so many names, at most 32.
+fn flags_number(names: usize) -> NumberSize
+    ensures { number_sized result ≡ flags_number_of names }
+{
+    if names <= 8 {
+        NumberSize::Bits8
+    } else if names <= 16 {
+        NumberSize::Bits16
+    } else {
+        NumberSize::Bits32
+    }
+}
+
+/// The number of a discriminant.
+fn discriminant_number(size: DiscriminantSize) -> NumberSize
+    ensures { number_sized result ≡ discriminant_number_of size }
+{
+    match size {
+        DiscriminantSize::Size1 => NumberSize::Bits8,
+        DiscriminantSize::Size2 => NumberSize::Bits16,
+        DiscriminantSize::Size4 => NumberSize::Bits32,
+    }
+}
+
+/// Moves flags, of which those that have names: at most 32.
+fn move_flags(
+    types: &ComponentTypes,
+    w: &mut Writer,
+    sides: Sides,
+    from: TypeFlagsIndex,
+    source: SourcePlace<'_>,
+    target: TargetPlace<'_>,
+) -> Result<(), OutOfMemory>
+    requires { IsLive types.now (ty.Flags from) }
+    ensures { OnOk result (MovedFrom types.now (ty.Flags from) sides (from_of sides.from source.entry) (to_of sides.to target.entry) w.old w.new) }
+{
+    types.reveal();
+    let names = types[from].names.len();
+    let canonical = Canonical::Low(names.min(32) as u32);
+    move_number(w, sides, flags_number(names), canonical, source, target)?;
+    Ok(())
+}
+
+/// Moves a case without a payload, with a trap past the last one.
+fn move_enum(
+    types: &ComponentTypes,
+    w: &mut Writer,
+    sides: Sides,
+    from: TypeEnumIndex,
+    source: SourcePlace<'_>,
+    target: TargetPlace<'_>,
+) -> Result<(), OutOfMemory>
+    requires { IsLive types.now (ty.Enum from) }
+    ensures { OnOk result (MovedFrom types.now (ty.Enum from) sides (from_of sides.from source.entry) (to_of sides.to target.entry) w.old w.new) }
+{
+    types.reveal();
+    let cases = types[from].names.len();
+    let Some(size) = DiscriminantSize::from_count(cases) else {
+        return Err(AllocError);
+    };
+    let test = NumberTest::CaseBelow(cases as u32);
+    move_tested(w, sides, discriminant_number(size), test, source, target)?;
+    Ok(())
+}
+
+/// With debug checks on, traps where a place in memory is not aligned for its type.
+fn check_places(
+    types: &ComponentTypes,
+    w: &mut Writer,
+    sides: Sides,
+    from: InterfaceType,
+    to: InterfaceType,
+    source: SourcePlace<'_>,
+    target: TargetPlace<'_>,
+) -> Result<(), OutOfMemory>
+    requires from_live { IsLive types.now from }
+    requires to_live { IsLive types.now to }
+    ensures { OnOk result (CheckedPlaces types.now from to sides (from_of sides.from source.entry) (to_of sides.to target.entry) w.old w.new) }
+{
+    let align = alignment(types, &from, sides.from.memory64);
+    check_source(w, sides.debug, sides.from, align, source)?;
+    let align = alignment(types, &to, sides.to.memory64);
+    check_target(w, sides.debug, sides.to, align, target)?;
+    Ok(())
+}
+
+/// Moves a value of a live type to a place of a type that it can be moved to.
+#[cycle(moving)]
+pub fn translate(
+    types: &ComponentTypes,
+    w: &mut Writer,
+    sides: Sides,
+    from: InterfaceType,
+    to: InterfaceType,
+    source: SourcePlace<'_>,
+    target: TargetPlace<'_>,
+) -> Result<(), OutOfMemory>
+    requires from_live { IsLive types.now from }
+    requires to_live { IsLive types.now to }
+    ensures { OnOk result (MovedValue types.now from to sides (from_of sides.from source.entry) (to_of sides.to target.entry) w.old w.new) }
+{
+    check_places(types, w, sides, from, to, source, target)?;
+    move_node(types, w, sides, from, to, source, target)?;
+    Ok(())
+}
+
+/// Moves a value, behind the checks of its places.
+#[cycle(moving)]
+fn move_node(
+    types: &ComponentTypes,
+    w: &mut Writer,
+    sides: Sides,
+    from: InterfaceType,
+    to: InterfaceType,
+    source: SourcePlace<'_>,
+    target: TargetPlace<'_>,
+) -> Result<(), OutOfMemory>
+    requires from_live { IsLive types.now from }
+    requires to_live { IsLive types.now to }
+    ensures { OnOk result (MovedNode types.now from to sides (from_of sides.from source.entry) (to_of sides.to target.entry) w.old w.new) }
+{
+    match from {
+        InterfaceType::Record(i) => match to {
+            InterfaceType::Record(j) => move_record(types, w, sides, i, j, source, target)?,
+            _ => w.put(Instr::Unreachable)?,
+        },
+        InterfaceType::Tuple(i) => match to {
+            InterfaceType::Tuple(j) => move_tuple(types, w, sides, i, j, source, target)?,
+            _ => w.put(Instr::Unreachable)?,
+        },
+        InterfaceType::Flags(i) => move_flags(types, w, sides, i, source, target)?,
+        InterfaceType::Enum(i) => move_enum(types, w, sides, i, source, target)?,
+        _ => move_scalar(w, sides, from, source, target)?,
+    }
+    Ok(())
+}
+
+/// Moves the fields of a record in the order of its destination, each from the source field of its name.
+#[cycle(moving)]
+fn move_record(
+    types: &ComponentTypes,
+    w: &mut Writer,
+    sides: Sides,
+    from: TypeRecordIndex,
+    to: TypeRecordIndex,
+    source: SourcePlace<'_>,
+    target: TargetPlace<'_>,
+) -> Result<(), OutOfMemory>
+    requires from_live { IsLive types.now (ty.Record from) }
+    requires to_live { IsLive types.now (ty.Record to) }
+    ensures { OnOk result (MovedNode types.now (ty.Record from) (ty.Record to) sides (from_of sides.from source.entry) (to_of sides.to target.entry) w.old w.new) }
+{
+    types.reveal();
+    let _source = types.canonical_abi(&InterfaceType::Record(from));
+    let _whole = types.canonical_abi(&InterfaceType::Record(to));
+    let mut rest = target;
+    let mut end: u32 = 0;
+    for field in types[to].fields.as_slice() {
+        let found = types.find_field(from, &field.name);
+        let place = next_place(types.canonical_abi(&field.ty), sides.to.memory64, &mut end);
+        let count = flat_length(types, &field.ty);
+        let spot = rest.part(0, count, place);
+        move_member(types, w, sides, found, field.ty, source, spot)?;
+        rest = rest.past(count);
+    }
+    Ok(())
+}
+
+/// Moves the members of a tuple, each from the source member of its place.
+#[cycle(moving)]
+fn move_tuple(
+    types: &ComponentTypes,
+    w: &mut Writer,
+    sides: Sides,
+    from: TypeTupleIndex,
+    to: TypeTupleIndex,
+    source: SourcePlace<'_>,
+    target: TargetPlace<'_>,
+) -> Result<(), OutOfMemory>
+    requires from_live { IsLive types.now (ty.Tuple from) }
+    requires to_live { IsLive types.now (ty.Tuple to) }
+    ensures { OnOk result (MovedNode types.now (ty.Tuple from) (ty.Tuple to) sides (from_of sides.from source.entry) (to_of sides.to target.entry) w.old w.new) }
+{
+    types.reveal();
+    let _source = types.canonical_abi(&InterfaceType::Tuple(from));
+    let _whole = types.canonical_abi(&InterfaceType::Tuple(to));
+    let mut rest = target;
+    let mut end: u32 = 0;
+    for (at, member) in types[to].types.as_slice().iter().enumerate() {
+        let found = find_member(types, from, at);
+        let place = next_place(types.canonical_abi(member), sides.to.memory64, &mut end);
+        let count = flat_length(types, member);
+        let spot = rest.part(0, count, place);
+        move_member(types, w, sides, found, *member, source, spot)?;
+        rest = rest.past(count);
+    }
+    Ok(())
+}
+
+/// Moves a member to its spot, from the source member that was found for it.
+#[cycle(moving)]
+fn move_member(
+    types: &ComponentTypes,
+    w: &mut Writer,
+    sides: Sides,
+    found: Option<FieldPlace>,
+    to: InterfaceType,
+    source: SourcePlace<'_>,
+    spot: TargetPlace<'_>,
+) -> Result<(), OutOfMemory>
+    requires from_live { IsLiveFound types.now found }
+    requires to_live { IsLive types.now to }
+    ensures { OnOk result (MovedMember types.now found to sides (from_of sides.from source.entry) (to_of sides.to spot.entry) w.old w.new) }
+{
+    match found {
+        Some(found) => {
+            let skip = usize::from(found.flat_place.unwrap_or(0));
+            let count = flat_length(types, &found.ty);
+            let bytes = byte_place(found, sides.from.memory64);
+            let part = source.part(skip, count, bytes);
+            translate(types, w, sides, found.ty, to, part, spot)?;
+        }
+        None => w.put(Instr::Unreachable)?,
+    }
+    Ok(())
+}

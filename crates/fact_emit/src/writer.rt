@@ -1,0 +1,137 @@
+//! The code of a function as it is written.
+
+ghost use Rattle.std.specs.Prelude.{IsTrue, IfOk, IfSome, OnOk, ◌≡◌, ◌++◌, ◌∷◌, [], true, Some, slice_get};
+ghost use Rattle.fact_types.specs.declared.import.Import.TheVariants as import;
+ghost use Rattle.fact_emit.specs.Imports.{AreOnce};
+ghost use Rattle.fact_emit.specs.Writers.{Wrote, Took, Freed, TookTrap, Same, free_local_of, taken_in};
+
+use crate::imports::ModuleImports;
+use fact_types::Trap;
+use fact_wasm::{Instr, OutOfMemory, Seq, ValType};
+use std::alloc::{AllocError, Global};
+
+/// A local: its type, and whether it is in use.
+#[derive(Clone, Copy)]
+pub struct Local {
+    pub ty: ValType,
+    pub in_use: bool,
+}
+
+/// The code of a function so far, its locals, the parameters first, and the module around it. A local that was freed is taken
+/// again for its type, the last freed first.
+#[derive(Drop)]
+pub struct Writer {
+    pub alloc: Global,
+    pub imports: ModuleImports,
+    pub code: Vec<Instr>,
+    pub locals: Vec<Local>,
+    // Locals that were freed, the last one last. One that is in use again is passed over.
+    free: Vec<u32>,
+}
+
+impl Writer {
+    /// No code, no locals and no imports yet. It takes no memory.
+    pub fn new(alloc: Global) -> Writer
+        ensures code { result.code.items ≡ [] }
+        ensures locals { result.locals.items ≡ [] }
+        ensures once { AreOnce result.imports }
+    {
+        Writer {
+            alloc,
+            imports: ModuleImports::new(alloc),
+            code: Vec::new(alloc),
+            locals: Vec::new(alloc),
+            free: Vec::new(alloc),
+        }
+    }
+
+    /// Puts an instruction behind the code.
+    pub fn put(&mut self, instr: Instr) -> Result<(), OutOfMemory>
+        ensures { OnOk result (Wrote self.old self.new (instr ∷ [])) }
+    {
+        self.code.push(instr)?;
+        Ok(())
+    }
+
+    /// The place of a trap among the imported functions.
+    pub fn trap(&mut self, trap: Trap) -> Result<u32, OutOfMemory>
+        ensures { IfOk result (λ place. TookTrap self.old self.new trap place) }
+    {
+        self.imports.trap(self.alloc, trap)
+    }
+
+    /// Whether a local is of a type and not in use.
+    fn is_free(&self, local: u32, ty: ValType) -> bool
+        ensures { IsTrue result → slice_get self.now.locals.items local ≡ Some (free_local_of ty) }
+    {
+        match self.locals.get(local as usize) {
+            Some(l) => l.ty == ty && !l.in_use,
+            None => false,
+        }
+    }
+
+    /// The local of a type that was freed last, and its place among those that were freed.
+    fn last_freed(&self, ty: ValType) -> Option<(usize, u32)>
+        ensures { IfSome result (λ r. slice_get self.now.locals.items r.1 ≡ Some (free_local_of ty)) }
+    {
+        for (place, local) in self.free.iter().enumerate().rev() {
+            if self.is_free(*local, ty) {
+                return Some((place, *local));
+            }
+        }
+        None
+    }
+
+    /// Passes over a local that was freed.
+    fn forget(&mut self, place: usize)
+        ensures { Same self.old self.new }
+    {
+        if place < self.free.len() {
+            self.free.remove(place);
+        }
+    }
+
+    /// Takes a local that is not in use.
+    fn reuse(&mut self, local: u32, ty: ValType)
+        requires { slice_get self.old.locals.items local ≡ Some (free_local_of ty) }
+        ensures { Took self.old self.new ty local }
+    {
+        self.locals[local as usize] = Local { ty, in_use: true };
+    }
+
+    /// Adds a local that is in use.
+    fn add_local(&mut self, ty: ValType) -> Result<u32, OutOfMemory>
+        ensures { IfOk result (λ local. Took self.old self.new ty local) }
+    {
+        let local = self.locals.len();
+        if local > u32::MAX as usize {
+            return Err(AllocError);
+        }
+        self.locals.push(Local { ty, in_use: true })?;
+        Ok(local as u32)
+    }
+
+    /// A local of a type that is not in use, and now is.
+    pub fn take_local(&mut self, ty: ValType) -> Result<u32, OutOfMemory>
+        ensures { IfOk result (λ local. Took self.old self.new ty local) }
+    {
+        match self.last_freed(ty) {
+            Some((place, local)) => {
+                self.reuse(local, ty);
+                self.forget(place);
+                Ok(local)
+            }
+            None => self.add_local(ty),
+        }
+    }
+
+    /// A local is in use no more.
+    pub fn free_local(&mut self, local: u32) -> Result<(), OutOfMemory>
+        requires { taken_in self.old local ≡ true }
+        ensures { OnOk result (Freed self.old self.new local) }
+    {
+        self.locals[local as usize].in_use = false;
+        self.free.push(local)?;
+        Ok(())
+    }
+}
