@@ -14,27 +14,28 @@ use Rattle.fact_moves.specs.Actions.{Action, Give, ◌>>◌}
 use Rattle.fact_moves.specs.Adapters.{AdapterTunables, check_tuple, from_values, into_params, flat_results, results_transfer, move_params, move_results}
 use Rattle.fact_moves.specs.Moves.{entry_extent, move_fields}
 use Rattle.fact_moves.specs.Regions.{Region}
-use Rattle.fact_moves.specs.Requests.{RequestPart, tuple_part, requests_in, answers_in, parts_requests, AreRequests, BeginRequests}
-use Rattle.fact_moves.specs.Running.{ImportPlaces, Ended, Gave, Halted, Strayed, run}
+use Rattle.fact_moves.specs.Requests.{RequestPart, tuple_part, requests_in, parts_requests}
+use Rattle.fact_moves.specs.Running.{ImportPlaces, Ended, Gave, Halted, Strayed, calls_in, run}
 use Rattle.fact_moves.specs.Sides.{Source, Values, AtAddress, Target, Slots, Into, options_of, first_bits, address_value, reallocate}
 use Rattle.fact_carry.specs.FaithfulLaws.{setting_of_params, setting_of_results}
 use Rattle.fact_carry.specs.Honest.{AreHonestCalls}
 use Rattle.fact_carry.specs.Regions.{TransferSetting, AreBytesOf}
 use Rattle.fact_texts.specs.Parts.{source_of_types, parts_of_fields, parts_of_params, parts_of_results}
 use Rattle.fact_texts.specs.Premises.{KnowsMemories}
+use Rattle.fact_texts.specs.Requested.{AsksFor}
+use Rattle.fact_texts.specs.Trapped.{AreHonestUntilTrap, answers_so_far}
 use Rattle.fact_texts.proofs.AllAsked.{fields_ask}
 use Rattle.fact_texts.proofs.Answered.{position}
 use Rattle.fact_texts.proofs.Asking.{Answers, AsksEnd}
 use Rattle.fact_texts.proofs.Fine.{HasKnownSides}
 use Rattle.fact_texts.proofs.PartAsks.{AsksParts, parts_then, parts_alone, handed, parts_give, parts_check, parts_reallocate, parts_first}
+use Rattle.fact_texts.proofs.Trapped.{GivesReturned, gives_returned, all_honest, all_answers}
 
 -- ---- ends
 
--- What the calls of an end ask for, where they are honest: all that parts ask for, or so far a front of it.
+-- What the calls of an end ask for, where they are honest until a trap: all that parts ask for, or so far a front of it.
 abbrev pub HonestlyAsks : TransferSetting → List RequestPart → Ended (List CoreValue) → Type 0
-HonestlyAsks c xs (Gave n cs vs w) = AreHonestCalls c [] cs → AreRequests c.transfer (position c []).landing xs cs
-HonestlyAsks c xs (Halted n cs s w) = AreHonestCalls c [] cs → BeginRequests c.transfer (position c []).landing xs cs
-HonestlyAsks c xs (Strayed n cs w) = Unit {0}
+HonestlyAsks c xs e = AreHonestUntilTrap (AreHonestCalls c []) (calls_in e) → AsksFor c.transfer (position c []).landing xs e
 
 module _ (c : TransferSetting) (known : HasKnownSides c) where
   abbrev A : List RequestPart → Action (List CoreValue) → Type 0
@@ -45,12 +46,15 @@ module _ (c : TransferSetting) (known : HasKnownSides c) where
   parts_are xs l = ap (λ l. parts_then c.transfer xs l (λ more. [])) (append-nil l) ∙ parts_alone c.transfer xs l
 
   pub asks_for : (xs : List RequestPart) (q : Action (List CoreValue)) (w : World) → A xs q → AreBytesOf c.places c.transfer.from w.state c.source → HonestlyAsks c xs (run c.places q w)
-  asks_for xs q w h bytes = by_end (run c.places q w) (h.asks.by [] w bytes)
+  asks_for xs q w h bytes = by_end (run c.places q w) (gives_returned c.places q w) (h.asks.by [] w bytes)
     where
-      by_end : (e : Ended (List CoreValue)) → AsksEnd c known handed [] (λ l k. parts_then c.transfer xs l k) e → HonestlyAsks c xs e
-      by_end (Gave n cs vs w') j = λ o. sym (append-nil (requests_in (position c []).landing cs)) ∙ sym ((j o).0 [] (λ more. [])) ∙ parts_are xs (answers_in (position c []).landing cs)
-      by_end (Halted n cs s w') j = λ o. subst (λ l. Grows (requests_in (position c []).landing cs) l) (parts_are xs (answers_in (position c []).landing cs)) (j o [] (λ more. []))
-      by_end (Strayed n cs w') j = tt
+      by_end : (e : Ended (List CoreValue)) → GivesReturned e → AsksEnd c known handed [] (λ l k. parts_then c.transfer xs l k) e → HonestlyAsks c xs e
+      by_end (Gave n cs vs w') returned j = λ o.
+          let asked = (j (all_honest (AreHonestCalls c []) cs returned o)).0 [] (λ more. []) in
+          sym (append-nil (requests_in (position c []).landing cs)) ∙ sym asked ∙ parts_are xs (answers_so_far (position c []).landing cs)
+          ∙ ap (parts_requests c.transfer xs) (all_answers (position c []).landing cs returned)
+      by_end (Halted n cs s w') returned j = λ o. subst (λ l. Grows (requests_in (position c []).landing cs) l) (parts_are xs (answers_so_far (position c []).landing cs)) (j o [] (λ more. []))
+      by_end (Strayed n cs w') returned j = λ o. tt
 
   -- ---- tuples
 

@@ -1,8 +1,5 @@
 -- Adapters move texts, and so whole runs of theirs are faithful.
-use Rattle.fact_moves.specs.Adapters.{AdapterTunables}
-use Rattle.fact_moves.specs.Running.{ImportPlaces}
-use Rattle.fact_types.specs.Adapters.{LinkedAdapter}
-use Rattle.fact_carry.specs.FaithfulLaws.{setting_of_params, setting_of_results, quiet, IsCheckedAdapter, TextsMove}
+use Rattle.fact_carry.specs.FaithfulLaws.{setting_of_params, setting_of_results, quiet}
 use Rattle.fact_carry.proofs.FaithfulRuns.{runs_are_faithful, runs_weigh}
 use Rattle.fact_carry.proofs.Ending.{runs_come_to_end}
 use Rattle.fact_texts.specs.Laws.{TextsAreMoved, TextsMoveInAdapters, AdaptersAreFaithful, AdaptersWeigh, AdaptersComeToEnd}

@@ -17,14 +17,15 @@ use Rattle.fact_moves.specs.Sides.{Transfer}
 use Rattle.fact_moves.proofs.Binds.{binds_run}
 use Rattle.fact_texts.specs.Laws.{StartRequestsAreCalledFor, ReturnRequestsAreCalledFor}
 use Rattle.fact_texts.specs.Requested.{AsksFor, params_parts, results_parts}
+use Rattle.fact_texts.specs.Trapped.{AreHonestUntilTrap}
 use Rattle.fact_texts.proofs.Requests.{params_asked, results_asked}
 
 -- ---- flags
 
 module _ (p : ImportPlaces) (a : LinkedAdapter) (tr : Transfer) (l : Landing) (xs : List RequestPart) where
-  -- an end of honest calls
+  -- an end of calls that are honest until a trap
   abbrev Honestly : Ended (List CoreValue) → Type 0
-  Honestly e = AreHonest p a moved_on (landed l) (calls_in e) → AsksFor tr l xs e
+  Honestly e = AreHonestUntilTrap (AreHonest p a moved_on (landed l)) (calls_in e) → AsksFor tr l xs e
 
   module _ (i : ℕ) (q : Action (List CoreValue)) where
     restored : (saved : ℕ) (e : Ended (List CoreValue)) → Honestly e → Honestly (then_ended e (λ r w. run p (SetFlags i saved (Give r)) w))
@@ -32,7 +33,7 @@ module _ (p : ImportPlaces) (a : LinkedAdapter) (tr : Transfer) (l : Landing) (x
       where
         by_flag : (o : Option CoreValue) → Honestly (heavier n (later cs (or_strayed w o (λ v. run p (Give r) (set_global (p.flags i) (I32 saved) w)))))
         by_flag None = λ k. tt
-        by_flag (Some v) = λ k. subst (λ ds. AreRequests tr l xs ds) (sym (append-nil cs)) (h (subst (λ ds. AreHonest p a moved_on (landed l) ds) (append-nil cs) k))
+        by_flag (Some v) = λ k. subst (λ ds. AreRequests tr l xs ds) (sym (append-nil cs)) (h (subst (λ ds. AreHonestUntilTrap (AreHonest p a moved_on (landed l)) ds) (append-nil cs) k))
     restored saved (Halted n cs s w) h = h
     restored saved (Strayed n cs w) h = λ k. tt
 

@@ -14,6 +14,7 @@ mod Encoded
 mod Equipped
 mod Fine
 mod Finished
+mod FirstRequest
 mod FlaggedRequests
 mod ForTypes
 mod Halting
@@ -36,6 +37,7 @@ mod States
 mod TextLaw
 mod Thrown
 mod Trails
+mod Trapped
 mod Transfers
 mod Unread
 mod WalkAsks

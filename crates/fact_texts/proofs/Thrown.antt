@@ -1,5 +1,5 @@
--- Nothing is thrown where all calls returned.
-use Rattle.std.proofs.Common.{◌+◌, Bool, true, false, List, [], ◌∷◌, ◌++◌, length}
+-- Nothing is thrown where no call threw.
+use Rattle.std.proofs.Common.{◌+◌, inl, inr, Bool, true, false, List, [], ◌∷◌, ◌++◌, length, sym, subst}
 use Rattle.std.specs.Prelude.{slice_get, nat_le, if◌then◌else◌}
 use Rattle.fact_wasm.specs.declared.types.ValType.{ValType}
 use Rattle.fact_types.specs.declared.import.Import.{Import}
@@ -14,13 +14,22 @@ use Rattle.fact_moves.specs.Actions as action
 use Rattle.fact_moves.specs.Actions.{Action}
 use Rattle.fact_moves.specs.Running.{ImportPlaces, Call, Ended, if_typed, is_answer, with_answer, call_of, later, ended, run}
 use Rattle.fact_carry.proofs.Stopping.{Stopping, AreReturned, stopping_so, stopping_heavier, stopping_later, stopping_stray}
+use Rattle.fact_texts.specs.Trapped.{AreHonestUntilTrap}
+
+-- calls of which none was answered by a throw
+abbrev pub HasNotThrown : Call → Type 0
+HasNotThrown c = elim c.answer [ Returns rs state ↦ Unit {0} | Traps ↦ Unit {0} | Throws ↦ ⊥ ]
+
+abbrev pub NoneThrew : List Call → Type 0
+NoneThrew [] = Unit {0}
+NoneThrew (c ∷ cs) = HasNotThrown c × NoneThrew cs
 
 abbrev IsThrow : Stop → Type 0
 IsThrow Throw = Unit {0}
 IsThrow s = ⊥
 
 abbrev pub Unthrown : Stop → List Call → Type 0
-Unthrown s cs = AreReturned cs → IsThrow s → ⊥
+Unthrown s cs = NoneThrew cs → IsThrow s → ⊥
 
 within_done : {A B : Type 0} (b : Bool) (x : A) (w w' : World) (f : A → World → Ended B) → Stopping (f x w) Unthrown → Stopping (ended (if b then Done x w else Halt Trap w') f) Unthrown
 within_done true x w w' f h = h
@@ -50,3 +59,28 @@ never_thrown p (action.GetFlags i k) w = stopping_stray w (slice_get w.state.glo
 never_thrown p (action.SetFlags i x q) w = stopping_stray w (slice_get w.state.globals (p.flags i)) _ Unthrown (λ v e. never_thrown p q (set_global (p.flags i) (I32 x) w))
 never_thrown p (action.Ask i args ts k) w = answered_unthrown p i args ts k w w.answers (λ rs w'. never_thrown p (k rs) w')
 never_thrown p action.Unreachable w = λ r t. t
+
+-- ---- calls that are honest until a trap
+
+returned_none : (cs : List Call) → AreReturned cs → NoneThrew cs
+returned_none [] r = tt
+returned_none (c ∷ cs) r = (by c.answer r.0, returned_none cs r.1)
+  where
+    by : (x : Answer) → elim x as (λ y. Type 0) [ Returns rs state ↦ Unit {0} | Traps ↦ ⊥ | Throws ↦ ⊥ ] → elim x as (λ y. Type 0) [ Returns rs state ↦ Unit {0} | Traps ↦ Unit {0} | Throws ↦ ⊥ ]
+    by (Returns rs state) h = tt
+    by Traps h = tt
+    by Throws h = h
+
+none_append : (cs ds : List Call) → NoneThrew cs → NoneThrew ds → NoneThrew (cs ++ ds)
+none_append [] ds h k = k
+none_append (c ∷ cs) ds h k = (h.0, none_append cs ds h.1 k)
+
+pub none_before : (cs ds : List Call) → NoneThrew (cs ++ ds) → NoneThrew cs
+none_before [] ds h = tt
+none_before (c ∷ cs) ds h = (h.0, none_before cs ds h.1)
+
+pub none_threw : (Honest : List Call → Type 0) → ((cs : List Call) → Honest cs → AreReturned cs) → (cs : List Call) → AreHonestUntilTrap Honest cs → NoneThrew cs
+none_threw Honest returned cs (inl h) = returned_none cs (returned cs h)
+none_threw Honest returned cs (inr t) =
+    let last : HasNotThrown t.last = subst (λ x. elim x as (λ y. Type 0) [ Returns rs state ↦ Unit {0} | Traps ↦ Unit {0} | Throws ↦ ⊥ ]) (sym t.last_traps) tt in
+    subst NoneThrew (sym t.calls_are) (none_append t.front (t.last ∷ []) (returned_none t.front (returned t.front t.front_honest)) (last, tt))

@@ -1,6 +1,7 @@
 -- Bodies that ask realloc for more than their values call for, or ask the realloc of the other side, and do all else as they are to:
--- each is an action, of which an honest run is shown whose requests are not those that the law of requests promises.
-use Rattle.std.proofs.Common.{◌≡◌, inl, ℕ, suc, ◌+◌, Bool, true, false, List, [], ◌∷◌, ◌++◌, Some, None, length, map, cond, filter, refl, sym, ap, ◌∙◌, subst, arith, append-nil}
+-- each is an action, of which an honest run, or one that is honest until a trap, is shown whose requests are not those that the law of
+-- requests promises.
+use Rattle.std.proofs.Common.{◌≡◌, inl, inr, ℕ, suc, ◌+◌, Bool, true, false, List, [], ◌∷◌, ◌++◌, Some, None, length, map, cond, filter, refl, sym, ap, ◌∙◌, subst, arith, append-nil}
 use Rattle.std.specs.Prelude.{codes, replicate}
 use Rattle.std.specs.Char.{encode_utf8}
 use Rattle.std.specs.List.{AllByRecursion}
@@ -20,8 +21,9 @@ use Rattle.fact_types.proofs.ShapeLaws.{none_some}
 use Rattle.fact_machine.specs.declared.types.CoreValue.{CoreValue}
 use Rattle.fact_machine.specs.declared.types.CoreValue.TheVariants.{I32}
 use Rattle.fact_machine.specs.declared.types.MachineState.{MachineState}
-use Rattle.fact_machine.specs.declared.types.Answer.TheVariants.{Returns}
+use Rattle.fact_machine.specs.declared.types.Answer.TheVariants.{Returns, Traps}
 use Rattle.fact_machine.specs.Exits.{first_world}
+use Rattle.fact_machine.specs.World.{Trap}
 use Rattle.fact_abi.specs.Lift.{bits_of}
 use Rattle.fact_moves.specs.Actions.{Action, Give, Read, Write, SetFlags, Ask, ◌>>=◌, ◌>>◌, each}
 use Rattle.fact_moves.specs.Adapters.{params_transfer}
@@ -35,6 +37,8 @@ use Rattle.fact_carry.specs.FaithfulLaws.{IsCheckedAdapter}
 use Rattle.fact_carry.proofs.WorkedAdapters.{exported, taking, places, state, words, off, list, bytes_fine, string_fine, none_fine, taking_checked}
 use Rattle.fact_texts.specs.Parts.{parts_of, parts_of_fields}
 use Rattle.fact_texts.specs.Requested.{params_parts, IsOutsideTransfers, AreOutsideTransfers, AreFromCallee, IsOwnRealloc, CallOwnRealloc, AreFinished, AreSoFar, StopsEntering, StopsInParams, StopsCalling, StopsInResults, StopsFinishing, AreRequested}
+use Rattle.fact_texts.specs.Trapped.{IsHonestUntilTrap}
+use Rattle.fact_texts.proofs.FirstRequest.{first_request_is_called_for}
 
 -- the size of the first of requests
 abbrev size_in : List Request → ℕ
@@ -185,6 +189,37 @@ module _ (instances : Id RuntimeInstances) where
     broken = not_asked texts (words (0 ∷ 2 ∷ [])) (with_text 1 (replicate 8 0)) _ 1
         (λ i n. (let bad : 6 ≡ 2 = n in omega (arith, bad)), (λ i n. (let bad : false ≡ true = i in cc), (λ i n. (let bad : 3 ≡ 2 = n in omega (arith, bad)), (λ i n. (let bad : false ≡ true = i in cc), tt)))) (λ answers. refl);
   }
+
+  -- ---- a request that traps
+
+  -- Nearly all that a memory can hold is asked for first, where a text of two units calls for two bytes; the call traps, and nothing
+  -- comes behind it.
+  abbrev asked_all : Ended (List CoreValue)
+  asked_all = run at (moving (realloc_asked (0 ∷ 0 ∷ 1 ∷ 4294967295 ∷ []) (λ q. Give []))) (first_world (with_text 1 (replicate 8 0)) (Traps ∷ []))
+
+  abbrev all_asked : Call
+  all_asked = record { what = import.CoreDef (exported instances 1 (codes "realloc")); args = words (0 ∷ 0 ∷ 1 ∷ 4294967295 ∷ []); before = with_text 0 (replicate 8 0); answer = Traps }
+
+  -- The run is honest until the trap, and the law of requests is false of it.
+  record ExcludesTrapped (a : LinkedAdapter) (args : List CoreValue) (s : MachineState) (e : Ended (List CoreValue)) : Type 0 where
+    checked : IsCheckedAdapter at a
+    honest : IsHonestUntilTrap at a args s e
+    broken : AreRequested at off a args s e → ⊥
+
+  all_at_once : ExcludesTrapped texts (words (0 ∷ 2 ∷ [])) (with_text 1 (replicate 8 0)) asked_all
+  unfolding aligned parts_of parts_of_fields
+  all_at_once = record {
+    checked = fine;
+    honest = record { state_typed = refl; args_typed = refl; typed = tt; honest = inr (record { front = []; last = all_asked; calls_are = refl; front_honest = tt; last_traps = refl }) };
+    broken = λ f.
+        let b = first_request_is_called_for at off texts (words (0 ∷ 2 ∷ [])) (with_text 1 (replicate 8 0)) 0 Trap (first_world (with_text 0 (replicate 8 0)) []) all_asked (exported instances 1 (codes "realloc")) fine.own_callee
+        (λ e. let bad : 1 ≡ 0 = ap bits_of e in omega (arith, bad)) refl refl refl f in
+        let bad : 2 ≡ 4294967295 = ap size_in b.is in
+        omega (arith, bad);
+  }
+    where
+      fine : IsCheckedAdapter at texts
+      fine = taking_checked instances string.Utf16 string.Utf8 _ _ string_fine string_fine (refl, tt)
 
   -- ---- the other realloc
 

@@ -1,16 +1,23 @@
--- Laws of texts in adapters: where transcoders alone answer honestly, and in honest runs.
-use Rattle.std.specs.Prelude.{◌≡◌, ℕ, true, false, List, [], ◌∷◌}
+-- Laws of texts in adapters: where transcoders alone answer honestly, in honest runs, and in those that are honest until a trap.
+use Rattle.std.specs.Prelude.{◌≡◌, ◌≢◌, ℕ, true, false, List, [], ◌∷◌, Some}
 use Rattle.fact_types.specs.Adapters.{LinkedAdapter}
 use Rattle.fact_machine.specs.declared.types.CoreValue.{CoreValue}
-use Rattle.fact_machine.specs.World.{World}
+use Rattle.fact_types.specs.declared.import.Import.TheVariants as import
+use Rattle.fact_types.specs.declared.outside.CoreDef.{CoreDef}
+use Rattle.fact_machine.specs.declared.types.Answer.TheVariants.{Traps}
+use Rattle.fact_machine.specs.declared.types.CoreValue.TheVariants.{I32}
+use Rattle.fact_machine.specs.declared.types.MachineState.{MachineState}
+use Rattle.fact_machine.specs.Trace.{Grows}
+use Rattle.fact_machine.specs.World.{World, Stop}
 use Rattle.fact_moves.specs.Adapters.{AdapterTunables, params_transfer, results_transfer, move_params, move_results, async_start, async_return}
 use Rattle.fact_moves.specs.Calls.{HasOwnCallee}
 use Rattle.fact_moves.specs.Confined.{HaveHonestTranscoders, AreRangedSync, AreRangedStart, AreRangedReturn}
-use Rattle.fact_moves.specs.Honest.{IsStraight, IsHonestRun, IsHonestStart, IsHonestReturn}
+use Rattle.fact_moves.specs.Honest.{AreHonest, IsStraight, IsHonestRun}
+use Rattle.fact_moves.specs.Order.{flag_in}
 use Rattle.fact_moves.specs.Plain.{ended_sync}
-use Rattle.fact_moves.specs.Regions.{params_landing, results_landing}
-use Rattle.fact_moves.specs.Requests.{is_transcode}
-use Rattle.fact_moves.specs.Running.{ImportPlaces, Call, Ended, calls_in, is_state, moved_weight, run}
+use Rattle.fact_moves.specs.Regions.{Position, Landing, params_landing, results_landing}
+use Rattle.fact_moves.specs.Requests.{request_of, parts_requests, is_transcode, answers_in}
+use Rattle.fact_moves.specs.Running.{ImportPlaces, Call, Ended, Halted, calls_in, is_state, moved_weight, run}
 use Rattle.fact_moves.specs.Sides.{options_of}
 use Rattle.fact_carry.specs.Faithful.{IsFaithful, WhereGiven, IsInLimits, ComesToEnd, whole_weight}
 use Rattle.fact_carry.specs.FaithfulLaws.{IsCheckedAdapter, HasSyncSides, TextsMove}
@@ -19,6 +26,7 @@ use Rattle.fact_carry.specs.Places.{IsGrounded, HasKnownMemory}
 use Rattle.fact_carry.specs.Regions.{TransferSetting}
 use Rattle.fact_texts.specs.Premises.{KnowsMemories, HasMeans}
 use Rattle.fact_texts.specs.Requested.{AsksFor, params_parts, results_parts, AreRequested}
+use Rattle.fact_texts.specs.Trapped.{LastTraps, answers_so_far, IsHonestUntilTrap, IsHonestStartUntilTrap, IsHonestReturnUntilTrap}
 
 -- ---- ranges of transcoders
 
@@ -91,21 +99,36 @@ AdaptersComeToEnd =
 -- ---- requests of realloc
 
 -- Each transfer of an honest run asks of realloc all that the parts of its values ask for, in the order of the destination and the
--- outer before the inner; where the run stops, so far a front of it.
+-- outer before the inner; where the run stops, so far a front of it. The last call may be answered by a trap, and so be a request
+-- that no memory can give: it too is one of these.
 abbrev pub RequestsAreCalledFor : Type 0
 RequestsAreCalledFor =
     (p : ImportPlaces) (u : AdapterTunables) (a : LinkedAdapter) (args : List CoreValue) (w : World)
-    → IsCheckedAdapter p a → IsHonestRun p a args w.state (ended_sync p u a args w) → AreRequested p u a args w.state (ended_sync p u a args w)
+    → IsCheckedAdapter p a → IsHonestUntilTrap p a args w.state (ended_sync p u a args w) → AreRequested p u a args w.state (ended_sync p u a args w)
 
 -- So do the functions of an async adapter that move parameters and results.
 abbrev pub StartRequestsAreCalledFor : Type 0
 StartRequestsAreCalledFor =
     (p : ImportPlaces) (u : AdapterTunables) (a : LinkedAdapter) (args : List CoreValue) (w : World)
-    → KnowsMemories p a → IsHonestStart p a args w.state (run p (async_start u a args) w)
+    → KnowsMemories p a → IsHonestStartUntilTrap p a args w.state (run p (async_start u a args) w)
     → AsksFor (params_transfer u a) (params_landing a) (params_parts p u a args w.state) (run p (async_start u a args) w)
 
 abbrev pub ReturnRequestsAreCalledFor : Type 0
 ReturnRequestsAreCalledFor =
     (p : ImportPlaces) (u : AdapterTunables) (a : LinkedAdapter) (args : List CoreValue) (w : World)
-    → KnowsMemories p a → IsHonestReturn p a args w.state (run p (async_return u a args) w)
+    → KnowsMemories p a → IsHonestReturnUntilTrap p a args w.state (run p (async_return u a args) w)
     → AsksFor (results_transfer u a) (results_landing a args) (results_parts p u a args args w.state) (run p (async_return u a args) w)
+
+-- So no adapter begins with a request that its parameters do not call for, be it one that no memory can give: where a call of the lift
+-- side's realloc was the only one, and trapped, it asks for what they call for first.
+abbrev pub FirstRequestIsCalledFor : Type 0
+FirstRequestIsCalledFor =
+    (p : ImportPlaces) (u : AdapterTunables) (a : LinkedAdapter) (args : List CoreValue) (first : MachineState) (n : ℕ) (s : Stop) (w : World) (c : Call) (f : CoreDef)
+    → HasOwnCallee a → flag_in p a.lower.instance first.globals ≢ I32 0 → a.lift.realloc ≡ Some f → c.what ≡ import.CoreDef f → c.answer ≡ Traps
+    → AreRequested p u a args first (Halted n (c ∷ []) s w) → Grows (request_of c ∷ []) (parts_requests (params_transfer u a) (params_parts p u a args first) [])
+
+-- Honest calls all returned: the answers so far are those of all of them. Where a last one traps, they are those of the ones before.
+abbrev pub AnswersAreSoFar : Type 0
+AnswersAreSoFar =
+    (p : ImportPlaces) (a : LinkedAdapter) (next : Call → Position → Position) (x : Position) (l : Landing) (cs : List Call)
+    → (AreHonest p a next x cs → answers_so_far l cs ≡ answers_in l cs) × ((t : LastTraps (AreHonest p a next x) cs) → answers_so_far l cs ≡ answers_in l t.front)

@@ -1,9 +1,10 @@
 //! Laws of the moves of texts.
 
-ghost use Rattle.fact_texts.specs.Laws.{TranscodersAreRanged, StartTranscodersAreRanged, ReturnTranscodersAreRanged, TranscodersNeedMeans, TextsAreMoved, TextsMoveInAdapters, AdaptersAreFaithful, AdaptersWeigh, AdaptersComeToEnd, RequestsAreCalledFor, StartRequestsAreCalledFor, ReturnRequestsAreCalledFor};
+ghost use Rattle.fact_texts.specs.Laws.{TranscodersAreRanged, StartTranscodersAreRanged, ReturnTranscodersAreRanged, TranscodersNeedMeans, TextsAreMoved, TextsMoveInAdapters, AdaptersAreFaithful, AdaptersWeigh, AdaptersComeToEnd, RequestsAreCalledFor, StartRequestsAreCalledFor, ReturnRequestsAreCalledFor, FirstRequestIsCalledFor, AnswersAreSoFar};
 
-/// What holds of the moves of texts: of the ranges of their transcoders, whatever all others answer; and in honest runs of
-/// what is moved, and of what is asked of realloc. The call does nothing: its contract is the laws.
+/// What holds of the moves of texts: of the ranges of their transcoders, whatever all others answer; in honest runs of what is
+/// moved; and of what is asked of realloc, in runs that are honest but for a last call that may trap. The call does nothing: its
+/// contract is the laws.
 pub fn laws_of_texts()
     ensures transcoders_are_ranged { TranscodersAreRanged }
     ensures start_transcoders_are_ranged { StartTranscodersAreRanged }
@@ -17,4 +18,6 @@ pub fn laws_of_texts()
     ensures requests_are_called_for { RequestsAreCalledFor }
     ensures start_requests_are_called_for { StartRequestsAreCalledFor }
     ensures return_requests_are_called_for { ReturnRequestsAreCalledFor }
+    ensures first_request_is_called_for { FirstRequestIsCalledFor }
+    ensures answers_are_so_far { AnswersAreSoFar }
 {}

@@ -2,6 +2,8 @@ use Rattle.fact_texts.proofs.AdapterRanges.{transcoders_are_ranged, start_transc
 use Rattle.fact_texts.proofs.Finished.{texts_are_moved, texts_move, adapters_are_faithful, adapters_weigh, adapters_come_to_end}
 use Rattle.fact_texts.proofs.Means.{transcoders_need_means}
 use Rattle.fact_texts.proofs.Requests.{requests_are_called_for}
+use Rattle.fact_texts.proofs.FirstRequest.{first_request_is_called_for}
+use Rattle.fact_texts.proofs.Trapped.{answers_are_so_far}
 use Rattle.fact_texts.proofs.FlaggedRequests.{start_requests_are_called_for, return_requests_are_called_for}
 use Rattle.fact_texts.proofs.laws.laws_of_texts.Goals as goal
 
@@ -19,4 +21,6 @@ returns c = record {
   requests_are_called_for = requests_are_called_for;
   start_requests_are_called_for = start_requests_are_called_for;
   return_requests_are_called_for = return_requests_are_called_for;
+  first_request_is_called_for = first_request_is_called_for;
+  answers_are_so_far = answers_are_so_far;
 }
