@@ -11,4 +11,6 @@ pub mod Numbers
 pub mod Parts
 pub mod Places
 pub mod Scalars
+pub mod WidthLaws
+pub mod Widths
 pub mod Writers

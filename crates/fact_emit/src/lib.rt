@@ -10,4 +10,5 @@ pub mod pointers;
 pub mod products;
 pub mod scalars;
 pub mod tuples;
+pub mod width;
 pub mod writer;
