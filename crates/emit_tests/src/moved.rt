@@ -134,7 +134,7 @@ fn module_of(alloc: Global, w: &mut Writer) -> Result<WasmModule, AllocError> {
     funcs.push(function)?;
     Ok(WasmModule {
         types: types_of(alloc)?,
-        imports: imports_of(alloc, w.imports.functions.len())?,
+        imports: imports_of(alloc, w.imports.imports().len())?,
         funcs,
         exports: Seq::new(alloc),
     })
@@ -184,8 +184,8 @@ fn told(alloc: Global, w: &Writer, outcome: &Outcome, target: u32) -> Result<Str
     let Some(event) = outcome.log.as_slice().first() else {
         return format!(in alloc; "{:?}", outcome.end);
     };
-    match w.imports.functions.get(event.func as usize) {
-        Some(entry) => format!(in alloc; "{:?}", entry.import),
+    match w.imports.imports().get(event.func as usize) {
+        Some(import) => format!(in alloc; "{import:?}"),
         None => String::from_str(alloc, "no import"),
     }
 }

@@ -37,6 +37,8 @@ use Rattle.fact_emit.specs.Checks.{ChecksRegion}
 use Rattle.fact_emit.specs.Emits.{Is, Emits}
 use Rattle.fact_emit.specs.Writers.{taken_in, Wrote, Took, Freed}
 use Rattle.fact_emit.proofs.Emitting.{emits_then, emits_wrote, emits_around, wrote_then, IsLocal}
+use Rattle.fact_emit.proofs.NamedLaws.{ranged_append}
+use Rattle.fact_emit.proofs.RangedCode.{constant_ranged, widened_ranged}
 
 -- ---- what was written
 
@@ -50,7 +52,7 @@ area_emits {m = m} {address} {size} {wide} {align} t same x y z v =
       has_unaligned = r.has_unaligned;
       has_outside = r.has_outside;
       is = ap (λ c. c ++ k) is ∙ append_assoc front (I.I64Const wide ∷ I.LocalSet t.bytes ∷ []) k ∙ ap (λ k. front ++ (I.I64Const wide ∷ I.LocalSet t.bytes ∷ k)) r.is ∙ ap (λ n. front ++ (I.I64Const n ∷ I.LocalSet t.bytes ∷ region_code m.memory m.memory64 m.page_size_log2 align t.pointer t.bytes t.length r.unaligned r.outside)) same;
-    }) (emits_wrote (wrote_then x (wrote_then y z))) v
+    }) (emits_wrote (ranged_append 0 0 front (I.I64Const wide ∷ I.LocalSet t.bytes ∷ []) (widened_ranged m.memory64 address t.pointer) (constant_ranged wide t.bytes)) (wrote_then x (wrote_then y z))) v
 
 -- ---- three locals
 

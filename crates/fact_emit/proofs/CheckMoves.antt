@@ -1,5 +1,5 @@
 -- Functions that write tests.
-use Rattle.std.proofs.Common.{◌≡◌, ◌≢◌, ℕ, ◌⊎◌, inl, inr, Bool, true, false, List, [], ◌∷◌, ◌++◌, refl, sym, ap, ◌∙◌, subst, append_assoc, append-nil}
+use Rattle.std.proofs.Common.{◌≡◌, ◌≢◌, ℕ, suc, ◌⊎◌, inl, inr, Bool, true, false, List, [], ◌∷◌, ◌++◌, refl, sym, ap, ◌∙◌, subst, append_assoc, append-nil}
 use Rattle.std.specs.Prelude.{nat_eq}
 use Rattle.std.proofs.lemmas.Bool.{ne_eqb, eq-eqb, eqb-false}
 use Rattle.fact_wasm.specs.declared.types.ValType.{ValType}
@@ -7,6 +7,7 @@ use Rattle.fact_wasm.specs.declared.instr.BlockType.TheVariants.{Empty}
 use Rattle.fact_wasm.specs.declared.instr.Instr.{Instr}
 use Rattle.fact_wasm.specs.declared.instr.Instr.TheVariants as I
 use Rattle.fact_wasm.specs.declared.module.WasmModule.{WasmModule}
+use Rattle.fact_wasm.specs.Ranges.{AreRanged}
 use Rattle.fact_types.specs.declared.import.Import.TheVariants as import
 use Rattle.fact_types.specs.declared.outside.Trap.{Trap}
 use Rattle.fact_types.specs.declared.outside.Trap.TheVariants.{UnalignedPointer, DebugAssertPointerAligned, DebugAssertUpperBitsUnset}
@@ -26,21 +27,24 @@ use Rattle.fact_emit.specs.declared.places.TypedLocal.{TypedLocal}
 use Rattle.fact_emit.specs.declared.writer.Writer.{Writer}
 use Rattle.fact_emit.specs.Checks.{Guarded, ChecksUpper, ChecksAddress, ChecksFrom, ChecksTo, ChecksPlaces, ChecksAligned, ChecksRegion}
 use Rattle.fact_emit.specs.Emits.{Is, Emits}
+use Rattle.fact_emit.specs.NamedFunctions.{imported_named}
 use Rattle.fact_emit.specs.Places.{checks_at, from_of, to_of}
 use Rattle.fact_emit.specs.Writers.{Wrote, TookTrap}
-use Rattle.fact_emit.proofs.Emitting.{emits_then, emits_as, emits_wrote, emits_trap, emits_nothing, wrote_then}
+use Rattle.fact_emit.proofs.Emitting.{emits_then, emits_as, emits_wrote, emits_taking, emits_nothing, wrote_then}
+use Rattle.fact_emit.proofs.NamedLaws.{ranged_append}
+use Rattle.fact_emit.proofs.RangedCode.{guard_named, guard_ranged, length_ranged, set_ranged}
 
 -- A test with a trap that has a place.
-pub guard_emits : {a b c : Writer} {t : Trap} {place : ℕ} (test body : List Instr) → TookTrap a b t place → body ≡ test ++ I.BrIf 0 ∷ trap_code place → Wrote b c (I.Block Empty body ∷ []) → Emits a c (Guarded test t [])
-guard_emits {place = place} test body x same y =
-    emits_then (λ M p locals x y h is. record { place = place; has = h.1; is = ap (λ c. c ++ y) h.0 ∙ is ∙ ap (λ b. I.Block Empty b ∷ []) same }) (emits_trap x) (emits_wrote y)
+pub guard_emits : {a b c : Writer} {t : Trap} {place : ℕ} (test body : List Instr) → AreRanged 0 0 test → TookTrap a b t place → body ≡ test ++ I.BrIf 0 ∷ trap_code place → Wrote b c (I.Block Empty body ∷ []) → Emits a c (Guarded test t [])
+guard_emits {place = place} test body ranged x same y =
+    emits_taking (ap (λ b. imported_named (I.Block Empty b ∷ [])) same ∙ guard_named test place ranged) (subst (λ b. AreRanged (suc place) 0 (I.Block Empty b ∷ [])) (sym same) (guard_ranged test place ranged)) x y (λ M p locals k. record { place = place; has = k; is = ap (λ b. I.Block Empty b ∷ []) same })
 
 pub guarded_as : {a b : Writer} {t : Trap} {test test' : List Instr} → test ≡ test' → Emits a b (Guarded test t []) → Emits a b (Guarded test' t [])
 guarded_as {a} {b} {t} e x = subst (λ test. Emits a b (Guarded test t [])) e x
 
 -- with code behind it
-pub guarded_then : {a b c : Writer} {test ys : List Instr} {t : Trap} → Emits a b (Guarded test t []) → Wrote b c ys → Emits a c (Guarded test t ys)
-guarded_then {test = test} x y = emits_then (λ M p locals x y g is. record { place = g.place; has = g.has; is = ap (λ c. c ++ y) g.is ∙ ap (λ c. guard_code test g.place ++ c) is }) x (emits_wrote y)
+pub guarded_then : {a b c : Writer} {test ys : List Instr} {t : Trap} → AreRanged 0 0 ys → Emits a b (Guarded test t []) → Wrote b c ys → Emits a c (Guarded test t ys)
+guarded_then {test = test} ranged x y = emits_then (λ M p locals x y g is. record { place = g.place; has = g.has; is = ap (λ c. c ++ y) g.is ∙ ap (λ c. guard_code test g.place ++ c) is }) x (emits_wrote ranged y)
 
 -- The place of a trap that is known is the one that the places of imports have.
 module _ {M : WasmModule} {p : ImportPlaces} {t : Trap} {test : List Instr} {locals : List ValType} {code : List Instr} (g : Guarded test t [] M p locals code) where
@@ -138,4 +142,4 @@ region_emits {t = t} {m} {align} {pointer} {bytes} {length} same x y z v =
       is = ap (λ c. c ++ k) g.is ∙ ap (λ k. aligned_guard (nat_eq align 1) pointer align g.place ++ k) (r.2 ∙ append_assoc code (I.LocalSet length ∷ []) r.0 ∙ ap (λ g. code ++ I.LocalSet length ∷ g) (r.1.is ∙ append-nil _));
     })
     x
-    (emits_then {P = Is (code ++ I.LocalSet length ∷ [])} {Q = Guarded (bounds_code pointer bytes length) t []} (λ M p locals c k is g. (k, g, ap (λ c. c ++ k) is)) (emits_wrote (wrote_then y z)) (guarded_as same v))
+    (emits_then {P = Is (code ++ I.LocalSet length ∷ [])} {Q = Guarded (bounds_code pointer bytes length) t []} (λ M p locals c k is g. (k, g, ap (λ c. c ++ k) is)) (emits_wrote (ranged_append 0 0 code (I.LocalSet length ∷ []) (length_ranged m.memory m.memory64 m.page_size_log2) (set_ranged length)) (wrote_then y z)) (guarded_as same v))

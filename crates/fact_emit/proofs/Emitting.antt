@@ -1,10 +1,11 @@
 -- How pieces of code that were written compose: one function after another, and a local in use around it.
-use Rattle.std.proofs.Common.{◌≡◌, ℕ, Bool, true, false, List, [], ◌++◌, Option, Some, refl, sym, ap, ◌∙◌, subst, append_assoc, append-nil, map, slice_get}
-use Rattle.std.specs.Prelude.{nat_eq}
+use Rattle.std.proofs.Common.{◌≡◌, ℕ, suc, Bool, true, false, List, [], ◌∷◌, ◌++◌, Option, Some, refl, sym, ap, ◌∙◌, subst, arith, append_assoc, append-nil, map, slice_get}
+use Rattle.std.specs.Prelude.{length, nat_eq}
 use Rattle.std.proofs.lemmas.Bool.{eqb-true, eqb-false}
 use Rattle.fact_wasm.specs.declared.types.ValType.{ValType}
 use Rattle.fact_wasm.specs.declared.instr.Instr.{Instr}
 use Rattle.fact_wasm.specs.declared.module.WasmModule.{WasmModule}
+use Rattle.fact_wasm.specs.Ranges.{AreRanged}
 use Rattle.fact_types.specs.declared.import.Import.{Import}
 use Rattle.fact_types.specs.declared.import.Import.TheVariants as import
 use Rattle.fact_types.specs.declared.outside.MemoryOption.{MemoryOption}
@@ -14,105 +15,172 @@ use Rattle.fact_moves.specs.Running.{ImportPlaces}
 use Rattle.fact_moves.specs.Sides.{LiftLowerOptions}
 use Rattle.fact_pieces.specs.Knows.{KnowsFunction, ExtendsModule}
 use Rattle.fact_pieces.specs.Places.{SideMemory}
-use Rattle.fact_pieces.proofs.KnowsLaws.{has_function, has_memory}
-use Rattle.fact_machine.proofs.Tests.{get_append}
-use Rattle.fact_emit.specs.declared.imports.ModuleImports.{ModuleImports}
+use Rattle.fact_pieces.proofs.KnowsLaws.{has_flags, has_function, has_memory}
 use Rattle.fact_emit.specs.declared.writer.Local.{Local}
 use Rattle.fact_emit.specs.declared.writer.Writer.{Writer}
 use Rattle.fact_emit.specs.Emits.{Later, Grew, Piece, Is, Emits}
+use Rattle.fact_emit.specs.Brought.{Brought}
 use Rattle.fact_emit.specs.Imports.{HasImport, HasMemory, Extended, AreOnce, Serves}
-use Rattle.fact_emit.specs.Writers.{types_of_locals, is_local_in_use, taken_in, Wrote, Took, Freed, TookTrap}
+use Rattle.fact_emit.specs.NamedFunctions.{imported_named}
+use Rattle.fact_emit.specs.States.{ModuleSoFar, functions_of}
+use Rattle.fact_emit.specs.Writers.{AreNumberTypes, types_of_locals, is_local_in_use, taken_in, Wrote, Took, Freed, TookTrap}
+use Rattle.fact_emit.proofs.BroughtLaws.{brought_as, brought_before, brought_between, brought_on, brought_trap}
+use Rattle.fact_emit.proofs.NamedLaws.{ranged_more}
+use Rattle.fact_emit.proofs.ImportLaws.{extended_none, extended_on, grown_get, grows_none, grows_on, later_import, later_memory}
+use Rattle.fact_emit.proofs.ServingLaws.{serves_sooner}
 
 -- ---- growing
 
-pub grows_none : {A : Type 0} {a b : List A} → b ≡ a → Grows a b
-grows_none {a = a} e = record { more = []; is = e ∙ sym (append-nil a) }
-
-pub grows_on : {A : Type 0} {a b c : List A} → Grows a b → Grows b c → Grows a c
-grows_on {a = a} x y = record { more = x.more ++ y.more; is = y.is ∙ ap (λ l. l ++ y.more) x.is ∙ append_assoc a x.more y.more }
-
-pub grown_get : {A : Type 0} {a b : List A} → Grows a b → (i : ℕ) (x : A) → slice_get a i ≡ Some x → slice_get b i ≡ Some x
-grown_get {a = a} g i x h = ap (λ l. slice_get l i) g.is ∙ get_append a g.more i x h
-
-extended_on : {a b c : ModuleImports} → Extended a b → Extended b c → Extended a c
-extended_on x y = record { functions = grows_on x.functions y.functions; memories = grows_on x.memories y.memories }
+code_on : (xs ys zs us vs : List Instr) → ys ≡ xs ++ us → zs ≡ ys ++ vs → zs ≡ xs ++ (us ++ vs)
+code_on xs ys zs us vs e f = f ∙ ap (λ l. l ++ vs) e ∙ append_assoc xs us vs
 
 pub grew_on : {a b c : Writer} → Grew a b → Grew b c → Grew a c
-grew_on x y = record { imports = extended_on x.imports y.imports; once = λ o. y.once (x.once o); locals = grows_on x.locals y.locals; still = λ i. y.still i ∙ x.still i }
+grew_on {a} {b} {c} x y = record {
+  added = x.added ++ y.added;
+  code = code_on a.code.items b.code.items c.code.items x.added y.added x.code y.code;
+  brought = brought_on x.brought y.brought;
+  imports = extended_on x.imports y.imports;
+  once = λ o. y.once (x.once o);
+  locals = grows_on x.locals y.locals;
+  numbers = λ n. y.numbers (x.numbers n);
+  still = λ i. y.still i ∙ x.still i;
+}
 
 -- what is later than a writer is later than the writer before
 sooner : {a b : Writer} {M : WasmModule} {p : ImportPlaces} {locals : List ValType} → Extended a.imports b.imports → Grows (types_of_locals a) (types_of_locals b) → Later b M p locals → Later a M p locals
 sooner imports grows l = record {
-  serves = record {
-    functions = λ place f h. l.serves.functions place f (grown_get imports.functions place f h);
-    memories = λ place m h. l.serves.memories place m (grown_get imports.memories place m h);
-  };
+  serves = serves_sooner imports l.serves;
   begin = grows_on grows l.begin;
 }
 
-same_imports : {a b : ModuleImports} → b ≡ a → Extended a b
-same_imports e = record { functions = grows_none (ap (λ (s : ModuleImports). s.functions.items) e); memories = grows_none (ap (λ (s : ModuleImports). s.memories.items) e) }
+same_types : (a b : Writer) → b.locals ≡ a.locals → types_of_locals b ≡ types_of_locals a
+same_types a b e = ap (λ v. map (λ (l : Local). l.ty) v.items) e
 
 same_locals : (a b : Writer) → b.locals ≡ a.locals → Grows (types_of_locals a) (types_of_locals b)
-same_locals a b e = grows_none (ap (λ v. map (λ (l : Local). l.ty) v.items) e)
+same_locals a b e = grows_none (same_types a b e)
+
+still_numbers : (a b : Writer) → types_of_locals b ≡ types_of_locals a → AreNumberTypes (types_of_locals a) → AreNumberTypes (types_of_locals b)
+still_numbers a b e n = subst AreNumberTypes (sym e) n
 
 -- ---- one after another
 
 module _ {P Q R : Piece} where
   -- What one function has written and what another one has written behind it.
   pub emits_then : {a b c : Writer} → ((M : WasmModule) (p : ImportPlaces) (locals : List ValType) (x y : List Instr) → P M p locals x → Q M p locals y → R M p locals (x ++ y)) → Emits a b P → Emits b c Q → Emits a c R
-  emits_then {a} join x y = record {
-    added = x.added ++ y.added;
-    code = y.code ∙ ap (λ l. l ++ y.added) x.code ∙ append_assoc a.code.items x.added y.added;
+  unfolding grew_on
+  emits_then join x y = record {
     grew = grew_on x.grew y.grew;
-    does = λ M p locals l. join M p locals x.added y.added (x.does M p locals (sooner y.grew.imports y.grew.locals l)) (y.does M p locals l);
+    does = λ M p locals l. join M p locals x.grew.added y.grew.added (x.does M p locals (sooner y.grew.imports y.grew.locals l)) (y.does M p locals l);
   }
 
 -- more is known of it
 pub emits_as : {P Q : Piece} {a b : Writer} → ((M : WasmModule) (p : ImportPlaces) (locals : List ValType) (x : List Instr) → P M p locals x → Q M p locals x) → Emits a b P → Emits a b Q
-emits_as f x = record { added = x.added; code = x.code; grew = x.grew; does = λ M p locals l. f M p locals x.added (x.does M p locals l) }
+emits_as f x = record { grew = x.grew; does = λ M p locals l. f M p locals x.grew.added (x.does M p locals l) }
 
 -- ---- exact code
 
-pub grew_same : (a b : Writer) → b.locals ≡ a.locals → b.imports ≡ a.imports → Grew a b
-grew_same a b e f = record { imports = same_imports f; once = λ o. subst AreOnce (sym f) o; locals = same_locals a b e; still = λ i. ap (λ v. is_local_in_use (slice_get v.items i)) e }
+same_still : (a b : Writer) → b.locals ≡ a.locals → (i : ℕ) → taken_in b i ≡ taken_in a i
+same_still a b e i = ap (λ v. is_local_in_use (slice_get v.items i)) e
 
--- instructions that were put there
-pub emits_wrote : {a b : Writer} {xs : List Instr} → Wrote a b xs → Emits a b (Is xs)
-emits_wrote {a} {b} {xs} w = record { added = xs; code = w.code; grew = grew_same a b w.locals w.imports; does = λ M p locals l. refl }
+-- instructions that were put there, in range with the functions that were imported before
+pub grew_before : {a b : Writer} {xs : List Instr} → AreRanged (length (functions_of a.imports)) 0 xs → Wrote a b xs → Grew a b
+grew_before {a} {b} {xs} ranged w = record {
+  added = xs;
+  code = w.code;
+  brought = brought_before w.imports ranged;
+  imports = extended_none w.imports;
+  once = λ o. subst AreOnce (sym w.imports) o;
+  locals = same_locals a b w.locals;
+  numbers = still_numbers a b (same_types a b w.locals);
+  still = same_still a b w.locals;
+}
+
+pub emits_before : {a b : Writer} {xs : List Instr} → AreRanged (length (functions_of a.imports)) 0 xs → Wrote a b xs → Emits a b (Is xs)
+unfolding grew_before
+emits_before ranged w = record { grew = grew_before ranged w; does = λ M p locals l. refl }
+
+-- they name no function
+pub grew_wrote : {a b : Writer} {xs : List Instr} → AreRanged 0 0 xs → Wrote a b xs → Grew a b
+grew_wrote {a} {xs = xs} ranged w = grew_before (ranged_more 0 (length (functions_of a.imports)) (omega arith) xs ranged) w
+
+pub emits_wrote : {a b : Writer} {xs : List Instr} → AreRanged 0 0 xs → Wrote a b xs → Emits a b (Is xs)
+unfolding grew_before grew_wrote
+emits_wrote ranged w = record { grew = grew_wrote ranged w; does = λ M p locals l. refl }
 
 pub wrote_then : {a b c : Writer} {xs ys : List Instr} → Wrote a b xs → Wrote b c ys → Wrote a c (xs ++ ys)
-wrote_then {a} {xs = xs} {ys} x y = record { code = y.code ∙ ap (λ l. l ++ ys) x.code ∙ append_assoc a.code.items xs ys; locals = y.locals ∙ x.locals; imports = y.imports ∙ x.imports }
+wrote_then {a} {b} {c} {xs} {ys} x y = record { code = code_on a.code.items b.code.items c.code.items xs ys x.code y.code; locals = y.locals ∙ x.locals; imports = y.imports ∙ x.imports }
 
--- no code
-pub emits_none : {a b : Writer} {P : Piece} → b.code.items ≡ a.code.items → Grew a b → ((M : WasmModule) (p : ImportPlaces) (locals : List ValType) → Later b M p locals → P M p locals []) → Emits a b P
-emits_none {a} e f d = record { added = []; code = e ∙ sym (append-nil a.code.items); grew = f; does = d }
+pub wrote_none : (a : Writer) → Wrote a a []
+wrote_none a = record { code = sym (append-nil a.code.items); locals = refl; imports = refl }
 
 -- no code, and nothing changed
+pub grew_nothing : (a : Writer) → Grew a a
+grew_nothing a = grew_wrote tt (wrote_none a)
+
 pub emits_nothing : {a : Writer} {P : Piece} → ((M : WasmModule) (p : ImportPlaces) (locals : List ValType) → P M p locals []) → Emits a a P
-emits_nothing {a} d = emits_none refl (grew_same a a refl refl) (λ M p locals l. d M p locals)
+unfolding grew_before grew_wrote grew_nothing
+emits_nothing {a} d = record { grew = grew_nothing a; does = λ M p locals l. d M p locals }
 
 -- ---- imports
 
-pub serves_imported : {M : WasmModule} {p : ImportPlaces} {s : ModuleImports} {i : Import} {place : ℕ} {params results : List ValType} → Serves M p s → HasImport s i place params results → KnowsFunction M p i place params results
-serves_imported {place = place} s i = s.functions place _ i.there
+pub serves_imported : {M : WasmModule} {p : ImportPlaces} {s : ModuleSoFar} {i : Import} {place : ℕ} {params results : List ValType} → Serves M p s → HasImport s i place params results → KnowsFunction M p i place params results
+serves_imported s i = s.functions _ _ _ _ i
 
 -- A module that extends one that has all that was imported has it too.
-pub serves_extended : {M M' : WasmModule} {p p' : ImportPlaces} {s : ModuleImports} → ExtendsModule M M' p p' → Serves M p s → Serves M' p' s
-serves_extended x s = record { functions = λ place f h. has_function x (s.functions place f h); memories = λ place m h. has_memory x (s.memories place m h) }
+pub serves_extended : {M M' : WasmModule} {p p' : ImportPlaces} {s : ModuleSoFar} → ExtendsModule M M' p p' → Serves M p s → Serves M' p' s
+serves_extended x s = record { functions = λ i place params results h. has_function x (s.functions i place params results h); memories = λ d place memory64 log2 h. has_memory x (s.memories d place memory64 log2 h); flags = λ instance place h. has_flags x (s.flags instance place h) }
 
 -- the memory of a side that was imported
-pub serves_side : {M : WasmModule} {p : ImportPlaces} {s : ModuleImports} {place : ℕ} {log2 : Option ℕ} (o : LiftLowerOptions) (m : MemoryOption) → Serves M p s → HasMemory s m.def place m.memory64 log2 → o.memory ≡ Some m → SideMemory M p o m.memory64 place
-serves_side {place = place} {log2} o m s i is = record { option = m; is = is; wide = refl; log2 = log2; has = s.memories place _ i.there }
+pub serves_side : {M : WasmModule} {p : ImportPlaces} {s : ModuleSoFar} {place : ℕ} {log2 : Option ℕ} (o : LiftLowerOptions) (m : MemoryOption) → Serves M p s → HasMemory s m.def place m.memory64 log2 → o.memory ≡ Some m → SideMemory M p o m.memory64 place
+serves_side {log2 = log2} o m s i is = record { option = m; is = is; wide = refl; log2 = log2; has = s.memories _ _ _ _ i }
 
--- a trap's function that is there
-abbrev pub HasTrap : Trap → ℕ → Piece
-HasTrap t place M p locals code = (code ≡ []) × KnowsFunction M p (import.Trap t) place [] []
+-- A trap was taken, and then code was put there that names its function, and no other one.
+module _ {a b c : Writer} {t : Trap} {place : ℕ} {xs : List Instr} (names : imported_named xs ≡ place ∷ []) (ranged : AreRanged (suc place) 0 xs) (x : TookTrap a b t place) (y : Wrote b c xs) where
+  grew_taking : Grew a c
+  grew_taking = record {
+    added = xs;
+    code = y.code ∙ ap (λ l. l ++ xs) x.code;
+    brought = brought_between refl (sym y.imports) (brought_trap names ranged x.imported);
+    imports = extended_on x.imports (extended_none y.imports);
+    once = λ o. subst AreOnce (sym y.imports) (x.once o);
+    locals = grows_on (same_locals a b x.locals) (same_locals b c y.locals);
+    numbers = λ n. still_numbers b c (same_types b c y.locals) (still_numbers a b (same_types a b x.locals) n);
+    still = λ i. same_still b c y.locals i ∙ same_still a b x.locals i;
+  }
 
-pub emits_trap : {a b : Writer} {t : Trap} {place : ℕ} → TookTrap a b t place → Emits a b (HasTrap t place)
-emits_trap {a} {b} x = emits_none x.code
-    (record { imports = x.imports; once = x.once; locals = same_locals a b x.locals; still = λ i. ap (λ v. is_local_in_use (slice_get v.items i)) x.locals })
-    (λ M p locals l. (refl, serves_imported l.serves x.there))
+  pub emits_taking : {P : Piece} → ((M : WasmModule) (p : ImportPlaces) (locals : List ValType) → KnowsFunction M p (import.Trap t) place [] [] → P M p locals xs) → Emits a c P
+  unfolding grew_taking
+  emits_taking d = record { grew = grew_taking; does = λ M p locals l. d M p locals (serves_imported (sooner {a = b} (extended_none y.imports) (same_locals b c y.locals) l).serves x.there) }
+
+-- ---- a body that is written aside
+
+-- the code is what was written where there was none
+body_is : {b c : Writer} → b.code.items ≡ [] → (x : Grew b c) → c.code.items ≡ x.added
+body_is empty x = x.code ∙ ap (λ l. l ++ x.added) empty
+
+-- The code was set aside (a, b), a body was written (b, c), and one instruction with this body was put behind the code from
+-- before (c, d). The instruction names what the body names, and is in range where the body is.
+module _ {a b c d : Writer} (i : Instr) (empty : b.code.items ≡ []) (locals : b.locals ≡ a.locals) (imports : b.imports ≡ a.imports)
+    (code : d.code.items ≡ a.code.items ++ i ∷ []) (locals' : d.locals ≡ c.locals) (imports' : d.imports ≡ c.imports)
+    (names : imported_named (i ∷ []) ≡ imported_named c.code.items) (ranged : (imports : ℕ) → AreRanged imports 0 c.code.items → AreRanged imports 0 (i ∷ [])) where
+  pub grew_aside : Grew b c → Grew a d
+  grew_aside x = record {
+    added = i ∷ [];
+    code = code;
+    brought = brought_as names ranged (subst (Brought a.imports d.imports) (sym (body_is empty x)) (brought_between imports (sym imports') x.brought));
+    imports = extended_on (extended_none imports) (extended_on x.imports (extended_none imports'));
+    once = λ o. subst AreOnce (sym imports') (x.once (subst AreOnce (sym imports) o));
+    locals = grows_on (same_locals a b locals) (grows_on x.locals (same_locals c d locals'));
+    numbers = λ n. still_numbers c d (same_types c d locals') (x.numbers (still_numbers a b (same_types a b locals) n));
+    still = λ j. same_still c d locals' j ∙ x.still j ∙ same_still a b locals j;
+  }
+
+  pub emits_aside : {P Q : Piece} → ((M : WasmModule) (p : ImportPlaces) (locals : List ValType) → P M p locals c.code.items → Q M p locals (i ∷ [])) → Emits b c P → Emits a d Q
+  unfolding grew_aside
+  emits_aside {P} f x = record {
+    grew = grew_aside x.grew;
+    does = λ M p ls l. f M p ls (subst (P M p ls) (sym (body_is empty x.grew)) (x.does M p ls (sooner {a = c} (extended_none imports') (same_locals c d locals') l)));
+  }
 
 -- ---- a local that is in use around a piece of code
 
@@ -122,9 +190,13 @@ IsLocal i t locals = slice_get locals i ≡ Some t
 
 pub grew_around : {a b c d : Writer} {t : ValType} {i : ℕ} → Took a b t i → Grew b c → Freed c d i → Grew a d
 grew_around {a} {b} {c} {d} {i = i} took x freed = record {
-  imports = extended_on (same_imports took.imports) (extended_on x.imports (same_imports freed.imports));
+  added = x.added;
+  code = freed.code ∙ x.code ∙ ap (λ l. l ++ x.added) took.code;
+  brought = brought_between took.imports (sym freed.imports) x.brought;
+  imports = extended_on (extended_none took.imports) (extended_on x.imports (extended_none freed.imports));
   once = λ o. subst AreOnce (sym freed.imports) (x.once (subst AreOnce (sym took.imports) o));
   locals = grows_on took.grows (grows_on x.locals (grows_none freed.types));
+  numbers = λ n. still_numbers c d freed.types (x.numbers (took.numbers n));
   still = λ j. still j (nat_eq j i) refl;
 }
   where
@@ -137,11 +209,10 @@ grew_around {a} {b} {c} {d} {i = i} took x freed = record {
 pub emits_around : {P Q : Piece} {a b c d : Writer} {t : ValType} {i : ℕ}
     → ((M : WasmModule) (p : ImportPlaces) (locals : List ValType) (x : List Instr) → IsLocal i t locals → P M p locals x → Q M p locals x)
     → Took a b t i → Emits b c P → Freed c d i → Emits a d Q
+unfolding grew_around
 emits_around {a = a} {b} {c} {d} {i = i} f took x freed = record {
-  added = x.added;
-  code = freed.code ∙ x.code ∙ ap (λ l. l ++ x.added) took.code;
   grew = grew_around took x.grew freed;
   does = λ M p locals l.
-      let before : Later c M p locals = sooner (same_imports freed.imports) (grows_none freed.types) l in
-      f M p locals x.added (grown_get (grows_on x.grew.locals (grows_on (grows_none freed.types) l.begin)) i _ took.typed) (x.does M p locals before);
+      let before : Later c M p locals = sooner (extended_none freed.imports) (grows_none freed.types) l in
+      f M p locals x.grew.added (grown_get (grows_on x.grew.locals (grows_on (grows_none freed.types) l.begin)) i _ took.typed) (x.does M p locals before);
 }

@@ -1,14 +1,17 @@
 -- Locals that are taken and freed.
 use Rattle.std.proofs.Common.{◌≡◌, ◌≢◌, ℕ, zero, suc, ◌<◌, ◌≤◌, ◌⊎◌, inl, inr, Bool, true, false, List, [], ◌∷◌, ◌++◌, Some, refl, sym, ap, ◌∙◌, subst, arith, length, map, slice_get, slice_set, get_or}
 use Rattle.std.specs.Prelude.{vec_len}
+use Rattle.std.specs.List.{list_all}
 use Rattle.std.proofs.lemmas.Bool.{cases_lt}
 use Rattle.std.proofs.lemmas.List.{map-append, length-append, append-nil}
 use Rattle.std.proofs.lemmas.Option.{slice_get_past}
 use Rattle.fact_wasm.specs.declared.types.ValType.{ValType}
+use Rattle.fact_machine.proofs.Tests.{first_of, second_of, both}
+use Rattle.fact_machine.specs.Typing.{is_number}
 use Rattle.fact_pieces.proofs.Lists.{get_set_here, get_set_other, map_set}
 use Rattle.fact_emit.specs.declared.writer.Local.{Local}
 use Rattle.fact_emit.specs.declared.writer.Writer.{Writer}
-use Rattle.fact_emit.specs.Writers.{types_of_locals, free_local_of, is_local_in_use, taken_in, Took, Freed}
+use Rattle.fact_emit.specs.Writers.{AreNumberTypes, types_of_locals, free_local_of, used_local_of, is_local_in_use, taken_in, AddedLocal, Took, Freed}
 
 module _ {A : Type 0} where
   pub get_last : (xs : List A) (x : A) → slice_get (xs ++ x ∷ []) (length xs) ≡ Some x
@@ -56,22 +59,32 @@ took_freed a b i t h is code imports = record {
   others = set_others a b i (free_local_of t) true h is;
   grows = record { more = []; is = set_types a b i (free_local_of t) true h is ∙ sym (append-nil (types_of_locals a)) };
   typed = ap (λ ts. slice_get ts i) (set_types a b i (free_local_of t) true h is) ∙ get_map (λ (l : Local). l.ty) a.locals.items i (free_local_of t) h;
+  numbers = λ n. subst AreNumberTypes (sym (set_types a b i (free_local_of t) true h is)) n;
 }
 
-pub took_new : (a b : Writer) (t : ValType) (i : ℕ) → i ≡ vec_len a.locals → b.locals.items ≡ a.locals.items ++ record { ty = t; in_use = true } ∷ [] → b.code.items ≡ a.code.items → b.imports ≡ a.imports → Took a b t i
-took_new a b t i e is code imports = subst (λ i. Took a b t i) (sym (e ∙ a.locals.ok.0)) record {
-  code = code;
-  imports = imports;
+pub added_local : (a b : Writer) (t : ValType) (i : ℕ) → i ≡ vec_len a.locals → b.locals.items ≡ a.locals.items ++ used_local_of t ∷ [] → b.code.items ≡ a.code.items → b.imports ≡ a.imports → AddedLocal a b t i
+added_local a b t i e is code imports = record { code = code; imports = imports; locals = is; place = e ∙ a.locals.ok.0 }
+
+-- one more type of numbers
+numbers_more : (ts : List ValType) (t : ValType) → is_number t ≡ true → AreNumberTypes ts → AreNumberTypes (ts ++ t ∷ [])
+numbers_more [] t h n = both h refl
+numbers_more (u ∷ ts) t h n = both (first_of (is_number u) (list_all is_number ts) n) (numbers_more ts t h (second_of (is_number u) (list_all is_number ts) n))
+
+pub took_added : (a b : Writer) (t : ValType) (i : ℕ) → is_number t ≡ true → AddedLocal a b t i → Took a b t i
+took_added a b t i number added = subst (λ i. Took a b t i) (sym added.place) record {
+  code = added.code;
+  imports = added.imports;
   was_free = ap is_local_in_use (slice_get_past a.locals.items (length a.locals.items) (omega arith));
-  taken = ap (λ xs. is_local_in_use (slice_get xs (length a.locals.items))) is ∙ ap is_local_in_use (get_last a.locals.items (fresh t));
-  others = λ j ne. ap (λ xs. is_local_in_use (slice_get xs j)) is ∙ other j ne (cases_lt j (length a.locals.items));
-  grows = record { more = t ∷ []; is = ap (map (λ (l : Local). l.ty)) is ∙ map-append (λ (l : Local). l.ty) a.locals.items (fresh t ∷ []) };
-  typed = ap (λ xs. slice_get (map (λ (l : Local). l.ty) xs) (length a.locals.items)) is ∙ get_map (λ (l : Local). l.ty) (a.locals.items ++ fresh t ∷ []) (length a.locals.items) (fresh t) (get_last a.locals.items (fresh t));
+  taken = ap (λ xs. is_local_in_use (slice_get xs (length a.locals.items))) added.locals ∙ ap is_local_in_use (get_last a.locals.items (used_local_of t));
+  others = λ j ne. ap (λ xs. is_local_in_use (slice_get xs j)) added.locals ∙ other j ne (cases_lt j (length a.locals.items));
+  grows = record { more = t ∷ []; is = types };
+  typed = ap (λ xs. slice_get (map (λ (l : Local). l.ty) xs) (length a.locals.items)) added.locals ∙ get_map (λ (l : Local). l.ty) (a.locals.items ++ used_local_of t ∷ []) (length a.locals.items) (used_local_of t) (get_last a.locals.items (used_local_of t));
+  numbers = λ n. subst AreNumberTypes (sym types) (numbers_more (types_of_locals a) t number n);
 }
   where
-    fresh : ValType → Local
-    fresh t = record { ty = t; in_use = true }
+    types : types_of_locals b ≡ types_of_locals a ++ t ∷ []
+    types = ap (map (λ (l : Local). l.ty)) added.locals ∙ map-append (λ (l : Local). l.ty) a.locals.items (used_local_of t ∷ [])
 
-    other : (j : ℕ) → j ≢ length a.locals.items → (j < length a.locals.items) ⊎ (length a.locals.items ≤ j) → is_local_in_use (slice_get (a.locals.items ++ fresh t ∷ []) j) ≡ taken_in a j
-    other j ne (inl lt) = ap is_local_in_use (get_left a.locals.items (fresh t ∷ []) j lt)
-    other j ne (inr ge) = ap is_local_in_use (slice_get_past (a.locals.items ++ fresh t ∷ []) j (omega (arith, ne, length-append a.locals.items (fresh t ∷ [])))) ∙ sym (ap is_local_in_use (slice_get_past a.locals.items j ge))
+    other : (j : ℕ) → j ≢ length a.locals.items → (j < length a.locals.items) ⊎ (length a.locals.items ≤ j) → is_local_in_use (slice_get (a.locals.items ++ used_local_of t ∷ []) j) ≡ taken_in a j
+    other j ne (inl lt) = ap is_local_in_use (get_left a.locals.items (used_local_of t ∷ []) j lt)
+    other j ne (inr ge) = ap is_local_in_use (slice_get_past (a.locals.items ++ used_local_of t ∷ []) j (omega (arith, ne, length-append a.locals.items (used_local_of t ∷ [])))) ∙ sym (ap is_local_in_use (slice_get_past a.locals.items j ge))

@@ -40,7 +40,7 @@ use Rattle.fact_emit.specs.Movable.{CanMove, CanMoveFields}
 use Rattle.fact_emit.specs.Moved.{MovedMember}
 use Rattle.fact_emit.specs.Parts.{from_behind, to_behind}
 use Rattle.fact_emit.specs.Writers.{taken_in}
-use Rattle.fact_emit.proofs.Emitting.{emits_then, emits_nothing, grew_same, grew_on}
+use Rattle.fact_emit.proofs.Emitting.{emits_then, emits_nothing, grew_nothing, grew_on}
 use Rattle.fact_emit.proofs.FieldJoin.{fields_join}
 use Rattle.fact_emit.proofs.Found.{among, flat_is}
 
@@ -131,7 +131,7 @@ pub record MembersRun (t : Tables) (from : InterfaceType) (kind : Kind) (tail : 
 
 pub members_begin : {t : Tables} {from : InterfaceType} {kind : Kind} {tail : Tail} {sides : Sides} {src : From} {dst : To} {first : Writer} → MembersRun t from kind tail 0 0 sides src dst dst first first
 members_begin {first = first} = record {
-  grew = grew_same first first refl refl;
+  grew = grew_nothing first;
   left = λ ns h. record { rest = ns; has = h; ends = refl };
   going = λ ms ns h s c d a. record { counted = d; movable = a; still = λ i. refl; goes_on = λ last x. x };
 }

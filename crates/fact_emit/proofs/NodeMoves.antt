@@ -9,6 +9,7 @@ use Rattle.fact_entity.specs.declared.table.TypeEnums.{TypeEnums}
 use Rattle.fact_wasm.specs.declared.types.ValType.{ValType}
 use Rattle.fact_wasm.specs.declared.instr.Instr.{Instr}
 use Rattle.fact_wasm.specs.declared.module.WasmModule.{WasmModule}
+use Rattle.fact_wasm.specs.Ranges.{AreRanged}
 use Rattle.fact_types.specs.declared.fields.FieldPlace.{FieldPlace}
 use Rattle.fact_types.specs.declared.flats.FlatType.{FlatType}
 use Rattle.fact_types.specs.declared.interface.InterfaceType.{InterfaceType}
@@ -38,7 +39,7 @@ use Rattle.fact_emit.specs.Places.{setting_of}
 use Rattle.fact_emit.specs.Writers.{taken_in, Wrote}
 use Rattle.fact_emit.proofs.Alignments.{aligns_shape}
 use Rattle.fact_emit.proofs.CheckMoves.{places_emits}
-use Rattle.fact_emit.proofs.Emitting.{emits_as, emits_then, grew_on, grew_same}
+use Rattle.fact_emit.proofs.Emitting.{emits_as, emits_then, grew_on, grew_wrote}
 use Rattle.fact_emit.proofs.Found.{flat_is, some_within}
 use Rattle.fact_emit.proofs.ScalarMoves.{reached}
 use Rattle.fact_emit.proofs.TypeKinds.{record_kind, tuple_kind, record_type, tuple_type, flags_type, enum_type}
@@ -168,9 +169,9 @@ module _ {t : Tables} {sides : Sides} {src : From} {dst : To} {first last : Writ
   }
 
 -- types of different kinds, whose values are not moved
-pub record_alone : {t : Tables} {from : InterfaceType} {sides : Sides} {src : From} {dst : To} {first last : Writer} {xs : List Instr} (i : Id TypeRecords) (to : InterfaceType) → from ≡ ty.Record i → ((j : Id TypeRecords) → to ≢ ty.Record j) → Wrote first last xs → MovedNode t from to sides src dst first last
-record_alone {t} {first = first} {last} i to is other w = record {
-  grew = grew_same first last w.locals w.imports;
+pub record_alone : {t : Tables} {from : InterfaceType} {sides : Sides} {src : From} {dst : To} {first last : Writer} {xs : List Instr} → AreRanged 0 0 xs → (i : Id TypeRecords) (to : InterfaceType) → from ≡ ty.Record i → ((j : Id TypeRecords) → to ≢ ty.Record j) → Wrote first last xs → MovedNode t from to sides src dst first last
+record_alone {t} ranged i to is other w = record {
+  grew = grew_wrote ranged w;
   emits = λ s u hs hu cs cu can. let (ms, is_s) = record_kind t i s (subst (λ y. HasShape t y s) is hs) in absurd (alone ms u hu (subst (λ s. CanMove s u) is_s can));
 }
   where
@@ -179,9 +180,9 @@ record_alone {t} {first = first} {last} i to is other w = record {
     alone ms (s_node k_record ns) hu can = let (j, at) = record_type t to ns hu in other j at
     alone ms (s_node _ ns) hu can = can
 
-pub tuple_alone : {t : Tables} {from : InterfaceType} {sides : Sides} {src : From} {dst : To} {first last : Writer} {xs : List Instr} (i : Id TypeTuples) (to : InterfaceType) → from ≡ ty.Tuple i → ((j : Id TypeTuples) → to ≢ ty.Tuple j) → Wrote first last xs → MovedNode t from to sides src dst first last
-tuple_alone {t} {first = first} {last} i to is other w = record {
-  grew = grew_same first last w.locals w.imports;
+pub tuple_alone : {t : Tables} {from : InterfaceType} {sides : Sides} {src : From} {dst : To} {first last : Writer} {xs : List Instr} → AreRanged 0 0 xs → (i : Id TypeTuples) (to : InterfaceType) → from ≡ ty.Tuple i → ((j : Id TypeTuples) → to ≢ ty.Tuple j) → Wrote first last xs → MovedNode t from to sides src dst first last
+tuple_alone {t} ranged i to is other w = record {
+  grew = grew_wrote ranged w;
   emits = λ s u hs hu cs cu can. let (ms, is_s) = tuple_kind t i s (subst (λ y. HasShape t y s) is hs) in absurd (alone ms u hu (subst (λ s. CanMove s u) is_s can));
 }
   where
@@ -191,8 +192,8 @@ tuple_alone {t} {first = first} {last} i to is other w = record {
     alone ms (s_node _ ns) hu can = can
 
 -- to all shapes
-pub from_moved : {t : Tables} {from to : InterfaceType} {sides : Sides} {src : From} {dst : To} {first last : Writer} → MovedFrom t from sides src dst first last → MovedNode t from to sides src dst first last
-from_moved m = record { grew = m.grew; emits = λ s u hs hu cs cu can. m.emits s u hs can }
+pub from_moved : {t : Tables} {from kind to : InterfaceType} {sides : Sides} {src : From} {dst : To} {first last : Writer} → from ≡ kind → MovedFrom t kind sides src dst first last → MovedNode t from to sides src dst first last
+from_moved {t} is m = record { grew = m.grew; emits = λ s u hs hu cs cu can. m.emits s u (subst (λ y. HasShape t y s) is hs) can }
 
 -- a scalar, where the type is of no other kind that is moved
 pub scalar_moved : {t : Tables} {from to : InterfaceType} {sides : Sides} {src : From} {dst : To} {first last : Writer}
@@ -237,8 +238,8 @@ member_emits {t} {y} {sides} {src} {part} {dst} {old} {new} {found} skip count b
 }
 
 -- no source member was found
-pub member_missing : {t : Tables} {y : InterfaceType} {sides : Sides} {src : From} {dst : To} {old new : Writer} {xs : List Instr} {o : Option FieldPlace} → o ≡ None → Wrote old new xs → MovedMember t o y sides src dst old new
-member_missing {t} {old = old} {new} is w = record {
-  grew = grew_same old new w.locals w.imports;
+pub member_missing : {t : Tables} {y : InterfaceType} {sides : Sides} {src : From} {dst : To} {old new : Writer} {xs : List Instr} {o : Option FieldPlace} → AreRanged 0 0 xs → o ≡ None → Wrote old new xs → MovedMember t o y sides src dst old new
+member_missing {t} ranged is w = record {
+  grew = grew_wrote ranged w;
   emits = λ ms f u finds hu cm cf cu can. absurd (subst (λ o. Finds t ms o (Some f)) is finds);
 }

@@ -6,6 +6,7 @@ use Rattle.fact_wasm.specs.declared.types.ValType.TheVariants as val
 use Rattle.fact_wasm.specs.declared.instr.Instr.{Instr}
 use Rattle.fact_wasm.specs.declared.instr.Instr.TheVariants as I
 use Rattle.fact_wasm.specs.declared.module.WasmModule.{WasmModule}
+use Rattle.fact_wasm.specs.Ranges.{AreRanged}
 use Rattle.fact_moves.specs.Running.{ImportPlaces}
 use Rattle.fact_moves.specs.Sides.{LiftLowerOptions}
 use Rattle.fact_pieces.specs.Places.{From, InLocals, InMemory, To, Number, N8, N16, N32, N64, FitsNumber, DebugChecks, Off, Setting, is_halved, Readable, code_before, code_behind, read_code, narrow, widen}
@@ -35,6 +36,8 @@ use Rattle.fact_emit.specs.Scalars.{canonical_code, canonical_of, IsCanonicalFor
 use Rattle.fact_emit.specs.Writers.{taken_in, Wrote}
 use Rattle.fact_emit.proofs.CheckMoves.{guarded_then}
 use Rattle.fact_emit.proofs.Emitting.{emits_as, emits_then, emits_wrote, emits_nothing, wrote_then}
+use Rattle.fact_emit.proofs.NamedLaws.{ranged_append}
+use Rattle.fact_emit.proofs.RangedCode.{before_ranged, behind_ranged, canonical_ranged, get_ranged, kept_ranged, local_ranged, memory_ranged, set_ranged}
 use Rattle.fact_emit.proofs.Using.{free_except}
 
 -- ---- numbers that are read
@@ -43,7 +46,7 @@ use Rattle.fact_emit.proofs.Using.{free_except}
 pub local_emits : {a b c d : Writer} (debug : Bool) (n : Number) (local : ℕ) (t : ValType) {halved : Bool} → halved ≡ is_halved n t → Emits a b (ChecksUpper debug halved local) → Wrote b c (I.LocalGet local ∷ []) → Wrote c d (narrow n t)
     → Emits a d (ReadsNumber debug n (InLocals ((local, t) ∷ [])))
 local_emits {a} {b} debug n local t e x y z =
-    emits_then (λ M p locals c k h is. record { is = (λ i. h.is i ++ is i); has = h.has }) (subst (λ h. Emits a b (ChecksUpper debug h local)) e x) (emits_wrote (wrote_then y z))
+    emits_then (λ M p locals c k h is. record { is = (λ i. h.is i ++ is i); has = h.has }) (subst (λ h. Emits a b (ChecksUpper debug h local)) e x) (emits_wrote (local_ranged local n t) (wrote_then y z))
 
 -- of a place of that local and others
 first_emits : {a b : Writer} (debug : Bool) (n : Number) (l : TypedLocal) (ls : List TypedLocal) → slice_get ls 0 ≡ Some l → Emits a b (ReadsNumber debug n (InLocals ((l.local, l.ty) ∷ []))) → Emits a b (ReadsNumber debug n (InLocals (slots_of_locals ls)))
@@ -58,7 +61,7 @@ no_local_emits a debug n (l ∷ ls) e = absurd (none_some None l refl (sym e))
 
 -- of a memory, which has no check
 memory_emits : {a b : Writer} {debug : Bool} {n : Number} {memory base offset : ℕ} → Wrote a b (read_code Off n (InMemory memory base offset)) → Emits a b (ReadsNumber debug n (InMemory memory base offset))
-memory_emits w = emits_as (λ M p locals code is. record { is = is; has = tt }) (emits_wrote w)
+memory_emits {n = n} {memory} {base} {offset} w = emits_as (λ M p locals code is. record { is = is; has = tt }) (emits_wrote (memory_ranged n memory base offset) w)
 
 -- of a source place of the writing functions
 pub read_first : {a b : Writer} (debug : Bool) (n : Number) (m : LinearMemory) {place : SourcePlace} {ls : Bor (List TypedLocal)} (l : TypedLocal) → place ≡ source.Locals ls → slice_get ls.now 0 ≡ Some l → Emits a b (ReadsNumber debug n (InLocals ((l.local, l.ty) ∷ []))) → Emits a b (ReadsNumber debug n (from_of m place))
@@ -74,15 +77,15 @@ read_address {a} {b} debug n m address is w = subst (λ s. Emits a b (ReadsNumbe
 abbrev ReadsThen : Bool → Number → From → List Instr → WasmModule → ImportPlaces → List ValType → List Instr → Type 0
 ReadsThen debug n from ys M p locals code = HasUpperAt M p (checks_at debug p) n from × (code ≡ read_code (checks_at debug p) n from ++ ys)
 
-reads_then : {a b c : Writer} {debug : Bool} {n : Number} {from : From} {ys : List Instr} → Emits a b (ReadsNumber debug n from) → Wrote b c ys → Emits a c (ReadsThen debug n from ys)
-reads_then x y = emits_then (λ M p locals c k r is. (r.has, λ i. r.is i ++ is i)) x (emits_wrote y)
+reads_then : {a b c : Writer} {debug : Bool} {n : Number} {from : From} {ys : List Instr} → AreRanged 0 0 ys → Emits a b (ReadsNumber debug n from) → Wrote b c ys → Emits a c (ReadsThen debug n from ys)
+reads_then ranged x y = emits_then (λ M p locals c k r is. (r.has, λ i. r.is i ++ is i)) x (emits_wrote ranged y)
 
 pub pointer_emits : {a b c d : Writer} {debug memory64 : Bool} {n : Number} {from : From} {local : ℕ} → n ≡ pointer memory64 → Emits a b (ReadsNumber debug n from) → Wrote b c (widen n val.I64) → Wrote c d (I.LocalSet local ∷ []) → Emits a d (ReadsPointer debug memory64 from local)
 pointer_emits {debug = debug} {memory64} {n} {from} {local} e x y z =
     emits_as (λ M p locals code r. record {
       is = r.1 ∙ ap (λ n. read_code (checks_at debug p) n from ++ (widen n val.I64 ++ I.LocalSet local ∷ [])) e;
       has = subst (λ n. HasUpperAt M p (checks_at debug p) n from) e r.0;
-    }) (reads_then x (wrote_then y z))
+    }) (reads_then (kept_ranged n val.I64 local) x (wrote_then y z))
 
 -- ---- settings with checks
 
@@ -121,7 +124,7 @@ number_emits {a} {n = n} k {src} {dst} sides h x y z v =
     let all : c ++ l ≡ number_code (checks_at sides.debug p) n src (canonical_code k) dst = λ i. is i ++ r.1 i in
     subst (λ code. MovesValue sides src dst (taken_in a) 516 (FitsUnchecked n src dst) (number_moves n (canonical_of k)) M p locals code) (sym all)
     (record { moves = λ o o' concurrency used u fits. let S = setting_of sides o o' concurrency M p locals in moves_number S used src dst n (fits_checked S r.0 fits) (canonical_converts k n h) }))
-    (emits_wrote x) (reads_then y (wrote_then z v))
+    (emits_wrote (before_ranged dst) x) (reads_then (ranged_append 0 0 (canonical_code k) (code_behind n dst) (canonical_ranged k) (behind_ranged n dst)) y (wrote_then z v))
 
 -- ---- numbers that are tested
 
@@ -153,5 +156,5 @@ tested_emits {a} {n = n} local {src} {dst} sides t short u v x y z r =
           let S = setting_of sides o o' concurrency M p locals in
           moves_tested S used src dst local g.place n (narrow_of n short) (fits_checked S h.0 fits.0) using.to (record { local = fits.1; free = free_except (taken_in a) using }) (trap_of_test t) g.has (test_is t);
     }))
-    (emits_then {P = Is (code_before dst)} {Q = ReadsThen sides.debug n src (I.LocalSet local ∷ [])} (λ M p locals c k is q. (q.0, λ i. is i ++ q.1 i)) (emits_wrote u) (reads_then v x))
-    (guarded_then y (wrote_then z r))
+    (emits_then {P = Is (code_before dst)} {Q = ReadsThen sides.debug n src (I.LocalSet local ∷ [])} (λ M p locals c k is q. (q.0, λ i. is i ++ q.1 i)) (emits_wrote (before_ranged dst) u) (reads_then (set_ranged local) v x))
+    (guarded_then (ranged_append 0 0 (I.LocalGet local ∷ []) (code_behind n dst) (get_ranged local) (behind_ranged n dst)) y (wrote_then z r))

@@ -6,8 +6,9 @@ use Rattle.fact_wasm.specs.declared.module.WasmModule.{WasmModule}
 use Rattle.fact_machine.specs.Trace.{Grows}
 use Rattle.fact_moves.specs.Running.{ImportPlaces}
 use Rattle.fact_emit.specs.declared.writer.Writer.{Writer}
+use Rattle.fact_emit.specs.Brought.{Brought}
 use Rattle.fact_emit.specs.Imports.{Extended, AreOnce, Serves}
-use Rattle.fact_emit.specs.Writers.{types_of_locals, taken_in}
+use Rattle.fact_emit.specs.Writers.{AreNumberTypes, types_of_locals, taken_in}
 
 -- ---- later modules and functions
 
@@ -16,11 +17,16 @@ pub record Later (w : Writer) (M : WasmModule) (p : ImportPlaces) (locals : List
   pub serves : Serves M p w.imports
   pub begin : Grows (types_of_locals w) locals
 
--- The module and the function only grew, no import was imported twice, and the locals in use are the same ones.
+-- Code was added. The module grew by what this code brought into it, no import was imported twice, the function only grew, by locals
+-- of types of numbers, and the locals in use are the same ones.
 pub record Grew (old new : Writer) : Type 0 where
+  pub added : List Instr
+  pub code : new.code.items ≡ old.code.items ++ added
+  pub brought : Brought old.imports new.imports added
   pub imports : Extended old.imports new.imports
   pub once : AreOnce old.imports → AreOnce new.imports
   pub locals : Grows (types_of_locals old) (types_of_locals new)
+  pub numbers : AreNumberTypes (types_of_locals old) → AreNumberTypes (types_of_locals new)
   pub still : (i : ℕ) → taken_in new i ≡ taken_in old i
 
 -- ---- pieces of code
@@ -35,7 +41,5 @@ Is xs M p locals code = code ≡ xs
 
 -- Code was added of which this holds in every later module and function.
 pub record Emits (old new : Writer) (P : Piece) : Type 0 where
-  pub added : List Instr
-  pub code : new.code.items ≡ old.code.items ++ added
   pub grew : Grew old new
-  pub does : (M : WasmModule) (p : ImportPlaces) (locals : List ValType) → Later new M p locals → P M p locals added
+  pub does : (M : WasmModule) (p : ImportPlaces) (locals : List ValType) → Later new M p locals → P M p locals grew.added

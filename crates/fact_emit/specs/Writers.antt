@@ -1,16 +1,27 @@
 -- What the functions of a writer do to it.
-use Rattle.std.specs.Prelude.{◌≡◌, ◌≢◌, ℕ, Bool, true, false, List, [], ◌++◌, map, Option, Some, None, slice_get}
+use Rattle.std.specs.Prelude.{◌≡◌, ◌≢◌, ℕ, Bool, true, false, List, [], ◌∷◌, ◌++◌, length, map, Option, Some, None, slice_get}
+use Rattle.std.specs.List.{list_all}
 use Rattle.fact_wasm.specs.declared.types.ValType.{ValType}
 use Rattle.fact_wasm.specs.declared.instr.Instr.{Instr}
 use Rattle.fact_types.specs.declared.outside.Trap.{Trap}
 use Rattle.fact_machine.specs.Trace.{Grows}
+use Rattle.fact_machine.specs.Typing.{is_number}
 use Rattle.fact_types.specs.declared.import.Import.TheVariants as import
 use Rattle.fact_emit.specs.declared.writer.Local.{Local}
 use Rattle.fact_emit.specs.declared.writer.Writer.{Writer}
 use Rattle.fact_emit.specs.Imports.{HasImport, Extended, AreOnce}
+use Rattle.fact_emit.specs.States.{IsTrapImported}
 
 abbrev pub types_of_locals : Writer → List ValType
 types_of_locals w = map (λ l. l.ty) w.locals.items
+
+-- types of numbers alone: a declared local has one
+abbrev pub AreNumberTypes : List ValType → Type 0
+AreNumberTypes ts = list_all is_number ts ≡ true
+
+-- a local of a type that is in use
+abbrev pub used_local_of : ValType → Local
+used_local_of t = record { ty = t; in_use = true }
 
 -- a local of a type that is not in use
 abbrev pub free_local_of : ValType → Local
@@ -45,6 +56,14 @@ pub record Took (old new : Writer) (ty : ValType) (local : ℕ) : Type 0 where
   pub others : (i : ℕ) → i ≢ local → taken_in new i ≡ taken_in old i
   pub grows : Grows (types_of_locals old) (types_of_locals new)
   pub typed : slice_get (types_of_locals new) local ≡ Some ty
+  pub numbers : AreNumberTypes (types_of_locals old) → AreNumberTypes (types_of_locals new)
+
+-- a local was put behind the others, and is in use
+pub record AddedLocal (old new : Writer) (ty : ValType) (local : ℕ) : Type 0 where
+  pub code : new.code.items ≡ old.code.items
+  pub imports : new.imports ≡ old.imports
+  pub locals : new.locals.items ≡ old.locals.items ++ used_local_of ty ∷ []
+  pub place : local ≡ length old.locals.items
 
 pub record Freed (old new : Writer) (local : ℕ) : Type 0 where
   pub code : new.code.items ≡ old.code.items
@@ -57,6 +76,7 @@ pub record Freed (old new : Writer) (local : ℕ) : Type 0 where
 pub record TookTrap (old new : Writer) (trap : Trap) (place : ℕ) : Type 0 where
   pub code : new.code.items ≡ old.code.items
   pub locals : new.locals ≡ old.locals
+  pub imported : IsTrapImported old.imports new.imports trap place
   pub imports : Extended old.imports new.imports
   pub once : AreOnce old.imports → AreOnce new.imports
   pub there : HasImport new.imports (import.Trap trap) place [] []

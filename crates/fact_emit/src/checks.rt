@@ -1,6 +1,7 @@
 //! Tests that trap, and the debug checks of places.
 
 ghost use Rattle.std.specs.Prelude.{IfOk, OnOk, [], ◌∷◌, ◌≡◌, ◌++◌, ◌<◌, true, false};
+ghost use Rattle.fact_wasm.specs.Ranges.{AreRanged};
 ghost use Rattle.fact_wasm.specs.declared.instr.Instr.TheVariants as I;
 ghost use Rattle.fact_pieces.specs.Code.{trap_code};
 ghost use Rattle.fact_pieces.specs.Places.{place_test, upper_test};
@@ -24,8 +25,9 @@ fn guard_body(test: Vec<Instr>, place: u32) -> Result<Seq<Instr>, OutOfMemory>
     Ok(Seq::from_vec(body))
 }
 
-/// Traps where a test, which leaves an i32, gives 0.
+/// Traps where a test, which leaves an i32 and names no function, gives 0.
 pub fn put_guard(w: &mut Writer, test: Vec<Instr>, trap: Trap) -> Result<(), OutOfMemory>
+    requires { AreRanged 0 0 test.items }
     ensures { OnOk result (Emits w.old w.new (Guarded test.items trap [])) }
 {
     let place = w.trap(trap)?;

@@ -3,12 +3,14 @@
 #![tactic(auto)]
 
 pub mod checks;
-pub mod imports;
+pub mod imported;
+pub mod linking;
 pub mod numbers;
 pub mod places;
 pub mod pointers;
 pub mod products;
 pub mod scalars;
+pub mod state;
 pub mod tuples;
 pub mod width;
 pub mod writer;

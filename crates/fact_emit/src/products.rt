@@ -234,9 +234,9 @@ fn move_record(
     Ok(())
 }
 
-/// Moves the members of a tuple, each from the source member of its place.
+/// Moves the members of a tuple, each from the source member of its place, without a check of the tuple's own places.
 #[cycle(moving)]
-fn move_tuple(
+pub fn move_tuple(
     types: &ComponentTypes,
     w: &mut Writer,
     sides: Sides,

@@ -3,9 +3,10 @@
 ghost use Rattle.std.specs.Prelude.{IsTrue, IfOk, IfSome, OnOk, ◌≡◌, ◌++◌, ◌∷◌, [], true, Some, slice_get};
 ghost use Rattle.fact_types.specs.declared.import.Import.TheVariants as import;
 ghost use Rattle.fact_emit.specs.Imports.{AreOnce};
-ghost use Rattle.fact_emit.specs.Writers.{Wrote, Took, Freed, TookTrap, Same, free_local_of, taken_in};
+ghost use Rattle.fact_machine.specs.Typing.{is_number};
+ghost use Rattle.fact_emit.specs.Writers.{Wrote, AddedLocal, Took, Freed, TookTrap, Same, free_local_of, taken_in};
 
-use crate::imports::ModuleImports;
+use crate::state::ModuleState;
 use fact_types::Trap;
 use fact_wasm::{Instr, OutOfMemory, Seq, ValType};
 use std::alloc::{AllocError, Global};
@@ -22,7 +23,7 @@ pub struct Local {
 #[derive(Drop)]
 pub struct Writer {
     pub alloc: Global,
-    pub imports: ModuleImports,
+    pub imports: ModuleState,
     pub code: Vec<Instr>,
     pub locals: Vec<Local>,
     // Locals that were freed, the last one last. One that is in use again is passed over.
@@ -38,11 +39,41 @@ impl Writer {
     {
         Writer {
             alloc,
-            imports: ModuleImports::new(alloc),
+            imports: ModuleState::new(alloc),
             code: Vec::new(alloc),
             locals: Vec::new(alloc),
             free: Vec::new(alloc),
         }
+    }
+
+    /// No code and no locals yet, of a function of this module. It takes no memory.
+    pub fn over(alloc: Global, imports: ModuleState) -> Writer
+        ensures imports { result.imports ≡ imports }
+        ensures code { result.code.items ≡ [] }
+        ensures locals { result.locals.items ≡ [] }
+    {
+        Writer {
+            alloc,
+            imports,
+            code: Vec::new(alloc),
+            locals: Vec::new(alloc),
+            free: Vec::new(alloc),
+        }
+    }
+
+    /// The module around the code, the code, and the locals.
+    pub fn into_parts(self) -> (ModuleState, Vec<Instr>, Vec<Local>)
+        ensures imports { result.0 ≡ self.imports }
+        ensures code { result.1 ≡ self.code }
+        ensures locals { result.2 ≡ self.locals }
+    {
+        let Writer {
+            imports,
+            code,
+            locals,
+            ..
+        } = self;
+        (imports, code, locals)
     }
 
     /// Puts an instruction behind the code.
@@ -57,7 +88,7 @@ impl Writer {
     pub fn trap(&mut self, trap: Trap) -> Result<u32, OutOfMemory>
         ensures { IfOk result (λ place. TookTrap self.old self.new trap place) }
     {
-        self.imports.trap(self.alloc, trap)
+        self.imports.trap(trap)
     }
 
     /// Whether a local is of a type and not in use.
@@ -99,9 +130,9 @@ impl Writer {
         self.locals[local as usize] = Local { ty, in_use: true };
     }
 
-    /// Adds a local that is in use.
-    fn add_local(&mut self, ty: ValType) -> Result<u32, OutOfMemory>
-        ensures { IfOk result (λ local. Took self.old self.new ty local) }
+    /// Adds a local behind the others, which is in use.
+    pub fn add_local(&mut self, ty: ValType) -> Result<u32, OutOfMemory>
+        ensures { IfOk result (λ local. AddedLocal self.old self.new ty local) }
     {
         let local = self.locals.len();
         if local > u32::MAX as usize {
@@ -111,8 +142,18 @@ impl Writer {
         Ok(local as u32)
     }
 
-    /// A local of a type that is not in use, and now is.
+    /// Takes a new local of a type of numbers.
+    fn take_new(&mut self, ty: ValType) -> Result<u32, OutOfMemory>
+        requires { is_number ty ≡ true }
+        ensures { IfOk result (λ local. Took self.old self.new ty local) }
+    {
+        let local = self.add_local(ty)?;
+        Ok(local)
+    }
+
+    /// A local of a type of numbers that is not in use, and now is.
     pub fn take_local(&mut self, ty: ValType) -> Result<u32, OutOfMemory>
+        requires { is_number ty ≡ true }
         ensures { IfOk result (λ local. Took self.old self.new ty local) }
     {
         match self.last_freed(ty) {
@@ -121,7 +162,7 @@ impl Writer {
                 self.forget(place);
                 Ok(local)
             }
-            None => self.add_local(ty),
+            None => self.take_new(ty),
         }
     }
 

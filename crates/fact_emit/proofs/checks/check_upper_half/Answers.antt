@@ -1,5 +1,11 @@
+use Rattle.std.proofs.Common.{subst, sym}
+use Rattle.fact_wasm.specs.Ranges.{AreRanged}
 use Rattle.fact_emit.proofs.CheckMoves.{upper_emits, no_upper_emits}
+use Rattle.fact_emit.proofs.RangedCode.{upper_ranged}
 use Rattle.fact_emit.proofs.checks.check_upper_half.Goals as goal
+
+pub put_guard-requires : goal.put_guard-requires
+put_guard-requires c = subst (AreRanged 0 0) (sym c.in_ok-test.ensures) (upper_ranged _)
 
 pub returns-in_ok-put_guard : goal.returns-in_ok-put_guard
 returns-in_ok-put_guard c = upper_emits _ _ _ c.if-debug.true c.if-halved.true c.in_ok-test.ensures c.in_ok-put_guard.ensures

@@ -8,7 +8,8 @@ use Rattle.fact_types.specs.Tables.{HasShape}
 use Rattle.fact_types.proofs.FindLaws.{record_fields, record_members, field_live}
 use Rattle.fact_types.proofs.HeightLaws.{record_within, tuple_within}
 use Rattle.fact_emit.proofs.MemberRuns.{field_at, type_at, no_field, no_type, next_member, next_fits, members_begin, member_passed, members_moved}
-use Rattle.fact_emit.proofs.NodeMoves.{value_moved, record_moved, tuple_moved, record_alone, tuple_alone, scalar_moved, found_live, member_emits}
+use Rattle.fact_emit.proofs.RangedCode.{unreachable_ranged}
+use Rattle.fact_emit.proofs.NodeMoves.{value_moved, record_moved, tuple_moved, record_alone, tuple_alone, from_moved, scalar_moved, found_live, member_emits}
 use Rattle.fact_emit.proofs.TypeKinds.{record_kind, tuple_kind, tuple_members}
 use Rattle.fact_emit.proofs.products.+moving.Goals as goal
 
@@ -19,11 +20,17 @@ translate-returns t c = value_moved c.in_ok-check_places.ensures c.in_ok-move_no
 
 pub move_node-returns-in_ok-put-in_default-to : goal.move_node-returns-in_ok-put-in_default-to
 move_node-returns-in_ok-put-in_default-to t c =
-    record_alone c.in-Record.i c.args.to c.in-Record.is c.in_default-to.not-Record c.in_ok-put-in_default-to.ensures
+    record_alone unreachable_ranged c.in-Record.i c.args.to c.in-Record.is c.in_default-to.not-Record c.in_ok-put-in_default-to.ensures
 
 pub move_node-returns-in_ok-put-in_default-to-2 : goal.move_node-returns-in_ok-put-in_default-to-2
 move_node-returns-in_ok-put-in_default-to-2 t c =
-    tuple_alone c.in-Tuple.i c.args.to c.in-Tuple.is c.in_default-to-2.not-Tuple c.in_ok-put-in_default-to-2.ensures
+    tuple_alone unreachable_ranged c.in-Tuple.i c.args.to c.in-Tuple.is c.in_default-to-2.not-Tuple c.in_ok-put-in_default-to-2.ensures
+
+pub move_node-returns-in_ok-move_flags-in-Flags : goal.move_node-returns-in_ok-move_flags-in-Flags
+move_node-returns-in_ok-move_flags-in-Flags t c = from_moved c.in-Flags.is c.in_ok-move_flags-in-Flags.ensures
+
+pub move_node-returns-in_ok-move_enum-in-Enum : goal.move_node-returns-in_ok-move_enum-in-Enum
+move_node-returns-in_ok-move_enum-in-Enum t c = from_moved c.in-Enum.is c.in_ok-move_enum-in-Enum.ensures
 
 pub move_node-returns-in_ok-move_scalar-in_default : goal.move_node-returns-in_ok-move_scalar-in_default
 move_node-returns-in_ok-move_scalar-in_default t c =

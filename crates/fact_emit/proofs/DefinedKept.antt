@@ -1,0 +1,50 @@
+-- The functions that a module defines, and its exports, stay as they are where something is imported.
+use Rattle.std.proofs.Common.{◌≡◌, ℕ, ◌⊎◌, inl, inr, List, ◌++◌, ◌∷◌, [], refl, ap, ◌∙◌, Contains}
+use Rattle.fact_wasm.specs.declared.instr.Instr.{Instr}
+use Rattle.fact_wasm.specs.declared.types.FuncType.{FuncType}
+use Rattle.fact_wasm.specs.declared.module.WasmImport.{WasmImport}
+use Rattle.fact_types.specs.declared.import.Import.{Import}
+use Rattle.fact_types.specs.declared.outside.Trap.{Trap}
+use Rattle.fact_emit.specs.Brought.{AreTrapsImported, Brought}
+use Rattle.fact_emit.specs.ImportSection.{a_function, a_memory, a_global, imports_of, sort_of}
+use Rattle.fact_emit.specs.Imports.{Extended}
+use Rattle.fact_emit.specs.States.{ModuleSoFar, HasType, IsImported, IsTrapImported, KeepsDefined, with_import}
+use Rattle.fact_emit.proofs.ImportLaws.{grows_none}
+
+pub defined_same : {a b : ModuleSoFar} → b ≡ a → KeepsDefined a b
+defined_same e = record { functions = ap (λ (s : ModuleSoFar). s.functions) e; exports = ap (λ (s : ModuleSoFar). s.exports) e }
+
+pub defined_on : {a b c : ModuleSoFar} → KeepsDefined a b → KeepsDefined b c → KeepsDefined a c
+defined_on x y = record { functions = y.functions ∙ x.functions; exports = y.exports ∙ x.exports }
+
+pub defined_type : {a b : ModuleSoFar} {ty : FuncType} → HasType a b ty → KeepsDefined a b
+defined_type (inl e) = defined_same e
+defined_type (inr e) = record { functions = ap (λ (s : ModuleSoFar). s.functions) e.1; exports = ap (λ (s : ModuleSoFar). s.exports) e.1 }
+
+pub defined_import : {a b : ModuleSoFar} {w : WasmImport} {i : Import} {place : ℕ} → IsImported a b w i place → KeepsDefined a b
+defined_import {a} {b} {w} {i} h = go h.step
+  where
+    go : ((b ≡ a) × Contains (imports_of (sort_of w.ty) a.section a.imports) i) ⊎ ((b ≡ with_import a w i) × (Contains (imports_of (sort_of w.ty) a.section a.imports) i → ⊥)) → KeepsDefined a b
+    go (inl e) = defined_same e.0
+    go (inr e) = record { functions = ap (λ (s : ModuleSoFar). s.functions) e.0; exports = ap (λ (s : ModuleSoFar). s.exports) e.0 }
+
+pub defined_trap : {a b : ModuleSoFar} {t : Trap} {place : ℕ} → IsTrapImported a b t place → KeepsDefined a b
+defined_trap h = defined_on (defined_type h.types) (defined_import h.imported)
+
+pub defined_traps : (ts : List Trap) {a b : ModuleSoFar} → AreTrapsImported a b ts → KeepsDefined a b
+defined_traps [] e = defined_same e
+defined_traps (t ∷ ts) h = defined_on (defined_trap h.2) (defined_traps ts h.3)
+
+pub defined_brought : {a b : ModuleSoFar} {code : List Instr} → Brought a b code → KeepsDefined a b
+defined_brought x = defined_traps x.traps x.imported
+
+-- a module that defines and exports more imports the same
+pub extended_defined : {a b : ModuleSoFar} → b.types ≡ a.types → b.section ≡ a.section → b.imports ≡ a.imports → Extended a b
+extended_defined {a} {b} t s i = record {
+  types = grows_none t;
+  section = grows_none s;
+  imports = grows_none i;
+  functions = grows_none (λ j. imports_of a_function (s j) (i j));
+  memories = grows_none (λ j. imports_of a_memory (s j) (i j));
+  globals = grows_none (λ j. imports_of a_global (s j) (i j));
+}

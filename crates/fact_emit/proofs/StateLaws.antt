@@ -1,0 +1,309 @@
+-- One more import of a kind, over the lists by which the imports are found.
+use Rattle.std.proofs.Common.{◌≡◌, ℕ, Bool, true, false, ◌+◌, ◌<◌, ◌^◌, List, [], ◌∷◌, ◌++◌, Option, Some, Contains, refl, sym, ap, ◌∙◌, subst, arith, length, map, slice_get, length-append, append-nil, ◌⊎◌, inl, inr}
+use Rattle.std.specs.Prelude.{Err, IfOk, IsFalse, IsTrue, Ok, OnOk, Result, cond, count_by, not}
+use Rattle.std.proofs.lemmas.List.{length-map}
+use Rattle.std.proofs.lemmas.Option.{slice_get_within}
+use Rattle.fact_wasm.specs.CoreTypes.{IsOnlyPlaceOfType}
+use Rattle.fact_wasm.specs.declared.types.FuncType.{FuncType}
+use Rattle.fact_wasm.specs.declared.types.ValType.{ValType}
+use Rattle.fact_wasm.specs.declared.module.ImportType.{ImportType}
+use Rattle.fact_wasm.specs.declared.module.ImportType.TheVariants as import
+use Rattle.fact_wasm.specs.declared.module.WasmExport.{WasmExport}
+use Rattle.fact_wasm.specs.declared.module.WasmFunc.{WasmFunc}
+use Rattle.fact_wasm.specs.declared.module.WasmImport.{WasmImport}
+use Rattle.fact_machine.specs.Trace.{Grows}
+use Rattle.fact_types.specs.declared.import.Import.{Import}
+use Rattle.fact_types.specs.declared.import.Import.TheVariants as known
+use Rattle.fact_types.specs.declared.outside.Trap.{Trap}
+use Rattle.fact_types.specs.ImportTypes.{trap_type}
+use Rattle.fact_emit.specs.declared.imported.ImportedItem.{ImportedItem}
+use Rattle.fact_emit.specs.declared.imported.ImportedItem.TheVariants as item
+use Rattle.fact_emit.specs.ImportSection.{Sort, a_function, a_memory, a_global, imports_of, imported_type, is_of, same_sort, sort_of}
+use Rattle.fact_emit.specs.Imports.{AreOnce, Extended, HasImport, StandsOnce}
+use Rattle.fact_emit.specs.State.{IsAdded, IsIndexed, IsKept, by_sort}
+use Rattle.fact_emit.specs.States.{HasType, IsImported, ModuleSoFar, functions_of, known_as, with_import}
+use Rattle.fact_emit.proofs.ExactItems.{known-once}
+use Rattle.fact_emit.proofs.ImportLaws.{extended_none, grows_none, later_import}
+use Rattle.fact_emit.proofs.ImportLists.{count-of, func-last, get-last, get-map, get-there, imports-append, last-or-before, map-push, there-get, unmap}
+use Rattle.fact_emit.proofs.Once.{once_more}
+
+-- ---- sorts
+
+same-sort : (a b : Sort) → same_sort a b ≡ true → a ≡ b
+same-sort a_function a_function h = refl
+same-sort a_memory a_memory h = refl
+same-sort a_global a_global h = refl
+same-sort a_function a_memory h = cc
+same-sort a_function a_global h = cc
+same-sort a_memory a_function h = cc
+same-sort a_memory a_global h = cc
+same-sort a_global a_function h = cc
+same-sort a_global a_memory h = cc
+
+-- an item is one of a kind
+abbrev if_of : Sort → Sort → ImportedItem → List ImportedItem
+if_of sort of x = cond (same_sort sort of) (x ∷ []) []
+
+pub with-function : (gs ms fs : List ImportedItem) (x : ImportedItem) (q : Sort) → by_sort gs ms (fs ++ x ∷ []) q ≡ by_sort gs ms fs q ++ if_of q a_function x
+with-function gs ms fs x a_function = refl
+with-function gs ms fs x a_memory = sym (append-nil ms)
+with-function gs ms fs x a_global = sym (append-nil gs)
+
+pub with-memory : (gs ms fs : List ImportedItem) (x : ImportedItem) (q : Sort) → by_sort gs (ms ++ x ∷ []) fs q ≡ by_sort gs ms fs q ++ if_of q a_memory x
+with-memory gs ms fs x a_function = sym (append-nil fs)
+with-memory gs ms fs x a_memory = refl
+with-memory gs ms fs x a_global = sym (append-nil gs)
+
+pub with-global : (gs ms fs : List ImportedItem) (x : ImportedItem) (q : Sort) → by_sort (gs ++ x ∷ []) ms fs q ≡ by_sort gs ms fs q ++ if_of q a_global x
+with-global gs ms fs x a_function = sym (append-nil fs)
+with-global gs ms fs x a_memory = sym (append-nil ms)
+with-global gs ms fs x a_global = refl
+
+-- ---- one more import
+
+module _ (s : ModuleSoFar) (same : length s.section ≡ length s.imports) (w : WasmImport) (i : Import) where
+  more : (q : Sort) → imports_of q (s.section ++ w ∷ []) (s.imports ++ i ∷ []) ≡ imports_of q s.section s.imports ++ imports_of q (w ∷ []) (i ∷ [])
+  more q = imports-append q s.section (w ∷ []) s.imports (i ∷ []) same
+
+  grown-of : (q : Sort) → Grows (imports_of q s.section s.imports) (imports_of q (s.section ++ w ∷ []) (s.imports ++ i ∷ []))
+  grown-of q = record { more = imports_of q (w ∷ []) (i ∷ []); is = more q }
+
+  pub extended-by : Extended s (with_import s w i)
+  extended-by = record {
+    types = grows_none refl;
+    section = record { more = w ∷ []; is = refl };
+    imports = record { more = i ∷ []; is = refl };
+    functions = grown-of a_function;
+    memories = grown-of a_memory;
+    globals = grown-of a_global;
+  }
+
+  module _ (absent : Contains (imports_of (sort_of w.ty) s.section s.imports) i → ⊥) where
+    once-of : (q : Sort) → StandsOnce (imports_of q s.section s.imports) → StandsOnce (imports_of q (s.section ++ w ∷ []) (s.imports ++ i ∷ []))
+    once-of q o = subst StandsOnce (sym (more q)) (go (same_sort q (sort_of w.ty)) refl)
+      where
+        go : (b : Bool) → same_sort q (sort_of w.ty) ≡ b → StandsOnce (imports_of q s.section s.imports ++ cond b (i ∷ []) [])
+        go true e = once_more (λ c. absent (subst (λ r. Contains (imports_of r s.section s.imports) i) (same-sort q _ e) c)) o
+        go false e = subst StandsOnce (sym (append-nil _)) o
+
+    pub once-added : AreOnce s → AreOnce (with_import s w i)
+    once-added o = record { functions = once-of a_function o.functions; memories = once-of a_memory o.memories; globals = once-of a_global o.globals }
+
+-- ---- items
+
+-- an item that stands in its list
+pub known-there : (is : List Import) (xs : List ImportedItem) (x : ImportedItem) (k : ℕ) → is ≡ map known_as xs → slice_get xs k ≡ Some x → slice_get is k ≡ Some (known_as x)
+known-there is xs x k e at = ap (λ ys. slice_get ys k) e ∙ get-map known_as xs k x at
+
+-- an item that does not stand in its list
+pub absent-known : (is : List Import) (xs : List ImportedItem) (x : ImportedItem) → is ≡ map known_as xs → (Contains xs x → ⊥) → Contains is (known_as x) → ⊥
+absent-known is xs x e absent c =
+    let at = get-there (map known_as xs) (known_as x) (subst (λ ys. Contains ys (known_as x)) e c) in
+    let y = unmap known_as xs at.0 (known_as x) at.1 in
+    absent (there-get xs at.0 x (y.1 ∙ ap Some (known-once y.0 x y.2)))
+
+trap-item : (x : ImportedItem) (t : Trap) → known_as x ≡ known.Trap t → x ≡ item.Trap t
+trap-item (item.Trap u) t h = ap item.Trap cc
+trap-item (item.Def d) t h = cc
+
+-- the number of a type that there is
+type-number : (s : ModuleSoFar) (ty : ImportType) → imported_type s.types ty ≡ Some trap_type → (k : ℕ) × (ty ≡ import.Func k) × (slice_get s.types k ≡ Some trap_type)
+type-number s (import.Func k) h = (k, refl, h)
+type-number s (import.Memory least wide page) h = cc
+type-number s (import.Global t mutable) h = cc
+
+module _ (s : ModuleSoFar) (gs ms fs : List ImportedItem) (h : IsIndexed s gs ms fs) where
+  -- One more item among those of its kind.
+  module _ (w : WasmImport) (x : ImportedItem) (typed : (t : Trap) → x ≡ item.Trap t → imported_type s.types w.ty ≡ Some trap_type) where
+    abbrev new : ModuleSoFar
+    new = with_import s w (known_as x)
+
+    added-trap : (n : ℕ) (t : Trap) → (n ≡ length (functions_of s)) × (known_as x ≡ known.Trap t) → slice_get (functions_of new) n ≡ Some (known.Trap t) → HasImport new (known.Trap t) n [] []
+    added-trap n t last there =
+        let (k, is, at) = type-number s w.ty (typed t (trap-item x t last.1)) in
+        record { there = there; type_at = k; imported = rw last.0 (func-last s.section s.imports w k h.same_length is); type_is = at }
+
+    traps-added : (n : ℕ) (t : Trap) → slice_get (functions_of new) n ≡ Some (known.Trap t) → HasImport new (known.Trap t) n [] []
+    traps-added n t at = go (is_of a_function w) (ap (λ l. slice_get l n) (sym (more s h.same_length w (known_as x) a_function)) ∙ at)
+      where
+        before : slice_get (functions_of s) n ≡ Some (known.Trap t) → HasImport new (known.Trap t) n [] []
+        before e = later_import (extended-by s h.same_length w (known_as x)) (h.traps n t e)
+
+        by_place : (slice_get (functions_of s) n ≡ Some (known.Trap t)) ⊎ ((n ≡ length (functions_of s)) × (known_as x ≡ known.Trap t)) → HasImport new (known.Trap t) n [] []
+        by_place (inl e) = before e
+        by_place (inr last) = added-trap n t last at
+
+        go : (b : Bool) → slice_get (functions_of s ++ cond b (known_as x ∷ []) []) n ≡ Some (known.Trap t) → HasImport new (known.Trap t) n [] []
+        go true e = by_place (last-or-before (functions_of s) (known_as x) n (known.Trap t) e)
+        go false e = before (ap (λ l. slice_get l n) (sym (append-nil (functions_of s))) ∙ e)
+
+    module _ (gs' ms' fs' : List ImportedItem) (items : (q : Sort) → by_sort gs' ms' fs' q ≡ by_sort gs ms fs q ++ if_of q (sort_of w.ty) x) (room : length fs' + length s.functions < 2 ^ 32) where
+      list-added : (q : Sort) → imports_of q new.section new.imports ≡ map known_as (by_sort gs' ms' fs' q)
+      list-added q =
+          more s h.same_length w (known_as x) q ∙ go (same_sort q (sort_of w.ty)) ∙ ap (map known_as) (sym (items q))
+        where
+          go : (b : Bool) → imports_of q s.section s.imports ++ cond b (known_as x ∷ []) [] ≡ map known_as (by_sort gs ms fs q ++ cond b (x ∷ []) [])
+          go true = ap (λ is. is ++ known_as x ∷ []) (h.lists q) ∙ sym (map-push known_as (by_sort gs ms fs q) x)
+          go false = append-nil _ ∙ h.lists q ∙ ap (map known_as) (sym (append-nil (by_sort gs ms fs q)))
+
+      pub indexed-with : IsIndexed new gs' ms' fs'
+      indexed-with = record {
+        same_length = omega (arith, h.same_length, length-append s.section (w ∷ []), length-append s.imports (known_as x ∷ []));
+        lists = list-added;
+        numbered = room;
+        traps = traps-added;
+      }
+
+-- ---- an item that is looked up among those of its kind
+
+-- What a step leaves: the lists stand as they have to, and the item is imported.
+pub record Leaves (old new : ModuleSoFar) (gs ms fs xs : List ImportedItem) (w : WasmImport) (x : ImportedItem) : Type 0 where
+  pub indexed : IsIndexed new gs ms fs
+  pub imported : (n : ℕ) → slice_get xs n ≡ Some x → IsImported old new w (known_as x) n
+  pub keeps : Extended old new
+  pub once : AreOnce old → AreOnce new
+
+module _ (v : ModuleSoFar) (xs xs' : List ImportedItem) (G M F : List ImportedItem → List ImportedItem) (h : IsIndexed v (G xs) (M xs) (F xs))
+    (w : WasmImport) (x : ImportedItem) (section' : List WasmImport) (imports' : List Import)
+    (typed : (t : Trap) → x ≡ item.Trap t → imported_type v.types w.ty ≡ Some trap_type)
+    (items : (q : Sort) → by_sort (G (xs ++ x ∷ [])) (M (xs ++ x ∷ [])) (F (xs ++ x ∷ [])) q ≡ by_sort (G xs) (M xs) (F xs) q ++ if_of q (sort_of w.ty) x)
+    (of : (ys : List ImportedItem) → by_sort (G ys) (M ys) (F ys) (sort_of w.ty) ≡ ys)
+    (Room : Type 0) (room : Room → length (F (xs ++ x ∷ [])) + length v.functions < 2 ^ 32)
+    (step : IsKept v.section section' v.imports imports' xs xs' ⊎ (Room × IsAdded v.section section' v.imports imports' xs xs' x w)) where
+  abbrev after : ModuleSoFar
+  after = record v { section = section'; imports = imports' }
+
+  same-after : IsKept v.section section' v.imports imports' xs xs' → after ≡ v
+  same-after k = λ i. record v { section = k.section i; imports = k.imports i }
+
+  more-after : IsAdded v.section section' v.imports imports' xs xs' x w → after ≡ with_import v w (known_as x)
+  more-after a = λ i. record v { section = a.section i; imports = a.imports i }
+
+  step-indexed : IsKept v.section section' v.imports imports' xs xs' ⊎ (Room × IsAdded v.section section' v.imports imports' xs xs' x w) → IsIndexed after (G xs') (M xs') (F xs')
+  step-indexed (inl k) = rw (k.section, k.imports, k.items) h
+  step-indexed (inr a) = rw (a.1.section, a.1.imports, a.1.items) (indexed-with v (G xs) (M xs) (F xs) h w x typed (G (xs ++ x ∷ [])) (M (xs ++ x ∷ [])) (F (xs ++ x ∷ [])) items (room a.0))
+
+  before : imports_of (sort_of w.ty) v.section v.imports ≡ map known_as xs
+  before = h.lists (sort_of w.ty) ∙ ap (map known_as) (of xs)
+
+  there : imports_of (sort_of w.ty) section' imports' ≡ map known_as xs'
+  there = (step-indexed step).lists (sort_of w.ty) ∙ ap (map known_as) (of xs')
+
+  absent : IsAdded v.section section' v.imports imports' xs xs' x w → Contains (imports_of (sort_of w.ty) v.section v.imports) (known_as x) → ⊥
+  absent a = absent-known _ xs x before a.absent
+
+  step-imported : (n : ℕ) → slice_get xs' n ≡ Some x → IsImported v after w (known_as x) n
+  step-imported n at = record { there = known-there _ xs' x n there at; step = go step }
+    where
+      go : IsKept v.section section' v.imports imports' xs xs' ⊎ (Room × IsAdded v.section section' v.imports imports' xs xs' x w)
+          → ((after ≡ v) × Contains (imports_of (sort_of w.ty) v.section v.imports) (known_as x)) ⊎ ((after ≡ with_import v w (known_as x)) × (Contains (imports_of (sort_of w.ty) v.section v.imports) (known_as x) → ⊥))
+      go (inl k) = inl (same-after k, there-get _ n (known_as x) (known-there _ xs x n before (ap (λ ys. slice_get ys n) (sym k.items) ∙ at)))
+      go (inr a) = inr (more-after a.1, absent a.1)
+
+  step-keeps : IsKept v.section section' v.imports imports' xs xs' ⊎ (Room × IsAdded v.section section' v.imports imports' xs xs' x w) → Extended v after
+  step-keeps (inl k) = extended_none (same-after k)
+  step-keeps (inr a) = subst (Extended v) (sym (more-after a.1)) (extended-by v h.same_length w (known_as x))
+
+  step-once : IsKept v.section section' v.imports imports' xs xs' ⊎ (Room × IsAdded v.section section' v.imports imports' xs xs' x w) → AreOnce v → AreOnce after
+  step-once (inl k) o = subst AreOnce (sym (same-after k)) o
+  step-once (inr a) o = subst AreOnce (sym (more-after a.1)) (once-added v h.same_length w (known_as x) (absent a.1) o)
+
+  leaves : Leaves v after (G xs') (M xs') (F xs') xs' w x
+  leaves = record { indexed = step-indexed step; imported = step-imported; keeps = step-keeps step; once = step-once step }
+
+-- The state that contracts see, and the import that is asked for.
+module _ (v t : ModuleSoFar) (same : v ≡ t) (gs ms fs : List ImportedItem) (h : IsIndexed v gs ms fs) (w w' : WasmImport) (is_w : w ≡ w') (x : ImportedItem)
+    (typed : (t' : Trap) → x ≡ item.Trap t' → imported_type t.types w'.ty ≡ Some trap_type) (section' : List WasmImport) (imports' : List Import) (xs' : List ImportedItem) where
+  typed-here : (t' : Trap) → x ≡ item.Trap t' → imported_type v.types w.ty ≡ Some trap_type
+  typed-here = rw (same, is_w) typed
+
+  seen : {new : ModuleSoFar} {gs' ms' fs' : List ImportedItem} → Leaves v new gs' ms' fs' xs' w x → Leaves t new gs' ms' fs' xs' w' x
+  seen {new} {gs'} {ms'} {fs'} l = subst (λ (u : ModuleSoFar). Leaves u new gs' ms' fs' xs' w' x) same (subst (λ (y : WasmImport). Leaves v new gs' ms' fs' xs' y x) is_w l)
+
+  pub leaves-function : (k : ℕ) → w.ty ≡ import.Func k → (full : Bool) → (IsFalse full → length (functions_of t) + length t.functions + 1 < 2 ^ 32)
+      → IsKept v.section section' v.imports imports' fs xs' ⊎ (IsTrue (not full) × IsAdded v.section section' v.imports imports' fs xs' x w)
+      → Leaves t (record v { section = section'; imports = imports' }) gs ms xs' xs' w' x
+  leaves-function k is full room step =
+      seen (leaves v fs xs' (λ ys. gs) (λ ys. ms) (λ ys. ys) h w x section' imports' typed-here (rw is (with-function gs ms fs x)) (λ ys. rw is refl) (IsTrue (not full)) fits step)
+    where
+      is-false : (b : Bool) → IsTrue (not b) → IsFalse b
+      is-false false e = refl
+      is-false true e = cc
+
+      fits : IsTrue (not full) → length (fs ++ x ∷ []) + length v.functions < 2 ^ 32
+      fits free = omega (arith, length-append fs (x ∷ []), length-map fs known_as, ap length (h.lists a_function), subst (λ (u : ModuleSoFar). length (functions_of u) + length u.functions + 1 < 2 ^ 32) (sym same) (room (is-false full free)))
+
+  pub leaves-memory : (least : ℕ) (wide : Bool) (page : Option ℕ) → w.ty ≡ import.Memory least wide page
+      → IsKept v.section section' v.imports imports' ms xs' ⊎ (IsTrue true × IsAdded v.section section' v.imports imports' ms xs' x w)
+      → Leaves t (record v { section = section'; imports = imports' }) gs xs' fs xs' w' x
+  leaves-memory least wide page is step =
+      seen (leaves v ms xs' (λ ys. gs) (λ ys. ys) (λ ys. fs) h w x section' imports' typed-here (rw is (with-memory gs ms fs x)) (λ ys. rw is refl) (IsTrue true) (λ u. h.numbered) step)
+
+  pub leaves-global : (ty : ValType) (mutable : Bool) → w.ty ≡ import.Global ty mutable
+      → IsKept v.section section' v.imports imports' gs xs' ⊎ (IsTrue true × IsAdded v.section section' v.imports imports' gs xs' x w)
+      → Leaves t (record v { section = section'; imports = imports' }) xs' ms fs xs' w' x
+  leaves-global ty mutable is step =
+      seen (leaves v gs xs' (λ ys. ys) (λ ys. ms) (λ ys. fs) h w x section' imports' typed-here (rw is (with-global gs ms fs x)) (λ ys. rw is refl) (IsTrue true) (λ u. h.numbered) step)
+
+-- a trap that is there has the type of traps
+pub trap-there : (s : ModuleSoFar) (gs ms fs : List ImportedItem) (h : IsIndexed s gs ms fs) (x : ImportedItem) (n : ℕ) → slice_get fs n ≡ Some x → (t : Trap) → x ≡ item.Trap t → HasImport s (known.Trap t) n [] []
+trap-there s gs ms fs h x n at t e = h.traps n t (known-there _ fs x n (h.lists a_function) at ∙ ap (λ y. Some (known_as y)) e)
+
+-- ---- types
+
+-- Only types were added.
+pub typed-indexed : (v : ModuleSoFar) (types : List FuncType) (gs ms fs : List ImportedItem) → IsIndexed v gs ms fs → ((k : ℕ) (ty : FuncType) → slice_get v.types k ≡ Some ty → slice_get types k ≡ Some ty)
+    → IsIndexed (record v { types = types }) gs ms fs
+typed-indexed v types gs ms fs h keeps = record {
+  same_length = h.same_length;
+  lists = h.lists;
+  numbered = h.numbered;
+  traps = λ n t at. let i = h.traps n t at in record { there = i.there; type_at = i.type_at; imported = i.imported; type_is = keeps i.type_at _ i.type_is };
+}
+
+-- A function was defined, or one was exported.
+module _ (v : ModuleSoFar) (gs ms fs : List ImportedItem) (h : IsIndexed v gs ms fs) where
+  pub defined-indexed : (t : ModuleSoFar) → v ≡ t → (f : WasmFunc) (functions : List WasmFunc) → functions ≡ v.functions ++ f ∷ [] → length (functions_of t) + length t.functions + 1 < 2 ^ 32 → IsIndexed (record v { functions = functions }) gs ms fs
+  defined-indexed t same f functions is room = record {
+    same_length = h.same_length;
+    lists = h.lists;
+    numbered = omega (arith, ap length is, length-append v.functions (f ∷ []), length-map fs known_as, ap length (h.lists a_function), subst (λ (u : ModuleSoFar). length (functions_of u) + length u.functions + 1 < 2 ^ 32) (sym same) room);
+    traps = λ n t at. let i = h.traps n t at in record { there = i.there; type_at = i.type_at; imported = i.imported; type_is = i.type_is };
+  }
+
+  pub exported-indexed : (exports : List WasmExport) → IsIndexed (record v { exports = exports }) gs ms fs
+  exported-indexed exports = record {
+    same_length = h.same_length;
+    lists = h.lists;
+    numbered = h.numbered;
+    traps = λ n t at. let i = h.traps n t at in record { there = i.there; type_at = i.type_at; imported = i.imported; type_is = i.type_is };
+  }
+
+-- A list to which a type came, or in which it was, has it at one place.
+has-type : (s : ModuleSoFar) (types : List FuncType) (ty : FuncType) (place : ℕ) → IsOnlyPlaceOfType types ty place
+    → ((k : ℕ) (t : FuncType) → slice_get s.types k ≡ Some t → slice_get types k ≡ Some t) → (types ≡ s.types) ⊎ (types ≡ s.types ++ ty ∷ []) → HasType s (record s { types = types }) ty
+has-type s types ty place is_at keeps (inl same) = inl (λ k. record s { types = same k })
+has-type s types ty place is_at keeps (inr more) = inr (absent, λ k. record s { types = more k })
+  where
+    -- else it would stand at two
+    absent : Contains s.types ty → ⊥
+    absent there =
+        let (k, at) = get-there s.types ty there in
+        let first : k ≡ place = is_at.only k (keeps k ty at) in
+        let last : length s.types ≡ place = is_at.only (length s.types) (ap (λ ts. slice_get ts (length s.types)) more ∙ get-last s.types ty) in
+        omega (arith, first, last, slice_get_within s.types k ty at)
+
+pub type-there : {E : Type 0} (r : Result ℕ E) (v t : ModuleSoFar) → v ≡ t → (types : List FuncType) (ty : FuncType) → IfOk r (λ place. IsOnlyPlaceOfType types ty place)
+    → ((k : ℕ) (ty' : FuncType) → slice_get v.types k ≡ Some ty' → slice_get types k ≡ Some ty') → OnOk r ((types ≡ v.types) ⊎ (types ≡ v.types ++ ty ∷ [])) → OnOk r (HasType t (record v { types = types }) ty)
+type-there (Ok place) v t same types ty is_at keeps list = subst (λ (u : ModuleSoFar). HasType u (record v { types = types }) ty) same (has-type v types ty place is_at keeps list)
+type-there (Err e) v t same types ty is_at keeps list = tt
+
+-- ---- numbers of imports
+
+pub counted : (v t : ModuleSoFar) → v ≡ t → (gs ms fs : List ImportedItem) → IsIndexed v gs ms fs → (q : Sort) (n : ℕ) → n ≡ length (by_sort gs ms fs q) → n ≡ count_by (is_of q) t.section
+counted v t same gs ms fs h q n is =
+    is ∙ sym (length-map (by_sort gs ms fs q) known_as) ∙ ap length (sym (h.lists q)) ∙ sym (count-of q v.section v.imports h.same_length) ∙ ap (λ (u : ModuleSoFar). count_by (is_of q) u.section) same
+
+-- each function has a number
+pub all_numbered : (v t : ModuleSoFar) → v ≡ t → (gs ms fs : List ImportedItem) → IsIndexed v gs ms fs → length (functions_of t) + length t.functions < 2 ^ 32
+all_numbered v t same gs ms fs h = subst (λ (u : ModuleSoFar). length (functions_of u) + length u.functions < 2 ^ 32) same (omega (arith, h.numbered, length-map fs known_as, ap length (h.lists a_function)))

@@ -1,0 +1,177 @@
+-- The core definitions that adapters mention, and the import section that names them.
+use Rattle.std.specs.Prelude.{◌≡◌, ◌≢◌, ℕ, Bool, true, false, nat_eq, List, [], ◌∷◌, ◌++◌, AllPairs, Contains, Option, Some, None, slice_get, map, codes, count_by, if◌then◌else◌}
+use Rattle.std.specs.List.{list_any, flat_map, filter_map}
+use Rattle.std.specs.Fmt.{decimal}
+use Rattle.fact_wasm.specs.declared.types.ValType.{ValType}
+use Rattle.fact_wasm.specs.declared.types.ValType.TheVariants as val
+use Rattle.fact_wasm.specs.declared.types.FuncType.{FuncType}
+use Rattle.fact_wasm.specs.declared.instr.FuncName.{FuncName}
+use Rattle.fact_wasm.specs.declared.instr.FuncName.TheVariants as func
+use Rattle.fact_wasm.specs.declared.module.ImportType.{ImportType}
+use Rattle.fact_wasm.specs.declared.module.ImportType.TheVariants as import
+use Rattle.fact_wasm.specs.declared.module.WasmImport.{WasmImport}
+use Rattle.fact_wasm.specs.declared.module.WasmModule.{WasmModule}
+use Rattle.fact_types.specs.declared.outside.CoreDef.{CoreDef}
+use Rattle.fact_types.specs.declared.outside.CoreDef.TheVariants as def
+use Rattle.fact_types.specs.declared.outside.Trap.{Trap}
+use Rattle.fact_types.specs.declared.outside.Trap.TheVariants as trap
+use Rattle.fact_types.specs.declared.import.Import.{Import}
+use Rattle.fact_types.specs.declared.import.Import.TheVariants as known
+use Rattle.fact_types.specs.declared.outside.MemoryOption.{MemoryOption}
+use Rattle.fact_types.specs.Adapters.{LinkedAdapter, Side, is_wide, same_def}
+use Rattle.fact_types.specs.ImportTypes.{callback_type, post_return_type, realloc_type, trap_type}
+
+-- ---- what the adapters mention
+
+-- what a core definition is used as, with what its import is named and typed by
+pub data Role : Type 0 where
+  Flags : (instance : ℕ) → Role
+  Storage : (memory64 : Bool) → (page_size_log2 : ℕ) → Role
+  Realloc : (memory64 : Bool) → Role
+  Callback : Role
+  Callee : (adapter : List ℕ) → (ty : FuncType) → Role
+  PostReturn : (adapter : List ℕ) → (results : List ValType) → Role
+
+pub record Mention : Type 0 where
+  pub def : CoreDef
+  pub role : Role
+
+abbrev pub mention : Role → Option CoreDef → List Mention
+mention r None = []
+mention r (Some d) = record { def = d; role = r } ∷ []
+
+abbrev pub memory_mention : Option MemoryOption → List Mention
+memory_mention None = []
+memory_mention (Some m) = record { def = m.def; role = Storage m.memory64 m.page_size_log2 } ∷ []
+
+-- flags, memory, realloc and callback of a side
+abbrev pub side_mentions : Side → List Mention
+side_mentions s =
+    record { def = def.InstanceFlags (record { table = _; number = s.instance }); role = Flags s.instance }
+    ∷ (memory_mention s.memory ++ (mention (Realloc (is_wide s.memory)) s.realloc ++ mention Callback s.callback))
+
+-- the lift side's, the lower side's, the callee, the post-return
+abbrev pub adapter_mentions : LinkedAdapter → List Mention
+adapter_mentions a =
+    side_mentions a.lift
+    ++ (side_mentions a.lower ++ (record { def = a.callee; role = Callee a.name a.lift.core_type } ∷ mention (PostReturn a.name a.lift.core_type.results) a.lift.post_return))
+
+-- the definition is mentioned
+abbrev pub is_mentioned : CoreDef → List Mention → Bool
+is_mentioned d ms = list_any (λ m. same_def m.def d) ms
+
+-- a mention behind others, unless its definition is mentioned there
+abbrev pub with_mention : List Mention → Mention → List Mention
+with_mention ms m = if is_mentioned m.def ms then ms else ms ++ m ∷ []
+
+abbrev pub with_mentions : List Mention → List Mention → List Mention
+with_mentions ms [] = ms
+with_mentions ms (x ∷ xs) = with_mentions (with_mention ms x) xs
+
+-- the first mention of each definition, in order
+abbrev pub mentions : List LinkedAdapter → List Mention
+mentions adapters = with_mentions [] (flat_map adapter_mentions adapters)
+
+-- ---- how the import section names them
+
+-- the kinds of imports
+pub data Sort : Type 0 where
+  a_function : Sort
+  a_memory : Sort
+  a_global : Sort
+
+abbrev pub sort_of : ImportType → Sort
+sort_of (import.Func t) = a_function
+sort_of (import.Memory least wide page) = a_memory
+sort_of (import.Global t mutable) = a_global
+
+abbrev pub same_sort : Sort → Sort → Bool
+same_sort a_function a_function = true
+same_sort a_memory a_memory = true
+same_sort a_global a_global = true
+same_sort _ _ = false
+
+abbrev pub is_of : Sort → WasmImport → Bool
+is_of sort w = same_sort sort (sort_of w.ty)
+
+-- the type of an imported function, where these are the types of the module
+abbrev pub imported_type : List FuncType → ImportType → Option FuncType
+imported_type types (import.Func t) = slice_get types t
+imported_type types (import.Memory least wide page) = None
+imported_type types (import.Global t mutable) = None
+
+-- the import is a function with these names, of this type
+pub record IsImportedFunction (types : List FuncType) (w : WasmImport) (origin name : List ℕ) (ty : FuncType) : Type 0 where
+  pub is_from : w.module ≡ origin
+  pub is_named : w.name ≡ name
+  pub is_typed : imported_type types w.ty ≡ Some ty
+
+-- a page size is written down where it is not the usual one of 2 ^ 16 bytes
+abbrev pub custom_page_size : ℕ → Option ℕ
+custom_page_size k = if nat_eq k 16 then None else Some k
+
+-- the import, behind these others, is the one that stands for a definition of this role
+abbrev pub StandsFor : List FuncType → List WasmImport → Role → WasmImport → Type 0
+StandsFor types before (Flags i) w = w ≡ record { «module» = codes "flags"; name = codes "instance" ++ decimal i; ty = import.Global val.I32 true }
+StandsFor types before (Storage wide k) w = w ≡ record { «module» = codes "memory"; name = codes "m" ++ decimal (count_by (is_of a_memory) before); ty = import.Memory 0 wide (custom_page_size k) }
+StandsFor types before (Realloc wide) w =
+    IsImportedFunction types w (codes "realloc") (codes "f" ++ decimal (count_by (is_of a_function) before)) (realloc_type wide)
+StandsFor types before Callback w =
+    IsImportedFunction types w (codes "callback") (codes "f" ++ decimal (count_by (is_of a_function) before)) callback_type
+StandsFor types before (Callee adapter ty) w = IsImportedFunction types w (codes "callee") adapter ty
+StandsFor types before (PostReturn adapter results) w = IsImportedFunction types w (codes "post_return") adapter (post_return_type results)
+
+abbrev pub trap_number : Trap → ℕ
+trap_number trap.CannotLeaveComponent = 0
+trap_number trap.CannotEnterComponent = 1
+trap_number trap.MemoryOutOfBounds = 2
+trap_number trap.StringOutOfBounds = 3
+trap_number trap.ListOutOfBounds = 4
+trap_number trap.UnalignedPointer = 5
+trap_number trap.InvalidChar = 6
+trap_number trap.InvalidDiscriminant = 7
+trap_number trap.UncaughtException = 8
+trap_number trap.DebugAssertPointerAligned = 9
+trap_number trap.DebugAssertUpperBitsUnset = 10
+trap_number trap.DebugAssertStringEncodingFinished = 11
+trap_number trap.DebugAssertEqualCodeUnits = 12
+
+abbrev pub IsTrap : List FuncType → Trap → WasmImport → Type 0
+IsTrap types t w = IsImportedFunction types w (codes "runtime") (codes "trap" ++ decimal (trap_number t)) trap_type
+
+-- The import, behind these others, has the names and the type of what it is: a core definition those of the role in which it is
+-- mentioned. Adapters that are built so far import nothing else.
+abbrev pub IsNamed : List FuncType → List Mention → List WasmImport → WasmImport → Import → Type 0
+IsNamed types ms before w (known.CoreDef d) = (role : Role) × Contains ms (record { def = d; role = role }) × StandsFor types before role w
+IsNamed types ms before w (known.Trap t) = IsTrap types t w
+IsNamed types ms before w _ = ⊥
+
+-- The imports `ws`, behind `before`, are what `is` says, one by one.
+abbrev pub AreNamed : List FuncType → List Mention → List WasmImport → List WasmImport → List Import → Type 0
+AreNamed types ms before [] [] = Unit {0}
+AreNamed types ms before (w ∷ ws) (i ∷ is) = IsNamed types ms before w i × AreNamed types ms (before ++ w ∷ []) ws is
+AreNamed types ms before [] (i ∷ is) = ⊥
+AreNamed types ms before (w ∷ ws) [] = ⊥
+
+abbrev pub def_of : Import → Option CoreDef
+def_of (known.CoreDef d) = Some d
+def_of _ = None
+
+-- The import section names these imports: the core definitions among them are, in order, those that the adapters mention, each
+-- import has the names and the type of what it is, nothing is imported twice, and no type stands twice.
+pub record NamesImports (m : WasmModule) (is : List Import) (adapters : List LinkedAdapter) : Type 0 where
+  pub defs : filter_map def_of is ≡ map (λ r. r.def) (mentions adapters)
+  pub named : AreNamed m.types (mentions adapters) [] m.imports is
+  pub once : AllPairs (λ i j. i ≢ j) is
+  pub signatures : AllPairs (λ t u. t ≢ u) m.types
+
+-- ---- what an index of the module names
+
+-- the imports of a kind, in order
+abbrev pub imports_of : Sort → List WasmImport → List Import → List Import
+imports_of sort (w ∷ ws) (i ∷ is) = if is_of sort w then i ∷ imports_of sort ws is else imports_of sort ws is
+imports_of sort _ _ = []
+
+abbrev pub imported_function : WasmModule → List Import → FuncName → Option Import
+imported_function m is (func.Import k) = slice_get (imports_of a_function m.imports is) k
+imported_function m is (func.Defined k) = None

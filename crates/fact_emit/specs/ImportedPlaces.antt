@@ -1,0 +1,20 @@
+-- Where a module has what it imports.
+use Rattle.std.specs.Prelude.{◌≡◌, ℕ, Some, slice_get}
+use Rattle.std.specs.List.{filter_map}
+use Rattle.fact_entity.specs.declared.id.Id.{Id}
+use Rattle.fact_entity.specs.declared.table.RuntimeComponentInstances.{RuntimeComponentInstances}
+use Rattle.fact_machine.specs.Typed.{type_of_global, type_of_memory}
+use Rattle.fact_types.specs.declared.outside.CoreDef.{CoreDef}
+use Rattle.fact_types.specs.declared.outside.CoreDef.TheVariants as def
+use Rattle.fact_types.specs.declared.import.Import.{Import}
+use Rattle.fact_types.specs.declared.import.Import.TheVariants as known
+use Rattle.fact_moves.specs.Running.{ImportPlaces}
+use Rattle.fact_emit.specs.States.{ModuleSoFar, functions_of, globals_of, memories_of}
+
+-- The places are those at which the module imports what is named.
+pub record AreImportPlaces (s : ModuleSoFar) (p : ImportPlaces) : Type 0 where
+  pub functions : (i : Import) (n : ℕ) → slice_get (functions_of s) n ≡ Some i → p.function i ≡ n
+  pub memories : (d : CoreDef) (n : ℕ) → slice_get (memories_of s) n ≡ Some (known.CoreDef d) → p.memory d ≡ n
+  pub flags : (i : Id RuntimeComponentInstances) (n : ℕ) → slice_get (globals_of s) n ≡ Some (known.CoreDef (def.InstanceFlags i)) → p.flags i.number ≡ n
+  pub memory_types : p.memory_types ≡ filter_map type_of_memory s.section
+  pub global_types : p.global_types ≡ filter_map type_of_global s.section

@@ -1,0 +1,91 @@
+-- The parts of a module that is being made, and what the calls on them change.
+use Rattle.std.specs.Prelude.{◌≡◌, ℕ, ◌⊎◌, List, [], ◌∷◌, ◌++◌, Some, Contains, length, slice_get, codes}
+use Rattle.std.specs.Fmt.{decimal}
+use Rattle.fact_wasm.specs.declared.types.FuncType.{FuncType}
+use Rattle.fact_wasm.specs.declared.module.ImportType.{ImportType}
+use Rattle.fact_wasm.specs.declared.module.ImportType.TheVariants as import
+use Rattle.fact_wasm.specs.declared.module.WasmImport.{WasmImport}
+use Rattle.fact_wasm.specs.declared.module.WasmFunc.{WasmFunc}
+use Rattle.fact_wasm.specs.declared.module.WasmExport.{WasmExport}
+use Rattle.fact_wasm.specs.declared.module.WasmModule.{WasmModule}
+use Rattle.fact_wasm.specs.declared.instr.FuncName.{FuncName}
+use Rattle.fact_wasm.specs.declared.instr.FuncName.TheVariants as func
+use Rattle.fact_types.specs.declared.outside.Trap.{Trap}
+use Rattle.fact_types.specs.declared.import.Import.{Import}
+use Rattle.fact_types.specs.declared.import.Import.TheVariants as known
+use Rattle.fact_types.specs.ImportTypes.{trap_type}
+use Rattle.fact_emit.specs.declared.imported.ImportedItem.{ImportedItem}
+use Rattle.fact_emit.specs.declared.imported.ImportedItem.TheVariants as item
+use Rattle.fact_emit.specs.ImportSection.{a_function, a_memory, a_global, imports_of, sort_of, trap_number}
+
+-- The sections of a module so far, and what its imports are.
+pub record ModuleSoFar : Type 0 where
+  pub types : List FuncType
+  pub section : List WasmImport
+  pub imports : List Import
+  pub functions : List WasmFunc
+  pub exports : List WasmExport
+
+abbrev pub nothing_so_far : ModuleSoFar
+nothing_so_far = record { types = []; section = []; imports = []; functions = []; exports = [] }
+
+abbrev pub module_of : ModuleSoFar → WasmModule
+module_of s = record { types = s.types; imports = s.section; funcs = s.functions; exports = s.exports }
+
+-- the imported functions, memories and globals, in order
+abbrev pub functions_of : ModuleSoFar → List Import
+functions_of s = imports_of a_function s.section s.imports
+
+abbrev pub memories_of : ModuleSoFar → List Import
+memories_of s = imports_of a_memory s.section s.imports
+
+abbrev pub globals_of : ModuleSoFar → List Import
+globals_of s = imports_of a_global s.section s.imports
+
+abbrev pub known_as : ImportedItem → Import
+known_as (item.Def d) = known.CoreDef d
+known_as (item.Trap t) = known.Trap t
+
+-- ---- steps
+
+abbrev pub import_as : List ℕ → List ℕ → ImportType → WasmImport
+import_as origin name ty = record { «module» = origin; name = name; ty = ty }
+
+abbrev pub export_as : List ℕ → FuncName → WasmExport
+export_as name func = record { name = name; func = func }
+
+-- one more function, under its name
+abbrev pub with_exported : ModuleSoFar → List ℕ → WasmFunc → ModuleSoFar
+with_exported s name f = record s { functions = s.functions ++ f ∷ []; exports = s.exports ++ export_as name (func.Defined (length s.functions)) ∷ [] }
+
+abbrev pub with_import : ModuleSoFar → WasmImport → Import → ModuleSoFar
+with_import s w i = record s { section = s.section ++ w ∷ []; imports = s.imports ++ i ∷ [] }
+
+-- Something is imported, as it was before among the imports of its kind, or anew behind the others, and has this place among
+-- the imports of its kind.
+pub record IsImported (old new : ModuleSoFar) (w : WasmImport) (i : Import) (place : ℕ) : Type 0 where
+  pub there : slice_get (imports_of (sort_of w.ty) new.section new.imports) place ≡ Some i
+  pub step :
+      ((new ≡ old) × Contains (imports_of (sort_of w.ty) old.section old.imports) i)
+      ⊎ ((new ≡ with_import old w i) × (Contains (imports_of (sort_of w.ty) old.section old.imports) i → ⊥))
+
+-- A type is among the types, as it was before, or anew behind the others.
+abbrev pub HasType : (old new : ModuleSoFar) → FuncType → Type 0
+HasType old new ty = (new ≡ old) ⊎ ((Contains old.types ty → ⊥) × (new ≡ record old { types = old.types ++ ty ∷ [] }))
+
+-- A trap is imported, and has this place among the imported functions.
+pub record IsTrapImported (old new : ModuleSoFar) (t : Trap) (place : ℕ) : Type 0 where
+  pub ty : ℕ
+  pub typed : ModuleSoFar
+  pub types : HasType old typed trap_type
+  pub ty_there : slice_get typed.types ty ≡ Some trap_type
+  pub imported : IsImported typed new (import_as (codes "runtime") (codes "trap" ++ decimal (trap_number t)) (import.Func ty)) (known.Trap t) place
+
+-- The functions that the module defines, and its exports, are the same.
+pub record KeepsDefined (old new : ModuleSoFar) : Type 0 where
+  pub functions : new.functions ≡ old.functions
+  pub exports : new.exports ≡ old.exports
+
+-- at most types were added
+abbrev pub OnlyTypesAdded : (old new : ModuleSoFar) → Type 0
+OnlyTypesAdded old new = new ≡ record old { types = new.types }

@@ -1,0 +1,455 @@
+//! The parts of a module that is being made.
+
+ghost use Rattle.std.specs.Prelude.{◌≡◌, ◌⊎◌, ◌+◌, ◌++◌, ◌∷◌, [], ◌<◌, ◌≤◌, ◌^◌, Contains, IsTrue, None, Some, position, slice_get, length, IfOk, IsFalse, OnErr, OnOk, codes, count_by};
+ghost use Rattle.std.specs.Fmt.{decimal};
+ghost use Rattle.fact_wasm.specs.CoreTypes.{signature};
+ghost use Rattle.fact_types.specs.ImportTypes.{trap_type};
+ghost use Rattle.fact_types.specs.declared.outside.Trap.{Trap as TrapSet};
+ghost use Rattle.fact_wasm.specs.declared.module.ImportType.TheVariants as import_type;
+ghost use Rattle.fact_types.specs.declared.import.Import.TheVariants as known;
+ghost use Rattle.fact_emit.specs.declared.imported.ImportedItem.TheVariants as variant;
+ghost use Rattle.fact_emit.specs.ImportSection.{a_function, a_memory, imported_type, is_of, trap_number as trap_number_of};
+ghost use Rattle.fact_emit.specs.Imports.{AreOnce, Extended, HasImport};
+ghost use Rattle.fact_emit.specs.State.{IsAdded, IsKept};
+ghost use Rattle.fact_emit.specs.States.{HasType, IsImported, IsTrapImported, OnlyTypesAdded, export_as, functions_of, import_as, known_as, module_of, nothing_so_far};
+
+use crate::imported::ImportedItem;
+use fact_entity::{EntityRef, FuncIndex, GlobalIndex, Interner, MemoryIndex};
+use fact_types::{CoreDef, Import, Trap};
+use fact_wasm::{
+    CoreTypes, FuncName, ImportType, OutOfMemory, Seq, Text, ValType, WasmExport, WasmFunc,
+    WasmImport, WasmModule,
+};
+use std::alloc::{AllocError, Global};
+use std::marker::Model;
+
+/// The most functions that a module has, imported and defined.
+const MOST_FUNCTIONS: usize = 4_294_967_295;
+
+/// The sections of a module that is being made, and what its imports are. Each type stands in them once, and so does each
+/// definition and each trap among the imports of its kind. A refusal leaves the imports as they were.
+#[derive(Drop)]
+pub struct ModuleState {
+    alloc: Global,
+    types: CoreTypes,
+    // The imports of each kind, in order.
+    globals: Interner<GlobalIndex, ImportedItem>,
+    memories: Interner<MemoryIndex, ImportedItem>,
+    functions: Interner<FuncIndex, ImportedItem>,
+    // The other sections: a module without types.
+    module: WasmModule,
+    // What the imports of the module are.
+    imports: Seq<Import>,
+}
+
+impl Model for ModuleState {
+    ghost use Rattle.fact_emit.specs.State.{IsIndexed};
+    ghost use Rattle.fact_emit.specs.States.{ModuleSoFar};
+    ghost use Rattle.fact_wasm.specs.contracts.instr.Instr as instr;
+    ghost use Rattle.std.specs.Coded.{codes as coded_as};
+
+    ghost Value = { ModuleSoFar };
+
+    ghost coded = { Prim.hlevel (coded_as, instr.the_row.coded) };
+
+    ghost view = { λ s. record { types = s.types; section = s.module.imports; imports = s.imports; functions = s.module.funcs; exports = s.module.exports } };
+
+    ghost invariant = { λ s. IsIndexed (record { types = s.types; section = s.module.imports; imports = s.imports; functions = s.module.funcs; exports = s.module.exports }) s.globals s.memories s.functions };
+}
+
+/// An import by its two names.
+fn import_named(
+    alloc: Global,
+    origin: &str,
+    name: &str,
+    ty: ImportType,
+) -> Result<WasmImport, OutOfMemory>
+    ensures { IfOk result (λ i. i ≡ import_as origin.now name.now ty) }
+{
+    let origin = Text::from_str(alloc, origin)?;
+    let name = Text::from_str(alloc, name)?;
+    Ok(WasmImport {
+        module: origin,
+        name,
+        ty,
+    })
+}
+
+/// Puts an import, and what it is, behind the others.
+fn push_import(
+    section: &mut Seq<WasmImport>,
+    imports: &mut Seq<Import>,
+    import: WasmImport,
+    known: Import,
+) -> Result<(), OutOfMemory>
+    ensures pushed { OnOk result ((section.new ≡ section.old ++ import ∷ []) × (imports.new ≡ imports.old ++ known ∷ [])) }
+    ensures refused { OnErr result ((section.new ≡ section.old) × (imports.new ≡ imports.old)) }
+{
+    if let Err(error) = section.push(import) {
+        drop(known);
+        return Err(error);
+    }
+    if let Err(error) = imports.push(known) {
+        drop(section.pop());
+        return Err(error);
+    }
+    Ok(())
+}
+
+/// Puts an item that is not among these, and its import, behind the others, and answers its place.
+fn add_import<K: EntityRef>(
+    section: &mut Seq<WasmImport>,
+    imports: &mut Seq<Import>,
+    items: &mut Interner<K, ImportedItem>,
+    item: ImportedItem,
+    import: WasmImport,
+) -> Result<u32, OutOfMemory>
+    requires { position (⟦<ImportedItem as PartialEq>⟧.eq item) items.old ≡ None }
+    ensures place { IfOk result (λ n. slice_get items.new n ≡ Some item) }
+    ensures added { OnOk result (IsAdded section.old section.new imports.old imports.new items.old items.new item import) }
+    ensures refused { OnErr result (IsKept section.old section.new imports.old imports.new items.old items.new) }
+{
+    let Ok(known) = item.import() else {
+        drop(import);
+        drop(item);
+        return Err(AllocError);
+    };
+    if let Err(error) = push_import(section, imports, import, known) {
+        drop(item);
+        return Err(error);
+    }
+    match items.add_new(item) {
+        Ok(place) => Ok(place.as_u32()),
+        Err(_) => {
+            drop(imports.pop());
+            drop(section.pop());
+            Err(AllocError)
+        }
+    }
+}
+
+/// The place of an item among these. A new one is put behind the others, and so is its import, where there is room.
+fn find_or_add<K: EntityRef>(
+    section: &mut Seq<WasmImport>,
+    imports: &mut Seq<Import>,
+    items: &mut Interner<K, ImportedItem>,
+    item: ImportedItem,
+    import: WasmImport,
+    has_room: bool,
+) -> Result<u32, OutOfMemory>
+    ensures place { IfOk result (λ n. slice_get items.new n ≡ Some item) }
+    ensures step { IsKept section.old section.new imports.old imports.new items.old items.new ⊎ (IsTrue has_room × IsAdded section.old section.new imports.old imports.new items.old items.new item import) }
+    ensures refused { OnErr result (IsKept section.old section.new imports.old imports.new items.old items.new) }
+{
+    if let Some(place) = items.find(&item) {
+        drop(item);
+        drop(import);
+        return Ok(place.as_u32());
+    }
+    if !has_room {
+        drop(item);
+        drop(import);
+        return Err(AllocError);
+    }
+    let place = add_import(section, imports, items, item, import)?;
+    Ok(place)
+}
+
+/// The number of a trap, by which its import is named.
+fn trap_number(trap: Trap) -> u32
+    ensures { result ≡ trap_number_of trap }
+{
+    match trap {
+        Trap::CannotLeaveComponent => 0,
+        Trap::CannotEnterComponent => 1,
+        Trap::MemoryOutOfBounds => 2,
+        Trap::StringOutOfBounds => 3,
+        Trap::ListOutOfBounds => 4,
+        Trap::UnalignedPointer => 5,
+        Trap::InvalidChar => 6,
+        Trap::InvalidDiscriminant => 7,
+        Trap::UncaughtException => 8,
+        Trap::DebugAssertPointerAligned => 9,
+        Trap::DebugAssertUpperBitsUnset => 10,
+        Trap::DebugAssertStringEncodingFinished => 11,
+        Trap::DebugAssertEqualCodeUnits => 12,
+    }
+}
+
+impl ModuleState {
+    /// Nothing is there yet. It takes no memory.
+    pub fn new(alloc: Global) -> ModuleState
+        ensures nothing { result ≡ nothing_so_far }
+        ensures once { AreOnce result }
+    {
+        ModuleState {
+            alloc,
+            types: CoreTypes::new(alloc),
+            globals: Interner::new(alloc),
+            memories: Interner::new(alloc),
+            functions: Interner::new(alloc),
+            module: WasmModule {
+                types: Seq::new(alloc),
+                imports: Seq::new(alloc),
+                funcs: Seq::new(alloc),
+                exports: Seq::new(alloc),
+            },
+            imports: Seq::new(alloc),
+        }
+    }
+
+    /// What allocates.
+    pub fn alloc(&self) -> Global {
+        self.alloc
+    }
+
+    /// The number of imported memories.
+    pub fn memory_count(&self) -> usize
+        ensures { result ≡ count_by (is_of a_memory) self.now.section }
+    {
+        self.memories.len()
+    }
+
+    /// The number of imported functions.
+    pub fn function_count(&self) -> usize
+        ensures { result ≡ count_by (is_of a_function) self.now.section }
+    {
+        self.functions.len()
+    }
+
+    /// The core function types so far.
+    pub fn core_types(&self) -> &CoreTypes
+        ensures { result.now ≡ self.now.types }
+    {
+        &self.types
+    }
+
+    /// The imports so far, as they stand in the module.
+    pub fn import_section(&self) -> &Seq<WasmImport>
+        ensures { result.now ≡ self.now.section }
+    {
+        &self.module.imports
+    }
+
+    /// What the imports so far are, in the same order.
+    pub fn imports(&self) -> &[Import]
+        ensures { result.now ≡ self.now.imports }
+    {
+        self.imports.as_slice()
+    }
+
+    /// The defined functions so far.
+    pub fn functions(&self) -> &Seq<WasmFunc>
+        ensures { result.now ≡ self.now.functions }
+    {
+        &self.module.funcs
+    }
+
+    /// The number of a core type, which comes last where it is new.
+    pub fn function(&mut self, params: &[ValType], results: &[ValType]) -> Result<u32, OutOfMemory>
+        ensures place { IfOk result (λ n. slice_get self.new.types n ≡ Some (signature params.now results.now)) }
+        ensures types { OnOk result (HasType self.old self.new (signature params.now results.now)) }
+        ensures keeps { Extended self.old self.new }
+        ensures once { AreOnce self.old → AreOnce self.new }
+        ensures refused { OnErr result (self.new ≡ self.old) }
+    {
+        self.types.function(params, results)
+    }
+
+    /// The place of a core definition among the imports of its kind. A new one is imported last, under these names, with this
+    /// type.
+    pub fn core_def(
+        &mut self,
+        def: &CoreDef,
+        module: &str,
+        name: &str,
+        ty: ImportType,
+    ) -> Result<u32, OutOfMemory>
+        ensures imported { IfOk result (λ place. IsImported self.old self.new (import_as «module».now name.now ty) (known.CoreDef def.now) place) }
+        ensures keeps { Extended self.old self.new }
+        ensures once { AreOnce self.old → AreOnce self.new }
+        ensures refused { OnErr result (self.new ≡ self.old) }
+    {
+        let Ok(def) = def.try_clone() else {
+            drop(ty);
+            return Err(AllocError);
+        };
+        let place = self.import(ImportedItem::Def(def), module, name, ty)?;
+        Ok(place)
+    }
+
+    /// The place of a trap among the imported functions. A new one is imported last.
+    pub fn trap(&mut self, trap: Trap) -> Result<u32, OutOfMemory>
+        ensures imported { IfOk result (λ place. IsTrapImported self.old self.new trap place) }
+        ensures place { IfOk result (λ place. HasImport self.new (known.Trap trap) place [] []) }
+        ensures keeps { Extended self.old self.new }
+        ensures once { AreOnce self.old → AreOnce self.new }
+        ensures refused { OnErr result (OnlyTypesAdded self.old self.new) }
+    {
+        let number = trap_number(trap);
+        let name = format!(in self.alloc; "trap{number}")?;
+        let ty = self.function(&[], &[])?;
+        let place = self.import_trap(trap, &name, ty)?;
+        Ok(place)
+    }
+
+    /// The place of a trap among the imported functions. A new one is imported last, under this name, with the type of this
+    /// number, which is that of traps.
+    fn import_trap(&mut self, trap: Trap, name: &str, ty: u32) -> Result<u32, OutOfMemory>
+        requires { slice_get self.old.types ty ≡ Some trap_type }
+        ensures imported { IfOk result (λ place. IsImported self.old self.new (import_as (codes "runtime") name.now (import_type.Func ty)) (known.Trap trap) place) }
+        ensures place { IfOk result (λ place. HasImport self.new (known.Trap trap) place [] []) }
+        ensures keeps { Extended self.old self.new }
+        ensures once { AreOnce self.old → AreOnce self.new }
+        ensures refused { OnErr result (self.new ≡ self.old) }
+    {
+        let place = self.import(
+            ImportedItem::Trap(trap),
+            "runtime",
+            name,
+            ImportType::Func(ty),
+        )?;
+        Ok(place)
+    }
+
+    /// Puts a function behind the others that the module defines, and answers its number among them. More functions than have
+    /// numbers are a want of memory.
+    pub fn define(&mut self, func: WasmFunc) -> Result<u32, OutOfMemory>
+        ensures number { IfOk result (λ n. n ≡ length self.old.functions) }
+        ensures defined { OnOk result (self.new ≡ record self.old { functions = self.old.functions ++ func ∷ [] }) }
+        ensures refused { OnErr result (self.new ≡ self.old) }
+    {
+        if self.is_full() {
+            drop(func);
+            return Err(AllocError);
+        }
+        let number = self.module.funcs.len();
+        self.module.funcs.push(func)?;
+        Ok(number as u32)
+    }
+
+    /// Exports a function under a name, behind the other exports.
+    pub fn export(&mut self, name: &str, func: FuncName) -> Result<(), OutOfMemory>
+        ensures exported { OnOk result (self.new ≡ record self.old { exports = self.old.exports ++ export_as name.now func ∷ [] }) }
+        ensures refused { OnErr result (self.new ≡ self.old) }
+    {
+        let name = Text::from_str(self.alloc, name)?;
+        self.module.exports.push(WasmExport { name, func })?;
+        Ok(())
+    }
+
+    /// A copy of the module so far.
+    pub fn copy(&self) -> Result<WasmModule, OutOfMemory>
+        ensures copy { IfOk result (λ m. m ≡ module_of self.now) }
+        ensures numbered { length (functions_of self.now) + length self.now.functions < 2 ^ 32 }
+    {
+        let WasmModule {
+            types: none,
+            imports,
+            funcs,
+            exports,
+        } = self.module.try_clone()?;
+        drop(none);
+        let Ok(types) = self.types.copied_types() else {
+            drop(imports);
+            drop(funcs);
+            drop(exports);
+            return Err(AllocError);
+        };
+        Ok(WasmModule {
+            types,
+            imports,
+            funcs,
+            exports,
+        })
+    }
+
+    /// The module, and what its imports are.
+    pub fn into_parts(self) -> (WasmModule, Seq<Import>)
+        ensures parts { (result.0 ≡ module_of self) × (result.1 ≡ self.imports) }
+        ensures numbered { length (functions_of self) + length self.functions < 2 ^ 32 }
+    {
+        let ModuleState {
+            types,
+            globals,
+            memories,
+            functions,
+            module,
+            imports,
+            ..
+        } = self;
+        drop(globals);
+        drop(memories);
+        drop(functions);
+        let WasmModule {
+            types: none,
+            imports: section,
+            funcs,
+            exports,
+        } = module;
+        drop(none);
+        let module = WasmModule {
+            types: types.into_types(),
+            imports: section,
+            funcs,
+            exports,
+        };
+        (module, imports)
+    }
+
+    /// Whether no further function has a number.
+    fn is_full(&self) -> bool
+        ensures { IsFalse result → length (functions_of self.now) + length self.now.functions + 1 < 2 ^ 32 }
+    {
+        self.functions.len() + self.module.funcs.len() >= MOST_FUNCTIONS
+    }
+
+    /// The place of an item among the imports of its kind. A new one is imported last, under these names, with this type. A trap
+    /// has the type of traps.
+    fn import(
+        &mut self,
+        item: ImportedItem,
+        origin: &str,
+        name: &str,
+        ty: ImportType,
+    ) -> Result<u32, OutOfMemory>
+        requires typed { (t : TrapSet) → item ≡ variant.Trap t → imported_type self.old.types ty ≡ Some trap_type }
+        ensures imported { IfOk result (λ place. IsImported self.old self.new (import_as origin.now name.now ty) (known_as item) place) }
+        ensures trap { IfOk result (λ place. (t : TrapSet) → item ≡ variant.Trap t → HasImport self.new (known.Trap t) place [] []) }
+        ensures keeps { Extended self.old self.new }
+        ensures once { AreOnce self.old → AreOnce self.new }
+        ensures refused { OnErr result (self.new ≡ self.old) }
+    {
+        let has_room = !self.is_full();
+        let Ok(import) = import_named(self.alloc, origin, name, ty) else {
+            drop(item);
+            return Err(AllocError);
+        };
+        match import.ty {
+            ImportType::Func(_) => find_or_add(
+                &mut self.module.imports,
+                &mut self.imports,
+                &mut self.functions,
+                item,
+                import,
+                has_room,
+            ),
+            ImportType::Memory { .. } => find_or_add(
+                &mut self.module.imports,
+                &mut self.imports,
+                &mut self.memories,
+                item,
+                import,
+                true,
+            ),
+            ImportType::Global { .. } => find_or_add(
+                &mut self.module.imports,
+                &mut self.imports,
+                &mut self.globals,
+                item,
+                import,
+                true,
+            ),
+        }
+    }
+}
