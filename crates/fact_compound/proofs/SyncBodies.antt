@@ -1,0 +1,383 @@
+-- The code that was written for a sync adapter does the adapter's action.
+use Rattle.std.proofs.Common.{◌≡◌, ℕ, ◌≤◌, Bool, true, false, List, [], ◌∷◌, ◌++◌, Option, Some, None, refl, sym, ap, ◌∙◌, subst, arith, length, reverse, slice_get}
+use Rattle.std.specs.Prelude.{is_some, nat_eq}
+use Rattle.fact_wasm.specs.declared.types.ValType.{ValType}
+use Rattle.fact_wasm.specs.declared.types.ValType.TheVariants as val
+use Rattle.fact_wasm.specs.declared.instr.Instr.{Instr}
+use Rattle.fact_wasm.specs.declared.module.WasmModule.{WasmModule}
+use Rattle.fact_types.specs.Adapters.{LinkedAdapter, is_wide}
+use Rattle.fact_types.specs.Signatures.{address, flat_values, flat_or, unless_flat, lift_by, lower_by}
+use Rattle.fact_types.specs.Shapes.{Shape}
+use Rattle.fact_types.specs.Tables.{Tables}
+use Rattle.fact_types.specs.declared.import.Import.TheVariants as import
+use Rattle.fact_machine.specs.Machine.{have_types}
+use Rattle.fact_machine.specs.declared.types.CoreValue.{CoreValue}
+use Rattle.fact_moves.specs.Adapters.{AdapterTunables, sync, lower_signature_of, lift_signature_of, last_bits, move_params, move_results}
+use Rattle.fact_moves.specs.Running.{ImportPlaces}
+use Rattle.fact_moves.specs.Sides.{options_of, first_bits}
+use Rattle.fact_pieces.specs.Does.{Locals, Onward, held_types, Does}
+use Rattle.fact_pieces.specs.Knows.{KnowsFunction}
+use Rattle.fact_pieces.specs.PieceLaws.{HaveResultTypes}
+use Rattle.fact_pieces.specs.Typed.{OnStack, IsTyped}
+use Rattle.fact_machine.specs.Typing.{address_type}
+use Rattle.fact_pieces.specs.Places.{Slot, InLocals, ToLocals, FromUsed, ToUsed, AreHeld, AreLocals, AreUsed, KeepsLocals}
+use Rattle.fact_pieces.proofs.Blocks.{weaker}
+use Rattle.fact_pieces.proofs.Rules.{within}
+use Rattle.fact_emit.specs.Places.{AreDistinctSlots, TargetTaken, HasDistinctSlots, Using}
+use Rattle.fact_compound.specs.Described.{DescribesAdapter, LinksAdapter, HasResultMemory, linear_of}
+use Rattle.fact_compound.specs.Passing.{last_local, results_from, results_to, tuple_size}
+use Rattle.fact_compound.specs.Syncs.{lower_type_of, EmitsSync}
+use Rattle.fact_emit.specs.declared.writer.Writer.{Writer}
+use Rattle.fact_emit.proofs.Emitting.{emits_as}
+use Rattle.fact_compound.specs.Written.{SyncPlaces, parts_of, IsSyncCode, kept_slots, written_slots, CoreLocals, HasLocals, WrittenSync}
+use Rattle.fact_compound.specs.declared.adapters.AdapterData.{AdapterData}
+use Rattle.fact_compound.proofs.Addresses.{pointed, pointed_local, last_slot, last_value}
+use Rattle.fact_compound.proofs.Flats.{AreFlat, are_flat}
+use Rattle.fact_compound.proofs.KeptLocals.{equal_back, among_front, among_self, among_used, used_front, used_behind, used_by, locals_front, locals_behind, distinct_front, distinct_behind, unused_behind, unused_front, unused_rest, unused_both, used_both, none_of}
+use Rattle.fact_compound.specs.Passed.{ParamsCode}
+use Rattle.fact_pieces.proofs.TypingLaws.{typed_done}
+use Rattle.fact_compound.proofs.PassedOnCode.{same_flats, passes_on}
+use Rattle.fact_compound.proofs.ParamMoves.{params_moved, params_typed}
+use Rattle.fact_compound.proofs.ResultMoves.{IsPassed, IsReached, Pointed, ResultLocals, results_moved, results_typed}
+use Rattle.fact_compound.proofs.Slots.{held_parts, slots_long, values_long, keeps_less}
+use Rattle.fact_compound.proofs.SyncTyping.{typed_sync}
+use Rattle.fact_compound.proofs.SyncSteps.{among, slot_types, AreUnused, SyncLocals, SyncImports, syncs, held_have_types}
+
+-- ---- signatures
+
+some_of : {X : Type 0} (o : Option X) → is_some o ≡ true → (x : X) × (o ≡ Some x)
+some_of None h = let no : false ≡ true = h in absurd (cc)
+some_of (Some x) h = (x, refl)
+
+lift_params_are : (a : LinkedAdapter) {gs : List ValType} → a.lift.async_side ≡ false → flat_values (is_wide a.lift.memory) 16 a.lift.params ≡ Some gs → (lift_signature_of a).params ≡ gs
+lift_params_are a sync e =
+    ap (λ b. (lift_by b (is_some a.lift.callback) (is_wide a.lift.memory) a.lift.params a.lift.results).params) sync ∙ ap (flat_or (address (is_wide a.lift.memory) ∷ [])) e
+
+lift_results_are : (a : LinkedAdapter) → a.lift.async_side ≡ false → (lift_signature_of a).results ≡ flat_or (address (is_wide a.lift.memory) ∷ []) (flat_values (is_wide a.lift.memory) 1 a.lift.results)
+lift_results_are a sync = ap (λ b. (lift_by b (is_some a.lift.callback) (is_wide a.lift.memory) a.lift.params a.lift.results).results) sync
+
+lower_results_are : (a : LinkedAdapter) → a.lower.async_side ≡ false → (lower_signature_of a).results ≡ flat_or [] (flat_values (is_wide a.lower.memory) 1 a.lower.results)
+lower_results_are a sync = ap (λ b. (lower_by b (is_wide a.lower.memory) a.lower.params a.lower.results).results) sync
+
+no_slots : (ss : List Slot) → slot_types ss ≡ [] → ss ≡ []
+no_slots [] e = refl
+no_slots (s ∷ ss) e = cc
+
+one_held : (ls : Locals) (ss : List Slot) (vs : List CoreValue) (t : ValType) → slot_types ss ≡ t ∷ [] → AreHeld ls ss vs → (v : CoreValue) × (vs ≡ v ∷ [])
+one_held ls [] vs t e h = cc
+one_held ls (s ∷ r ∷ ss) vs t e h = cc
+one_held ls (s ∷ []) [] t e h = absurd h
+one_held ls (s ∷ []) (v ∷ []) t e h = (v, refl)
+one_held ls (s ∷ []) (v ∷ w ∷ vs) t e h = absurd h.1
+
+-- at most one where they are flat or an address
+few_results : (m : Bool) (o : Option (List ValType)) (ts : List ValType) (ss : List Slot) → length ts ≤ 1 → ((fs : List ValType) → o ≡ Some fs → length fs ≤ 1) → slot_types ss ≡ flat_or ts o → length ss ≤ 1
+few_results m None ts ss few h e = omega (arith, sym (slots_long ss) ∙ ap length e, few)
+few_results m (Some fs) ts ss few h e = omega (arith, sym (slots_long ss) ∙ ap length e, h fs refl)
+
+flat_few : (m : Bool) (limit : ℕ) {ss : List Shape} (fs : List ValType) → AreFlat m limit ss fs → length fs ≤ limit
+flat_few m limit fs f = omega (arith, ap length f.are ∙ values_long _, f.few)
+
+module _ {t : Tables} {d : AdapterData} {debug : Bool} {u : AdapterTunables} {a : LinkedAdapter} (h : DescribesAdapter t d debug u a) {M : WasmModule} {p : ImportPlaces} {locals : List ValType} {taken : ℕ → Bool} (links : LinksAdapter M p d a) (l : SyncPlaces) (room : HasLocals a l taken locals)
+    (lift_size : tuple_size (linear_of d.lift).memory64 a.lift.results ≤ 4294967295) (lower_size : tuple_size (linear_of d.lower).memory64 a.lower.results ≤ 4294967295) {code : List Instr}
+    (k : IsSyncCode d debug l taken a.lower.params a.lower.results a.lift.params a.lift.results M p locals code) where
+  abbrev kept : ℕ → Bool
+  kept = among (kept_slots l)
+
+  abbrev others : List Slot
+  others = written_slots l.passed l
+
+  -- the callee's results are kept too while they are moved
+  abbrev kept_given : ℕ → Bool
+  kept_given = among (kept_slots l ++ l.given)
+
+  args_typed : AreLocals locals l.args
+  args_typed = locals_front locals l.args _ (locals_front locals (kept_slots l) others room.typed)
+
+  flags_typed : AreLocals locals ((l.saved, val.I32) ∷ (l.lift_saved, val.I32) ∷ [])
+  flags_typed = locals_behind locals l.args _ (locals_front locals (kept_slots l) others room.typed)
+
+  others_typed : AreLocals locals others
+  others_typed = locals_behind locals (kept_slots l) others room.typed
+
+  others_unused : AreUnused kept others
+  others_unused = unused_behind (kept_slots l) others room.distinct
+
+  flags_unused : AreUnused (among l.args) ((l.saved, val.I32) ∷ (l.lift_saved, val.I32) ∷ [])
+  flags_unused = unused_behind l.args _ (distinct_front (kept_slots l) others room.distinct)
+
+  flags_kept : AreUsed kept ((l.saved, val.I32) ∷ (l.lift_saved, val.I32) ∷ [])
+  flags_kept = used_behind kept l.args _ (among_self (kept_slots l))
+
+  args_kept : AreUsed kept l.args
+  args_kept = used_front kept l.args _ (among_self (kept_slots l))
+
+  others_distinct : AreDistinctSlots others
+  others_distinct = distinct_behind (kept_slots l) others room.distinct
+
+  all_used : AreUsed taken (kept_slots l)
+  all_used = used_front taken (kept_slots l) others room.used
+
+  others_used : AreUsed taken others
+  others_used = used_behind taken (kept_slots l) others room.used
+
+  -- the locals of results
+  outs_by : (P : List Slot → Type 0) → ((xs ys : List Slot) → P (xs ++ ys) → P ys) → (b : Bool) → P (written_slots b l) → P (l.given ++ l.results)
+  outs_by P behind false h = behind l.core (l.given ++ l.results) h
+  outs_by P behind true h = h
+
+  outs_typed : AreLocals locals (l.given ++ l.results)
+  outs_typed = outs_by (λ ss. AreLocals locals ss) (locals_behind locals) l.passed others_typed
+
+  given_typed : AreLocals locals l.given
+  given_typed = locals_front locals l.given l.results outs_typed
+
+  outs_unused : AreUnused kept (l.given ++ l.results)
+  outs_unused = outs_by (λ ss. AreUnused kept ss) (unused_rest kept) l.passed others_unused
+
+  outs_distinct : AreDistinctSlots (l.given ++ l.results)
+  outs_distinct = outs_by (λ ss. AreDistinctSlots ss) distinct_behind l.passed others_distinct
+
+  outs_used : AreUsed taken (l.given ++ l.results)
+  outs_used = outs_by (λ ss. AreUsed taken ss) (used_behind taken) l.passed others_used
+
+  all_locals : SyncLocals (parts_of d l k.may_leave) l.args kept locals
+  all_locals = record {
+    args_used = args_kept;
+    saved_used = flags_kept.0;
+    lift_saved_used = flags_kept.1.0;
+    saved_apart = none_of l.saved l.args flags_unused.0;
+    lift_saved_apart = none_of l.lift_saved l.args flags_unused.1.0;
+    flags_apart = apart;
+    saved_typed = flags_typed.0;
+    lift_saved_typed = flags_typed.1.0;
+    given_typed = given_typed;
+    given_unused = unused_front kept l.given l.results outs_unused;
+    given_distinct = distinct_front l.given l.results outs_distinct;
+  }
+    where
+      apart : nat_eq l.lift_saved l.saved ≡ false
+      apart = equal_back l.saved l.lift_saved (distinct_behind l.args _ (distinct_front (kept_slots l) others room.distinct)).0.0
+
+  -- ---- the parameters
+
+  params_local : AreLocals locals l.params
+  params_local = locals_front locals l.params room.rest (subst (λ ss. AreLocals locals ss) room.args args_typed)
+
+  -- what the code of the parameters does, and the locals of the callee's parameters
+  abbrev ParamsPart : Type 0
+  ParamsPart =
+      ((ls : Locals) (args : List CoreValue) → held_types ls ≡ locals → AreHeld ls l.args args → Does M p Onward 384 0 [] ls k.params (move_params u a args) (λ vs. []) (λ vs ls'. AreHeld ls' l.core vs × KeepsLocals kept ls ls'))
+      × IsTyped M locals [] k.params [] (OnStack []) × (slot_types l.core ≡ (lift_signature_of a).params) × AreLocals locals l.core
+
+  params_part : (b : Bool) → CoreLocals b a l → AreLocals locals (written_slots b l) → AreUnused kept (written_slots b l) → AreUsed taken (written_slots b l) → AreDistinctSlots (written_slots b l)
+      → ParamsCode b d debug l.params l.core taken a.lower.params a.lift.params M p locals k.params → ParamsPart
+  params_part false core typed unused used distinct moves =
+      let (fs, e) = some_of (flat_values (is_wide a.lower.memory) 16 a.lower.params) h.lower_flat in
+      let (gs, f) = some_of (flat_values (is_wide a.lift.memory) 16 a.lift.params) h.lift_flat in
+      let core_local : AreLocals locals l.core = locals_front locals l.core (l.given ++ l.results) typed in
+      let using : Using taken kept (InLocals l.params) (ToLocals l.core) = record {
+        within = among_used taken (kept_slots l) all_used;
+        from = used_front kept l.params room.rest (subst (λ ss. AreUsed kept ss) room.args args_kept);
+        to = tt;
+        target = used_front taken l.core (l.given ++ l.results) used;
+        distinct = distinct_front l.core (l.given ++ l.results) distinct;
+      } in
+      let types : slot_types l.params ≡ fs = room.params_types ∙ ap (flat_or (address (is_wide a.lower.memory) ∷ [])) e in
+      let core_flat : slot_types l.core ≡ gs = core ∙ lift_params_are a h.lift.sync f in (
+        λ ls args held there. params_moved h l.params room.rest l.core moves e f types core_flat params_local core_local (unused_front kept l.core (l.given ++ l.results) unused) using ls args held (subst (λ ss. AreHeld ls ss args) room.args there),
+        params_typed h l.params l.core moves e f types core_flat params_local core_local using,
+        core,
+        core_local,
+      )
+  params_part true core typed unused used distinct none =
+      let (fs, e) = some_of (flat_values (is_wide a.lower.memory) 16 a.lower.params) h.lower_flat in
+      let (gs, f) = some_of (flat_values (is_wide a.lift.memory) 16 a.lift.params) h.lift_flat in
+      let types : slot_types l.params ≡ fs = room.params_types ∙ ap (flat_or (address (is_wide a.lower.memory) ∷ [])) e in (
+        λ ls args held there.
+            subst (λ ss. Does M p Onward 384 0 [] ls k.params (move_params u a args) (λ vs. []) (λ vs ls'. AreHeld ls' ss vs × KeepsLocals kept ls ls')) (sym core.0)
+            (subst (λ c. Does M p Onward 384 0 [] ls c (move_params u a args) (λ vs. []) (λ vs ls'. AreHeld ls' l.params vs × KeepsLocals kept ls ls')) (sym none)
+            (within (omega arith) (passes_on u a kept l.params room.rest ls args h.lower.sync core.1 e f types (subst (λ ss. AreHeld ls ss args) room.args there)))),
+        subst (λ c. IsTyped M locals [] c [] (OnStack [])) (sym none) typed_done,
+        ap slot_types core.0 ∙ types ∙ same_flats a core.1 e f ∙ sym (lift_params_are a h.lift.sync f),
+        subst (λ ss. AreLocals locals ss) (sym core.0) params_local,
+      )
+
+  parts : ParamsPart
+  parts = params_part l.passed room.core others_typed others_unused others_used others_distinct k.moves_params
+
+  all_imports : SyncImports M p a (parts_of d l k.may_leave)
+  all_imports = record {
+    lower_flags = links.lower.flags;
+    lift_flags = links.lift.flags;
+    may_leave = k.has;
+    callee = subst (λ ts. KnowsFunction M p (import.CoreDef a.callee) d.callee.number ts (lift_signature_of a).results) (sym parts.2) links.callee;
+    given = room.given_types;
+  }
+
+  -- ---- the results
+
+  abbrev lift_flats : Option (List ValType)
+  lift_flats = flat_values (is_wide a.lift.memory) 1 a.lift.results
+
+  abbrev lower_flats : Option (List ValType)
+  lower_flats = flat_values (is_wide a.lower.memory) 1 a.lower.results
+
+  given_are : slot_types l.given ≡ flat_or (address (is_wide a.lift.memory) ∷ []) lift_flats
+  given_are = room.given_types ∙ lift_results_are a h.lift.sync
+
+  results_are_flat : slot_types l.results ≡ flat_or [] lower_flats
+  results_are_flat = room.results_types ∙ lower_results_are a h.lower.sync
+
+  given_kept : AreUsed kept_given l.given
+  given_kept = used_behind kept_given (kept_slots l) l.given (among_self (kept_slots l ++ l.given))
+
+  args_kept_given : AreUsed kept_given l.args
+  args_kept_given = used_by (among_front (kept_slots l) l.given) l.args args_kept
+
+  rest_kept : AreUsed kept_given room.rest
+  rest_kept = used_behind kept_given l.params room.rest (subst (λ ss. AreUsed kept_given ss) room.args args_kept_given)
+
+  rest_typed : AreLocals locals room.rest
+  rest_typed = locals_behind locals l.params room.rest (subst (λ ss. AreLocals locals ss) room.args args_typed)
+
+  lift_passed : (flats : Option (List ValType)) → HasResultMemory M p d.lift a.lift flats → slot_types l.given ≡ flat_or (address (is_wide a.lift.memory) ∷ []) flats → (ls : Locals) (rs : List CoreValue) → AreHeld ls l.given rs
+      → IsPassed flats M p (options_of a.lift) (linear_of d.lift) locals kept_given ls (last_local l.given) (first_bits rs)
+  lift_passed (Some fs) m e ls rs g = record { by = tt }
+  lift_passed None m e ls rs g = record {
+    by = (m, subst (λ b. Pointed b locals kept_given ls (last_local l.given) (first_bits rs)) h.lift.wide (pointed (is_wide a.lift.memory) locals kept_given ls l.given rs e given_typed given_kept g));
+  }
+
+  lower_passed : (flats : Option (List ValType)) → HasResultMemory M p d.lower a.lower flats → slot_types room.rest ≡ unless_flat (address (is_wide a.lower.memory) ∷ []) flats → (ls : Locals) (args : List CoreValue) → AreHeld ls l.args args
+      → IsPassed flats M p (options_of a.lower) (linear_of d.lower) locals kept_given ls (last_local l.args) (last_bits args)
+  lower_passed (Some fs) m e ls args g = record { by = tt }
+  lower_passed None m e ls args g =
+      let parts = held_parts ls l.params room.rest args (subst (λ ss. AreHeld ls ss args) room.args g) in
+      let (v, one) = one_held ls room.rest parts.rest (address (is_wide a.lower.memory)) e parts.in_rest in
+      let there : last_local l.args ≡ last_local room.rest = ap last_local room.args ∙ last_slot l.params room.rest (address (is_wide a.lower.memory)) e in
+      let is : last_bits args ≡ first_bits parts.rest = ap last_bits parts.all ∙ last_value parts.front parts.rest v one in
+      let point = pointed (is_wide a.lower.memory) locals kept_given ls room.rest parts.rest e rest_typed rest_kept parts.in_rest in
+      record {
+        by = (
+          m,
+          subst (λ b. Pointed b locals kept_given ls (last_local l.args) (last_bits args)) h.lower.wide
+              (subst (λ i. Pointed (is_wide a.lower.memory) locals kept_given ls i (last_bits args)) (sym there) (subst (λ n. Pointed (is_wide a.lower.memory) locals kept_given ls (last_local room.rest) n) (sym is) point)),
+        );
+      }
+
+  last_used : (u : ℕ → Bool) (ss : List Slot) (t : ValType) → slot_types ss ≡ t ∷ [] → AreUsed u ss → u (last_local ss) ≡ true
+  last_used u [] t e h = cc
+  last_used u (s ∷ []) t e h = h.0
+  last_used u (s ∷ r ∷ ss) t e h = cc
+
+  from_kept : (flats : Option (List ValType)) (flat : Bool) → flat ≡ is_some flats → slot_types l.given ≡ flat_or (address (is_wide a.lift.memory) ∷ []) flats → FromUsed kept_given (results_from (linear_of d.lift) flat l.given)
+  from_kept flats true f e = given_kept
+  from_kept (Some fs) false f e = absurd (let no : false ≡ true = f in cc)
+  from_kept None false f e = last_used kept_given l.given (address (is_wide a.lift.memory)) e given_kept
+
+  to_kept : (flats : Option (List ValType)) (flat : Bool) → flat ≡ is_some flats → slot_types room.rest ≡ unless_flat (address (is_wide a.lower.memory) ∷ []) flats → ToUsed kept_given (results_to (linear_of d.lower) flat l.results l.args)
+  to_kept flats true f e = tt
+  to_kept (Some fs) false f e = absurd (let no : false ≡ true = f in cc)
+  to_kept None false f e =
+      ap kept_given (ap last_local room.args ∙ last_slot l.params room.rest (address (is_wide a.lower.memory)) e) ∙ last_used kept_given room.rest (address (is_wide a.lower.memory)) e rest_kept
+
+  to_taken : (flat : Bool) → TargetTaken taken (results_to (linear_of d.lower) flat l.results l.args)
+  to_taken true = used_behind taken l.given l.results outs_used
+  to_taken false = tt
+
+  to_distinct : (flat : Bool) → HasDistinctSlots (results_to (linear_of d.lower) flat l.results l.args)
+  to_distinct true = distinct_behind l.given l.results outs_distinct
+  to_distinct false = tt
+
+  lift_flat_is : is_some (flat_values (linear_of d.lift).memory64 1 a.lift.results) ≡ is_some lift_flats
+  lift_flat_is = ap (λ m. is_some (flat_values m 1 a.lift.results)) (sym h.lift.wide)
+
+  lower_flat_is : is_some (flat_values (linear_of d.lower).memory64 1 a.lower.results) ≡ is_some lower_flats
+  lower_flat_is = ap (λ m. is_some (flat_values m 1 a.lower.results)) (sym h.lower.wide)
+
+  result_locals : ResultLocals a lift_flats lower_flats l.given l.results locals kept_given
+  result_locals = record {
+    lift_is = refl;
+    lower_is = refl;
+    given_types = λ ts e. given_are ∙ ap (flat_or (address (is_wide a.lift.memory) ∷ [])) e;
+    results_types = λ ts e. results_are_flat ∙ ap (flat_or []) e;
+    no_results = λ e. no_slots l.results (results_are_flat ∙ ap (flat_or []) e);
+    given_typed = given_typed;
+    results_typed = locals_behind locals l.given l.results outs_typed;
+    results_unused = unused_both (kept_slots l) l.given l.results (unused_rest kept l.given l.results outs_unused) (unused_behind l.given l.results outs_distinct);
+  }
+
+  results_local : AreLocals locals l.results
+  results_local = locals_behind locals l.given l.results outs_typed
+
+  results_using : Using taken kept_given (results_from (linear_of d.lift) (is_some (flat_values (linear_of d.lift).memory64 1 a.lift.results)) l.given) (results_to (linear_of d.lower) (is_some (flat_values (linear_of d.lower).memory64 1 a.lower.results)) l.results l.args)
+  results_using = record {
+    within = among_used taken (kept_slots l ++ l.given) (used_both taken (kept_slots l) l.given all_used (used_front taken l.given l.results outs_used));
+    from = from_kept lift_flats (is_some (flat_values (linear_of d.lift).memory64 1 a.lift.results)) lift_flat_is given_are;
+    to = to_kept lower_flats (is_some (flat_values (linear_of d.lower).memory64 1 a.lower.results)) lower_flat_is room.rest_types;
+    target = to_taken (is_some (flat_values (linear_of d.lower).memory64 1 a.lower.results));
+    distinct = to_distinct (is_some (flat_values (linear_of d.lower).memory64 1 a.lower.results));
+  }
+
+  results_do : (args : List CoreValue) (ls : Locals) (rs : List CoreValue) → held_types ls ≡ locals → AreHeld ls l.args args → AreHeld ls l.given rs
+      → Does M p Onward 464 0 [] ls k.results (move_results u a rs (last_bits args)) (λ vs. []) (λ vs ls'. AreHeld ls' l.results vs × KeepsLocals kept ls ls')
+  results_do args ls rs held there g =
+      let r = k.moves_results in
+      weaker (λ vs. refl) (λ vs ls' x. (x.0, keeps_less (among_front (kept_slots l) l.given) x.1))
+      (subst (λ c. Does M p Onward 464 0 [] ls c (move_results u a rs (last_bits args)) (λ vs. []) (λ vs ls'. AreHeld ls' l.results vs × KeepsLocals kept_given ls ls')) (sym r.is)
+      (results_moved h r.lift_check r.lower_check r.move lift_flats lower_flats (is_some (flat_values (linear_of d.lift).memory64 1 a.lift.results)) (is_some (flat_values (linear_of d.lower).memory64 1 a.lower.results)) l.given l.results l.args lift_flat_is lower_flat_is result_locals lift_size lower_size r.checks_lift r.checks_lower r.moves
+      results_using ls rs (last_bits args) held given_kept g (lift_passed lift_flats links.lift.memory given_are ls rs g) (lower_passed lower_flats links.lower.memory room.rest_types ls args there)))
+
+  lift_reached : (flats : Option (List ValType)) → HasResultMemory M p d.lift a.lift flats → slot_types l.given ≡ flat_or (address (is_wide a.lift.memory) ∷ []) flats → IsReached flats M p (options_of a.lift) (linear_of d.lift) locals (last_local l.given)
+  lift_reached (Some fs) m e = record { by = tt }
+  lift_reached None m e = record { by = (m, subst (λ b. slice_get locals (last_local l.given) ≡ Some (address_type b)) h.lift.wide (pointed_local (is_wide a.lift.memory) locals l.given e given_typed)) }
+
+  lower_reached : (flats : Option (List ValType)) → HasResultMemory M p d.lower a.lower flats → slot_types room.rest ≡ unless_flat (address (is_wide a.lower.memory) ∷ []) flats → IsReached flats M p (options_of a.lower) (linear_of d.lower) locals (last_local l.args)
+  lower_reached (Some fs) m e = record { by = tt }
+  lower_reached None m e =
+      let there : last_local l.args ≡ last_local room.rest = ap last_local room.args ∙ last_slot l.params room.rest (address (is_wide a.lower.memory)) e in
+      record { by = (m, ap (slice_get locals) there ∙ subst (λ b. slice_get locals (last_local room.rest) ≡ Some (address_type b)) h.lower.wide (pointed_local (is_wide a.lower.memory) locals room.rest e rest_typed)) }
+
+  results_code_typed : IsTyped M locals [] k.results [] (OnStack [])
+  results_code_typed =
+      let r = k.moves_results in
+      subst (λ c. IsTyped M locals [] c [] (OnStack [])) (sym r.is)
+      (results_typed h r.lift_check r.lower_check r.move lift_flats lower_flats (is_some (flat_values (linear_of d.lift).memory64 1 a.lift.results)) (is_some (flat_values (linear_of d.lower).memory64 1 a.lower.results)) l.given l.results l.args lift_flat_is lower_flat_is result_locals lift_size lower_size r.checks_lift r.checks_lower r.moves
+      results_using (lift_reached lift_flats links.lift.memory given_are) (lower_reached lower_flats links.lower.memory room.rest_types))
+
+  -- ---- the whole
+
+  -- The code does the adapter's action, in at most 900 steps beside those of the weight, and leaves results of their types.
+  pub sync_does : (args : List CoreValue) (ls : Locals) → held_types ls ≡ locals → AreHeld ls l.args args → Does M p Onward 900 0 [] ls code (sync u a args) reverse (HaveResultTypes (lower_type_of a))
+  sync_does args ls held there =
+      let s = parts_of d l k.may_leave in
+      let (gs, f) = some_of (flat_values (is_wide a.lift.memory) 16 a.lift.params) h.lift_flat in
+      let core : length l.core ≤ 16 = omega (arith, sym (slots_long l.core) ∙ ap length (parts.2 ∙ lift_params_are a h.lift.sync f), flat_few (is_wide a.lift.memory) 16 gs (are_flat (is_wide a.lift.memory) 16 a.lift.params gs f)) in
+      let given : length l.given ≤ 1 = few_results (is_wide a.lift.memory) lift_flats (address (is_wide a.lift.memory) ∷ []) l.given (omega arith) (λ fs e. flat_few (is_wide a.lift.memory) 1 fs (are_flat (is_wide a.lift.memory) 1 a.lift.results fs e)) given_are in
+      let results : length l.results ≤ 1 = few_results (is_wide a.lower.memory) lower_flats [] l.results (omega arith) (λ fs e. flat_few (is_wide a.lower.memory) 1 fs (are_flat (is_wide a.lower.memory) 1 a.lower.results fs e)) results_are_flat in
+      weaker (λ vs. refl) (λ vs ls' x. ap (have_types vs) (sym room.results_types) ∙ held_have_types ls' l.results vs x)
+      (subst (λ c. Does M p Onward 900 0 [] ls c (sync u a args) reverse (λ vs ls'. AreHeld ls' l.results vs)) (sym k.is)
+      (within (omega (arith, core, given, results)) (syncs u a s args all_imports all_locals (λ ls e g. parts.0 ls args e g) (λ ls rs e g g'. results_do args ls rs e g g') ls h.untold h.alone h.no_post_return held there)))
+
+  -- It is typed, with the results on the stack.
+  pub sync_typed : IsTyped M locals [] code [] (OnStack (reverse (lower_signature_of a).results))
+  sync_typed =
+      subst (λ ts. IsTyped M locals [] code [] (OnStack (reverse ts))) room.results_types
+      (subst (λ c. IsTyped M locals [] c [] (OnStack (reverse (slot_types l.results)))) (sym k.is)
+      (typed_sync a (parts_of d l k.may_leave) all_imports all_locals parts.3 results_local parts.1 results_code_typed))
+
+-- what was written for a sync adapter does its action
+pub sync_emits : {t : Tables} {d : AdapterData} {debug : Bool} (l : SyncPlaces) {old new : Writer} → WrittenSync t d debug l old new → EmitsSync t d debug l old new
+sync_emits l w = record {
+  grew = w.grew;
+  emits = λ u a h.
+      let lower = h.lower.signature in
+      let lift = h.lift.signature in
+      let lift_size = w.lift_size a.lift.params a.lift.results lift in
+      let lower_size = w.lower_size a.lower.params a.lower.results lower in
+      emits_as (λ M p locals code k. record {
+        does = λ links room args ls held there. sync_does h links l room lift_size lower_size k args ls held there;
+        typed = λ links room. sync_typed h links l room lift_size lower_size k;
+      })
+      (w.emits a.lower.params a.lower.results a.lift.params a.lift.results lower lift h.params h.results);
+}

@@ -1,0 +1,148 @@
+-- The body of a sync adapter over locals that were added for it.
+use Rattle.std.proofs.Common.{◌≡◌, ℕ, ◌+◌, Bool, true, false, List, [], ◌∷◌, ◌++◌, Option, Some, None, refl, sym, ap, ◌∙◌, subst, arith, append_assoc, length, map, slice_get, reverse}
+use Rattle.std.specs.Prelude.{is_some}
+use Rattle.fact_wasm.specs.declared.instr.Instr.{Instr}
+use Rattle.fact_wasm.specs.declared.types.ValType.{ValType}
+use Rattle.fact_wasm.specs.declared.types.ValType.TheVariants as val
+use Rattle.fact_wasm.specs.declared.module.WasmModule.{WasmModule}
+use Rattle.fact_types.specs.Adapters.{LinkedAdapter, is_wide}
+use Rattle.fact_types.specs.Shapes.{Shape}
+use Rattle.fact_types.specs.Signatures.{address, flat_values, flat_params, unless_flat, lower_by}
+use Rattle.fact_types.specs.Tables.{Tables}
+use Rattle.fact_types.specs.declared.signature.Signature.{Signature}
+use Rattle.fact_machine.specs.Trace.{Grows}
+use Rattle.fact_machine.specs.declared.types.CoreValue.{CoreValue}
+use Rattle.fact_moves.specs.Adapters.{AdapterTunables, sync, lower_signature_of, lift_signature_of}
+use Rattle.fact_moves.specs.Running.{ImportPlaces}
+use Rattle.fact_pieces.specs.Does.{Locals, Onward, held_types, Does}
+use Rattle.fact_pieces.specs.PieceLaws.{HaveResultTypes}
+use Rattle.fact_pieces.specs.Places.{Slot, AreHeld, AreLocals, AreUsed}
+use Rattle.fact_pieces.specs.Typed.{OnStack, IsTyped}
+use Rattle.fact_emit.specs.Brought.{Brought}
+use Rattle.fact_emit.specs.Emits.{Later}
+use Rattle.fact_emit.specs.Imports.{Extended, AreOnce, Serves}
+use Rattle.fact_emit.specs.Places.{AreDistinctSlots, slots_of_locals}
+use Rattle.fact_emit.specs.States.{ModuleSoFar}
+use Rattle.fact_emit.specs.Writers.{AreNumberTypes, types_of_locals, used_local_of, is_local_in_use, taken_in}
+use Rattle.fact_emit.specs.declared.writer.Local.{Local}
+use Rattle.fact_emit.specs.declared.writer.Writer.{Writer}
+use Rattle.fact_emit.proofs.BroughtLaws.{brought_between}
+use Rattle.fact_emit.proofs.ImportLaws.{grown_get, grows_none, grows_on}
+use Rattle.fact_emit.proofs.Locals.{get_map}
+use Rattle.fact_compound.specs.Described.{DescribesAdapter, LinksAdapter}
+use Rattle.fact_compound.specs.Functions.{slots_from, AddedSyncLocals, PutBody, DoesBody, WroteBody, places_with, sync_types, params_among, added_slots, unless_passed}
+use Rattle.fact_compound.specs.Syncs.{DoesSync, EmitsSync, lower_type_of}
+use Rattle.fact_compound.specs.Code.{slot_types}
+use Rattle.fact_compound.specs.PassedOn.{ArePassedOn}
+use Rattle.fact_compound.specs.Written.{CoreLocals, HasLocals, all_slots, kept_slots}
+use Rattle.fact_types.specs.Functions.{HasSignature}
+use Rattle.fact_compound.proofs.Runs.{numbers_append, numbers_front, numbers_behind}
+use Rattle.fact_compound.specs.declared.adapters.AdapterData.{AdapterData}
+use Rattle.fact_compound.specs.declared.functions.AdapterLocals.{AdapterLocals}
+use Rattle.fact_compound.proofs.SlotsFrom.{same_place, locals_from, used_from, distinct_from, used_types, IsSplit, split}
+
+-- the parameters of a sync lower side
+lower_params_are : (a : LinkedAdapter) → a.lower.async_side ≡ false
+    → (lower_signature_of a).params ≡ flat_params (is_wide a.lower.memory) 16 a.lower.params ++ unless_flat (address (is_wide a.lower.memory) ∷ []) (flat_values (is_wide a.lower.memory) 1 a.lower.results)
+lower_params_are a sync = ap (λ b. (lower_by b (is_wide a.lower.memory) a.lower.params a.lower.results).params) sync
+
+-- the callee's parameters in their own locals, or in those of the parameters
+core_are : (b : Bool) (a : LinkedAdapter) (l : AdapterLocals) (lift : Signature) (params : List Slot) → slot_types (slots_of_locals l.core.items) ≡ unless_passed b lift.params → lift ≡ lift_signature_of a → (b ≡ true → ArePassedOn a.lower.params a.lift.params) → CoreLocals b a (places_with b l params)
+core_are false a l lift params e lift_is f = e ∙ ap (λ (s : Signature). s.params) lift_is
+core_are true a l lift params e lift_is f = (refl, f refl)
+
+no_slots : (ss : List Slot) → slot_types ss ≡ [] → ss ≡ []
+no_slots [] e = refl
+no_slots (s ∷ ss) e = cc
+
+slots_are_added : (b : Bool) (l : AdapterLocals) (lift : Signature) (params : List Slot) → slot_types (slots_of_locals l.core.items) ≡ unless_passed b lift.params → all_slots (places_with b l params) ≡ added_slots l
+slots_are_added false l lift params e = refl
+slots_are_added true l lift params e =
+    ap (λ cs. kept_slots (places_with true l params) ++ (cs ++ (slots_of_locals l.given.items ++ slots_of_locals l.results.items))) (sym (no_slots (slots_of_locals l.core.items) e))
+
+-- types of numbers without those of the callee's parameters
+numbers_less : (b : Bool) (lower lift : Signature) → AreNumberTypes (sync_types false lower lift) → AreNumberTypes (sync_types b lower lift)
+numbers_less false lower lift h = h
+numbers_less true lower lift h =
+    let front : List ValType = lower.params ++ val.I32 ∷ val.I32 ∷ [] in
+    let rest : List ValType = lift.results ++ lower.results in
+    numbers_append front rest (numbers_front front (lift.params ++ rest) h) (numbers_behind lift.params rest (numbers_behind front (lift.params ++ rest) h))
+
+module _ {t : Tables} {d : AdapterData} {debug : Bool} (passed : Bool) (are : passed ≡ true → (ps rs qs ss : List Shape) → HasSignature t d.lower.ty ps rs → HasSignature t d.lift.ty qs ss → ArePassedOn ps qs)
+    {lower lift : Signature} {a0 b c : Writer} {l : AdapterLocals} (no_code : a0.code.items ≡ []) (no_locals : a0.locals.items ≡ []) (x : AddedSyncLocals passed a0 b lower lift l) (y : PutBody t d debug passed l b c) where
+  abbrev types : List ValType
+  types = sync_types passed lower lift
+
+  added_locals : b.locals.items ≡ map used_local_of types
+  added_locals = x.added.locals ∙ ap (λ ls. ls ++ map used_local_of types) no_locals
+
+  types_are : types_of_locals b ≡ types
+  types_are = ap (map (λ (l : Local). l.ty)) added_locals ∙ used_types types
+
+  start : length a0.locals.items ≡ 0
+  start = ap length no_locals
+
+  all_are : all_slots (places_with passed l y.params) ≡ slots_from 0 types
+  all_are = slots_are_added passed l lift y.params x.core_types ∙ x.added.slots_are ∙ ap (λ k. slots_from k types) start
+
+  args_are : slots_of_locals l.args.items ≡ slots_from 0 lower.params
+  args_are = x.args ∙ ap (λ k. slots_from k lower.params) start
+
+  all_typed : AreLocals (types_of_locals c) (all_slots (places_with passed l y.params))
+  all_typed = subst (λ ss. AreLocals (types_of_locals c) ss) (sym all_are) (locals_from (types_of_locals c) 0 types (λ i u e. ap (slice_get (types_of_locals c)) (same_place i) ∙ grown_get y.put.grew.locals i u (ap (λ ts. slice_get ts i) types_are ∙ e)))
+
+  all_used : AreUsed (taken_in b) (all_slots (places_with passed l y.params))
+  all_used =
+      subst (λ ss. AreUsed (taken_in b) ss) (sym all_are) (used_from (taken_in b) 0 types (λ i u e.
+      ap (taken_in b) (same_place i) ∙ ap (λ ls. is_local_in_use (slice_get ls i)) added_locals ∙ ap is_local_in_use (get_map used_local_of types i u e)))
+
+  all_distinct : AreDistinctSlots (all_slots (places_with passed l y.params))
+  all_distinct = subst (λ ss. AreDistinctSlots ss) (sym all_are) (distinct_from 0 types)
+
+  module _ {u : AdapterTunables} {a : LinkedAdapter} (h : DescribesAdapter t d debug u a) (lower_is : lower ≡ lower_signature_of a) (lift_is : lift ≡ lift_signature_of a) where
+    pointed : IsSplit (flat_values (is_wide a.lower.memory) 1 a.lower.results) (address (is_wide a.lower.memory)) (flat_params (is_wide a.lower.memory) 16 a.lower.params) (slots_of_locals l.args.items) y.params
+    pointed =
+        split (flat_values (is_wide a.lower.memory) 1 a.lower.results) (address (is_wide a.lower.memory)) (flat_params (is_wide a.lower.memory) 16 a.lower.params) (slots_of_locals l.args.items) y.params
+        (args_are ∙ ap (slots_from 0) (ap (λ (s : Signature). s.params) lower_is ∙ lower_params_are a h.lower.sync)) (y.split a.lower.params a.lower.results h.lower.signature h.results.to_counted (is_wide a.lower.memory))
+
+    room : HasLocals a (places_with passed l y.params) (taken_in b) (types_of_locals c)
+    room = record {
+      rest = pointed.rest;
+      args = pointed.args_are;
+      params_types = pointed.params_types;
+      rest_types = pointed.rest_types;
+      core = core_are passed a l lift y.params x.core_types lift_is (λ e. are e a.lower.params a.lower.results a.lift.params a.lift.results h.lower.signature h.lift.signature);
+      given_types = x.given_types ∙ ap (λ (s : Signature). s.results) lift_is;
+      results_types = x.results_types ∙ ap (λ (s : Signature). s.results) lower_is;
+      typed = all_typed;
+      used = all_used;
+      distinct = all_distinct;
+    }
+
+    body_does : (M : WasmModule) (p : ImportPlaces) → Serves M p c.imports → LinksAdapter M p d a → DoesBody u a M p (types_of_locals c) c.code.items
+    body_does M p serves links =
+        let e = y.put.emits u a h in
+        let later : Later c M p (types_of_locals c) = record { serves = serves; begin = grows_none refl } in
+        let m = e.does M p (types_of_locals c) later in
+        let code : c.code.items ≡ e.grew.added = e.grew.code ∙ ap (λ k. k ++ e.grew.added) (x.added.code ∙ no_code) in
+        let there : slots_of_locals l.args.items ≡ slots_from 0 (lower_signature_of a).params = args_are ∙ ap (λ (s : Signature). slots_from 0 s.params) lower_is in
+        record {
+          does = λ args ls held h'. subst (λ k. Does M p Onward 900 0 [] ls k (sync u a args) reverse (HaveResultTypes (lower_type_of a))) (sym code) (m.does links room args ls held (subst (λ ss. AreHeld ls ss args) (sym there) h'));
+          typed = subst (λ k. IsTyped M (types_of_locals c) [] k [] (OnStack (reverse (lower_signature_of a).results))) (sym code) (m.typed links room);
+        }
+
+  -- The body was written, with its locals.
+  pub wrote_body : WroteBody t d debug lower lift a0 c
+  wrote_body =
+      let g = y.put.grew in
+      let body : c.code.items ≡ g.added = g.code ∙ ap (λ k. k ++ g.added) (x.added.code ∙ no_code) in
+      let first : Grows lower.params (lower.params ++ val.I32 ∷ val.I32 ∷ []) = record { more = val.I32 ∷ val.I32 ∷ []; is = refl } in
+      let second : Grows (lower.params ++ val.I32 ∷ val.I32 ∷ []) types = record { more = unless_passed passed lift.params ++ (lift.results ++ lower.results); is = refl } in
+      record {
+        imports = subst (λ s. Extended s c.imports) x.added.imports y.put.grew.imports;
+        once = λ o. y.put.grew.once (subst AreOnce (sym x.added.imports) o);
+        brought = brought_between x.added.imports refl (subst (Brought b.imports c.imports) (sym body) y.put.grew.brought);
+        params = grows_on first (grows_on second (subst (λ ts. Grows ts (types_of_locals c)) types_are y.put.grew.locals));
+        numbers = λ n. y.put.grew.numbers (subst (λ ts. AreNumberTypes ts) (sym types_are) (numbers_less passed lower lift n));
+        is = λ u a h lower_is lift_is M p serves links. body_does h lower_is lift_is M p serves links;
+      }

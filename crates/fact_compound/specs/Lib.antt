@@ -1,0 +1,9 @@
+pub mod Code
+pub mod Described
+pub mod Functions
+pub mod Passed
+pub mod PassedOn
+pub mod Passing
+pub mod Placed
+pub mod Syncs
+pub mod Written

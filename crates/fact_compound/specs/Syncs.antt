@@ -1,0 +1,57 @@
+-- What is said of the function of a sync adapter.
+use Rattle.std.specs.Prelude.{◌≡◌, ℕ, Bool, true, List, [], reverse, Some, slice_get}
+use Rattle.fact_wasm.specs.declared.module.WasmFunc.{WasmFunc}
+use Rattle.fact_wasm.specs.declared.module.WasmModule.{WasmModule}
+use Rattle.fact_wasm.specs.declared.types.FuncType.{FuncType}
+use Rattle.fact_types.specs.Adapters.{LinkedAdapter}
+use Rattle.fact_types.specs.Tables.{Tables}
+use Rattle.fact_machine.specs.Exits.{entry_locals}
+use Rattle.fact_machine.specs.Typed.{are_values}
+use Rattle.fact_machine.specs.Typing.{is_typed_function}
+use Rattle.fact_machine.specs.declared.types.CoreValue.{CoreValue}
+use Rattle.fact_moves.specs.Adapters.{AdapterTunables, sync, lower_signature_of}
+use Rattle.fact_moves.specs.Running.{ImportPlaces}
+use Rattle.fact_pieces.specs.Typed.{OnStack, IsTyped}
+use Rattle.fact_pieces.specs.Does.{Locals, Onward, held_types, Does}
+use Rattle.fact_pieces.specs.Places.{AreHeld}
+use Rattle.fact_pieces.specs.PieceLaws.{HaveResultTypes}
+use Rattle.fact_wasm.specs.declared.instr.Instr.{Instr}
+use Rattle.fact_wasm.specs.declared.types.ValType.{ValType}
+use Rattle.fact_emit.specs.Emits.{Grew, Emits}
+use Rattle.fact_emit.specs.Writers.{taken_in}
+use Rattle.fact_emit.specs.declared.writer.Writer.{Writer}
+use Rattle.fact_compound.specs.Written.{SyncPlaces, HasLocals}
+use Rattle.fact_emit.specs.Imports.{Extended, Serves}
+use Rattle.fact_emit.specs.States.{ModuleSoFar}
+use Rattle.fact_compound.specs.Described.{DescribesAdapter, LinksAdapter}
+use Rattle.fact_compound.specs.declared.adapters.AdapterData.{AdapterData}
+
+-- the core type of the function that an adapter gives its lower side
+abbrev pub lower_type_of : LinkedAdapter → FuncType
+lower_type_of a = record { params = (lower_signature_of a).params; results = (lower_signature_of a).results }
+
+-- In a module that has what the function asks for: for typed arguments its body does the adapter's action and leaves the results
+-- on the stack, in at most 900 steps for the adapter and for each unit of weight; and its operands have their types.
+pub record IsSyncFunction (u : AdapterTunables) (a : LinkedAdapter) (M : WasmModule) (p : ImportPlaces) (f : WasmFunc) : Type 0 where
+  pub does : (args : List CoreValue) → are_values args (lower_signature_of a).params ≡ true → Does M p Onward 900 0 [] (entry_locals f args) f.body (sync u a args) reverse (HaveResultTypes (lower_type_of a))
+  pub typed : slice_get M.types f.ty ≡ Some (lower_type_of a) → is_typed_function M f ≡ true
+
+-- A function was written, and what it asks for was imported: it is that of every adapter that the data describe, in every later
+-- module that has what was imported so far and in which the adapter's own parts have their places.
+pub record WritesSync (t : Tables) (d : AdapterData) (debug : Bool) (old new : ModuleSoFar) (f : WasmFunc) : Type 0 where
+  pub imports : Extended old new
+  pub is : (u : AdapterTunables) (a : LinkedAdapter) → DescribesAdapter t d debug u a → (M : WasmModule) (p : ImportPlaces) → Serves M p new → LinksAdapter M p d a → IsSyncFunction u a M p f
+
+-- ---- the body as it is written
+
+-- In a module in which the adapter's parts have their places, and a function with these locals, the code does the adapter's action
+-- with the arguments that its locals hold. It is typed, with the results on the stack.
+pub record DoesSync (u : AdapterTunables) (a : LinkedAdapter) (d : AdapterData) (l : SyncPlaces) (taken : ℕ → Bool) (M : WasmModule) (p : ImportPlaces) (locals : List ValType) (code : List Instr) : Type 0 where
+  pub does : LinksAdapter M p d a → HasLocals a l taken locals → (args : List CoreValue) (ls : Locals) → held_types ls ≡ locals → AreHeld ls l.args args
+      → Does M p Onward 900 0 [] ls code (sync u a args) reverse (HaveResultTypes (lower_type_of a))
+  pub typed : LinksAdapter M p d a → HasLocals a l taken locals → IsTyped M locals [] code [] (OnStack (reverse (lower_signature_of a).results))
+
+-- Code was written that does so, for every adapter that the data describe.
+pub record EmitsSync (t : Tables) (d : AdapterData) (debug : Bool) (l : SyncPlaces) (old new : Writer) : Type 0 where
+  pub grew : Grew old new
+  pub emits : (u : AdapterTunables) (a : LinkedAdapter) → DescribesAdapter t d debug u a → Emits old new (DoesSync u a d l (taken_in old))

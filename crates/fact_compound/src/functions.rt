@@ -1,0 +1,284 @@
+//! Whole functions of adapters.
+
+ghost use Rattle.std.specs.Prelude.{IfOk, OnOk, ◌≡◌, ◌-◌, ◌<◌, ◌++◌, ◌∷◌, [], false, drop, length, map, take};
+ghost use Rattle.fact_machine.specs.Typing.{local_types};
+ghost use Rattle.fact_emit.specs.Places.{slots_of_locals};
+ghost use Rattle.fact_emit.specs.States.{functions_of};
+ghost use Rattle.fact_emit.specs.declared.writer.Local as local_is;
+ghost use Rattle.fact_compound.specs.Functions.{AddedLocals, AddedSyncLocals, core_slots, unless_passed, PutBody, WroteBody, WroteFunction, CompiledSync, params_among};
+
+use crate::adapters::{AdapterData, AdapterOptions};
+use crate::passing::are_passed_on;
+use crate::syncs::{SyncLocals, put_sync};
+use crate::tuples::{are_flat_results, tuples_of};
+use fact_builder::ComponentTypesBuilder;
+use fact_emit::places::TypedLocal;
+use fact_emit::state::ModuleState;
+use fact_emit::writer::{Local, Writer};
+use fact_types::{ComponentTypes, SideSig, Signature};
+use fact_wasm::{FuncName, Instr, OutOfMemory, Seq, ValType, WasmFunc};
+use std::alloc::Global;
+use std::mem;
+
+/// The locals of a sync adapter, as `SyncLocals` has them.
+#[derive(Drop)]
+pub struct AdapterLocals {
+    pub args: Vec<TypedLocal>,
+    pub saved: u32,
+    pub lift_saved: u32,
+    pub core: Vec<TypedLocal>,
+    pub given: Vec<TypedLocal>,
+    pub results: Vec<TypedLocal>,
+}
+
+/// Adds a local of each of these types behind the others.
+fn add_locals(w: &mut Writer, types: &[ValType]) -> Result<Vec<TypedLocal>, OutOfMemory>
+    ensures { IfOk result (λ locals. AddedLocals w.old w.new types.now (slots_of_locals locals.items)) }
+{
+    let mut locals = Vec::new(w.alloc);
+    for (at, ty) in types.iter().enumerate() {
+        let local = w.add_local(*ty)?;
+        locals.push(TypedLocal { local, ty: *ty })?;
+    }
+    Ok(locals)
+}
+
+/// The types of the callee's parameters that need locals of their own.
+fn core_types(types: &[ValType], passed: bool) -> &[ValType]
+    ensures { result.now ≡ unless_passed passed types.now }
+{
+    if passed { &types[..0] } else { types }
+}
+
+/// Adds the locals of a sync adapter, by the core signatures of its sides.
+fn add_sync_locals(
+    w: &mut Writer,
+    lower: &Signature,
+    lift: &Signature,
+    passed: bool,
+) -> Result<AdapterLocals, OutOfMemory>
+    ensures { IfOk result (λ l. AddedSyncLocals passed w.old w.new lower.now lift.now l) }
+{
+    let args = add_locals(w, lower.params.as_slice())?;
+    let saved = w.add_local(ValType::I32)?;
+    let lift_saved = w.add_local(ValType::I32)?;
+    let core = add_locals(w, core_types(lift.params.as_slice(), passed))?;
+    let given = add_locals(w, lift.results.as_slice())?;
+    let results = add_locals(w, lower.results.as_slice())?;
+    Ok(AdapterLocals {
+        args,
+        saved,
+        lift_saved,
+        core,
+        given,
+        results,
+    })
+}
+
+/// All locals but the last one.
+fn all_but_last(locals: &[TypedLocal]) -> &[TypedLocal]
+    ensures { result.now ≡ take (length locals.now - 1) locals.now }
+{
+    &locals[..locals.len().saturating_sub(1)]
+}
+
+/// The arguments without the return pointer, which there is where results are not flat.
+fn params_of(args: &[TypedLocal], flat: bool) -> &[TypedLocal]
+    ensures { slots_of_locals result.now ≡ params_among flat (slots_of_locals args.now) }
+{
+    if flat { args } else { all_but_last(args) }
+}
+
+/// The locals of the callee's parameters.
+fn core_of<'a>(passed: bool, params: &'a [TypedLocal], core: &'a [TypedLocal]) -> &'a [TypedLocal]
+    ensures { slots_of_locals result.now ≡ core_slots passed (slots_of_locals params.now) (slots_of_locals core.now) }
+{
+    if passed { params } else { core }
+}
+
+/// Writes the code of a sync adapter over its locals.
+fn put_body(
+    types: &ComponentTypes,
+    w: &mut Writer,
+    adapter: &AdapterData,
+    debug: bool,
+    passed: bool,
+    locals: &AdapterLocals,
+) -> Result<(), OutOfMemory>
+    requires lower_live { adapter.now.lower.ty.number < length types.now.functions }
+    requires lift_live { adapter.now.lift.ty.number < length types.now.functions }
+    requires callee { adapter.now.callee.number < length (functions_of w.old.imports) }
+    ensures { OnOk result (PutBody types.now adapter.now debug passed locals.now w.old w.new) }
+{
+    let (_, results) = tuples_of(types, adapter.lower.ty);
+    let flat = are_flat_results(types, results);
+    let params = params_of(locals.args.as_slice(), flat);
+    let places = SyncLocals {
+        passed,
+        args: locals.args.as_slice(),
+        params,
+        saved: locals.saved,
+        lift_saved: locals.lift_saved,
+        core: core_of(passed, params, locals.core.as_slice()),
+        given: locals.given.as_slice(),
+        results: locals.results.as_slice(),
+    };
+    put_sync(types, w, adapter, debug, places)?;
+    Ok(())
+}
+
+/// Writes the body of a sync adapter, with its locals, in a writer without locals and code.
+fn write_body(
+    types: &ComponentTypes,
+    w: &mut Writer,
+    adapter: &AdapterData,
+    debug: bool,
+    lower: &Signature,
+    lift: &Signature,
+) -> Result<(), OutOfMemory>
+    requires lower_live { adapter.now.lower.ty.number < length types.now.functions }
+    requires lift_live { adapter.now.lift.ty.number < length types.now.functions }
+    requires callee { adapter.now.callee.number < length (functions_of w.old.imports) }
+    requires no_code { w.old.code.items ≡ [] }
+    requires no_locals { w.old.locals.items ≡ [] }
+    ensures { OnOk result (WroteBody types.now adapter.now debug lower.now lift.now w.old w.new) }
+{
+    let passed = are_passed_on(types, adapter.lower.ty, adapter.lift.ty);
+    let locals = add_sync_locals(w, lower, lift, passed)?;
+    put_body(types, w, adapter, debug, passed, &locals)?;
+    Ok(())
+}
+
+/// Puts a local behind runs of locals: into the last run, where that is of its type.
+fn add_run(runs: &mut Seq<(u32, ValType)>, ty: ValType) -> Result<(), OutOfMemory>
+    ensures { OnOk result (local_types runs.new ≡ local_types runs.old ++ ty ∷ []) }
+{
+    let Some((count, last)) = runs.pop() else {
+        runs.push((1, ty))?;
+        return Ok(());
+    };
+    if last == ty && count < u32::MAX {
+        runs.push((count + 1, ty))?;
+        return Ok(());
+    }
+    runs.push((count, last))?;
+    runs.push((1, ty))?;
+    Ok(())
+}
+
+/// Locals in runs of one type.
+fn runs_of(alloc: Global, locals: &[Local]) -> Result<Seq<(u32, ValType)>, OutOfMemory>
+    ensures { IfOk result (λ runs. local_types runs ≡ map (λ (l : local_is.Local). l.ty) locals.now) }
+{
+    let mut runs = Seq::new(alloc);
+    for (at, local) in locals.iter().enumerate() {
+        add_run(&mut runs, local.ty)?;
+    }
+    Ok(runs)
+}
+
+/// The locals behind so many parameters.
+fn locals_behind(locals: &[Local], params: usize) -> &[Local]
+    ensures { result.now ≡ drop params locals.now }
+{
+    &locals[params.min(locals.len())..]
+}
+
+/// The function of a code and of locals, of which the first are the parameters.
+fn function_of(
+    alloc: Global,
+    code: Vec<Instr>,
+    locals: Vec<Local>,
+    params: usize,
+    ty: u32,
+) -> Result<WasmFunc, OutOfMemory>
+    ensures ty { IfOk result (λ f. f.ty ≡ ty) }
+    ensures body { IfOk result (λ f. f.body ≡ code.items) }
+    ensures locals { IfOk result (λ f. local_types f.locals ≡ map (λ (l : local_is.Local). l.ty) (drop params locals.items)) }
+{
+    let runs = runs_of(alloc, locals_behind(locals.as_slice(), params));
+    drop(locals);
+    match runs {
+        Ok(runs) => Ok(WasmFunc {
+            ty,
+            locals: runs,
+            body: Seq::from_vec(code),
+        }),
+        Err(error) => {
+            drop(code);
+            Err(error)
+        }
+    }
+}
+
+/// Writes the function of a sync adapter, of the type of a number, over a module, to which it may add traps.
+fn write_function(
+    types: &ComponentTypes,
+    state: &mut ModuleState,
+    adapter: &AdapterData,
+    debug: bool,
+    lower: &Signature,
+    lift: &Signature,
+    ty: u32,
+) -> Result<WasmFunc, OutOfMemory>
+    requires lower_live { adapter.now.lower.ty.number < length types.now.functions }
+    requires lift_live { adapter.now.lift.ty.number < length types.now.functions }
+    requires callee { adapter.now.callee.number < length (functions_of state.old) }
+    ensures { IfOk result (λ f. WroteFunction types.now adapter.now debug lower.now lift.now ty state.old state.new f) }
+{
+    let alloc = state.alloc();
+    let mut w = Writer::over(alloc, mem::replace(state, ModuleState::new(alloc)));
+    let said = write_body(types, &mut w, adapter, debug, lower, lift);
+    let (imports, code, locals) = w.into_parts();
+    drop(mem::replace(state, imports));
+    match said {
+        Ok(()) => {
+            let function = function_of(alloc, code, locals, lower.params.len(), ty)?;
+            Ok(function)
+        }
+        Err(error) => {
+            drop(code);
+            drop(locals);
+            Err(error)
+        }
+    }
+}
+
+/// What a side's core signature hangs on, of a sync side.
+fn sync_side(side: &AdapterOptions) -> SideSig
+    ensures ty { result.ty ≡ side.now.ty }
+    ensures sync { result.async_ ≡ false }
+    ensures wide { result.memory64 ≡ side.now.options.linear.memory64 }
+{
+    SideSig {
+        ty: side.ty,
+        async_: false,
+        callback: false,
+        memory64: side.options.linear.memory64,
+    }
+}
+
+/// Compiles a sync adapter: its function comes behind those of the module, its export under the adapter's name behind the exports,
+/// and the traps that it calls behind the imports, where they are new. The types are live, and the data's numbers are those of
+/// imports of the module. After a want of memory the module may have types and traps that nothing uses, and the function without
+/// its export.
+pub fn compile_sync(
+    types: &ComponentTypesBuilder,
+    state: &mut ModuleState,
+    adapter: &AdapterData,
+    debug: bool,
+) -> Result<(), OutOfMemory>
+    requires lower_live { adapter.now.lower.ty.number < length types.now.tables.functions }
+    requires lift_live { adapter.now.lift.ty.number < length types.now.tables.functions }
+    requires callee { adapter.now.callee.number < length (functions_of state.old) }
+    ensures { OnOk result (CompiledSync types.now.tables adapter.now debug state.old state.new) }
+{
+    let lower = types.lower_signature(&sync_side(&adapter.lower))?;
+    let lift = types.lift_signature(&sync_side(&adapter.lift))?;
+    let ty = state.function(lower.params.as_slice(), lower.results.as_slice())?;
+    let tables = types.component_types();
+    let function = write_function(tables, state, adapter, debug, &lower, &lift, ty)?;
+    let number = state.define(function)?;
+    state.export(adapter.name.as_str(), FuncName::Defined(number))?;
+    Ok(())
+}

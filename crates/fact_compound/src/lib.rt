@@ -1,0 +1,10 @@
+//! The code of whole adapters, of the parts that `fact_emit` writes. What each function ensures is what the code does that it has
+//! written.
+#![tactic(auto)]
+
+pub mod adapters;
+pub mod functions;
+pub mod passing;
+pub mod steps;
+pub mod syncs;
+pub mod tuples;

@@ -1,0 +1,92 @@
+//! The steps of adapters.
+
+ghost use Rattle.std.specs.Prelude.{OnOk, [], ◌∷◌};
+ghost use Rattle.fact_wasm.specs.declared.instr.Instr.TheVariants as I;
+ghost use Rattle.fact_emit.specs.Emits.{Emits};
+ghost use Rattle.fact_emit.specs.Places.{slots_of_locals};
+ghost use Rattle.fact_emit.specs.Writers.{Wrote};
+ghost use Rattle.fact_compound.specs.Code.{pushed_code, popped_code, saved_code, call_code};
+ghost use Rattle.fact_compound.specs.Passing.{ChecksMayLeave};
+
+use fact_emit::checks::put_guard;
+use fact_emit::places::TypedLocal;
+use fact_emit::writer::Writer;
+use fact_types::Trap;
+use fact_wasm::{FuncName, Instr, OutOfMemory};
+
+/// Pushes what locals hold, the first one first.
+pub fn push_locals(w: &mut Writer, locals: &[TypedLocal]) -> Result<(), OutOfMemory>
+    ensures { OnOk result (Wrote w.old w.new (pushed_code (slots_of_locals locals.now))) }
+{
+    for (at, local) in locals.iter().enumerate() {
+        w.put(Instr::LocalGet(local.local))?;
+    }
+    Ok(())
+}
+
+/// Sets locals to values that were pushed so.
+pub fn pop_locals(w: &mut Writer, locals: &[TypedLocal]) -> Result<(), OutOfMemory>
+    ensures { OnOk result (Wrote w.old w.new (popped_code (slots_of_locals locals.now))) }
+{
+    let mut left = locals.len();
+    while left > 0 {
+        left -= 1;
+        w.put(Instr::LocalSet(locals[left].local))?;
+    }
+    Ok(())
+}
+
+/// Keeps the flags of an instance in a local.
+pub fn save_flags(w: &mut Writer, flags: u32, saved: u32) -> Result<(), OutOfMemory>
+    ensures { OnOk result (Wrote w.old w.new (saved_code flags saved)) }
+{
+    w.put(Instr::GlobalGet(flags))?;
+    w.put(Instr::LocalSet(saved))?;
+    Ok(())
+}
+
+/// Keeps the flags of an instance in a local, and traps where they are 0: the instance may not be left.
+pub fn check_may_leave(w: &mut Writer, flags: u32, saved: u32) -> Result<(), OutOfMemory>
+    ensures { OnOk result (Emits w.old w.new (ChecksMayLeave flags saved)) }
+{
+    let test = vec![in w.alloc; Instr::GlobalGet(flags), Instr::LocalTee(saved)]?;
+    put_guard(w, test, Trap::CannotLeaveComponent)?;
+    Ok(())
+}
+
+/// Sets the flags of an instance to 0.
+pub fn clear_flags(w: &mut Writer, flags: u32) -> Result<(), OutOfMemory>
+    ensures { OnOk result (Wrote w.old w.new (I.I32Const 0 ∷ I.GlobalSet flags ∷ [])) }
+{
+    w.put(Instr::I32Const(0))?;
+    w.put(Instr::GlobalSet(flags))?;
+    Ok(())
+}
+
+/// Sets the flags of an instance to what a local holds.
+pub fn restore_flags(w: &mut Writer, flags: u32, saved: u32) -> Result<(), OutOfMemory>
+    ensures { OnOk result (Wrote w.old w.new (I.LocalGet saved ∷ I.GlobalSet flags ∷ [])) }
+{
+    w.put(Instr::LocalGet(saved))?;
+    w.put(Instr::GlobalSet(flags))?;
+    Ok(())
+}
+
+/// Calls an imported function with what locals hold, once the flags of its instance are set to what a local holds, and sets other
+/// locals to its results.
+pub fn call_callee(
+    w: &mut Writer,
+    args: &[TypedLocal],
+    flags: u32,
+    saved: u32,
+    function: u32,
+    results: &[TypedLocal],
+) -> Result<(), OutOfMemory>
+    ensures { OnOk result (Wrote w.old w.new (call_code (slots_of_locals args.now) flags saved function (slots_of_locals results.now))) }
+{
+    push_locals(w, args)?;
+    restore_flags(w, flags, saved)?;
+    w.put(Instr::Call(FuncName::Import(function)))?;
+    pop_locals(w, results)?;
+    Ok(())
+}

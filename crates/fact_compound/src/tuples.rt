@@ -1,0 +1,179 @@
+//! The tuples of parameters and of results, from one side to the other.
+
+ghost use Rattle.std.specs.Prelude.{OnOk, ◌≡◌, ◌<◌, Bool, List, is_some, length};
+ghost use Rattle.fact_types.specs.FlatShapes.{AreCounted};
+ghost use Rattle.fact_types.specs.Functions.{HasSignature};
+ghost use Rattle.fact_types.specs.Shapes.{Shape};
+ghost use Rattle.fact_types.specs.Signatures.{flat_values};
+ghost use Rattle.fact_types.specs.Tables.{IsLive, HasShape};
+ghost use Rattle.fact_types.specs.Tuples.{tuple_of, tuple_members};
+ghost use Rattle.fact_types.specs.declared.interface.InterfaceType.TheVariants as ty;
+ghost use Rattle.fact_emit.specs.Places.{slots_of_locals, from_of, to_of};
+ghost use Rattle.fact_emit.specs.declared.places.LinearMemory as linear;
+ghost use Rattle.fact_compound.specs.Passing.{last_local, results_from, results_to};
+ghost use Rattle.fact_compound.specs.Passed.{MovedParams, PassedParams, CheckedResults, MovedResults};
+
+use crate::adapters::AdapterData;
+use fact_emit::places::{Address, LinearMemory, SourcePlace, TargetPlace, TypedLocal};
+use fact_emit::pointers::check_area;
+use fact_emit::products::move_tuple;
+use fact_emit::writer::Writer;
+use fact_entity::{TypeFuncIndex, TypeTupleIndex};
+use fact_types::{ComponentTypes, InterfaceType};
+use fact_wasm::OutOfMemory;
+
+/// The tuples of the parameters and of the results of a live function.
+pub(crate) fn tuples_of(
+    types: &ComponentTypes,
+    func: TypeFuncIndex,
+) -> (TypeTupleIndex, TypeTupleIndex)
+    requires { func.number < length types.now.functions }
+    ensures params_live { IsLive types.now (ty.Tuple result.0) }
+    ensures results_live { IsLive types.now (ty.Tuple result.1) }
+    ensures params { (ps rs : List Shape) → HasSignature types.now func ps rs → HasShape types.now (ty.Tuple result.0) (tuple_of ps) }
+    ensures results { (ps rs : List Shape) → HasSignature types.now func ps rs → HasShape types.now (ty.Tuple result.1) (tuple_of rs) }
+{
+    types.reveal();
+    let entry = &types[func];
+    (entry.params, entry.results)
+}
+
+/// Whether the results of a live tuple are flat: there is at most one core value of them.
+pub(crate) fn are_flat_results(types: &ComponentTypes, tuple: TypeTupleIndex) -> bool
+    requires { IsLive types.now (ty.Tuple tuple) }
+    ensures { (memory64 : Bool) (ss : List Shape) → HasShape types.now (ty.Tuple tuple) (tuple_of ss) → AreCounted (tuple_members ss) → result ≡ is_some (flat_values memory64 1 ss) }
+{
+    match types.canonical_abi(&InterfaceType::Tuple(tuple)).flat_count {
+        Some(count) => count <= 1,
+        None => false,
+    }
+}
+
+/// The last of some locals, or 0 where there is none.
+fn last_of(locals: &[TypedLocal]) -> u32
+    ensures { result ≡ last_local (slots_of_locals locals.now) }
+{
+    let count = locals.len();
+    if count == 0 {
+        0
+    } else {
+        locals[count - 1].local
+    }
+}
+
+/// Moves parameters that are flat on both sides.
+pub fn move_params(
+    types: &ComponentTypes,
+    w: &mut Writer,
+    adapter: &AdapterData,
+    debug: bool,
+    params: &[TypedLocal],
+    core: &[TypedLocal],
+) -> Result<(), OutOfMemory>
+    requires lower_live { adapter.now.lower.ty.number < length types.now.functions }
+    requires lift_live { adapter.now.lift.ty.number < length types.now.functions }
+    ensures { OnOk result (MovedParams types.now adapter.now debug (slots_of_locals params.now) (slots_of_locals core.now) w.old w.new) }
+{
+    let sides = adapter.params_sides(debug);
+    let (from, _) = tuples_of(types, adapter.lower.ty);
+    let (to, _) = tuples_of(types, adapter.lift.ty);
+    let source = SourcePlace::Locals(params);
+    let target = TargetPlace::Locals(core);
+    move_tuple(types, w, sides, from, to, source, target)?;
+    Ok(())
+}
+
+/// Moves parameters, where they are not handed on as they are.
+pub fn pass_params(
+    types: &ComponentTypes,
+    w: &mut Writer,
+    adapter: &AdapterData,
+    debug: bool,
+    passed: bool,
+    params: &[TypedLocal],
+    core: &[TypedLocal],
+) -> Result<(), OutOfMemory>
+    requires lower_live { adapter.now.lower.ty.number < length types.now.functions }
+    requires lift_live { adapter.now.lift.ty.number < length types.now.functions }
+    ensures { OnOk result (PassedParams types.now adapter.now debug passed (slots_of_locals params.now) (slots_of_locals core.now) w.old w.new) }
+{
+    if !passed {
+        move_params(types, w, adapter, debug, params, core)?;
+    }
+    Ok(())
+}
+
+/// Checks the area that results are passed through, where they are not flat.
+fn check_results(
+    types: &ComponentTypes,
+    w: &mut Writer,
+    linear: LinearMemory,
+    tuple: TypeTupleIndex,
+    address: u32,
+) -> Result<(), OutOfMemory>
+    requires { IsLive types.now (ty.Tuple tuple) }
+    ensures { OnOk result (CheckedResults types.now tuple linear address w.old w.new) }
+{
+    let abi = types.canonical_abi(&InterfaceType::Tuple(tuple));
+    if !are_flat_results(types, tuple) {
+        if linear.memory64 {
+            check_area(w, linear, address, abi.size64, abi.align64)?;
+        } else {
+            check_area(w, linear, address, abi.size32, abi.align32)?;
+        }
+    }
+    Ok(())
+}
+
+/// Where the callee's results stand.
+fn results_source<'a>(flat: bool, given: &'a [TypedLocal]) -> SourcePlace<'a>
+    ensures { (m : linear.LinearMemory) → from_of m result ≡ results_from m flat (slots_of_locals given.now) }
+{
+    if flat {
+        SourcePlace::Locals(given)
+    } else {
+        SourcePlace::Memory(Address {
+            local: last_of(given),
+            offset: 0,
+        })
+    }
+}
+
+/// Where results go.
+fn results_target<'a>(flat: bool, results: &'a [TypedLocal], args: &[TypedLocal]) -> TargetPlace<'a>
+    ensures { (m : linear.LinearMemory) → to_of m result ≡ results_to m flat (slots_of_locals results.now) (slots_of_locals args.now) }
+{
+    if flat {
+        TargetPlace::Locals(results)
+    } else {
+        TargetPlace::Memory(Address {
+            local: last_of(args),
+            offset: 0,
+        })
+    }
+}
+
+/// Moves results, behind the checks of the areas that they are passed through.
+pub fn move_results(
+    types: &ComponentTypes,
+    w: &mut Writer,
+    adapter: &AdapterData,
+    debug: bool,
+    given: &[TypedLocal],
+    results: &[TypedLocal],
+    args: &[TypedLocal],
+) -> Result<(), OutOfMemory>
+    requires lower_live { adapter.now.lower.ty.number < length types.now.functions }
+    requires lift_live { adapter.now.lift.ty.number < length types.now.functions }
+    ensures { OnOk result (MovedResults types.now adapter.now debug (slots_of_locals given.now) (slots_of_locals results.now) (slots_of_locals args.now) w.old w.new) }
+{
+    let sides = adapter.results_sides(debug);
+    let (_, from) = tuples_of(types, adapter.lift.ty);
+    let (_, to) = tuples_of(types, adapter.lower.ty);
+    let source = results_source(are_flat_results(types, from), given);
+    let target = results_target(are_flat_results(types, to), results, args);
+    check_results(types, w, sides.from, from, last_of(given))?;
+    check_results(types, w, sides.to, to, last_of(args))?;
+    move_tuple(types, w, sides, from, to, source, target)?;
+    Ok(())
+}
