@@ -1,5 +1,5 @@
 mod AdapterAsks
-mod AdapterRanges
+pub mod AdapterRanges
 mod AllAsked
 mod AllPaths
 mod AllRanged
@@ -13,7 +13,7 @@ mod Decoded
 mod Encoded
 mod Equipped
 mod Fine
-mod Finished
+pub mod Finished
 mod FirstRequest
 mod FlaggedRequests
 mod ForTypes
@@ -30,7 +30,7 @@ mod Ranging
 mod Reading
 mod Reallocs
 mod RequestCases
-mod Requests
+pub mod Requests
 mod Spelled
 mod Stages
 mod States

@@ -1,0 +1,10 @@
+pub mod Behaviour
+pub mod FewCalls
+pub mod Fronts
+pub mod ImportNumbers
+pub mod LoggedImports
+pub mod Outcomes
+pub mod OwnWrites
+pub mod Rooms
+pub mod TrapsLast
+pub mod TypedCalls

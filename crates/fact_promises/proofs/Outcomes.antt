@@ -1,0 +1,63 @@
+-- Ends of actions, and the traces of runs that come to them.
+use Rattle.std.proofs.Common.{◌≡◌, ◌≢◌, ℕ, List, refl, ap, arith}
+use Rattle.fact_wasm.specs.declared.module.WasmModule.{WasmModule}
+use Rattle.fact_machine.specs.declared.types.Answer.{Answer}
+use Rattle.fact_machine.specs.declared.types.CoreValue.{CoreValue}
+use Rattle.fact_machine.specs.declared.types.End.TheVariants.{Returned, Stuck}
+use Rattle.fact_machine.specs.declared.types.MachineState.{MachineState}
+use Rattle.fact_machine.specs.Trace.{Grows, Reached, run_reach, trace_of}
+use Rattle.fact_machine.specs.World.{World, Trap, Throw, Lack}
+use Rattle.fact_moves.specs.Honest.{IsStraight}
+use Rattle.fact_moves.specs.Plain.{named_outcome}
+use Rattle.fact_moves.specs.Running.{Call, Ended, Gave, Halted, Strayed, calls_in, world_in}
+use Rattle.fact_pieces.specs.Runs.{RunsAs}
+
+-- ---- ends of actions
+
+pub named_calls : (e : Ended (List CoreValue)) → (named_outcome e).log ≡ calls_in e
+named_calls (Gave n cs vs w) = refl
+named_calls (Halted n cs s w) = refl
+named_calls (Strayed n cs w) = refl
+
+pub straight_not_stuck : (e : Ended (List CoreValue)) → IsStraight e → (named_outcome e).end ≢ Stuck
+straight_not_stuck (Gave n cs vs w) h q = cc
+straight_not_stuck (Halted n cs Trap w) h q = cc
+straight_not_stuck (Halted n cs Throw w) h q = cc
+straight_not_stuck (Halted n cs Lack w) h q = cc
+straight_not_stuck (Strayed n cs w) h q = absurd h
+
+-- an end that gave these results
+pub record GaveResults (e : Ended (List CoreValue)) (results : List CoreValue) : Type 0 where
+  pub weight : ℕ
+  pub calls : List Call
+  pub world : World
+  pub is : e ≡ Gave weight calls results world
+
+pub gave_results : (e : Ended (List CoreValue)) (results : List CoreValue) → IsStraight e → (named_outcome e).end ≡ Returned results → GaveResults e results
+gave_results (Gave n cs vs w) results h q = let same : vs ≡ results = cc in record { weight = n; calls = cs; world = w; is = ap (λ rs. Gave n cs rs w) same }
+gave_results (Halted n cs Trap w) results h q = cc
+gave_results (Halted n cs Throw w) results h q = cc
+gave_results (Halted n cs Lack w) results h q = cc
+gave_results (Strayed n cs w) results h q = absurd h
+
+-- ---- traces
+
+-- a number of steps at which the trace has all that an action has done
+pub record HasTraced (m : WasmModule) (f : ℕ) (args : List CoreValue) (before : MachineState) (answers : List Answer) (w : World) : Type 0 where
+  pub steps : ℕ
+  pub trace : trace_of m f args before answers steps ≡ w.trace
+
+module _ (m : WasmModule) (f : ℕ) (args : List CoreValue) (before : MachineState) (answers : List Answer) where
+  trace_in : {r : Reached} (n : ℕ) → run_reach m f args before answers n ≡ r → trace_of m f args before answers n ≡ r.world.trace
+  trace_in n e = ap (λ (r : Reached). r.world.trace) e
+
+  pub has_traced : (e : Ended (List CoreValue)) → RunsAs m f args before answers 900 0 (λ (vs : List CoreValue). vs) e → HasTraced m f args before answers (world_in e)
+  has_traced (Gave n cs vs w) r = record { steps = r.steps; trace = trace_in r.steps (r.comes.reaches r.steps (omega arith)) }
+  has_traced (Halted n cs s w) r = record { steps = r.steps; trace = trace_in r.steps (r.comes.reaches r.steps (omega arith)) }
+  has_traced (Strayed n cs w) r = record { steps = r.steps; trace = ap (λ (x : World). x.trace) r.reaches }
+
+  -- where the action did not go astray, the trace is at each number of steps a front of that
+  pub traces_grow : (e : Ended (List CoreValue)) → IsStraight e → RunsAs m f args before answers 900 0 (λ (vs : List CoreValue). vs) e → (n : ℕ) → Grows (trace_of m f args before answers n) (world_in e).trace
+  traces_grow (Gave n cs vs w) s r = r.comes.front
+  traces_grow (Halted n cs t w) s r = r.comes.front
+  traces_grow (Strayed n cs w) s r = absurd s

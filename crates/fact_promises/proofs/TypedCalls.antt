@@ -1,0 +1,85 @@
+-- The answers that the machine's rules type are typed by the types under which the module imports what is called.
+use Rattle.std.proofs.Common.{◌≡◌, ℕ, List, [], ◌∷◌, Option, Some, None, refl, sym, ap, ◌∙◌, subst, map, slice_get, All}
+use Rattle.std.proofs.lemmas.List.Elements.{All-head, All-tail}
+use Rattle.fact_wasm.specs.declared.types.FuncType.{FuncType}
+use Rattle.fact_wasm.specs.declared.types.ValType.{ValType}
+use Rattle.fact_wasm.specs.declared.module.ImportType.TheVariants as import
+use Rattle.fact_wasm.specs.declared.module.WasmImport.{WasmImport}
+use Rattle.fact_wasm.specs.declared.module.WasmModule.{WasmModule}
+use Rattle.fact_machine.specs.Machine.{func_import}
+use Rattle.fact_machine.specs.Typed.{AreResults, TypedAnswer, type_of_import}
+use Rattle.fact_machine.specs.declared.types.Answer.{Answer}
+use Rattle.fact_machine.specs.declared.types.Answer.TheVariants.{Returns, Traps, Throws}
+use Rattle.fact_machine.specs.declared.types.CoreValue.{CoreValue}
+use Rattle.fact_machine.specs.declared.types.Event.{Event}
+use Rattle.fact_machine.specs.declared.types.MachineState.{MachineState}
+use Rattle.fact_types.specs.declared.import.Import.{Import}
+use Rattle.fact_types.specs.declared.import.Import.TheVariants as known
+use Rattle.fact_types.specs.ImportTypes.{trap_type}
+use Rattle.fact_moves.specs.Laws.{call_event}
+use Rattle.fact_moves.specs.Running.{Call}
+use Rattle.fact_moves.specs.TypedAnswers.{HasTypedAnswer, HaveTypedAnswers, result_types}
+use Rattle.fact_pieces.specs.Knows.{ArePlacesOf, KnowsFunction}
+use Rattle.fact_pieces.proofs.TypedStates.{answers_agree}
+use Rattle.fact_emit.specs.ImportSection.{Mention, AreNamed, IsNamed, a_function, imported_type, imports_of}
+use Rattle.fact_promises.specs.Functions.{core_results}
+use Rattle.fact_promises.specs.Names.{places_in}
+use Rattle.fact_promises.proofs.ImportNumbers.{stands_at, placed_is}
+
+-- the number of a function's type, where an imported function has one
+type_number : (types : List FuncType) (o : Option ℕ) (t : FuncType) → elim o as (λ (x : Option ℕ). Option FuncType) [ None ↦ None | Some n ↦ slice_get types n ] ≡ Some t
+    → (n : ℕ) × (o ≡ Some n) × (slice_get types n ≡ Some t)
+type_number types None t h = cc
+type_number types (Some n) t h = (n, refl, h)
+
+module _ (m : WasmModule) (is : List Import) where
+  -- the memories and globals of the places are those that the module imports
+  pub are_places : ArePlacesOf m (places_in m is)
+  are_places = record { memories = refl; globals = refl }
+
+  module _ (ms : List Mention) (named : AreNamed m.types ms [] m.imports is) where
+    -- what an import gives is what the type says under which it is imported
+    results_by : (i : Import) (before : List WasmImport) (entry : WasmImport) (n : ℕ) (t : FuncType) → IsNamed m.types ms before entry i → entry.ty ≡ import.Func n → slice_get m.types n ≡ Some t
+        → type_of_import m ((places_in m is).function i) ≡ Some t → result_types (core_results m is) [] i ≡ t.results
+    results_by (known.CoreDef d) before entry n t named_so at there typed = ap (λ o. elim o as (λ (x : Option FuncType). List ValType) [ None ↦ [] | Some s ↦ s.results ]) typed
+    results_by (known.Trap r) before entry n t named_so at there typed =
+        let same : Some trap_type ≡ Some t = sym named_so.is_typed ∙ ap (imported_type m.types) at ∙ there in
+        let is : trap_type ≡ t = cc in
+        ap (λ (s : FuncType). s.results) is
+    results_by i before entry n t named_so at there typed = absurd named_so
+
+    knows_import : (i : Import) (t : FuncType) → type_of_import m ((places_in m is).function i) ≡ Some t
+        → KnowsFunction m (places_in m is) i ((places_in m is).function i) t.params (result_types (core_results m is) [] i)
+    knows_import i t typed =
+        let number = type_number m.types (func_import m.imports ((places_in m is).function i)) t typed in
+        let s = stands_at m.types ms [] m.imports is ((places_in m is).function i) number.0 named number.1 in
+        let what : s.what ≡ i = placed_is i s.what (imports_of a_function m.imports is) s.there in
+        let named_so = subst (λ j. IsNamed m.types ms s.before s.entry j) what s.named in
+        let results = results_by i s.before s.entry number.0 t named_so s.type_is number.2 typed in
+        record {
+          type_at = number.0;
+          placed = refl;
+          imported = number.1;
+          type_is = number.2 ∙ ap (λ rs. Some (record { params = t.params; results = rs })) (sym results);
+        }
+
+    returned_by : (c : Call) (o : Option FuncType) (rs : List CoreValue) → type_of_import m ((places_in m is).function c.what) ≡ o → AreResults o rs
+        → TypedAnswer m ((places_in m is).function c.what) c.before c.answer → HasTypedAnswer (places_in m is) (result_types (core_results m is) []) c
+    returned_by c None rs e some t = absurd some
+    returned_by c (Some type) rs e some t =
+        (answers_agree m (places_in m is) (result_types (core_results m is) []) c ((places_in m is).function c.what) type.params are_places (knows_import c.what type e)).1 t
+
+    answer_typed : (what : Import) (args : List CoreValue) (before : MachineState) (answer : Answer) → TypedAnswer m ((places_in m is).function what) before answer
+        → HasTypedAnswer (places_in m is) (result_types (core_results m is) []) (record { what = what; args = args; before = before; answer = answer })
+    answer_typed what args before (Returns rs after) t =
+        returned_by (record { what = what; args = args; before = before; answer = Returns rs after }) (type_of_import m ((places_in m is).function what)) rs refl t.0 t
+    answer_typed what args before Traps t = tt
+    answer_typed what args before Throws t = tt
+
+    -- so typed answers to the events of calls are typed answers to those calls
+    pub typed_calls : (cs : List Call) → All (λ e. TypedAnswer m e.func e.before e.answer) (map (call_event (places_in m is)) cs) → HaveTypedAnswers (places_in m is) (result_types (core_results m is) []) cs
+    typed_calls [] h = tt
+    typed_calls (c ∷ cs) h =
+        let events : List Event = map (call_event (places_in m is)) cs in
+        let one = All-head (λ (e : Event). TypedAnswer m e.func e.before e.answer) (call_event (places_in m is) c) events h in
+        (answer_typed c.what c.args c.before c.answer one, typed_calls cs (All-tail (λ (e : Event). TypedAnswer m e.func e.before e.answer) (call_event (places_in m is) c) events h))

@@ -1,0 +1,15 @@
+use Rattle.fact_emit.specs.ImportSection.{mentions}
+use Rattle.fact_machine.specs.Machine.{run_of}
+use Rattle.fact_promises.proofs.Behaviour.{functions_behave}
+use Rattle.fact_promises.proofs.FewCalls.{no_second_call, runs_stay_short}
+use Rattle.fact_promises.proofs.ImportNumbers.{named_log}
+use Rattle.fact_promises.proofs.LoggedImports.{run_told}
+use Rattle.fact_promises.proofs.laws.laws_of_functions.Goals as goal
+
+pub returns : goal.returns
+returns c = record {
+  functions_behave = functions_behave;
+  events_are_named = λ m is adapters f args before answers steps names. named_log m is (mentions adapters) names.named (run_of m f args before answers steps).log (run_told m f args before answers steps);
+  no_second_call = no_second_call;
+  runs_stay_short = runs_stay_short;
+}

@@ -1,0 +1,59 @@
+-- Laws of the runs of adapters.
+use Rattle.std.specs.Prelude.{◌≡◌, ℕ, ◌+◌, ◌*◌, ◌≤◌, false, List, None, filter, length, slice_get}
+use Rattle.fact_wasm.specs.declared.module.WasmModule.{WasmModule}
+use Rattle.fact_machine.specs.declared.types.Answer.{Answer}
+use Rattle.fact_machine.specs.declared.types.CoreValue.{CoreValue}
+use Rattle.fact_machine.specs.declared.types.MachineState.{MachineState}
+use Rattle.fact_machine.specs.Machine.{run_of}
+use Rattle.fact_types.specs.declared.import.Import.{Import}
+use Rattle.fact_types.specs.Adapters.{LinkedAdapter}
+use Rattle.fact_moves.specs.Adapters.{AdapterTunables}
+use Rattle.fact_moves.specs.Calls.{is_call_of}
+use Rattle.fact_moves.specs.Running.{ImportPlaces, Call}
+use Rattle.fact_carry.specs.Faithful.{IsFaithful, IsInLimits, whole_weight}
+use Rattle.fact_emit.specs.ImportSection.{NamesImports}
+use Rattle.fact_promises.specs.Functions.{IsAdapterFunction}
+use Rattle.fact_promises.specs.Names.{places_in, AreCalls, IsNamedLog}
+use Rattle.fact_promises.specs.Runs.{Behaves, CallNoTrap, IsHonestSoFar, IsOver}
+
+-- A function that does its adapter's action behaves.
+abbrev pub FunctionsBehave : Type 0
+FunctionsBehave =
+    (m : WasmModule) (is : List Import) (u : AdapterTunables) (a : LinkedAdapter) (adapters : List LinkedAdapter) (f : ℕ)
+    → IsAdapterFunction m is u a adapters f → Behaves m is u a f
+
+-- In a module that names its imports each event of a run is a call of one of them, whatever function runs and whatever is answered.
+abbrev pub EventsAreNamed : Type 0
+EventsAreNamed =
+    (m : WasmModule) (is : List Import) (adapters : List LinkedAdapter) (f : ℕ) (args : List CoreValue) (before : MachineState) (answers : List Answer) (steps : ℕ)
+    → NamesImports m is adapters → IsNamedLog m is (run_of m f args before answers steps).log
+
+-- ---- what the promise on runs rules out
+
+-- In a run that carried its values there is no second call of the callee.
+abbrev pub NoSecondCall : Type 0
+NoSecondCall =
+    (p : ImportPlaces) (a : LinkedAdapter) (args : List CoreValue) (first : MachineState) (calls : List Call) (given : List CoreValue) (last : MachineState)
+    → IsFaithful p a args first calls given last → slice_get (filter (is_call_of a.callee) calls) 1 ≡ None
+
+-- A run of an adapter's function whose answers are all honest, where the caller may be left and the values exist within limits.
+pub record IsAnswered (m : WasmModule) (is : List Import) (a : LinkedAdapter) (f : ℕ) (args : List CoreValue) (before : MachineState) (answers : List Answer) : Type 0 where
+  pub honest : (steps : ℕ) → IsHonestSoFar m is a args before (run_of m f args before answers steps).log
+  pub limits : (steps : ℕ) → IsInLimits (places_in m is) a args before (honest steps).calls
+
+-- After some number of steps the run is over and stays so. However many steps it takes, it makes no more outside calls than its
+-- values account for, and none of a trap.
+pub record StaysShort (m : WasmModule) (is : List Import) (a : LinkedAdapter) (f : ℕ) (args : List CoreValue) (before : MachineState) (answers : List Answer) : Type 0 where
+  pub last : ℕ
+  pub over : IsOver (run_of m f args before answers last).end
+  pub stays : (steps : ℕ) → last ≤ steps → run_of m f args before answers steps ≡ run_of m f args before answers last
+  pub calls : List Call
+  pub are_calls : AreCalls m is (run_of m f args before answers last).log calls
+  pub no_trap : (steps : ℕ) (so_far : List Call) → AreCalls m is (run_of m f args before answers steps).log so_far → CallNoTrap so_far
+  pub few_calls : (steps : ℕ) → length (run_of m f args before answers steps).log ≤ 30 * (whole_weight (places_in m is) a args before calls + 1)
+
+-- A function that behaves calls neither its callee nor anything else for ever.
+abbrev pub RunsStayShort : Type 0
+RunsStayShort =
+    (m : WasmModule) (is : List Import) (u : AdapterTunables) (a : LinkedAdapter) (f : ℕ) (args : List CoreValue) (before : MachineState) (answers : List Answer)
+    → Behaves m is u a f → u.debug ≡ false → IsAnswered m is a f args before answers → StaysShort m is a f args before answers

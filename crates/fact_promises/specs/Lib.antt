@@ -1,0 +1,4 @@
+pub mod Names
+pub mod Runs
+pub mod Functions
+pub mod Laws

@@ -1,0 +1,150 @@
+-- What is promised of the runs of an adapter's function in the machine: what they do, and what they carry.
+use Rattle.std.specs.Prelude.{◌≡◌, ◌≢◌, ◌⊎◌, ℕ, ◌+◌, ◌*◌, ◌≤◌, Bool, true, false, List, [], All, filter, length}
+use Rattle.std.specs.List.{AllZip}
+use Rattle.fact_wasm.specs.declared.module.WasmModule.{WasmModule}
+use Rattle.fact_machine.specs.declared.types.CoreValue.{CoreValue}
+use Rattle.fact_machine.specs.declared.types.CoreValue.TheVariants.{I32}
+use Rattle.fact_machine.specs.declared.types.MachineState.{MachineState}
+use Rattle.fact_machine.specs.declared.types.Answer.{Answer}
+use Rattle.fact_machine.specs.declared.types.Event.{Event}
+use Rattle.fact_machine.specs.declared.types.Outcome.{Outcome}
+use Rattle.fact_machine.specs.declared.types.End.{End}
+use Rattle.fact_machine.specs.declared.types.End.TheVariants.{Returned, Trapped, Thrown, Lacks, Going, Stuck}
+use Rattle.fact_machine.specs.Machine.{run_of}
+use Rattle.fact_machine.specs.Trace.{trace_of}
+use Rattle.fact_machine.specs.Typed.{IsValue, TypedState, TypedAnswer}
+use Rattle.fact_types.specs.declared.import.Import.{Import}
+use Rattle.fact_types.specs.declared.import.Import.TheVariants as import
+use Rattle.fact_types.specs.Adapters.{LinkedAdapter}
+use Rattle.fact_moves.specs.Adapters.{AdapterTunables}
+use Rattle.fact_moves.specs.Confined.{AreOwnWrites, AreRangedSync, HaveHonestTranscoders, room_in}
+use Rattle.fact_moves.specs.Honest.{AreHonestSync}
+use Rattle.fact_moves.specs.Order.{AreOrderedCalls, flag_in}
+use Rattle.fact_moves.specs.Plain.{NamedOutcome, sync_outcome}
+use Rattle.fact_moves.specs.Regions.{landed, params_landing, sync_moved_on}
+use Rattle.fact_moves.specs.Running.{ImportPlaces, Call}
+use Rattle.fact_pieces.specs.Runs.{IsPlainRun, numbered_outcome}
+use Rattle.fact_carry.specs.Faithful.{IsFaithful, IsInLimits, whole_weight}
+use Rattle.fact_texts.specs.Requested.{AreFinished, AreSoFar}
+use Rattle.fact_texts.specs.Trapped.{AreHonestUntilTrap}
+use Rattle.fact_promises.specs.Names.{places_in, AreCalls}
+
+-- ---- typed and honest runs
+
+-- A run of an adapter's function with this log so far: its first state, its arguments and each answer are typed.
+pub record IsTypedRun (m : WasmModule) (a : LinkedAdapter) (args : List CoreValue) (before : MachineState) (log : List Event) : Type 0 where
+  pub state : TypedState m before
+  pub arguments : AllZip (λ v t. IsValue v t) args a.lower.core_type.params
+  pub answers : All (λ e. TypedAnswer m e.func e.before e.answer) log
+
+-- A typed run, of whose calls so far something holds.
+pub record HasCallsSoFar (m : WasmModule) (is : List Import) (a : LinkedAdapter) (Holds : List Call → Type 0) (args : List CoreValue) (before : MachineState) (log : List Event) : Type 0 where
+  pub typed : IsTypedRun m a args before log
+  pub calls : List Call
+  pub are_calls : AreCalls m is log calls
+  pub honest : Holds calls
+
+-- Each answer is honest besides, and none is a trap or a throw.
+abbrev pub IsHonestSoFar : WasmModule → List Import → LinkedAdapter → (args : List CoreValue) → MachineState → List Event → Type 0
+IsHonestSoFar m is a args before log = HasCallsSoFar m is a (AreHonestSync (places_in m is) a args) args before log
+
+-- So it is but for the last one, which may be a trap.
+abbrev pub IsHonestToTrapSoFar : WasmModule → List Import → LinkedAdapter → (args : List CoreValue) → MachineState → List Event → Type 0
+IsHonestToTrapSoFar m is a args before log = HasCallsSoFar m is a (AreHonestUntilTrap (AreHonestSync (places_in m is) a args)) args before log
+
+-- ---- traps
+
+abbrev pub is_trap_import : Import → Bool
+is_trap_import (import.Trap t) = true
+is_trap_import _ = false
+
+-- none of these calls is of a trap
+abbrev pub CallNoTrap : List Call → Type 0
+CallNoTrap calls = filter (λ c. is_trap_import c.what) calls ≡ []
+
+-- ---- ends
+
+-- it returned, or an answer is lacking
+abbrev pub IsOver : End → Type 0
+IsOver e = ((results : List CoreValue) × (e ≡ Returned results)) ⊎ (e ≡ Lacks)
+
+-- A run that is over, with no more outside calls than its values account for.
+pub record EndsSoon (m : WasmModule) (is : List Import) (a : LinkedAdapter) (args : List CoreValue) (before : MachineState) (o : Outcome) : Type 0 where
+  pub over : IsOver o.end
+  pub calls : List Call
+  pub are_calls : AreCalls m is o.log calls
+  pub few : length o.log ≤ 30 * (whole_weight (places_in m is) a args before calls + 1)
+
+-- From some number of steps on, a run has the outcome of plain inlining, and each event of its log is the call that stands there.
+pub record IsNamedPlainRun (m : WasmModule) (is : List Import) (f : ℕ) (args : List CoreValue) (before : MachineState) (answers : List Answer) (o : NamedOutcome) : Type 0 where
+  pub plain : IsPlainRun m (places_in m is) f args before answers o
+  pub are_calls : AreCalls m is (numbered_outcome (places_in m is) o).log o.log
+
+-- What the calls of a run have asked of realloc: where it returned all that its values call for, and where it stopped a front of
+-- that, if the lower side may be left. Of one that goes on nothing is said: with fewer answers it lacks one there.
+abbrev pub HasAsked : ImportPlaces → AdapterTunables → LinkedAdapter → (args : List CoreValue) → MachineState → End → List Call → Type 0
+HasAsked p u a args first (Returned results) calls = AreFinished p u a args first calls
+HasAsked p u a args first Trapped calls = flag_in p a.lower.instance first.globals ≢ I32 0 → AreSoFar p u a args first calls
+HasAsked p u a args first Thrown calls = flag_in p a.lower.instance first.globals ≢ I32 0 → AreSoFar p u a args first calls
+HasAsked p u a args first Lacks calls = flag_in p a.lower.instance first.globals ≢ I32 0 → AreSoFar p u a args first calls
+HasAsked p u a args first Going calls = Unit {0}
+HasAsked p u a args first Stuck calls = ⊥
+
+-- ---- what every run of a sync adapter between two instances does
+
+pub record Behaves (m : WasmModule) (is : List Import) (u : AdapterTunables) (a : LinkedAdapter) (f : ℕ) : Type 0 where
+  -- Where all that comes from outside is typed, the run comes to what the adapter's action comes to, call by call.
+  pub plain : (args : List CoreValue) (before : MachineState) (answers : List Answer)
+      → ((steps : ℕ) → IsTypedRun m a args before (run_of m f args before answers steps).log)
+      → IsNamedPlainRun m is f args before answers (sync_outcome (places_in m is) u a args before answers)
+  -- So long as it is typed, it is not stuck.
+  pub not_stuck : (args : List CoreValue) (before : MachineState) (answers : List Answer) (steps : ℕ)
+      → IsTypedRun m a args before (run_of m f args before answers steps).log
+      → (run_of m f args before answers steps).end ≢ Stuck
+  -- An honest run that returned began with the caller set to be left, called the callee once, and carried arguments and results,
+  -- which stand canonically where they arrived.
+  pub carries : (args : List CoreValue) (before : MachineState) (answers : List Answer) (steps : ℕ) (results : List CoreValue)
+      → (h : IsHonestSoFar m is a args before (run_of m f args before answers steps).log)
+      → (run_of m f args before answers steps).end ≡ Returned results
+      → IsFaithful (places_in m is) a args before h.calls results (run_of m f args before answers steps).state
+  -- It took at most 1,000 steps for each node of the values, and 1,000 more.
+  pub takes_few_steps : (args : List CoreValue) (before : MachineState) (answers : List Answer) (steps : ℕ) (results : List CoreValue)
+      → (h : IsHonestSoFar m is a args before (run_of m f args before answers steps).log)
+      → (run_of m f args before answers steps).end ≡ Returned results
+      → run_of m f args before answers (1000 * (whole_weight (places_in m is) a args before h.calls + 1)) ≡ run_of m f args before answers steps
+  -- The calls of a typed run that returned are ordered.
+  pub is_ordered : (args : List CoreValue) (before : MachineState) (answers : List Answer) (steps : ℕ) (results : List CoreValue) (calls : List Call)
+      → IsTypedRun m a args before (run_of m f args before answers steps).log
+      → AreCalls m is (run_of m f args before answers steps).log calls
+      → (run_of m f args before answers steps).end ≡ Returned results
+      → AreOrderedCalls (places_in m is) u a before calls (run_of m f args before answers steps).state
+  -- An honest run asks of realloc what its values call for, in order; and so does one whose last call was answered by a trap, be it
+  -- one for a region that no memory can give.
+  pub asks : (args : List CoreValue) (before : MachineState) (answers : List Answer) (steps : ℕ)
+      → (h : IsHonestToTrapSoFar m is a args before (run_of m f args before answers steps).log)
+      → HasAsked (places_in m is) u a args before (run_of m f args before answers steps).end h.calls
+  -- Where an honest run returned, or an answer is lacking, it has called no trap.
+  pub calls_no_trap : (args : List CoreValue) (before : MachineState) (answers : List Answer) (steps : ℕ)
+      → (h : IsHonestSoFar m is a args before (run_of m f args before answers steps).log)
+      → IsOver (run_of m f args before answers steps).end
+      → CallNoTrap h.calls
+  -- Whatever is answered, so long as it is typed, each write is one into a sound live region of the transfer under way, or into the
+  -- return area once that is sound.
+  pub is_confined : (args : List CoreValue) (before : MachineState) (answers : List Answer) (steps : ℕ) (calls : List Call)
+      → IsTypedRun m a args before (run_of m f args before answers steps).log
+      → AreCalls m is (run_of m f args before answers steps).log calls
+      → AreOwnWrites (places_in m is) (sync_moved_on a args) (landed (params_landing a)) (room_in (places_in m is) (landed (params_landing a)) before) (trace_of m f args before answers steps) calls
+  -- Where transcoders answer honestly, whatever else is answered, each one that a run has called by its end reads whole units within
+  -- the memory that values come from, and may write within a sound live region alone.
+  pub is_ranged : (args : List CoreValue) (before : MachineState) (answers : List Answer) (steps : ℕ) (calls : List Call)
+      → IsTypedRun m a args before (run_of m f args before answers steps).log
+      → AreCalls m is (run_of m f args before answers steps).log calls
+      → (run_of m f args before answers steps).end ≢ Going
+      → HaveHonestTranscoders (places_in m is) calls
+      → AreRangedSync (places_in m is) a args calls
+  -- Without debug checks, where all answers are honest, the caller may be left, and the values exist within limits, the run ends.
+  pub ends : (args : List CoreValue) (before : MachineState) (answers : List Answer)
+      → u.debug ≡ false
+      → (h : (steps : ℕ) → IsHonestSoFar m is a args before (run_of m f args before answers steps).log)
+      → ((steps : ℕ) → IsInLimits (places_in m is) a args before (h steps).calls)
+      → (steps : ℕ) × EndsSoon m is a args before (run_of m f args before answers steps)
