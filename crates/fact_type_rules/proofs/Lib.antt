@@ -1,4 +1,5 @@
 pub mod EntryLaws
+pub mod FormLaws
 pub mod FunctionLaws
 pub mod KindLaws
 pub mod ListLaws

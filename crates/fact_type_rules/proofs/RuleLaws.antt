@@ -156,7 +156,7 @@ some_tells : {X : Type 0} (x y : X) → Some x ≡ Some y → x ≡ y
 some_tells x y h = cc
 
 -- what holds of all entries of a table
-of_all : {X : Type 0} (f : X → Node) (P : Node → Type 0) → ((x : X) → P (f x)) → (o : Option X) (n : Node) → option_map f o ≡ Some n → P n
+pub of_all : {X : Type 0} (f : X → Node) (P : Node → Type 0) → ((x : X) → P (f x)) → (o : Option X) (n : Node) → option_map f o ≡ Some n → P n
 of_all f P all None n h = absurd (cc)
 of_all f P all (Some x) n h = subst P (some_tells (f x) n h) (all x)
 

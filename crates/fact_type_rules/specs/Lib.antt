@@ -1,3 +1,4 @@
+pub mod Forms
 pub mod RuleLaws
 pub mod TypeFaults
 pub mod Walk

@@ -2,8 +2,9 @@
 
 ghost use Rattle.std.specs.Prelude.{◌↔◌, IfOk, IsTrue};
 ghost use Rattle.fact_types.specs.Shapes.{IsWithin, Shape};
-ghost use Rattle.fact_types.specs.Tables.{IsLive, HasShape};
+ghost use Rattle.fact_types.specs.Tables.{IsLive, HasShape, Tables};
 ghost use Rattle.fact_plan_types.specs.TypeRules.{IsEntryPast};
+ghost use Rattle.fact_type_rules.specs.Forms.{IsUnbuiltShape, IsUnbuiltType};
 ghost use Rattle.fact_type_rules.specs.TypeFaults.{IsBadShape, IsLargeShape};
 ghost use Rattle.fact_type_rules.specs.Walk.{BreaksRules};
 
@@ -16,11 +17,12 @@ use std::alloc::Global;
 /// How deep types nest at most.
 const MOST_NESTING: u32 = 100;
 
-/// The rules whose breach is looked for: those that say which types there are, or those on their size.
+/// The rules whose breach is looked for: those that say which types there are, those on their size, or that their form is built.
 #[derive(Clone, Copy)]
 pub(crate) enum Rules {
     OfKind,
     OfSize,
+    OfForm,
 }
 
 impl Rules {
@@ -37,8 +39,40 @@ impl Rules {
         match self {
             Rules::OfKind => is_bad_type(alloc, builder, ty),
             Rules::OfSize => Ok(is_large_type(builder, ty)),
+            Rules::OfForm => Ok(is_unbuilt_type(ty)),
         }
     }
+}
+
+/// Whether a type is of a form that is not built so far.
+fn is_unbuilt(ty: InterfaceType) -> bool
+    ensures { IsTrue result ↔ IsUnbuiltType ty }
+{
+    match ty {
+        InterfaceType::Bool
+        | InterfaceType::S8
+        | InterfaceType::U8
+        | InterfaceType::S16
+        | InterfaceType::U16
+        | InterfaceType::S32
+        | InterfaceType::U32
+        | InterfaceType::S64
+        | InterfaceType::U64
+        | InterfaceType::Float32
+        | InterfaceType::Float64
+        | InterfaceType::Char
+        | InterfaceType::Record(_)
+        | InterfaceType::Tuple(_)
+        | InterfaceType::Flags(_) => false,
+        _ => true,
+    }
+}
+
+/// Whether the shape of a type is.
+fn is_unbuilt_type(ty: &InterfaceType) -> bool
+    ensures { (t : Tables) (s : Shape) → HasShape t ty.now s → (IsTrue result ↔ IsUnbuiltShape s) }
+{
+    is_unbuilt(*ty)
 }
 
 /// Whether a live type is none.

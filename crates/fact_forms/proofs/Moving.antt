@@ -1,0 +1,152 @@
+-- Values of types that agree with types that are built can be moved to these.
+use Rattle.std.proofs.Common.{◌≡◌, ℕ, suc, ◌≤◌, Bool, true, false, ◌||◌, List, [], ◌∷◌, length, Option, Some, None, refl, sym, ap, ◌∙◌, subst, arith, inl, inr}
+use Rattle.std.specs.List.{AllByRecursion, list_any}
+use Rattle.std.proofs.lemmas.Bool.{false≢true}
+use Rattle.fact_types.specs.declared.interface.InterfaceType.{InterfaceType}
+use Rattle.fact_types.specs.declared.interface.InterfaceType.TheVariants as ty
+use Rattle.fact_types.specs.Agrees.{Agrees, AgreesPlain, AgreesBy, AgreesFields, AgreesCase, AgreesPlaces, BothThere, named, names_of}
+use Rattle.fact_types.specs.Fields.{field_of}
+use Rattle.fact_types.specs.FlatShapes.{AreCounted}
+use Rattle.fact_types.specs.Handles.{is_borrow, has_borrow, have_borrow, borrow_by}
+use Rattle.fact_types.specs.Shapes.{Kind, k_record, k_variant, k_list, k_tuple, k_map, k_flags, k_enum, k_option, k_result, k_fixed, k_future, k_stream, Shape, s_plain, s_node, Members, no_members, bare, typed}
+use Rattle.fact_types.specs.Tuples.{members_from, tuple_members}
+use Rattle.fact_types.specs.Valid.{FollowsRules, IsRuled, IsValid, AreRuled}
+use Rattle.fact_types.proofs.ValidLaws.{valid_counted}
+use Rattle.fact_abi.specs.Canonical.{ThereIs}
+use Rattle.fact_abi.specs.Numbers.{plain_of}
+use Rattle.fact_abi.specs.Places.{count_of_members}
+use Rattle.fact_carry.specs.FaithfulLaws.{AreWellFormedTypes}
+use Rattle.fact_carry.specs.Law.{HasValues, IsWellFormed, IsWellFormedBy, AreWellFormed}
+use Rattle.fact_carry.proofs.Fields.{found_named, formed_found}
+use Rattle.fact_carry.proofs.Grounding.{members_ruled}
+use Rattle.fact_carry.proofs.Membered.{fields_agree, members_formed}
+use Rattle.fact_carry.proofs.Theorem.{places_names}
+use Rattle.fact_carry.proofs.Tuples.{places_fields}
+use Rattle.fact_type_rules.specs.Forms.{IsBuiltShape, IsUnbuiltKind, IsUnbuiltShape, IsUnbuiltType}
+use Rattle.fact_type_rules.specs.TypeFaults.{AnyAmong}
+use Rattle.fact_emit.specs.Movable.{is_scalar, CanMove, CanMovePlain, CanMoveFields, CanMoveFlags}
+use Rattle.fact_compound.specs.Described.{CanMoveTuple}
+
+-- ---- one type
+
+-- a plain type that is built has one number
+scalar_built : (q : InterfaceType) → (IsUnbuiltType q → ⊥) → HasValues (plain_of q) → is_scalar q ≡ true
+scalar_built ty.Bool b g = refl
+scalar_built ty.S8 b g = refl
+scalar_built ty.U8 b g = refl
+scalar_built ty.S16 b g = refl
+scalar_built ty.U16 b g = refl
+scalar_built ty.S32 b g = refl
+scalar_built ty.U32 b g = refl
+scalar_built ty.S64 b g = refl
+scalar_built ty.U64 b g = refl
+scalar_built ty.Float32 b g = refl
+scalar_built ty.Float64 b g = refl
+scalar_built ty.Char b g = refl
+scalar_built (ty.Record i) b g = absurd g
+scalar_built (ty.Tuple i) b g = absurd g
+scalar_built (ty.Flags i) b g = absurd g
+scalar_built _ b g = absurd (b tt)
+
+scalar_moves : (q : InterfaceType) (s : Shape) → is_scalar q ≡ true → AgreesPlain q s → CanMovePlain s q
+scalar_moves (ty.Own j) s h a = absurd (false≢true h)
+scalar_moves (ty.Borrow j) s h a = absurd (false≢true h)
+scalar_moves (ty.ErrorContext j) s h a = absurd (false≢true h)
+scalar_moves q (s_plain p) h a = (a, ap is_scalar a ∙ h)
+scalar_moves q (s_node k ms) h a = absurd a
+
+count_names : (ms : Members) → count_of_members ms ≡ length (names_of ms)
+count_names no_members = refl
+count_names (bare n ms) = ap suc (count_names ms)
+count_names (typed n s ms) = ap suc (count_names ms)
+
+flags_move : (ms ns : Members) → names_of ms ≡ names_of ns → (1 ≤ count_of_members ns) × (count_of_members ns ≤ 32) → CanMoveFlags ms ns
+flags_move ms ns e enough =
+    let same : count_of_members ns ≡ count_of_members ms = count_names ns ∙ ap length (sym e) ∙ sym (count_names ms) in
+    record { same = same; some = omega (arith, same, enough.0); few = omega (arith, same, enough.1) }
+
+node_moves : (k : Kind) (t : Shape) (ns : Members) → AgreesBy k t ns (λ ms. AgreesFields ms ns) (λ x p. AgreesCase x p ns) (λ ms. AgreesPlaces ms ns)
+    → (IsUnbuiltKind k → ⊥) → FollowsRules k ns → IsWellFormed t → IsWellFormedBy k ns
+    → ((ms : Members) → AgreesFields ms ns → AreWellFormed ms → CanMoveFields ms ns) → CanMove t (s_node k ns)
+node_moves k_record (s_node k_record ms) ns a b r f g go = go ms a.fields f.1
+node_moves k_tuple (s_node k_tuple ms) ns a b r f g go = go ms (places_fields ms ns a (places_names 0 ms ns a f.0.0 g.0) r.distinct f.0.1) f.1
+node_moves k_flags (s_node k_flags ms) ns a b r f g go = flags_move ms ns a r.enough
+node_moves k_variant t ns a b r f g go = absurd (b tt)
+node_moves k_list t ns a b r f g go = absurd (b tt)
+node_moves k_map t ns a b r f g go = absurd (b tt)
+node_moves k_enum t ns a b r f g go = absurd (b tt)
+node_moves k_option t ns a b r f g go = absurd (b tt)
+node_moves k_result t ns a b r f g go = absurd (b tt)
+node_moves (k_fixed n) t ns a b r f g go = absurd (b tt)
+node_moves (k_future u i) t ns a b r f g go = absurd (b tt)
+node_moves (k_stream u i) t ns a b r f g go = absurd (b tt)
+node_moves k t ns a b r f g go = absurd a
+
+-- the source member that a destination member is moved from
+field_there : (x : List ℕ) (ms : Members) (u : Shape) (q : Option Shape) → named x ms ≡ q → BothThere q (λ s. Agrees s u) → AreWellFormed ms
+    → ((s : Shape) → Agrees s u → IsWellFormed s → CanMove s u) → ThereIs (field_of x ms) (λ f. CanMove f.shape u)
+field_there x ms u None e a f go = absurd a
+field_there x ms u (Some s) e a f go =
+    let found = found_named x ms 0 0 0 s e in
+    subst (λ o. ThereIs o (λ f. CanMove f.shape u)) (sym found.is)
+    (go found.field.shape (subst (λ s. Agrees s u) (sym found.shape) a) (formed_found x ms 0 0 0 found.field f found.is))
+
+mutual
+  pub moves : (u t : Shape) → IsBuiltShape u → Agrees t u → IsRuled u → IsWellFormed t → IsWellFormed u → CanMove t u
+  moves (s_plain q) t b a r f g = scalar_moves q t (scalar_built q b g) a
+  moves (s_node k ns) t b a r f g =
+      node_moves k t ns a (λ x. b (inl x)) r.0 f g.0 (λ ms agree formed. fields_move ns ms (λ x. b (inr x)) agree r.1 formed g.1)
+
+  fields_move : (ns ms : Members) → (AnyAmong IsUnbuiltShape ns → ⊥) → AgreesFields ms ns → AreRuled ns → AreWellFormed ms → AreWellFormed ns → CanMoveFields ms ns
+  fields_move no_members ms b a r f g = tt
+  fields_move (bare x ns) ms b a r f g = fields_move ns ms b a r f g
+  fields_move (typed x u ns) ms b a r f g =
+      (field_there x ms u (named x ms) refl a.0 f (λ s agree formed. moves u s (λ y. b (inl y)) agree r.0 formed g.0), fields_move ns ms (λ y. b (inr y)) a.1 r.1 f g.1)
+
+-- ---- tuples
+
+built_from : (n : ℕ) (ss : List Shape) → AllByRecursion IsBuiltShape ss → AnyAmong IsUnbuiltShape (members_from n ss) → ⊥
+built_from n [] h x = x
+built_from n (s ∷ ss) h (inl x) = h.0 x
+built_from n (s ∷ ss) h (inr x) = built_from (suc n) ss h.1 x
+
+pub counted_from : (n : ℕ) (ss : List Shape) → AllByRecursion IsValid ss → AreCounted (members_from n ss)
+counted_from n [] h = tt
+counted_from n (s ∷ ss) h = (valid_counted s h.0, counted_from (suc n) ss h.1)
+
+pub tuple_moves : (ss ds : List Shape) → AllByRecursion IsBuiltShape ds → AgreesPlaces (tuple_members ss) (tuple_members ds) → AreWellFormedTypes ss → AreWellFormedTypes ds → CanMoveTuple ss ds
+tuple_moves ss ds built agree s d = record {
+  from_counted = counted_from 0 ss s.valid;
+  to_counted = counted_from 0 ds d.valid;
+  members = fields_move (tuple_members ds) (tuple_members ss) (built_from 0 ds built) (fields_agree ss ds agree) (members_ruled 0 ds d.valid) (members_formed 0 ss s.formed) (members_formed 0 ds d.formed);
+}
+
+-- ---- borrows
+
+lends_not : (q : InterfaceType) → (IsUnbuiltType q → ⊥) → is_borrow q ≡ false
+lends_not (ty.Borrow i) b = absurd (b tt)
+lends_not _ b = refl
+
+kind_lends_not : (k : Kind) (b : Bool) → b ≡ false → borrow_by k b ≡ false
+kind_lends_not (k_future u i) b h = refl
+kind_lends_not (k_stream u i) b h = refl
+kind_lends_not k b h = h
+
+neither : (a b : Bool) → a ≡ false → b ≡ false → a || b ≡ false
+neither false b h g = g
+neither true b h g = h
+
+mutual
+  no_borrow : (s : Shape) → IsBuiltShape s → has_borrow s ≡ false
+  no_borrow (s_plain q) b = lends_not q b
+  no_borrow (s_node k ms) b = kind_lends_not k (have_borrow ms) (no_borrows ms (λ x. b (inr x)))
+
+  no_borrows : (ms : Members) → (AnyAmong IsUnbuiltShape ms → ⊥) → have_borrow ms ≡ false
+  no_borrows no_members b = refl
+  no_borrows (bare n ms) b = no_borrows ms b
+  no_borrows (typed n s ms) b = neither (has_borrow s) (have_borrow ms) (no_borrow s (λ x. b (inl x))) (no_borrows ms (λ x. b (inr x)))
+
+-- types that are built lend nothing
+pub none_borrowed : (ss : List Shape) → AllByRecursion IsBuiltShape ss → list_any has_borrow ss ≡ false
+none_borrowed [] h = refl
+none_borrowed (s ∷ ss) h = neither (has_borrow s) (list_any has_borrow ss) (no_borrow s h.0) (none_borrowed ss h.1)

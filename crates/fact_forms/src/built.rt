@@ -1,0 +1,203 @@
+//! The adapters that are built so far.
+
+ghost use Rattle.std.specs.Prelude.{◌≡◌, ◌↔◌, ◌&&◌, ◌<◌, ◌≤◌, IfErr, IfOk, IsTrue, List, Some, is_some, length, slice_get};
+ghost use Rattle.fact_types.specs.Adapters.{LinkedAdapter, Side, is_wide as is_wide_memory};
+ghost use Rattle.fact_types.specs.Functions.{HasSignature};
+ghost use Rattle.fact_types.specs.Shapes.{Shape};
+ghost use Rattle.fact_types.specs.Signatures.{flat_values};
+ghost use Rattle.fact_plan_types.specs.PlanTypes.{AreTypesOf};
+ghost use Rattle.fact_plan_types.specs.TypeRules.{most_entries};
+ghost use Rattle.fact_checks.specs.FirstFault.{IsFaultlessPlan};
+ghost use Rattle.fact_checks.specs.Linked.{HasSides, IsLinked, IsSideOf, NamesTypesOf};
+ghost use Rattle.fact_forms.specs.Built.{IsBuiltAdapter, IsBuiltPlan, IsBuiltSide};
+ghost use Rattle.fact_forms.specs.Parts.{IsBuiltIn, IsPlainCrossing, IsPlainSide};
+
+use fact_builder::ComponentTypesBuilder;
+use fact_checks::{Adapter, AdapterOptionsDfg, Candidate, FuseError, candidate_of, linked_adapter};
+use fact_plan::{FusePlan, PlanAdapter};
+use fact_plan_types::PlanTypes;
+use fact_type_rules::FunctionTypes;
+use fact_types::{MemoryOption, TypeFuncIndex};
+use fact_wasm::OutOfMemory;
+use std::alloc::Global;
+
+/// The most core values that parameters are passed as.
+const MOST_PARAMS: usize = 16;
+
+/// Whether both hold.
+fn both(first: bool, second: bool) -> bool
+    ensures { result ≡ (first && second) }
+{
+    first && second
+}
+
+/// Whether a live function and the options of its side are sync, and the options name no callback and no post-return.
+fn is_plain_side(
+    builder: &ComponentTypesBuilder,
+    ty: TypeFuncIndex,
+    options: &AdapterOptionsDfg,
+) -> bool
+    requires { ty.number < length builder.now.tables.functions }
+    ensures { (s : Side) → IsSideOf builder.now ty options.now s → (IsTrue result ↔ IsPlainSide s) }
+{
+    builder.reveal();
+    !builder[ty].async_
+        && !options.async_
+        && options.callback.is_none()
+        && options.post_return.is_none()
+}
+
+/// Whether the addresses of a side's memory have 64 bits.
+fn is_wide(memory: &Option<MemoryOption>) -> bool
+    ensures { result ≡ is_wide_memory memory.now }
+{
+    match memory {
+        Some(memory) => memory.memory64,
+        None => false,
+    }
+}
+
+/// Whether the parameters of a live function are flat.
+fn has_flat_params(
+    builder: &ComponentTypesBuilder,
+    memory64: bool,
+    ty: TypeFuncIndex,
+) -> Result<bool, OutOfMemory>
+    requires { ty.number < length builder.now.tables.functions }
+    ensures { IfOk result (λ flat. (params results : List Shape) → HasSignature builder.now.tables ty params results → flat ≡ is_some (flat_values memory64 16 params)) }
+{
+    let flat = builder.flatten_types(memory64, MOST_PARAMS, builder.params_of(ty))?;
+    let is_flat = flat.is_some();
+    drop(flat);
+    Ok(is_flat)
+}
+
+/// Whether a side is built, whose types are in the builder.
+fn is_built_side(
+    types: &mut FunctionTypes<'_>,
+    builder: &ComponentTypesBuilder,
+    ty: TypeFuncIndex,
+    options: &AdapterOptionsDfg,
+) -> Result<bool, OutOfMemory>
+    requires same { types.old ≡ builder.now }
+    requires live { ty.number < length builder.now.tables.functions }
+    ensures unchanged { types.new ≡ types.old }
+    ensures exact { IfOk result (λ built. (s : Side) → IsSideOf builder.now ty options.now s → (IsTrue built ↔ IsBuiltSide s)) }
+{
+    let plain = is_plain_side(builder, ty, options);
+    let flat = has_flat_params(builder, is_wide(&options.memory), ty)?;
+    let unbuilt = types.has_unbuilt(ty)?;
+    Ok(both(plain, both(flat, !unbuilt)))
+}
+
+/// Whether both sides of an adapter are built, whose types are in the builder.
+fn are_sides_built(
+    types: &mut FunctionTypes<'_>,
+    builder: &ComponentTypesBuilder,
+    adapter: &Adapter,
+) -> Result<bool, OutOfMemory>
+    requires same { types.old ≡ builder.now }
+    requires named { NamesTypesOf builder.now adapter.now }
+    ensures unchanged { types.new ≡ types.old }
+    ensures exact { IfOk result (λ built. (a : LinkedAdapter) → HasSides builder.now adapter.now a → (IsTrue built ↔ (IsBuiltSide a.lift × IsBuiltSide a.lower))) }
+{
+    let lift = is_built_side(types, builder, adapter.lift_ty, &adapter.lift_options)?;
+    let lower = is_built_side(types, builder, adapter.lower_ty, &adapter.lower_options)?;
+    Ok(both(lift, lower))
+}
+
+/// Whether an adapter joins two instances and is not transparent, without concurrency and exceptions.
+fn is_plain_crossing(concurrency: bool, exceptions: bool, candidate: &Candidate<'_>) -> bool
+    ensures { IsTrue result ↔ IsPlainCrossing concurrency exceptions candidate.now }
+{
+    let adapter = candidate.adapter;
+    !candidate.transparent
+        && adapter.lift_options.instance != adapter.lower_options.instance
+        && !concurrency
+        && !exceptions
+}
+
+/// Whether an adapter, whose types are in the builder, is built, with concurrency and exceptions or without them. The types are
+/// looked at over that builder; each type is looked at once.
+pub fn is_built(
+    types: &mut FunctionTypes<'_>,
+    builder: &ComponentTypesBuilder,
+    concurrency: bool,
+    exceptions: bool,
+    candidate: &Candidate<'_>,
+) -> Result<bool, OutOfMemory>
+    requires same { types.old ≡ builder.now }
+    requires named { NamesTypesOf builder.now candidate.now.adapter.now }
+    ensures unchanged { types.new ≡ types.old }
+    ensures exact { IfOk result (λ built. (a : LinkedAdapter) → IsLinked builder.now candidate.now a → (IsTrue built ↔ IsBuiltAdapter concurrency exceptions a)) }
+{
+    let sides = are_sides_built(types, builder, candidate.adapter)?;
+    let crossing = is_plain_crossing(concurrency, exceptions, candidate);
+    Ok(both(sides, crossing))
+}
+
+/// Whether the adapter at a place of a plan without faults is built.
+fn is_built_in(
+    types: &mut FunctionTypes<'_>,
+    plan: &FusePlan,
+    plan_types: &PlanTypes,
+    k: usize,
+    adapter: &PlanAdapter,
+) -> Result<bool, FuseError>
+    requires types { AreTypesOf plan.now plan_types.now }
+    requires same { types.old ≡ plan_types.now.builder }
+    requires faultless { IsFaultlessPlan plan.now }
+    requires there { slice_get plan.now.adapters k ≡ Some adapter.now }
+    requires few { k ≤ most_entries }
+    ensures unchanged { types.new ≡ types.old }
+    ensures exact { IfOk result (λ built. IsTrue built ↔ IsBuiltIn plan.now adapter.now) }
+    ensures memory { IfErr result (λ e. e ≡ FuseError.OutOfMemory) }
+{
+    plan_types.builder.component_types().reveal();
+    let linked = linked_adapter(plan, plan_types, k, adapter)?;
+    let candidate = candidate_of(adapter, &linked);
+    let tunables = &plan.tunables;
+    let built = is_built(
+        types,
+        &plan_types.builder,
+        tunables.concurrency,
+        tunables.exceptions,
+        &candidate,
+    );
+    drop(linked);
+    Ok(built?)
+}
+
+/// Whether each adapter of a plan without faults is built, over the types of the plan.
+fn are_built(
+    types: &mut FunctionTypes<'_>,
+    plan: &FusePlan,
+    plan_types: &PlanTypes,
+) -> Result<bool, FuseError>
+    requires types { AreTypesOf plan.now plan_types.now }
+    requires same { types.old ≡ plan_types.now.builder }
+    requires faultless { IsFaultlessPlan plan.now }
+    ensures exact { IfOk result (λ built. IsTrue built ↔ IsBuiltPlan plan.now) }
+    ensures memory { IfErr result (λ e. e ≡ FuseError.OutOfMemory) }
+{
+    for (k, adapter) in plan.adapters.as_slice().iter().enumerate() {
+        if !is_built_in(types, plan, plan_types, k, adapter)? {
+            return Ok(false);
+        }
+    }
+    Ok(true)
+}
+
+/// Whether each adapter of a plan without faults is built. `OutOfMemory` is the one refusal.
+pub fn is_built_plan(alloc: Global, plan: &FusePlan) -> Result<bool, FuseError>
+    requires { IsFaultlessPlan plan.now }
+    ensures exact { IfOk result (λ built. IsTrue built ↔ IsBuiltPlan plan.now) }
+    ensures memory { IfErr result (λ e. e ≡ FuseError.OutOfMemory) }
+{
+    let plan_types = PlanTypes::new(alloc, plan)?;
+    let mut types = FunctionTypes::new(alloc, &plan_types.builder);
+    let built = are_built(&mut types, plan, &plan_types);
+    drop(types);
+    drop(plan_types);
+    built
+}
