@@ -1,195 +1,70 @@
--- The adapters of a plan that is built are built with all that they name looked up.
-use Rattle.std.proofs.Common.{◌≡◌, ℕ, ◌+◌, ◌<◌, ◌≤◌, true, List, [], ◌∷◌, Some, None, Option, refl, sym, ap, ◌∙◌, subst, arith, length, map, slice_get, take_all, inl, inr}
+-- The adapters of a plan, taken one after another: where the plan is built, each of them is.
+use Rattle.std.proofs.Common.{◌≡◌, ℕ, ◌+◌, ◌<◌, ◌≤◌, true, List, [], Some, sym, ap, ◌∙◌, subst, arith, length, slice_get, take_all, inl, inr}
 use Rattle.std.specs.Prelude.{Err, Ok, OnOk, Result}
-use Rattle.std.specs.List.{AllByRecursion, filter_map}
+use Rattle.std.specs.List.{filter_map}
 use Rattle.std.proofs.lemmas.Bool.{cases_lt}
-use Rattle.std.proofs.lemmas.List.{length-map}
-use Rattle.std.proofs.lemmas.Option.{get_or_from_slice_get, slice_get_within}
+use Rattle.std.proofs.lemmas.Option.{slice_get_within}
 use Rattle.fact_entity.specs.declared.id.Id.{Id}
 use Rattle.fact_entity.specs.declared.table.TypeFuncs.{TypeFuncs}
-use Rattle.fact_types.specs.declared.interface.InterfaceType.{InterfaceType}
 use Rattle.fact_types.specs.declared.kinds.TypeFunc.{TypeFunc}
-use Rattle.fact_types.specs.declared.kinds.TypeTuple.{TypeTuple}
-use Rattle.fact_types.specs.Functions.{HaveShapes}
-use Rattle.fact_types.specs.Shapes.{Shape}
-use Rattle.fact_types.specs.Tables.{HasShape}
+use Rattle.fact_types.specs.Adapters.{LinkedAdapter, Side}
+use Rattle.fact_types.proofs.ShapeLaws.{same_some}
 use Rattle.fact_builder.specs.Builder.{Builder}
-use Rattle.fact_plan.specs.Built.{IsPlainRef, IsPlainAdapter, IsPlainFunc, IsPlainSideOf}
-use Rattle.fact_plan.specs.declared.plain.PrimitiveValType.TheVariants as word
 use Rattle.fact_plan.specs.declared.plan.FusePlan.{FusePlan}
 use Rattle.fact_plan.specs.declared.plan.PlanAdapter.{PlanAdapter}
-use Rattle.fact_plan.specs.declared.plan.PlanFunc.{PlanFunc}
-use Rattle.fact_plan.specs.declared.plan.PlanRef.{PlanRef}
-use Rattle.fact_plan.specs.declared.plan.PlanRef.TheVariants as ref
-use Rattle.fact_plan.specs.declared.plan.PlanSide.{PlanSide}
-use Rattle.fact_plan_types.specs.PlanShapes.{plan_shapes, shape_of, shapes_of}
-use Rattle.fact_plan_types.specs.TypeRules.{param_shapes, result_shapes}
-use Rattle.fact_wasm.specs.declared.types.FuncType.{FuncType}
-use Rattle.fact_types.specs.declared.outside.CoreDef.{CoreDef}
-use Rattle.fact_checks.specs.declared.adapter.AdapterOptionsDfg.{AdapterOptionsDfg}
-use Rattle.fact_types.specs.Adapters.{LinkedAdapter, Side}
-use Rattle.fact_checks.specs.Adapters.{adapter_of, side_of}
-use Rattle.fact_checks.specs.Linked.{HasSides, IsLinked, IsSideOf}
-use Rattle.fact_checks.specs.Links.{LinksAdapter}
-use Rattle.fact_checks.specs.declared.sides.Candidate.{Candidate}
-use Rattle.fact_checks.specs.Adapters.{adapters_before}
-use Rattle.fact_checks.specs.AdapterRules.{AdapterHas, AdapterLacks, HasAdapterFault, LinkedHas}
-use Rattle.fact_checks.specs.FirstFault.{IsFaultlessPlan, IsFirstAt}
-use Rattle.fact_plan_types.specs.PlanTypes.{AreFaultless}
-use Rattle.fact_checks.specs.Linked.{NamesTypesOf}
-use Rattle.fact_checks.specs.Links.{IsFirstHere}
-use Rattle.fact_plan.specs.Built.{IsBuiltPlan}
+use Rattle.fact_plan_types.specs.declared.plan_types.PlanTypes.{PlanTypes}
+use Rattle.fact_plan_types.specs.PlanTypes.{AreFaultless, AreTypesOf}
 use Rattle.fact_plan_types.specs.Faults.{Fault, too_large}
 use Rattle.fact_plan_types.specs.TypeRules.{most_entries}
 use Rattle.fact_plan_types.specs.declared.error.Place.{Place}
 use Rattle.fact_plan_types.specs.declared.error.Place.TheVariants.{Adapter as at_adapter}
+use Rattle.fact_checks.specs.declared.adapter.Adapter.{Adapter}
+use Rattle.fact_checks.specs.declared.adapter.AdapterOptionsDfg.{AdapterOptionsDfg}
+use Rattle.fact_checks.specs.declared.sides.Candidate.{Candidate}
+use Rattle.fact_checks.specs.Adapters.{adapter_of, adapters_before}
+use Rattle.fact_checks.specs.AdapterRules.{AdapterHas, AdapterLacks, HasAdapterFault, LinkedHas}
+use Rattle.fact_checks.specs.FirstFault.{IsFaultlessPlan, IsFirstAt}
+use Rattle.fact_checks.specs.Linked.{HasSides, IsLinked, IsSideOf, NamesTypesOf}
+use Rattle.fact_checks.specs.Links.{IsFirstHere, LinksAdapter}
 use Rattle.fact_checks.proofs.LinkLaws.{sides-typed, some_and}
 use Rattle.fact_checks.proofs.PlanLaws.{before-next, first-linked, none-here}
+use Rattle.fact_forms.specs.Built.{IsBuiltAdapter, IsBuiltPlan}
+use Rattle.fact_forms.specs.Sound.{HasValidSides}
+use Rattle.fact_forms.proofs.PlanLaws.{built_at}
+use Rattle.fact_forms.proofs.RulesValid.{looked_up_valid, same_signature}
 use Rattle.fact_module.specs.Collected.{AreTaken, Collected, HasTaken, IsTakenAs, KeepsSettings, taken_of}
 use Rattle.fact_module.specs.Taking.{IsFirstBehind, IsSoundBehind, MayTake}
 use Rattle.fact_module.specs.Fusing.{HasTakenAll, HasTakenTo, IsFor}
 use Rattle.fact_module.proofs.TakeLaws.{is-linked, is-taken, zip-push}
-use Rattle.fact_module.specs.Built.{IsBuiltAdapter, IsBuiltSide, IsNumberShape}
 
--- ---- one function type has one signature
+-- ---- what a builder says of an adapter is one
 
-module _ (b : Builder) (one : (ty : InterfaceType) (s z : Shape) → HasShape b.tables ty s → HasShape b.tables ty z → s ≡ z) where
-  same-shapes : (tys : List InterfaceType) (ss zs : List Shape) → HaveShapes b.tables tys ss → HaveShapes b.tables tys zs → ss ≡ zs
-  same-shapes [] [] [] h g = refl
-  same-shapes [] [] (z ∷ zs) h g = absurd g
-  same-shapes [] (s ∷ ss) zs h g = absurd h
-  same-shapes (ty ∷ tys) [] zs h g = absurd h
-  same-shapes (ty ∷ tys) (s ∷ ss) [] h g = absurd g
-  same-shapes (ty ∷ tys) (s ∷ ss) (z ∷ zs) h g = λ k. one ty s z h.0 g.0 k ∷ same-shapes tys ss zs h.1 g.1 k
-
-  inside : {X : Type 0} {m n : X} (o : Option X) → o ≡ Some m → o ≡ Some n → m ≡ n
-  inside o e f = let same = sym e ∙ f in cc
-
-  -- the same side is built however its types are looked up
-  side-built : (ty : Id TypeFuncs) (o : AdapterOptionsDfg) (s z : Side) → IsSideOf b ty o s → IsSideOf b ty o z → IsBuiltSide s → IsBuiltSide z
-  side-built ty o s z h g built =
-      let f : h.signature.func ≡ g.signature.func = inside _ h.signature.func_there g.signature.func_there in
-      let ins : h.signature.taken ≡ g.signature.taken = inside _ h.signature.taken_there (ap (λ (t : TypeFunc). slice_get b.tables.tuples t.params.number) f ∙ g.signature.taken_there) in
-      let outs : h.signature.given ≡ g.signature.given = inside _ h.signature.given_there (ap (λ (t : TypeFunc). slice_get b.tables.tuples t.results.number) f ∙ g.signature.given_there) in
-      let params : s.params ≡ z.params = same-shapes g.signature.taken.types s.params z.params (subst (λ (t : TypeTuple). HaveShapes b.tables t.types s.params) ins h.signature.takes) g.signature.takes in
-      let results : s.results ≡ z.results = same-shapes g.signature.given.types s.results z.results (subst (λ (t : TypeTuple). HaveShapes b.tables t.types s.results) outs h.signature.gives) g.signature.gives in
-      record {
-        params = subst (AllByRecursion IsNumberShape) params built.params;
-        few_params = subst (λ ss. length ss ≤ 16) params built.few_params;
-        results = subst (AllByRecursion IsNumberShape) results built.results;
-        few_results = subst (λ ss. length ss ≤ 1) results built.few_results;
-        sync_type = g.async_type ∙ ap (λ (t : TypeFunc). t.async_) (sym f) ∙ sym h.async_type ∙ built.sync_type;
-        sync_side = g.async_side ∙ sym h.async_side ∙ built.sync_side;
-        memory = g.memory ∙ sym h.memory ∙ built.memory;
-        realloc = g.realloc ∙ sym h.realloc ∙ built.realloc;
-        callback = g.callback ∙ sym h.callback ∙ built.callback;
-        post_return = g.post_return ∙ sym h.post_return ∙ built.post_return;
+module _ (b : Builder) where
+  same-side : (ty : Id TypeFuncs) (o : AdapterOptionsDfg) (s z : Side) → IsSideOf b ty o s → IsSideOf b ty o z → s ≡ z
+  same-side ty o s z h g =
+      let signature = same_signature b.tables ty s.params s.results z.params z.results h.signature g.signature in
+      let func = same_some (slice_get b.tables.functions ty.number) h.signature.func g.signature.func h.signature.func_there g.signature.func_there in
+      let async_type = h.async_type ∙ ap (λ (t : TypeFunc). t.async_) func ∙ sym g.async_type in
+      let core_type = same_some (slice_get b.module_types o.core_type.number) s.core_type z.core_type h.core_type g.core_type in
+      λ k. record {
+        instance = (h.instance ∙ sym g.instance) k;
+        params = signature.0 k;
+        results = signature.1 k;
+        async_type = async_type k;
+        core_type = core_type k;
+        encoding = (h.encoding ∙ sym g.encoding) k;
+        async_side = (h.async_side ∙ sym g.async_side) k;
+        memory = (h.memory ∙ sym g.memory) k;
+        realloc = (h.realloc ∙ sym g.realloc) k;
+        callback = (h.callback ∙ sym g.callback) k;
+        post_return = (h.post_return ∙ sym g.post_return) k;
       }
 
--- ---- the sides of a plan
-
-number-shape : (p : FusePlan) (r : PlanRef) → IsPlainRef r → IsNumberShape (shape_of (plan_shapes p) r)
-number-shape p (ref.Word word.U32) h = inl refl
-number-shape p (ref.Word word.U64) h = inr refl
-number-shape p (ref.Word word.Bool) h = absurd h
-number-shape p (ref.Word word.S8) h = absurd h
-number-shape p (ref.Word word.U8) h = absurd h
-number-shape p (ref.Word word.S16) h = absurd h
-number-shape p (ref.Word word.U16) h = absurd h
-number-shape p (ref.Word word.S32) h = absurd h
-number-shape p (ref.Word word.S64) h = absurd h
-number-shape p (ref.Word word.Float32) h = absurd h
-number-shape p (ref.Word word.Float64) h = absurd h
-number-shape p (ref.Word word.Char) h = absurd h
-number-shape p (ref.Word word.String) h = absurd h
-number-shape p (ref.Word word.ErrorContext) h = absurd h
-number-shape p (ref.Entry k) h = absurd h
-
-number-shapes : (p : FusePlan) (rs : List PlanRef) → AllByRecursion IsPlainRef rs → AllByRecursion IsNumberShape (shapes_of (plan_shapes p) rs)
-number-shapes p [] h = tt
-number-shapes p (r ∷ rs) h = (number-shape p r h.0, number-shapes p rs h.1)
-
-types-plain : (params : List (List ℕ × PlanRef)) → AllByRecursion (λ x. IsPlainRef x.1) params → AllByRecursion IsPlainRef (map (λ x. x.1) params)
-types-plain [] h = tt
-types-plain (x ∷ params) h = (h.0, types-plain params h.1)
-
--- what a side without options comes to
-plain-side : (p : FusePlan) (s : PlanSide) (f : PlanFunc) (ty : FuncType) → Side
-plain-side p s f ty = record {
-  instance = s.instance;
-  params = param_shapes p f;
-  results = result_shapes p f;
-  async_type = f.async_;
-  core_type = ty;
-  encoding = s.encoding;
-  async_side = s.async_;
-  memory = None;
-  realloc = None;
-  callback = None;
-  post_return = None;
-}
-
-plan-side : (p : FusePlan) (s : PlanSide) (z : Side) → IsPlainSideOf p s → side_of p s ≡ Some z → IsBuiltSide z × (z.instance ≡ s.instance)
-unfolding plain-side
-plan-side p s z h e = cases (slice_get p.core_types s.core_type) refl
-  where
-    func : (f : PlanFunc) × (slice_get p.funcs s.ty ≡ Some f) × IsPlainFunc f
-    func = some_and (slice_get p.funcs s.ty) IsPlainFunc h.func
-
-    built : (ty : FuncType) → IsBuiltSide (plain-side p s func.0 ty)
-    built ty = record {
-      params = number-shapes p _ (types-plain func.0.params func.2.params);
-      few_params = omega (arith, func.2.few_params, length-map (map (λ x. x.1) func.0.params) (shape_of (plan_shapes p)), length-map func.0.params (λ x. x.1));
-      results = number-shapes p func.0.results func.2.results;
-      few_results = omega (arith, func.2.few_results, length-map func.0.results (shape_of (plan_shapes p)));
-      sync_type = func.2.sync;
-      sync_side = h.sync;
-      memory = refl;
-      realloc = refl;
-      callback = refl;
-      post_return = refl;
-    }
-
-    cases : (o : Option FuncType) → slice_get p.core_types s.core_type ≡ o → IsBuiltSide z × (z.instance ≡ s.instance)
-    cases None there = let bad : None ≡ Some z = rw (func.1, there) at e in cc
-    cases (Some ty) there =
-        let same : Some (plain-side p s func.0 ty) ≡ Some z = rw (func.1, there, h.memory, h.realloc, h.callback, h.post_return) at e in
-        let is : plain-side p s func.0 ty ≡ z = cc in
-        (subst IsBuiltSide is (built ty), sym (ap (λ (y : Side). y.instance) is))
-
--- ---- the adapters of a plan
-
--- the parts of an adapter that names nothing that is lacking
-sides-of : (p : FusePlan) (x : PlanAdapter) (a : LinkedAdapter) → adapter_of p x ≡ Some a → (side_of p x.lift ≡ Some a.lift) × (side_of p x.lower ≡ Some a.lower)
-sides-of p x a e = cases (slice_get p.core_defs x.func) (side_of p x.lift) (side_of p x.lower) refl refl refl
-  where
-    cases : (d : Option CoreDef) (l m : Option Side) → slice_get p.core_defs x.func ≡ d → side_of p x.lift ≡ l → side_of p x.lower ≡ m → (side_of p x.lift ≡ Some a.lift) × (side_of p x.lower ≡ Some a.lower)
-    cases None l m f g h = let bad : None ≡ Some a = rw f at e in cc
-    cases (Some d) None m f g h = let bad : None ≡ Some a = rw (f, g) at e in cc
-    cases (Some d) (Some l) None f g h = let bad : None ≡ Some a = rw (f, g, h) at e in cc
-    cases (Some d) (Some l) (Some m) f g h =
-        let same : Some (record { name = x.name; callee = d; transparent = x.transparent; lift = l; lower = m }) ≡ Some a = rw (f, g, h) at e in
-        let is : record { name = x.name; callee = d; transparent = x.transparent; lift = l; lower = m } ≡ a = cc in
-        (g ∙ ap (λ (b : LinkedAdapter). Some b.lift) is, h ∙ ap (λ (b : LinkedAdapter). Some b.lower) is)
-
--- it is built, under whichever names it was looked up
-pub adapter-built : (p : FusePlan) (b : Builder) → ((ty : InterfaceType) (s z : Shape) → HasShape b.tables ty s → HasShape b.tables ty z → s ≡ z)
-    → (x : PlanAdapter) (c : Candidate) (links : LinksAdapter p b x c.adapter.now) → IsPlainAdapter p x → c.transparent ≡ x.transparent
-    → (a : LinkedAdapter) → IsLinked b c a → IsBuiltAdapter p.tunables.concurrency p.tunables.exceptions a
-adapter-built p b one x c links plain mark a h =
-    let sides = sides-of p x links.linked links.is_adapter in
-    let lift = plan-side p x.lift links.linked.lift plain.lift sides.0 in
-    let lower = plan-side p x.lower links.linked.lower plain.lower sides.1 in
-    let lifted : a.lift.instance ≡ x.lift.instance = h.sides.lift.instance ∙ sym links.stands.lift.instance ∙ lift.1 in
-    let lowered : a.lower.instance ≡ x.lower.instance = h.sides.lower.instance ∙ sym links.stands.lower.instance ∙ lower.1 in
-    record {
-      lift = side-built b one c.adapter.now.lift_ty c.adapter.now.lift_options links.linked.lift a.lift links.stands.lift h.sides.lift lift.0;
-      lower = side-built b one c.adapter.now.lower_ty c.adapter.now.lower_options links.linked.lower a.lower links.stands.lower h.sides.lower lower.0;
-      opaque = h.transparent ∙ mark ∙ plain.opaque;
-      apart = λ same. plain.apart (sym lifted ∙ same ∙ lowered);
-      no_concurrency = plain.no_concurrency;
-      no_exceptions = plain.no_exceptions;
-    }
+  same-adapter : (y : Adapter) (a z : LinkedAdapter) → HasSides b y a → HasSides b y z → a.name ≡ z.name → a.transparent ≡ z.transparent → a ≡ z
+  same-adapter y a z h g name mark =
+      let lift = same-side y.lift_ty y.lift_options a.lift z.lift h.lift g.lift in
+      let lower = same-side y.lower_ty y.lower_options a.lower z.lower h.lower g.lower in
+      λ k. record { name = name k; callee = (h.callee ∙ sym g.callee) k; transparent = mark k; lift = lift k; lower = lower k }
 
 -- ---- one adapter more
 
@@ -208,11 +83,18 @@ module _ (p : FusePlan) (b : Builder) (old : Collected) (k : ℕ) (x : PlanAdapt
   pub typed-here : NamesTypesOf old.builder c.adapter.now
   typed-here = sides-typed _ _ links.linked is_linked.sides
 
-  pub may-take : ((ty : InterfaceType) (s z : Shape) → HasShape b.tables ty s → HasShape b.tables ty z → s ≡ z) → IsBuiltPlan p → MayTake old c
-  may-take one built none a taken =
-      let h = is-linked old.builder c a taken in
-      let plain = subst (IsPlainAdapter p) (get_or_from_slice_get p.adapters k x x there) (built k x (slice_get_within p.adapters k x there)) in
-      rw (at.is_for.tunables, at.is_for.features) (adapter-built p b one x c links plain mark a (subst (λ (d : Builder). IsLinked d c a) at.is_for.builder h))
+  -- in a plan that is built it is built, however what it names is looked up
+  pub may-take : IsBuiltPlan p → MayTake old c
+  may-take built none a taken =
+      let h = subst (λ (d : Builder). IsLinked d c a) at.is_for.builder (is-linked old.builder c a taken) in
+      let same = same-adapter b c.adapter.now links.linked a links.stands h.sides (links.name ∙ sym name ∙ sym h.name) (links.transparent ∙ sym mark ∙ sym h.transparent) in
+      rw (at.is_for.tunables, at.is_for.features) (subst (IsBuiltAdapter p.tunables.concurrency p.tunables.exceptions) same (built_at p built k x there links.linked links.is_adapter))
+
+  -- its types are valid, as all types of the plan are
+  pub valid-here : (t : PlanTypes) → AreTypesOf p t → b ≡ t.builder → (a : LinkedAdapter) → IsLinked old.builder c a → HasValidSides a
+  valid-here t types same a h =
+      looked_up_valid p t x c.adapter.now a types (subst (λ (d : Builder). LinksAdapter p d x c.adapter.now) same links)
+      (subst (λ (d : Builder). HasSides d c.adapter.now a) (at.is_for.builder ∙ same) h.sides)
 
   none-has : IsSoundBehind old c → (f : Fault) → LinkedHas p.tunables.concurrency (adapters_before p k) links.linked f → ⊥
   none-has sound f has = sound (adapters_before p k) links.linked at.taken is_linked f (subst (λ on. LinkedHas on (adapters_before p k) links.linked f) (sym concurrency) has)

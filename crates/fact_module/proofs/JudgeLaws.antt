@@ -18,12 +18,14 @@ use Rattle.fact_types.specs.Adapters.{LinkedAdapter}
 use Rattle.fact_checks.specs.AdapterRules.{LinkedHas}
 use Rattle.fact_checks.specs.Checked.{Checks, IsFaultlessBehind, IsFirstOf}
 use Rattle.fact_checks.specs.Linked.{IsLinked}
+use Rattle.fact_emit.specs.States.{ModuleSoFar}
+use Rattle.fact_forms.specs.Built.{IsBuiltAdapter}
+use Rattle.fact_forms.specs.Sound.{HasValidSides}
+use Rattle.fact_forms.proofs.RulesValid.{sides_valid}
 use Rattle.fact_module.specs.declared.dfg.ComponentDfg.{ComponentDfg}
 use Rattle.fact_module.specs.declared.taken.TakenAdapter.{TakenAdapter}
 use Rattle.fact_module.specs.Adapted.{HasFaultFor, IsFaultlessFor, IsFirst, MayAdapt, OfAdapter, TypesHave, is_marked}
-use Rattle.fact_module.specs.Built.{IsBuiltAdapter}
 use Rattle.fact_module.specs.Collected.{AreTaken, Collected, IsMade, taken_of}
-use Rattle.fact_module.specs.Emitted.{Emitted}
 use Rattle.fact_module.specs.Taking.{IsFirstBehind, IsSoundBehind, MayTake}
 use Rattle.fact_module.specs.Typed.{HasSoundTypes, TypesHaveFirst}
 use Rattle.fact_module.proofs.Sections.{get-within}
@@ -59,6 +61,17 @@ types-first c k t f first = record { has = inl first.has; none_before = none }
         absurd (omega (arith, low, high, less))
 
 -- ---- an adapter of sound types
+
+-- its types are valid, however they are looked up
+pub valid-sides : (b : Builder) (k : ℕ) (candidate : Candidate) → HasSoundTypes b k candidate.adapter.now → (a : LinkedAdapter) → IsLinked b candidate a → HasValidSides a
+valid-sides b k candidate types a h =
+    let lift = h.sides.lift.signature in
+    let lower = h.sides.lower.signature in
+    sides_valid b candidate.adapter.now a h.sides
+    (λ q. types.sound bad_type (inl (record { params = a.lift.params; results = a.lift.results; signature = lift; is_bad = q })))
+    (λ q. types.sound too_large (inl (inl (record { params = a.lift.params; results = a.lift.results; signature = lift; is_large = q }))))
+    (λ q. types.sound bad_type (inr (record { params = a.lower.params; results = a.lower.results; signature = lower; is_bad = q })))
+    (λ q. types.sound too_large (inl (inr (record { params = a.lower.params; results = a.lower.results; signature = lower; is_large = q }))))
 
 module _ (c : Collected) (k : ℕ) (candidate : Candidate) (types : HasSoundTypes c.builder k candidate.adapter.now) where
   linked : LinkedAdapter
@@ -100,7 +113,7 @@ module _ (c : Collected) (k : ℕ) (candidate : Candidate) (types : HasSoundType
 
 -- ---- what the checks told
 
-pub checked-sound : (c : Collected) (checks : Checks) (s : Emitted) (candidate : Candidate) → IsMade c checks s → c.whole ≡ true → IsFaultlessBehind checks candidate → IsSoundBehind c candidate
+pub checked-sound : (c : Collected) (checks : Checks) (s : ModuleSoFar) (candidate : Candidate) → IsMade c checks s → c.whole ≡ true → IsFaultlessBehind checks candidate → IsSoundBehind c candidate
 checked-sound c checks s candidate made whole behind before a taken h f has =
     behind before a (made.covers whole before taken).checked (subst (λ (b : Builder). IsLinked b candidate a) (sym made.builder) h)
     f (subst (λ on. LinkedHas on before a f) (sym made.concurrency) has)
@@ -109,7 +122,7 @@ checked-sound c checks s candidate made whole behind before a taken h f has =
 pub types-refused : (now old : Collected) (k : ℕ) (t : TakenAdapter) (o : Option (Fault × Place)) → now ≡ old → IfSome o (λ x. TypesHaveFirst now.builder k t.adapter x.0 × (x.1 ≡ at_adapter k)) → IfSome o (λ x. IsFirst old k t x.0 × (x.1 ≡ at_adapter k))
 types-refused now old k t o same h = IfSome_then o h (λ x told. (subst (λ c. IsFirst c k t x.0) same (types-first now k t x.0 told.0), told.1))
 
-pub checks-refused : (c : Collected) (checks : Checks) (s : Emitted) (k : ℕ) (candidate : Candidate) (o : Option (Fault × Place)) → IsMade c checks s → c.whole ≡ true → HasSoundTypes c.builder k candidate.adapter.now
+pub checks-refused : (c : Collected) (checks : Checks) (s : ModuleSoFar) (k : ℕ) (candidate : Candidate) (o : Option (Fault × Place)) → IsMade c checks s → c.whole ≡ true → HasSoundTypes c.builder k candidate.adapter.now
     → IfSome o (λ x. IsFirstOf checks candidate x.0 × (x.1 ≡ at_adapter k)) → IfSome o (λ x. IsFirst c k (taken_of candidate) x.0 × (x.1 ≡ at_adapter k))
 checks-refused c checks s k candidate o made whole types h =
     IfSome_then o h (λ x told. (linked-first c k candidate types made.some.0 made.some.1 x.0 (first-behind c checks s candidate x.0 made whole told.0), told.1))

@@ -1,15 +1,13 @@
 -- A module that takes one adapter more.
-use Rattle.std.proofs.Common.{◌≡◌, ◌≢◌, ℕ, suc, ◌+◌, ◌<◌, ◌≤◌, ◌^◌, AllPairs, Bool, true, false, List, [], ◌∷◌, ◌++◌, Some, refl, sym, ap, ◌∙◌, subst, arith, length, slice_get, inl, inr}
+use Rattle.std.proofs.Common.{◌≡◌, ◌≢◌, ℕ, suc, ◌+◌, ◌<◌, ◌^◌, AllPairs, Bool, true, false, List, [], ◌∷◌, ◌++◌, Some, refl, sym, ap, ◌∙◌, subst, arith, length}
 use Rattle.std.specs.Prelude.{All, IfSome, None, Option, cond}
 use Rattle.std.specs.Str.{bytes_eq}
 use Rattle.fact_plan_types.specs.declared.error.Place.{Place}
 use Rattle.fact_plan_types.specs.declared.error.Place.TheVariants.{Adapter as at_adapter}
-use Rattle.std.specs.List.{AllZip}
-use Rattle.std.proofs.lemmas.List.{length-map}
+use Rattle.std.specs.List.{AllZip, flat_map}
 use Rattle.std.proofs.lemmas.Option.{get_or_from_slice_get}
 use Rattle.fact_entity.specs.declared.id.Id.{Id}
 use Rattle.fact_entity.specs.declared.table.TypeFuncs.{TypeFuncs}
-use Rattle.fact_wasm.specs.declared.types.FuncType.{FuncType}
 use Rattle.fact_wasm.specs.declared.instr.FuncName.{FuncName}
 use Rattle.fact_wasm.specs.declared.module.WasmExport.{WasmExport}
 use Rattle.fact_wasm.specs.declared.module.WasmModule.{WasmModule}
@@ -21,29 +19,34 @@ use Rattle.fact_types.specs.Tables.{IsLive, IsSound as IsSoundTables, Tables, of
 use Rattle.fact_builder.specs.Builder.{Builder}
 use Rattle.fact_builder.proofs.HandleLaws.{tuple_live}
 use Rattle.fact_uses.proofs.BindingLaws.{AreConsistent-covered, Covers-nothing}
-use Rattle.fact_plan_types.specs.Faults.{Fault, bad_signature, type_mismatch}
+use Rattle.fact_uses.specs.Bindings.{AreConsistent}
+use Rattle.fact_plan_types.specs.Faults.{Fault}
+use Rattle.fact_plan_types.proofs.ShapeLists.{all-more}
 use Rattle.fact_checks.specs.declared.adapter.Adapter.{Adapter}
 use Rattle.fact_checks.specs.declared.adapter.AdapterOptionsDfg.{AdapterOptionsDfg}
 use Rattle.fact_checks.specs.declared.sides.Candidate.{Candidate}
 use Rattle.fact_types.specs.Adapters.{LinkedAdapter, Side}
-use Rattle.fact_checks.specs.AdapterRules.{LinkedHas}
+use Rattle.fact_checks.specs.AdapterRules.{LinkedHas, uses_of}
 use Rattle.fact_checks.specs.Checked.{AreBound, Checks, IsFirstOf, IsSoundNext}
 use Rattle.fact_checks.specs.Linked.{HasSides, IsLinked, IsSideOf, NamesTypesOf}
 use Rattle.fact_types.specs.declared.import.Import.{Import}
 use Rattle.fact_module.specs.declared.taken.TakenAdapter.{TakenAdapter}
 use Rattle.fact_module.specs.declared.tunables.Tunables.{Tunables}
 use Rattle.fact_module.specs.declared.tunables.WasmFeatures.{WasmFeatures}
-use Rattle.fact_module.specs.Built.{IsBuiltAdapter}
 use Rattle.fact_module.specs.Collected.{AreTaken, Collected, IsStateOf, Extends, HasLinkedFault, IsMade, IsTakenAs, KeepsPromises, no_tree, taken_of}
-use Rattle.fact_module.specs.Emitted.{Adds, Emitted, functions_of, module_of, nothing_emitted}
-use Rattle.fact_module.specs.Exports.{exported_as}
+use Rattle.fact_emit.specs.Imports.{Extended}
+use Rattle.fact_emit.specs.States.{ModuleSoFar, functions_of, module_of, nothing_so_far}
+use Rattle.fact_forms.specs.Built.{IsBuiltAdapter}
+use Rattle.fact_forms.specs.Sound.{HasValidSides, IsSoundAdapter}
+use Rattle.fact_forms.proofs.Passed.{passed_are_sound}
+use Rattle.fact_forms.proofs.Written.{built_cross_in_sync}
+use Rattle.fact_module.specs.Adding.{Adds}
+use Rattle.fact_module.specs.Exports.{exported_as, exported_functions_of}
 use Rattle.fact_module.specs.Faithful.{Promised}
-use Rattle.fact_module.specs.Holding.{AreBuilt, ArePlain}
-use Rattle.fact_module.specs.Plain.{IsPlain, core_of}
+use Rattle.fact_module.specs.Holding.{AreBuilt}
 use Rattle.fact_module.specs.Taking.{HasFaultBehind, IsFirstBehind, MayTake}
-use Rattle.fact_module.proofs.Adding.{exports-more, grown, whole-more, holds-more, holds-nothing, instance_of}
-use Rattle.fact_module.proofs.BuiltLaws.{plain-of}
-use Rattle.fact_module.proofs.Sections.{get-within, last-or-before}
+use Rattle.fact_module.proofs.Adding.{exports-more, functions-more, grown-adds, holds-more, holds-nothing}
+use Rattle.fact_module.proofs.Sections.{get-within}
 use Rattle.fact_module.proofs.Whole.{whole-promised, whole-range}
 
 -- ---- what a typed adapter names can be looked up
@@ -134,13 +137,27 @@ built-push : (concurrency exceptions : Bool) (adapters : List LinkedAdapter) (a 
 built-push concurrency exceptions [] a h b = (b, tt)
 built-push concurrency exceptions (x ∷ adapters) a h b = (h.0, built-push concurrency exceptions adapters a h.1 b)
 
-plain-push : (adapters : List LinkedAdapter) (a : LinkedAdapter) → ArePlain adapters → ((params : List InterfaceType) × (results : List InterfaceType) × IsPlain a params results) → ArePlain (adapters ++ a ∷ [])
-plain-push adapters a h p k b e = elim (last-or-before adapters a k b e) [ inl there ↦ h k b there | inr at_last ↦ subst (λ x. (params : List InterfaceType) × (results : List InterfaceType) × IsPlain x params results) at_last.1 p ]
+sound-push : (adapters : List LinkedAdapter) (a : LinkedAdapter) → All IsSoundAdapter adapters → IsSoundAdapter a → All IsSoundAdapter (adapters ++ a ∷ [])
+sound-push adapters a h s = all-more IsSoundAdapter adapters (adapters ++ a ∷ []) a refl h s
+
+-- an adapter that is built exports one function
+pub one-exported : (concurrency exceptions : Bool) (a : LinkedAdapter) → IsBuiltAdapter concurrency exceptions a → length (exported_functions_of a) ≡ 1
+one-exported concurrency exceptions a built = rw (built_cross_in_sync concurrency exceptions a built).0 refl
+
+-- ---- what is exported
+
+exported-on : (name : List ℕ) (es more : List WasmExport) (f : FuncName) → exported_as name es ≡ Some f → exported_as name (es ++ more) ≡ Some f
+exported-on name [] more f e = cc
+exported-on name (x ∷ es) more f e = step (bytes_eq x.name name) e (exported-on name es more f)
+  where
+    step : (b : Bool) → cond b (Some x.func) (exported_as name es) ≡ Some f → (exported_as name es ≡ Some f → exported_as name (es ++ more) ≡ Some f) → cond b (Some x.func) (exported_as name (es ++ more)) ≡ Some f
+    step true e rest = e
+    step false e rest = rest e
 
 -- ---- one adapter more
 
-module _ (old : Collected) (checks checks' : Checks) (s s' : Emitted) (candidate : Candidate) (made : IsMade old checks s) (whole : old.whole ≡ true) (sound : IsSoundTables old.builder.tables)
-    (typed : NamesTypesOf old.builder candidate.adapter.now) (may : MayTake old candidate) (checked : IsSoundNext checks checks' candidate) where
+module _ (old : Collected) (checks checks' : Checks) (s s' : ModuleSoFar) (candidate : Candidate) (made : IsMade old checks s) (whole : old.whole ≡ true) (sound : IsSoundTables old.builder.tables)
+    (typed : NamesTypesOf old.builder candidate.adapter.now) (valid : (a : LinkedAdapter) → IsLinked old.builder candidate a → HasValidSides a) (may : MayTake old candidate) (checked : IsSoundNext checks checks' candidate) where
   linked : LinkedAdapter
   linked = (linked-of old.builder sound candidate typed).0
 
@@ -164,26 +181,46 @@ module _ (old : Collected) (checks checks' : Checks) (s s' : Emitted) (candidate
       none-linked : (f : Fault) → HasLinkedFault old (taken_of candidate) f → ⊥
       none-linked f k = sound-behind k.before k.linked k.taken (is-linked old.builder candidate k.linked k.is_linked) f k.has
 
-  plain-here : (before : List LinkedAdapter) (a : LinkedAdapter) → AreTaken old before → IsLinked old.builder candidate a → (params : List InterfaceType) × (results : List InterfaceType) × IsPlain a params results
-  plain-here before a taken h =
-      let none = sound-behind before a taken h in
-      plain-of old.tunables.concurrency_support old.features.exceptions a (built-here before a taken h) (λ m. none type_mismatch m) (λ m. none bad_signature m)
+  -- its types are valid, and so it is sound
+  sound-here : (before : List LinkedAdapter) (a : LinkedAdapter) → AreTaken old before → IsLinked old.builder candidate a → IsSoundAdapter a
+  sound-here before a taken h =
+      passed_are_sound old.builder candidate.adapter.now old.tunables.concurrency_support before a (record { sides = h.sides; types = valid a h; faultless = sound-behind before a taken h })
 
-  -- its core type has few parameters and results
-  pub few-values : (ty : FuncType) → slice_get old.builder.module_types candidate.adapter.now.lift_options.core_type.number ≡ Some ty → (length ty.params ≤ 16) × (length ty.results ≤ 1)
+  one-here : (before : List LinkedAdapter) (a : LinkedAdapter) → AreTaken old before → IsLinked old.builder candidate a → length (exported_functions_of a) ≡ 1
+  one-here before a taken h = one-exported old.tunables.concurrency_support old.features.exceptions a (built-here before a taken h)
+
+  consistent-here : (before : List LinkedAdapter) (a : LinkedAdapter) → AreTaken old before → IsLinked old.builder candidate a → AreConsistent (flat_map uses_of (before ++ a ∷ []))
+  consistent-here before a taken h = AreConsistent-covered _ _ (bound-behind before a taken h).uses
+
+  -- with one adapter more its tree is extended
+  pub extends-more : (before now : Collected) → before.tree ≡ module_of s → before.imports ≡ s.imports → now.tree ≡ module_of s' → now.imports ≡ s'.imports
+      → ((a : LinkedAdapter) → IsLinked old.builder candidate a → Adds old.builder.tables old.tunables.debug_adapter_modules s s' a) → Extends before now
   unfolding linked some
-  few-values ty there =
-      let is_linked = (linked-of old.builder sound candidate typed).1 in
-      let (params, results, p) = plain-here some linked made.some.1 is_linked in
-      let same : Some linked.lift.core_type ≡ Some ty = sym is_linked.sides.lift.core_type ∙ there in
-      let is_ty : linked.lift.core_type ≡ ty = cc in
-      let is : ty ≡ _ = sym is_ty ∙ p.lift.core_type_is in
-      (omega (arith, ap (λ (t : FuncType). length t.params) is, length-map params core_of, p.few_params), omega (arith, ap (λ (t : FuncType). length t.results) is, length-map results core_of, p.few_results))
+  extends-more before now tree imports tree' imports' adds =
+      let h = (linked-of old.builder sound candidate typed).1 in
+      let add = adds linked h in
+      let one = one-here some linked made.some.1 h in
+      let consistent = consistent-here some linked made.some.1 h in
+      let holds = (made.covers whole some made.some.1).holds in
+      let t = old.builder.tables in
+      let debug = old.tunables.debug_adapter_modules in
+      let g : Extended s s' = grown-adds t debug s s' some linked one consistent holds add in
+      record {
+        types = record { more = g.types.more; is = ap (λ (m : WasmModule). m.types) tree' ∙ g.types.is ∙ ap (λ (m : WasmModule). m.types ++ g.types.more) (sym tree) };
+        section = record { more = g.section.more; is = ap (λ (m : WasmModule). m.imports) tree' ∙ g.section.is ∙ ap (λ (m : WasmModule). m.imports ++ g.section.more) (sym tree) };
+        imports = record { more = g.imports.more; is = imports' ∙ g.imports.is ∙ ap (λ is. is ++ g.imports.more) (sym imports) };
+        functions = record {
+          more = add.compiled.function ∷ [];
+          is = ap (λ (m : WasmModule). m.funcs) tree' ∙ functions-more t debug s s' some linked one consistent holds add ∙ ap (λ (m : WasmModule). m.funcs ++ add.compiled.function ∷ []) (sym tree);
+        };
+        exports = λ name f e.
+            ap (λ (m : WasmModule). exported_as name m.exports) tree' ∙ ap (exported_as name) (exports-more t debug s s' some linked one consistent holds add)
+            ∙ exported-on name s.exports _ f (ap (λ (m : WasmModule). exported_as name m.exports) (sym tree) ∙ e);
+      }
 
   -- the module of all of them
   pub made-more : (new : Collected) → new.builder ≡ old.builder → new.tunables ≡ old.tunables → new.features ≡ old.features → new.taken ≡ old.taken ++ taken_of candidate ∷ [] → checks'.builder ≡ checks.builder → checks'.concurrency ≡ checks.concurrency
-      → ((ty : FuncType) → slice_get old.builder.module_types candidate.adapter.now.lift_options.core_type.number ≡ Some ty
-      → Adds s s' candidate.name.now candidate.adapter.now.lift_options.instance candidate.adapter.now.lower_options.instance candidate.adapter.now.func ty)
+      → ((a : LinkedAdapter) → IsLinked old.builder candidate a → Adds old.builder.tables old.tunables.debug_adapter_modules s s' a)
       → IsMade new checks' s'
   unfolding linked some
   made-more new builder tunables features taken same_builder same_concurrency adds = record {
@@ -196,40 +233,30 @@ module _ (old : Collected) (checks checks' : Checks) (s s' : Emitted) (candidate
         let covers = made.covers whole before those in
         let bound = bound-behind before a those h in
         let built = built-push old.tunables.concurrency_support old.features.exceptions before a covers.built (built-here before a those h) in
-        rw (is, tunables, features) (record {
+        let sound_all = sound-push before a covers.sound (sound-here before a those h) in
+        rw (is, builder, tunables, features) (record {
           checked = bound;
-          holds = holds-more old.tunables.concurrency_support old.features.exceptions s s' before a built (built-here before a those h) (AreConsistent-covered _ _ bound.uses) covers.holds (adds-linked a h);
+          holds = holds-more old.builder.tables old.tunables.debug_adapter_modules s s' before a (one-here before a those h) (consistent-here before a those h) covers.holds (adds a h);
           built = built;
-          plain = plain-push before a covers.plain (plain-here before a those h);
+          sound = sound_all;
         });
   }
     where
       all : (before : List LinkedAdapter) (a : LinkedAdapter) → AreTaken old before → IsLinked old.builder candidate a → AreTaken new (before ++ a ∷ [])
       all before a those h = rw (builder, taken) (zip-push (IsTakenAs old.builder) old.taken before (taken_of candidate) a those (is-taken old.builder candidate a h))
 
-      adds-linked : (a : LinkedAdapter) → IsLinked old.builder candidate a → Adds s s' a.name (instance_of a.lift.instance) (instance_of a.lower.instance) a.callee a.lift.core_type
-      adds-linked a h = rw (h.name, h.sides.lift.instance, h.sides.lower.instance, h.sides.callee) (adds a.lift.core_type h.sides.lift.core_type)
-
 -- the first fault that the checks tell
-pub first-behind : (old : Collected) (checks : Checks) (s : Emitted) (candidate : Candidate) (f : Fault) → IsMade old checks s → old.whole ≡ true → IsFirstOf checks candidate f → IsFirstBehind old candidate f
+pub first-behind : (old : Collected) (checks : Checks) (s : ModuleSoFar) (candidate : Candidate) (f : Fault) → IsMade old checks s → old.whole ≡ true → IsFirstOf checks candidate f → IsFirstBehind old candidate f
 first-behind old checks s candidate f made whole first before a taken h =
     let under = subst (λ (b : Builder). IsLinked b candidate a) (sym made.builder) h in
     let told = first before a (made.covers whole before taken).checked under in
     (subst (λ on. LinkedHas on before a f) made.concurrency told.0, λ g less has. told.1 g less (subst (λ on. LinkedHas on before a g) (sym made.concurrency) has))
 
-pub refused-behind : (old now : Collected) (checks : Checks) (s : Emitted) (candidate : Candidate) (number : ℕ) (o : Option (Fault × Place)) → old ≡ now → IsMade old checks s → now.whole ≡ true
+pub refused-behind : (old now : Collected) (checks : Checks) (s : ModuleSoFar) (candidate : Candidate) (number : ℕ) (o : Option (Fault × Place)) → old ≡ now → IsMade old checks s → now.whole ≡ true
     → IfSome o (λ x. IsFirstOf checks candidate x.0 × (x.1 ≡ at_adapter number)) → IfSome o (λ x. (old ≡ now) × IsFirstBehind now candidate x.0 × (x.1 ≡ at_adapter number))
 refused-behind old now checks s candidate number None same made whole h = tt
 refused-behind old now checks s candidate number (Some x) same made whole h =
     (same, subst (λ c. IsFirstBehind c candidate x.0) same (first-behind old checks s candidate x.0 made (ap (λ c. c.whole) same ∙ whole) h.0), h.1)
-
--- it is whole after it took one
-pub whole-after : (b : Builder) (s s' : Emitted) (candidate : Candidate) → NamesTypesOf b candidate.adapter.now → s.whole ≡ true
-    → ((ty : FuncType) → slice_get b.module_types candidate.adapter.now.lift_options.core_type.number ≡ Some ty
-    → Adds s s' candidate.name.now candidate.adapter.now.lift_options.instance candidate.adapter.now.lower_options.instance candidate.adapter.now.func ty) → s'.whole ≡ true
-whole-after b s s' candidate typed whole adds =
-    let (ty, there) = get-within b.module_types candidate.adapter.now.lift_options.core_type.number typed.lift_core in
-    whole-more s s' _ _ _ _ ty (adds ty there) ∙ whole
 
 -- none was taken
 module _ (b : Builder) (t : Tunables) (f : WasmFeatures) where
@@ -239,17 +266,17 @@ module _ (b : Builder) (t : Tunables) (f : WasmFeatures) where
   no_checks : Checks
   no_checks = record { builder = b; concurrency = t.concurrency_support; bound = record { memories = []; reallocs = []; uses = []; names = [] } }
 
-  covers-none : (adapters : List LinkedAdapter) → AllZip (IsTakenAs b) [] adapters → IsStateOf no_collected no_checks nothing_emitted adapters
+  covers-none : (adapters : List LinkedAdapter) → AllZip (IsTakenAs b) [] adapters → IsStateOf no_collected no_checks nothing_so_far adapters
   unfolding no_collected no_checks
   covers-none [] h = record {
     checked = record { memories = Covers-nothing; reallocs = Covers-nothing; uses = Covers-nothing; names = refl; distinct = λ i j d below within. absurd (omega arith) };
-    holds = holds-nothing;
+    holds = holds-nothing b.tables t.debug_adapter_modules;
     built = tt;
-    plain = λ k a e. cc;
+    sound = λ k d within. absurd (omega (arith, within));
   }
   covers-none (a ∷ adapters) h = absurd h
 
-  pub made-first : (taken : List TakenAdapter) (tree : WasmModule) (imports : List Import) (whole : Bool) (checks : Checks) (s : Emitted) → taken ≡ [] → s ≡ nothing_emitted
+  pub made-first : (taken : List TakenAdapter) (tree : WasmModule) (imports : List Import) (whole : Bool) (checks : Checks) (s : ModuleSoFar) → taken ≡ [] → s ≡ nothing_so_far
       → checks ≡ record { builder = b; concurrency = t.concurrency_support; bound = record { memories = []; reallocs = []; uses = []; names = [] } }
       → IsMade (record { builder = b; tunables = t; features = f; taken = taken; tree = tree; imports = imports; whole = whole }) checks s
   unfolding no_collected no_checks
@@ -257,53 +284,27 @@ module _ (b : Builder) (t : Tunables) (f : WasmFeatures) where
     builder = refl;
     concurrency = refl;
     some = ([], tt);
-    covers = λ _ adapters are. let h = covers-none adapters are in record { checked = h.checked; holds = h.holds; built = h.built; plain = h.plain };
+    covers = λ _ adapters are. let h = covers-none adapters are in record { checked = h.checked; holds = h.holds; built = h.built; sound = h.sound };
   })
 
 -- ---- its tree
 
 -- it keeps its promise for those that it took
-pub promised-of : (c : Collected) (checks : Checks) (s : Emitted) → IsMade c checks s → c.tree ≡ module_of s → c.imports ≡ s.imports → c.whole ≡ true
+pub promised-of : (c : Collected) (checks : Checks) (s : ModuleSoFar) → IsMade c checks s → c.tree ≡ module_of s → c.imports ≡ s.imports → c.whole ≡ true
     → (adapters : List LinkedAdapter) → AreTaken c adapters → Promised c.tree c.imports c.tunables c.features adapters
 promised-of c checks s made tree imports whole adapters taken =
     let covers = made.covers whole adapters taken in
-    rw (tree, imports) (whole-promised c.tunables.concurrency_support c.features.exceptions s adapters covers.holds covers.built covers.plain
-    (AreConsistent-covered _ _ covers.checked.uses) (subst (AllPairs (λ x y. x ≢ y)) covers.checked.names covers.checked.distinct) c.tunables c.features)
+    rw (tree, imports) (whole-promised c.builder.tables c.tunables c.features s adapters covers.holds covers.built covers.sound
+    (AreConsistent-covered _ _ covers.checked.uses) (subst (AllPairs (λ x y. x ≢ y)) covers.checked.names covers.checked.distinct))
 
-pub keeps-promises : (c : Collected) (checks : Checks) (s : Emitted) → IsMade c checks s → c.tree ≡ module_of s → c.imports ≡ s.imports → c.whole ≡ true → length (functions_of s) + length s.functions < 2 ^ 32 → KeepsPromises c
+pub keeps-promises : (c : Collected) (checks : Checks) (s : ModuleSoFar) → IsMade c checks s → c.tree ≡ module_of s → c.imports ≡ s.imports → c.whole ≡ true → length (functions_of s) + length s.functions < 2 ^ 32 → KeepsPromises c
 keeps-promises c checks s made tree imports whole numbered =
     let adapters = made.some.0 in
     let covers = made.covers whole adapters made.some.1 in
     record {
-      in_range = subst InRange (sym tree) (whole-range c.tunables.concurrency_support c.features.exceptions s adapters covers.holds covers.built covers.plain
+      in_range = subst InRange (sym tree) (whole-range c.builder.tables c.tunables c.features s adapters covers.holds covers.built covers.sound
           (AreConsistent-covered _ _ covers.checked.uses) (subst (AllPairs (λ x y. x ≢ y)) covers.checked.names covers.checked.distinct) numbered);
       adapters = adapters;
       taken = made.some.1;
       promised = promised-of c checks s made tree imports whole;
-    }
-
-exported-on : (name : List ℕ) (es more : List WasmExport) (f : FuncName) → exported_as name es ≡ Some f → exported_as name (es ++ more) ≡ Some f
-exported-on name [] more f e = cc
-exported-on name (x ∷ es) more f e = step (bytes_eq x.name name) e (exported-on name es more f)
-  where
-    step : (b : Bool) → cond b (Some x.func) (exported_as name es) ≡ Some f → (exported_as name es ≡ Some f → exported_as name (es ++ more) ≡ Some f) → cond b (Some x.func) (exported_as name (es ++ more)) ≡ Some f
-    step true e rest = e
-    step false e rest = rest e
-
--- with one adapter more it is extended
-pub extends-more : (b : Builder) (old new : Collected) (s s' : Emitted) (candidate : Candidate) → NamesTypesOf b candidate.adapter.now → old.tree ≡ module_of s → old.imports ≡ s.imports → new.tree ≡ module_of s' → new.imports ≡ s'.imports
-    → ((ty : FuncType) → slice_get b.module_types candidate.adapter.now.lift_options.core_type.number ≡ Some ty
-    → Adds s s' candidate.name.now candidate.adapter.now.lift_options.instance candidate.adapter.now.lower_options.instance candidate.adapter.now.func ty) → Extends old new
-extends-more b old new s s' candidate typed tree imports tree' imports' adds =
-    let (ty, there) = get-within b.module_types candidate.adapter.now.lift_options.core_type.number typed.lift_core in
-    let add = adds ty there in
-    let g = (grown s s' _ _ _ _ ty add).0 in
-    record {
-      types = record { more = g.more_types; is = ap (λ (t : WasmModule). t.types) tree' ∙ g.types ∙ ap (λ (t : WasmModule). t.types ++ g.more_types) (sym tree) };
-      section = record { more = g.more_section; is = ap (λ (t : WasmModule). t.imports) tree' ∙ g.section ∙ ap (λ (t : WasmModule). t.imports ++ g.more_section) (sym tree) };
-      imports = record { more = g.more_imports; is = imports' ∙ g.imports ∙ ap (λ is. is ++ g.more_imports) (sym imports) };
-      functions = record { more = g.more_functions; is = ap (λ (t : WasmModule). t.funcs) tree' ∙ g.functions ∙ ap (λ (t : WasmModule). t.funcs ++ g.more_functions) (sym tree) };
-      exports = λ name f e.
-          ap (λ (t : WasmModule). exported_as name t.exports) tree' ∙ ap (exported_as name) (exports-more s s' _ _ _ _ ty add)
-          ∙ exported-on name s.exports _ f (ap (λ (t : WasmModule). exported_as name t.exports) (sym tree) ∙ e);
     }

@@ -1,5 +1,5 @@
 -- A module as contracts see it while adapters are added to it.
-use Rattle.std.specs.Prelude.{◌≡◌, ℕ, Bool, true, List, [], ◌∷◌, ◌++◌, Some}
+use Rattle.std.specs.Prelude.{◌≡◌, ℕ, Bool, true, List, [], ◌∷◌, ◌++◌, Some, All}
 use Rattle.std.specs.List.{AllZip}
 use Rattle.fact_wasm.specs.declared.instr.FuncName.{FuncName}
 use Rattle.fact_wasm.specs.declared.module.WasmModule.{WasmModule}
@@ -15,11 +15,12 @@ use Rattle.fact_types.specs.declared.import.Import.{Import}
 use Rattle.fact_module.specs.declared.tunables.Tunables.{Tunables}
 use Rattle.fact_module.specs.declared.tunables.WasmFeatures.{WasmFeatures}
 use Rattle.fact_module.specs.declared.taken.TakenAdapter.{TakenAdapter}
-use Rattle.fact_module.specs.Built.{IsBuiltAdapter}
-use Rattle.fact_module.specs.Emitted.{Emitted}
+use Rattle.fact_emit.specs.States.{ModuleSoFar}
+use Rattle.fact_forms.specs.Built.{IsBuiltAdapter}
+use Rattle.fact_forms.specs.Sound.{IsSoundAdapter}
 use Rattle.fact_module.specs.Exports.{exported_as}
 use Rattle.fact_module.specs.Faithful.{Promised}
-use Rattle.fact_module.specs.Holding.{AreBuilt, ArePlain, Holds}
+use Rattle.fact_module.specs.Holding.{AreBuilt, Holds}
 
 -- ---- a module
 
@@ -96,13 +97,13 @@ pub record KeepsPromises (c : Collected) : Type 0 where
 -- ---- what holds of it at all times
 
 -- The checks and the parts of the module are those of these adapters.
-pub record IsStateOf (c : Collected) (checks : Checks) (s : Emitted) (adapters : List LinkedAdapter) : Type 0 where
+pub record IsStateOf (c : Collected) (checks : Checks) (s : ModuleSoFar) (adapters : List LinkedAdapter) : Type 0 where
   pub checked : AreChecked checks adapters
-  pub holds : Holds s adapters
+  pub holds : Holds c.builder.tables c.tunables.debug_adapter_modules s adapters
   pub built : AreBuilt c.tunables.concurrency_support c.features.exceptions adapters
-  pub plain : ArePlain adapters
+  pub sound : All IsSoundAdapter adapters
 
-pub record IsMade (c : Collected) (checks : Checks) (s : Emitted) : Type 0 where
+pub record IsMade (c : Collected) (checks : Checks) (s : ModuleSoFar) : Type 0 where
   pub builder : checks.builder ≡ c.builder
   pub concurrency : checks.concurrency ≡ c.tunables.concurrency_support
   pub some : (adapters : List LinkedAdapter) × AreTaken c adapters

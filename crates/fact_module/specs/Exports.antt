@@ -12,7 +12,7 @@ use Rattle.fact_types.specs.declared.outside.CoreDef.{CoreDef}
 use Rattle.fact_types.specs.declared.import.Import.{Import}
 use Rattle.fact_types.specs.declared.import.Import.TheVariants as known
 use Rattle.fact_types.specs.Adapters.{LinkedAdapter, is_async, is_crossing}
-use Rattle.fact_module.specs.Imports.{imported_function}
+use Rattle.fact_emit.specs.ImportSection.{imported_function}
 
 -- what an export is: an adapter's function of this type, a part of an async adapter, or the callee of one
 pub data Exported : Type 0 where

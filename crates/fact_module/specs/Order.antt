@@ -1,39 +1,24 @@
 -- The order in which the imports and the functions of a module stand: adapter by adapter.
-use Rattle.std.specs.Prelude.{◌≡◌, ℕ, suc, ◌+◌, Bool, true, false, not, nat_eq, nat_le, List, [], ◌∷◌, ◌++◌, Option, Some, None, filter, length, map, slice_get, if◌then◌else◌}
-use Rattle.std.specs.List.{list_any, flat_map, filter_map, range_with_len}
+use Rattle.std.specs.Prelude.{◌≡◌, ℕ, suc, ◌+◌, Bool, true, false, not, nat_le, List, [], ◌∷◌, ◌++◌, Option, Some, None, filter, length, map, slice_get, if◌then◌else◌}
+use Rattle.std.specs.List.{flat_map, filter_map, range_with_len}
 use Rattle.fact_wasm.specs.declared.instr.FuncName.{FuncName}
 use Rattle.fact_wasm.specs.declared.instr.FuncName.TheVariants as func
 use Rattle.fact_wasm.specs.declared.module.WasmFunc.{WasmFunc}
 use Rattle.fact_wasm.specs.declared.module.WasmImport.{WasmImport}
 use Rattle.fact_wasm.specs.declared.module.WasmModule.{WasmModule}
-use Rattle.fact_wasm.specs.Ranges.{Named, Otherwise, Placed, Point, body_points}
 use Rattle.fact_types.specs.declared.outside.CoreDef.{CoreDef}
 use Rattle.fact_types.specs.Adapters.{LinkedAdapter}
 use Rattle.fact_types.specs.declared.import.Import.{Import}
 use Rattle.fact_types.specs.declared.import.Import.TheVariants as known
 use Rattle.fact_module.specs.Exports.{exported_functions_of}
-use Rattle.fact_module.specs.Imports.{Mention, a_function, adapter_mentions, imports_of, is_of, with_mentions}
-
--- ---- numbers, each once
-
-abbrev pub added_once : List ℕ → ℕ → List ℕ
-added_once ns n = if list_any (λ k. nat_eq k n) ns then ns else ns ++ n ∷ []
-
--- numbers behind others, each where it is not there yet
-abbrev pub all_added_once : List ℕ → List ℕ → List ℕ
-all_added_once ns [] = ns
-all_added_once ns (x ∷ xs) = all_added_once (added_once ns x) xs
+use Rattle.fact_emit.specs.ImportSection.{Mention, a_function, adapter_mentions, imports_of, is_of, with_mentions}
+use Rattle.fact_emit.specs.NamedFunctions.{all_added_once, functions_named}
 
 -- ---- what code names
 
-abbrev pub name_at : Point → Option FuncName
-name_at (Named f) = Some f
-name_at (Placed m) = None
-name_at (Otherwise n) = None
-
 -- the functions that a body names, front to back
 abbrev pub names : WasmFunc → List FuncName
-names f = filter_map name_at (body_points f.body)
+names f = functions_named f.body
 
 abbrev pub imported_place : FuncName → Option ℕ
 imported_place (func.Import k) = Some k

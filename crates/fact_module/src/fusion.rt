@@ -1,7 +1,7 @@
 //! The fused module of a plan.
 
 ghost use Rattle.std.specs.Prelude.{◌≡◌, ◌≤◌, ◌<◌, ◌+◌, Some, slice_get, IfErr, IfOk, IfSome, OnOk};
-ghost use Rattle.fact_plan.specs.Built.{IsBuiltPlan};
+ghost use Rattle.fact_forms.specs.Built.{IsBuiltPlan};
 ghost use Rattle.fact_plan_types.specs.PlanTypes.{AreFaultless, AreTypesOf, told};
 ghost use Rattle.fact_checks.specs.FirstFault.{IsFaultlessPlan, IsFirstAt};
 ghost use Rattle.fact_checks.specs.Links.{IsFirstHere};

@@ -2,20 +2,17 @@
 //! component lifts to the function that another lowers (Component Model, canonical ABI, `canon lift`, `canon lower`).
 #![tactic(auto)]
 
-mod built;
 mod dfg;
-mod emit;
 mod fusion;
-mod imported;
+mod linking;
 mod module;
-mod run_laws;
-mod state;
 mod taken;
 mod tunables;
 mod typed;
 
 pub use dfg::ComponentDfg;
 pub use fact_checks::{Adapter, AdapterOptionsDfg, FuseError, MemoryOption, Place, check_plan};
+pub use fact_forms::is_built_plan;
 pub use fact_plan::{
     FusePlan, PlanAdapter, PlanFunc, PlanMemory, PlanRef, PlanSide, PlanTunables, PlanType,
     PrimitiveValType,
@@ -26,5 +23,4 @@ pub use fact_types::{
 };
 pub use fusion::{Fused, fuse};
 pub use module::Module;
-pub use run_laws::laws_of_adapter_runs;
 pub use tunables::{Tunables, WasmFeatures};

@@ -1,31 +1,33 @@
 //! A module to which adapters are added one after another.
 
 ghost use Rattle.std.specs.Prelude.{◌≡◌, ◌↔◌, ◌++◌, ◌∷◌, ◌<◌, ◌≤◌, [], List, true, false, Err, length, slice_get, IfErr, IfOk, IfSome, IsTrue, OnErr, OnOk};
-ghost use Rattle.fact_wasm.specs.declared.types.FuncType.{FuncType};
 ghost use Rattle.fact_wasm.specs.Ranges.{InRange};
 ghost use Rattle.fact_wasm.specs.Spelling.{Spells};
 ghost use Rattle.fact_plan_types.specs.PlanTypes.{told};
 ghost use Rattle.fact_plan_types.specs.declared.error.Place.TheVariants as place_at;
-ghost use Rattle.fact_checks.specs.Linked.{NamesTypesOf};
+ghost use Rattle.fact_checks.specs.Linked.{IsLinked, NamesTypesOf};
 ghost use Rattle.fact_module.specs.Adapted.{IsFaultlessFor, IsFirst, MayAdapt, OfAdapter};
 ghost use Rattle.fact_module.specs.Collected.{AreTaken, Extends, HasTaken, KeepsSettings, KeepsPromises, no_tree, taken_of};
 ghost use Rattle.fact_types.specs.Adapters.{LinkedAdapter};
-ghost use Rattle.fact_module.specs.Emitted.{Adds};
+ghost use Rattle.fact_forms.specs.Sound.{HasValidSides};
+ghost use Rattle.fact_module.specs.Adding.{Adds};
 ghost use Rattle.fact_module.specs.Faithful.{Promised};
-ghost use Rattle.fact_module.specs.Imports.{NamesImports};
+ghost use Rattle.fact_emit.specs.ImportSection.{NamesImports};
 ghost use Rattle.fact_module.specs.Order.{IsOrdered};
 ghost use Rattle.fact_module.specs.Taking.{IsFirstBehind, IsSoundBehind, MayTake};
 ghost use Rattle.fact_module.specs.Typed.{HasSoundTypes};
 
-use crate::built::is_built;
 use crate::dfg::ComponentDfg;
-use crate::state::ModuleState;
+use crate::linking::link_adapter;
 use crate::taken::{TakenAdapter, copy_candidate};
 use crate::tunables::{Tunables, WasmFeatures};
 use crate::typed::check_types;
 use fact_builder::ComponentTypesBuilder;
 use fact_checks::{AdapterChecks, Candidate, FuseError};
+use fact_compound::functions::compile_sync;
+use fact_emit::state::ModuleState;
 use fact_entity::{AdapterId, EntityRef};
+use fact_forms::is_built;
 use fact_type_rules::FunctionTypes;
 use fact_types::Import;
 use fact_wasm::{OutOfMemory, Seq, WasmModule, encode};
@@ -43,11 +45,13 @@ pub struct Module<'a> {
     checks: AdapterChecks<'a>,
     taken: Vec<TakenAdapter>,
     state: ModuleState,
+    // False once a want of memory left the state in parts.
+    whole: bool,
 }
 
 impl<'a> Model for Module<'a> {
     ghost use Rattle.fact_module.specs.Collected.{Collected, IsMade};
-    ghost use Rattle.fact_module.specs.Emitted.{module_of};
+    ghost use Rattle.fact_emit.specs.States.{module_of};
     ghost use Rattle.fact_wasm.specs.contracts.instr.Instr as instr;
     ghost use Rattle.std.specs.Prelude.{◌≡◌};
     ghost use Rattle.std.specs.Coded.{codes};
@@ -56,9 +60,9 @@ impl<'a> Model for Module<'a> {
 
     ghost coded = { Prim.hlevel (codes, instr.the_row.coded) };
 
-    ghost view = { λ m. record { builder = m.builder.now; tunables = m.tunables.now; features = m.features; taken = m.taken.items; tree = module_of m.state; imports = m.state.imports; whole = m.state.whole } };
+    ghost view = { λ m. record { builder = m.builder.now; tunables = m.tunables.now; features = m.features; taken = m.taken.items; tree = module_of m.state; imports = m.state.imports; whole = m.whole } };
 
-    ghost invariant = { λ m. IsMade (record { builder = m.builder.now; tunables = m.tunables.now; features = m.features; taken = m.taken.items; tree = module_of m.state; imports = m.state.imports; whole = m.state.whole }) m.checks m.state × (m.types ≡ m.builder.now) };
+    ghost invariant = { λ m. IsMade (record { builder = m.builder.now; tunables = m.tunables.now; features = m.features; taken = m.taken.items; tree = module_of m.state; imports = m.state.imports; whole = m.whole }) m.checks m.state × (m.types ≡ m.builder.now) };
 }
 
 // It ends by a function of its own, so that crates that end one prove nothing of its parts.
@@ -73,6 +77,7 @@ impl Drop for Module<'_> {
             checks,
             taken,
             state,
+            whole: _,
         } = self;
         drop(types);
         drop(checks);
@@ -88,30 +93,31 @@ fn is_memory(error: FuseError) -> bool
     matches!(error, FuseError::OutOfMemory)
 }
 
-/// Adds the code of an adapter, and the adapter to those that were taken.
-fn emit(
-    alloc: Global,
+/// Imports what an adapter names, and adds its function.
+fn add_adapter(
     builder: &ComponentTypesBuilder,
+    debug: bool,
     state: &mut ModuleState,
+    candidate: &Candidate<'_>,
+) -> Result<(), OutOfMemory>
+    requires typed { NamesTypesOf builder.now candidate.now.adapter.now }
+    ensures { OnOk result ((a : LinkedAdapter) → IsLinked builder.now candidate.now a → Adds builder.now.tables debug state.old state.new a) }
+{
+    let linked = link_adapter(state, builder, candidate)?;
+    let compiled = compile_sync(builder, state, &linked, debug);
+    drop(linked);
+    compiled
+}
+
+/// Adds an adapter to those that were taken.
+fn push_taken(
+    alloc: Global,
     taken: &mut Vec<TakenAdapter>,
     candidate: &Candidate<'_>,
 ) -> Result<(), OutOfMemory>
-    requires whole { state.old.whole ≡ true }
-    requires typed { candidate.now.adapter.now.lift_options.core_type.number < length builder.now.module_types }
-    requires few { (ty : FuncType) → slice_get builder.now.module_types candidate.now.adapter.now.lift_options.core_type.number ≡ Some ty → (length ty.params ≤ 16) × (length ty.results ≤ 1) }
     ensures taken { OnOk result (taken.new.items ≡ taken.old.items ++ taken_of candidate.now ∷ []) }
-    ensures emitted { OnOk result ((ty : FuncType) → slice_get builder.now.module_types candidate.now.adapter.now.lift_options.core_type.number ≡ Some ty
-        → Adds state.old state.new candidate.now.name.now candidate.now.adapter.now.lift_options.instance candidate.now.adapter.now.lower_options.instance candidate.now.adapter.now.func ty) }
     ensures refused { OnErr result (taken.new.items ≡ taken.old.items) }
 {
-    let adapter = candidate.adapter;
-    state.add_adapter(
-        candidate.name,
-        adapter.lift_options.instance,
-        adapter.lower_options.instance,
-        &adapter.func,
-        &builder[adapter.lift_options.core_type],
-    )?;
     let copy = copy_candidate(alloc, candidate)?;
     match taken.push(copy) {
         Ok(()) => Ok(()),
@@ -120,6 +126,24 @@ fn emit(
             Err(AllocError)
         }
     }
+}
+
+/// Adds the code of an adapter, and the adapter to those that were taken.
+fn emit(
+    alloc: Global,
+    builder: &ComponentTypesBuilder,
+    debug: bool,
+    state: &mut ModuleState,
+    taken: &mut Vec<TakenAdapter>,
+    candidate: &Candidate<'_>,
+) -> Result<(), OutOfMemory>
+    requires typed { NamesTypesOf builder.now candidate.now.adapter.now }
+    ensures taken { OnOk result (taken.new.items ≡ taken.old.items ++ taken_of candidate.now ∷ []) }
+    ensures emitted { OnOk result ((a : LinkedAdapter) → IsLinked builder.now candidate.now a → Adds builder.now.tables debug state.old state.new a) }
+    ensures refused { OnErr result (taken.new.items ≡ taken.old.items) }
+{
+    add_adapter(builder, debug, state, candidate)?;
+    push_taken(alloc, taken, candidate)
 }
 
 impl<'a> Module<'a> {
@@ -142,6 +166,7 @@ impl<'a> Module<'a> {
             checks: AdapterChecks::new(alloc, types, tunables.concurrency_support),
             taken: Vec::new(alloc),
             state: ModuleState::new(alloc),
+            whole: true,
         }
     }
 
@@ -162,6 +187,7 @@ impl<'a> Module<'a> {
     pub(crate) fn take(&mut self, number: u32, candidate: &Candidate<'_>) -> Result<(), FuseError>
         requires whole { self.old.whole ≡ true }
         requires typed { NamesTypesOf self.old.builder candidate.now.adapter.now }
+        requires valid { (a : LinkedAdapter) → IsLinked self.old.builder candidate.now a → HasValidSides a }
         requires built { MayTake self.old candidate.now }
         ensures keeps { KeepsSettings self.old self.new }
         ensures taken { OnOk result (HasTaken self.old self.new (taken_of candidate.now)) }
@@ -174,20 +200,21 @@ impl<'a> Module<'a> {
         self.builder.component_types().reveal();
         if let Err(error) = self.checks.check(number, candidate) {
             if is_memory(error) {
-                self.state.give_up();
+                self.whole = false;
             }
             return Err(error);
         }
         match emit(
             self.alloc,
             self.builder,
+            self.tunables.debug_adapter_modules,
             &mut self.state,
             &mut self.taken,
             candidate,
         ) {
             Ok(()) => Ok(()),
             Err(_) => {
-                self.state.give_up();
+                self.whole = false;
                 Err(FuseError::OutOfMemory)
             }
         }
@@ -213,14 +240,14 @@ impl<'a> Module<'a> {
         ensures lost { result ≡ Err FuseError.OutOfMemory → self.new.whole ≡ false }
         ensures spent { self.old.whole ≡ false → result ≡ Err FuseError.OutOfMemory }
     {
-        if !self.state.is_whole() {
+        if !self.whole {
             return Err(FuseError::OutOfMemory);
         }
         let candidate = component.candidate(name, adapter);
         let number = adapter.as_u32();
         if let Err(error) = check_types(self.builder, &mut self.types, number, candidate.adapter) {
             if is_memory(error) {
-                self.state.give_up();
+                self.whole = false;
             }
             return Err(error);
         }
@@ -241,7 +268,7 @@ impl<'a> Module<'a> {
         ensures exact { IfOk result (λ may. IsTrue may ↔ OfAdapter component.now adapter name.now (MayAdapt self.new adapter.number)) }
         ensures memory { IfErr result (λ e. e ≡ FuseError.OutOfMemory) }
     {
-        if !self.state.is_whole() {
+        if !self.whole {
             return Ok(true);
         }
         let candidate = component.candidate(name, adapter);
@@ -251,7 +278,13 @@ impl<'a> Module<'a> {
             }
             return Ok(true);
         }
-        Ok(is_built(self.builder, self.tunables, self.features, &candidate))
+        Ok(is_built(
+            &mut self.types,
+            self.builder,
+            self.tunables.concurrency_support,
+            self.features.exceptions,
+            &candidate,
+        )?)
     }
 
     /// A copy of the module of the adapters so far. `OutOfMemory` is the one refusal; it comes for good once [`Module::adapt`]
@@ -263,7 +296,7 @@ impl<'a> Module<'a> {
         ensures memory { IfErr result (λ e. e ≡ FuseError.OutOfMemory) }
         ensures lost { self.old.whole ≡ false → result ≡ Err FuseError.OutOfMemory }
     {
-        if !self.state.is_whole() {
+        if !self.whole {
             return Err(FuseError::OutOfMemory);
         }
         Ok(self.state.copy()?)
@@ -299,6 +332,7 @@ impl<'a> Module<'a> {
             checks,
             taken,
             state,
+            whole: _,
         } = self;
         drop(types);
         drop(checks);

@@ -4,7 +4,6 @@
 //! JSON value in some bytes, and [`plan_of`] the plan in a JSON value, or the first fault in it.
 #![tactic(auto)]
 
-mod built;
 mod entries;
 mod fault;
 mod objects;

@@ -1,10 +1,12 @@
 -- Plans with the tunables that the words ask for.
-use Rattle.std.proofs.Common.{◌≡◌, ◌<◌, length, get_or, Result, Ok, Err, IfOk, String, Global, string_bytes}
+use Rattle.std.proofs.Common.{◌≡◌, Result, Ok, Err, IfOk, String, Global, string_bytes, sym, subst}
+use Rattle.std.specs.Prelude.{All}
 use Rattle.fact_wasm.specs.declared.module.WasmModule.{WasmModule}
 use Rattle.fact_wasm.specs.Ranges.{InRange}
 use Rattle.fact_wasm.specs.Spelling.{Spells}
 use Rattle.fact_plan.specs.declared.plan.FusePlan.{FusePlan}
-use Rattle.fact_plan.specs.Built.{IsBuiltPlan}
+use Rattle.fact_forms.specs.Built.{IsBuiltAdapter, IsBuiltPlan}
+use Rattle.fact_forms.proofs.Tunables.{same_adapters}
 use Rattle.fact_run.specs.declared.command.CommandOptions.{CommandOptions}
 use Rattle.fact_module.specs.declared.fusion.Fused.{Fused}
 use Rattle.fact_module.specs.Fused.{IsFused}
@@ -12,16 +14,7 @@ use Rattle.fact_run.specs.Run.{Prints, configured, page}
 
 -- a plan that is built stays so, whatever they ask for
 pub built-configured : (o : CommandOptions) (p : FusePlan) → IsBuiltPlan p → IsBuiltPlan (configured o p)
-built-configured o p h k d within =
-    let a = h k d within in
-    record {
-      lift = record { func = a.lift.func; sync = a.lift.sync; memory = a.lift.memory; realloc = a.lift.realloc; callback = a.lift.callback; post_return = a.lift.post_return };
-      lower = record { func = a.lower.func; sync = a.lower.sync; memory = a.lower.memory; realloc = a.lower.realloc; callback = a.lower.callback; post_return = a.lower.post_return };
-      apart = a.apart;
-      opaque = a.opaque;
-      no_concurrency = a.no_concurrency;
-      no_exceptions = a.no_exceptions;
-    }
+built-configured o p h = subst (All (IsBuiltAdapter p.tunables.concurrency p.tunables.exceptions)) (sym (same_adapters p (configured o p).tunables)) h
 
 -- what prints the module of such a plan
 pub printed-page : {E : Type 0} (o : CommandOptions) (p : FusePlan) (f : Fused) (r : Result (String Global) E) → IsFused f (configured o p) → ((m : WasmModule) → InRange m → Spells f.bytes m → m ≡ f.«module»)

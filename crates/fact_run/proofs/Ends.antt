@@ -11,7 +11,7 @@ use Rattle.fact_plan.specs.declared.plan.FusePlan.{FusePlan}
 use Rattle.fact_plan.specs.declared.fault.PlanFault.{PlanFault}
 use Rattle.fact_plan.specs.declared.fault.PlanFault.TheVariants as fault
 use Rattle.fact_plan.specs.Fault.{IsNotMemory, UnlessMemory, fault_line}
-use Rattle.fact_plan.specs.Built.{IsBuiltPlan}
+use Rattle.fact_forms.specs.Built.{IsBuiltPlan}
 use Rattle.fact_plan.specs.Plan.{plan_of}
 use Rattle.fact_plan.specs.Reading.{value_in}
 use Rattle.fact_plan_types.specs.declared.error.Place.{Place}

@@ -12,7 +12,7 @@ use Rattle.fact_plan.specs.declared.plan.FusePlan.{FusePlan}
 use Rattle.fact_plan.specs.declared.fault.PlanFault.{PlanFault}
 use Rattle.fact_plan.specs.Reading.{value_in}
 use Rattle.fact_plan.specs.Plan.{plan_of}
-use Rattle.fact_plan.specs.Built.{IsBuiltPlan}
+use Rattle.fact_forms.specs.Built.{IsBuiltPlan}
 use Rattle.fact_plan_types.specs.declared.error.Place.{Place}
 use Rattle.fact_plan_types.specs.Faults.{Fault}
 use Rattle.fact_checks.specs.FirstFault.{IsFaultlessPlan, IsFirstAt}

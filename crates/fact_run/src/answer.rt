@@ -3,8 +3,9 @@
 ghost use Rattle.std.specs.Prelude.{◌≡◌, ◌≢◌, ◌≤◌, ◌+◌, length, string_bytes, IfOk, MatchResult};
 ghost use Rattle.fact_io.specs.Faults.{Rose};
 ghost use Rattle.fact_io.specs.Transfers.{TakesUpTo};
-ghost use Rattle.fact_plan.specs.Built.{IsBuiltPlan};
+ghost use Rattle.fact_forms.specs.Built.{IsBuiltPlan};
 ghost use Rattle.fact_plan.specs.declared.plan.FusePlan.{FusePlan};
+ghost use Rattle.fact_checks.specs.FirstFault.{IsFaultlessPlan};
 ghost use Rattle.fact_plan_types.specs.PlanTypes.{told};
 ghost use Rattle.fact_run.specs.declared.answer.Reply.TheVariants as reply;
 ghost use Rattle.fact_run.specs.declared.command.CommandOptions.{CommandOptions};
@@ -15,7 +16,7 @@ use crate::command::CommandOptions;
 use crate::page::page_text;
 use crate::refusal::refusal_line;
 use fact_io::{InputError, Source, read_all};
-use fact_module::{FuseError, FusePlan, PlanTunables, check_plan, fuse};
+use fact_module::{FuseError, FusePlan, PlanTunables, check_plan, fuse, is_built_plan};
 use fact_plan::{PlanFault, fault_line, plan_of, read_value};
 use fact_wasm::{OutOfMemory, bytes_spell_one_module};
 use std::alloc::{AllocError, Global};
@@ -130,6 +131,19 @@ fn reply_to_refusal(alloc: Global, error: &FuseError) -> Reply
     }
 }
 
+/// What a plan that is built comes to.
+fn reply_to_built(alloc: Global, plan: FusePlan, options: CommandOptions) -> Reply
+    requires faultless { IsFaultlessPlan plan }
+    requires built { IsBuiltPlan plan }
+    requires fuel { 1 ≤ options.fuel }
+    ensures { IsReplyToPlan options plan result }
+{
+    match print(alloc, plan, options) {
+        Ok(text) => Reply::Page(text),
+        Err(_) => Reply::OutOfMemory,
+    }
+}
+
 /// What a plan comes to.
 fn reply_to_plan(alloc: Global, plan: FusePlan, options: CommandOptions) -> Reply
     requires { 1 ≤ options.fuel }
@@ -139,13 +153,16 @@ fn reply_to_plan(alloc: Global, plan: FusePlan, options: CommandOptions) -> Repl
         drop(plan);
         return reply_to_refusal(alloc, &error);
     }
-    if !plan.built() {
-        drop(plan);
-        return Reply::NotBuilt;
-    }
-    match print(alloc, plan, options) {
-        Ok(text) => Reply::Page(text),
-        Err(_) => Reply::OutOfMemory,
+    match is_built_plan(alloc, &plan) {
+        Ok(true) => reply_to_built(alloc, plan, options),
+        Ok(false) => {
+            drop(plan);
+            Reply::NotBuilt
+        }
+        Err(_) => {
+            drop(plan);
+            Reply::OutOfMemory
+        }
     }
 }
 

@@ -1,18 +1,22 @@
-//! Modules on the machine. A row of runs is the globals, the number of the function and the steps, the arguments, the answer of
-//! the outside, and how the run ended, its outside calls, and the globals then.
+//! Modules on the machine. A row of runs is the state, the number of the function and the steps, the arguments, the answers of
+//! the outside, and how the run ended, its outside calls, and the globals then; and where memories changed, what stands there.
+//!
+//! A state is its globals and its memories: `SIZE` is a memory of so many bytes, each 170, in which `ADDRESS=HEX` stands behind
+//! further commas. An answer leaves the state as it was at the start. Answers are parted by `;`.
 
 use crate::plans::{PLAN, edited};
-use crate::rows::{numbers_of, parts_of};
+use crate::rows::{number_of, numbers_of, parts_of};
 use fact_machine::{Answer, CoreValue, Machine, MachineState, Outcome};
-use fact_module::{FusePlan, Fused, fuse};
+use fact_module::{FusePlan, Fused, check_plan, fuse, is_built_plan};
 use fact_plan::{plan_of, read_value};
 use fact_wasm::{Seq, WasmModule};
 use std::alloc::{AllocError, Global};
 use std::process::Abort;
 
-/// The fused module of a plan of plain numbers.
+/// The fused module of a plan that has no fault and is built.
 fn fused_of(rt: &impl Abort, alloc: Global, plan: &FusePlan) -> Fused {
-    assert!(rt; plan.built());
+    assert!(rt; check_plan(alloc, plan).is_ok());
+    assert!(rt; is_built_plan(alloc, plan).ok().unwrap_or(false));
     assert!(rt; plan.tunables.fuel >= 1);
     fuse(alloc, plan).ok().expect(rt, "a module")
 }
@@ -28,13 +32,16 @@ pub fn fused(rt: &impl Abort, alloc: Global, text: &str) -> Result<Fused, AllocE
     Ok(fused)
 }
 
-/// A number of 32 bits or of 64.
+/// A number of 32 bits or of 64, a float by its bits.
 fn value_of(word: &str) -> Option<CoreValue> {
     let (kind, number) = word.split_once(":")?;
     let bits = number.parse::<u64>().ok()?;
     match kind {
         "i32" => Some(CoreValue::I32(u32::try_from(bits).ok()?)),
-        _ => Some(CoreValue::I64(bits)),
+        "i64" => Some(CoreValue::I64(bits)),
+        "f32" => Some(CoreValue::F32(u32::try_from(bits).ok()?)),
+        "f64" => Some(CoreValue::F64(bits)),
+        _ => None,
     }
 }
 
@@ -47,21 +54,37 @@ fn values_of(alloc: Global, words: &str) -> Result<Seq<CoreValue>, AllocError> {
     Ok(values)
 }
 
-/// The answer of an outside call, which leaves this state. There is none for `lacks`.
-fn answer_of(
+/// The answer of an outside call, which leaves this state.
+fn answer_of(alloc: Global, words: &str, state: &MachineState) -> Result<Answer, AllocError> {
+    match words.trim() {
+        "traps" => Ok(Answer::Traps),
+        "throws" => Ok(Answer::Throws),
+        words => {
+            let results = values_of(alloc, words)?;
+            let state = state.try_clone()?;
+            Ok(Answer::Returns { results, state })
+        }
+    }
+}
+
+/// Adds the answers of words, of which there are none in `lacks`.
+fn add_answers(
+    answers: &mut Vec<Answer>,
     alloc: Global,
     words: &str,
     state: &MachineState,
-) -> Result<Option<Answer>, AllocError> {
-    match words {
-        "lacks" => Ok(None),
-        "traps" => Ok(Some(Answer::Traps)),
-        _ => {
-            let results = values_of(alloc, words)?;
-            let state = state.try_clone()?;
-            Ok(Some(Answer::Returns { results, state }))
+) -> Result<(), AllocError> {
+    if words == "lacks" {
+        return Ok(());
+    }
+    for answer in words.split(';') {
+        let answer = answer_of(alloc, answer, state)?;
+        if let Err(answer) = answers.push(answer) {
+            drop(answer);
+            return Err(AllocError);
         }
     }
+    Ok(())
 }
 
 /// Adds how a run ended, its outside calls, and the globals then.
@@ -81,6 +104,56 @@ fn is_told_so(alloc: Global, outcome: &Outcome, wanted: &str) -> Result<bool, Al
     drop(text);
     told?;
     Ok(is_so)
+}
+
+/// Whether a memory of a number is as it was, but that at these places stands what the changes of this number say.
+fn memory_is_changed(
+    alloc: Global,
+    number: usize,
+    memories: (&Seq<u8>, &Seq<u8>),
+    changes: &str,
+) -> Result<bool, AllocError> {
+    let (old, new) = memories;
+    let mut bytes = Vec::new(alloc);
+    bytes.extend_from_slice(old.as_slice())?;
+    for change in changes.split_whitespace() {
+        let (of, patch) = change.split_once("@").unwrap_or(("", ""));
+        if number_of(of) == number as u64 {
+            patch_bytes(alloc, &mut bytes, patch)?;
+        }
+    }
+    let same = bytes.as_slice() == new.as_slice();
+    drop(bytes);
+    Ok(same)
+}
+
+/// Whether each memory is as it was but for the changes.
+fn memories_are_changed(
+    alloc: Global,
+    old: &MachineState,
+    new: &MachineState,
+    changes: &str,
+) -> Result<bool, AllocError> {
+    let old = old.memories.as_slice();
+    let new = new.memories.as_slice();
+    for (number, memories) in old.iter().zip(new).enumerate() {
+        if !memory_is_changed(alloc, number, memories, changes)? {
+            return Ok(false);
+        }
+    }
+    Ok(old.len() == new.len())
+}
+
+/// Whether an outcome is told so, and its memories are those from before but for the changes.
+fn are_told_so(
+    alloc: Global,
+    outcome: &Outcome,
+    wanted: &str,
+    state: &MachineState,
+    changes: &str,
+) -> Result<bool, AllocError> {
+    Ok(is_told_so(alloc, outcome, wanted)?
+        && memories_are_changed(alloc, state, &outcome.state, changes)?)
 }
 
 /// The run of a function. What the machine says of it is not asked for here.
@@ -104,16 +177,20 @@ fn run_is_told(
     args: &[CoreValue],
     row: [&str; 5],
 ) -> Result<bool, AllocError> {
-    let [_, numbers, _, answer, wanted] = row;
+    let [_, numbers, _, words, wanted] = row;
     let [func, steps, _, _, _] = numbers_of(numbers);
     let func = u32::try_from(func).unwrap_or(u32::MAX);
-    let answer = answer_of(alloc, answer, state)?;
-    let outcome = run(alloc, module, (func, steps), args, state, answer.as_slice());
-    drop(answer);
+    let mut answers = Vec::new(alloc);
+    let outcome = match add_answers(&mut answers, alloc, words, state) {
+        Ok(()) => run(alloc, module, (func, steps), args, state, &answers),
+        Err(error) => Err(error),
+    };
+    drop(answers);
     let outcome = outcome?;
-    let is_told = is_told_so(alloc, &outcome, wanted);
+    let (wanted, changes) = wanted.split_once(" | ").unwrap_or((wanted, ""));
+    let holds = are_told_so(alloc, &outcome, wanted, state, changes);
     drop(outcome);
-    is_told
+    holds
 }
 
 /// The same, with the arguments of the row.
@@ -129,13 +206,43 @@ fn run_holds(
     holds
 }
 
-/// The state of globals, without a memory.
-fn state_of(alloc: Global, globals: &str) -> Result<MachineState, AllocError> {
-    let globals = values_of(alloc, globals)?;
-    Ok(MachineState {
-        memories: Seq::new(alloc),
-        globals,
-    })
+/// Puts bytes at an address: `ADDRESS=HEX`.
+fn patch_bytes(alloc: Global, bytes: &mut Vec<u8>, patch: &str) -> Result<(), AllocError> {
+    let (address, digits) = patch.split_once("=").unwrap_or(("", ""));
+    let start = number_of(address) as usize;
+    let Ok(patch) = hex::decode(alloc, digits) else {
+        return Err(AllocError);
+    };
+    for (at, byte) in patch.iter().enumerate() {
+        if let Some(place) = bytes.get_mut(start.saturating_add(at)) {
+            *place = *byte;
+        }
+    }
+    drop(patch);
+    Ok(())
+}
+
+/// A memory, as a row has it.
+fn memory_of(alloc: Global, word: &str) -> Result<Seq<u8>, AllocError> {
+    let (size, patches) = word.split_once(",").unwrap_or((word, ""));
+    let mut bytes = Vec::new(alloc);
+    bytes.resize(number_of(size) as usize, 170)?;
+    for patch in patches.split(',') {
+        patch_bytes(alloc, &mut bytes, patch)?;
+    }
+    Ok(Seq::from_vec(bytes))
+}
+
+/// The state of a row.
+fn state_of(alloc: Global, words: &str) -> Result<MachineState, AllocError> {
+    let globals = values_of(alloc, words)?;
+    let mut memories = Seq::new(alloc);
+    for word in words.split_whitespace() {
+        if value_of(word).is_none() {
+            memories.push(memory_of(alloc, word)?)?;
+        }
+    }
+    Ok(MachineState { memories, globals })
 }
 
 /// Whether a row of runs holds.

@@ -1,11 +1,8 @@
-use Rattle.std.proofs.Common.{◌≡◌, subst}
+use Rattle.std.proofs.Common.{refl}
 use Rattle.std.proofs.lemmas.Option.{IfSome_then}
 use Rattle.std.proofs.lemmas.Result.{IfErr-weaker}
-use Rattle.fact_types.specs.declared.interface.InterfaceType.{InterfaceType}
-use Rattle.fact_types.specs.Shapes.{Shape}
-use Rattle.fact_types.specs.Tables.{HasShape, Tables}
 use Rattle.fact_plan_types.specs.PlanTypes.{told}
-use Rattle.fact_module.proofs.FuseLaws.{may-take, on-both, refused-next, taken-next, typed-here}
+use Rattle.fact_module.proofs.FuseLaws.{may-take, on-both, refused-next, taken-next, typed-here, valid-here}
 use Rattle.fact_module.proofs.fusion.take_adapter.Goals as goal
 
 pub take-taken-requires-clause-typed : goal.take-taken-requires-clause-typed
@@ -13,11 +10,17 @@ take-taken-requires-clause-typed c =
     let made = c.candidate_of-candidate in
     typed-here _ _ _ _ _ made.result c.requires.at c.requires.there (rw made.ensures.linked c.in_ok-linked.ensures.links) made.ensures.name made.ensures.transparent c.in_ok-linked.ensures.known c.in_ok-linked.ensures.small
 
+pub take-taken-requires-clause-valid : goal.take-taken-requires-clause-valid
+take-taken-requires-clause-valid c =
+    let made = c.candidate_of-candidate in
+    valid-here _ _ _ _ _ made.result c.requires.at c.requires.there (rw made.ensures.linked c.in_ok-linked.ensures.links) made.ensures.name made.ensures.transparent c.in_ok-linked.ensures.known c.in_ok-linked.ensures.small
+    c.args.types.now c.requires.types refl
+
 pub take-taken-requires-clause-built : goal.take-taken-requires-clause-built
 take-taken-requires-clause-built c =
     let made = c.candidate_of-candidate in
     may-take _ _ _ _ _ made.result c.requires.at c.requires.there (rw made.ensures.linked c.in_ok-linked.ensures.links) made.ensures.name made.ensures.transparent c.in_ok-linked.ensures.known c.in_ok-linked.ensures.small
-    (subst (λ (t : Tables). (ty : InterfaceType) (s z : Shape) → HasShape t ty s → HasShape t ty z → s ≡ z) c.component_types.ensures c.reveal.ensures.one_shape) c.requires.built
+    c.requires.built
 
 pub returns-clause-taken : goal.returns-clause-taken
 returns-clause-taken c =

@@ -1,4 +1,4 @@
-use Rattle.std.proofs.Common.{sym, ◌∙◌, refl}
+use Rattle.std.proofs.Common.{refl}
 use Rattle.fact_module.proofs.TakeLaws.{keeps-promises}
 use Rattle.fact_module.proofs.module.Module.build.Goals as goal
 
@@ -7,4 +7,4 @@ returns-clause-built c = rw (← c.self.view_is) c.in_ok-copy.ensures.copy
 
 pub returns-clause-promised : goal.returns-clause-promised
 returns-clause-promised c =
-    rw (← c.self.view_is) (keeps-promises _ c.self.inside.checks c.self.inside.state c.self.invariant.0 refl refl (sym c.is_whole.ensures ∙ c.if-not-is_whole.false) c.copy.ensures.numbered)
+    rw (← c.self.view_is) (keeps-promises _ c.self.inside.checks c.self.inside.state c.self.invariant.0 refl refl c.if-not-self.false c.copy.ensures.numbered)

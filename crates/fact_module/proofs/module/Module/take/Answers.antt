@@ -1,52 +1,52 @@
 use Rattle.std.proofs.Common.{[], ◌∷◌, ◌++◌, ap, sym, ◌∙◌, subst, refl}
 use Rattle.fact_types.specs.Tables.{IsSound, Tables}
 use Rattle.fact_plan_types.specs.PlanTypes.{told}
-use Rattle.fact_checks.specs.Linked.{NamesTypesOf}
+use Rattle.fact_types.specs.Adapters.{LinkedAdapter}
+use Rattle.fact_checks.specs.Linked.{IsLinked, NamesTypesOf}
+use Rattle.fact_forms.specs.Sound.{HasValidSides}
 use Rattle.fact_module.specs.Collected.{Collected, taken_of}
 use Rattle.fact_module.specs.Taking.{IsSoundBehind, MayTake}
-use Rattle.fact_module.proofs.TakeLaws.{extends-more, few-values, made-more, refused-behind, sound-behind, whole-after}
+use Rattle.fact_module.proofs.TakeLaws.{extends-more, made-more, refused-behind, sound-behind}
 use Rattle.fact_module.proofs.module.Module.take.Goals as goal
 
 pub returns-else-is_memory-clause-refused : goal.returns-else-is_memory-clause-refused
 returns-else-is_memory-clause-refused c = refused-behind _ _ _ c.self.inside.state _ _ (told _) c.self.view_is c.self.invariant.0 c.requires.whole c.in-Err.ensures.refused
 
-pub emit-requires-clause-few : goal.emit-requires-clause-few
-emit-requires-clause-few c =
-    let whole = ap (λ (v : Collected). v.whole) c.self.view_is ∙ c.requires.whole in
-    let typed = subst (λ (v : Collected). NamesTypesOf v.builder c.args.candidate.now.adapter.now) (sym c.self.view_is) c.requires.typed in
-    let may = subst (λ (v : Collected). MayTake v c.args.candidate.now) (sym c.self.view_is) c.requires.built in
-    let sound = subst (λ (t : Tables). IsSound t) c.component_types.ensures c.reveal-2.ensures.sound in
-    few-values _ c.self.inside.checks c.check.new.self c.self.inside.state c.self.inside.state c.args.candidate.now c.self.invariant.0 whole sound typed may c.in_default.ensures.sound
-
 pub invariant_of-self-in-Ok : goal.invariant_of-self-in-Ok
 invariant_of-self-in-Ok c =
     let whole = ap (λ (v : Collected). v.whole) c.self.view_is ∙ c.requires.whole in
     let typed = subst (λ (v : Collected). NamesTypesOf v.builder c.args.candidate.now.adapter.now) (sym c.self.view_is) c.requires.typed in
+    let valid = subst (λ (v : Collected). (a : LinkedAdapter) → IsLinked v.builder c.args.candidate.now a → HasValidSides a) (sym c.self.view_is) c.requires.valid in
     let may = subst (λ (v : Collected). MayTake v c.args.candidate.now) (sym c.self.view_is) c.requires.built in
     let sound = subst (λ (t : Tables). IsSound t) c.component_types.ensures c.reveal-2.ensures.sound in
-    let made = made-more _ c.self.inside.checks c.check.new.self c.self.inside.state c.emit.new.state c.args.candidate.now c.self.invariant.0 whole sound typed may c.in_default.ensures.sound
+    let made = made-more _ c.self.inside.checks c.check.new.self c.self.inside.state c.emit.new.state c.args.candidate.now c.self.invariant.0 whole sound typed valid may c.in_default.ensures.sound
     _ refl refl refl c.in-Ok.ensures.taken c.in_default.ensures.builder c.in_default.ensures.concurrency c.in-Ok.ensures.emitted in
     (made, c.self.invariant.1)
 
 pub returns-in-Ok-clause-taken : goal.returns-in-Ok-clause-taken
 returns-in-Ok-clause-taken c =
-    let whole = ap (λ (v : Collected). v.whole) c.self.view_is ∙ c.requires.whole in
-    let typed = subst (λ (v : Collected). NamesTypesOf v.builder c.args.candidate.now.adapter.now) (sym c.self.view_is) c.requires.typed in
     record {
       taken = c.in-Ok.ensures.taken ∙ ap (λ (v : Collected). v.taken ++ taken_of c.args.candidate.now ∷ []) c.self.view_is;
-      whole = whole-after c.self.inside.builder.now c.self.inside.state c.emit.new.state c.args.candidate.now typed whole c.in-Ok.ensures.emitted;
+      whole = ap (λ (v : Collected). v.whole) c.self.view_is ∙ c.requires.whole;
     }
 
 pub returns-in-Ok-clause-extends : goal.returns-in-Ok-clause-extends
 returns-in-Ok-clause-extends c =
+    let whole = ap (λ (v : Collected). v.whole) c.self.view_is ∙ c.requires.whole in
     let typed = subst (λ (v : Collected). NamesTypesOf v.builder c.args.candidate.now.adapter.now) (sym c.self.view_is) c.requires.typed in
-    rw (← c.self.view_is) (extends-more c.self.inside.builder.now _ _ c.self.inside.state c.emit.new.state c.args.candidate.now typed refl refl refl refl c.in-Ok.ensures.emitted)
+    let valid = subst (λ (v : Collected). (a : LinkedAdapter) → IsLinked v.builder c.args.candidate.now a → HasValidSides a) (sym c.self.view_is) c.requires.valid in
+    let may = subst (λ (v : Collected). MayTake v c.args.candidate.now) (sym c.self.view_is) c.requires.built in
+    let sound = subst (λ (t : Tables). IsSound t) c.component_types.ensures c.reveal-2.ensures.sound in
+    rw (← c.self.view_is)
+    (extends-more _ c.self.inside.checks c.check.new.self c.self.inside.state c.emit.new.state c.args.candidate.now c.self.invariant.0 whole sound typed valid may c.in_default.ensures.sound
+    _ _ refl refl refl refl c.in-Ok.ensures.emitted)
 
 pub returns-in-Ok-clause-sound : goal.returns-in-Ok-clause-sound
 returns-in-Ok-clause-sound c =
     let whole = ap (λ (v : Collected). v.whole) c.self.view_is ∙ c.requires.whole in
     let typed = subst (λ (v : Collected). NamesTypesOf v.builder c.args.candidate.now.adapter.now) (sym c.self.view_is) c.requires.typed in
+    let valid = subst (λ (v : Collected). (a : LinkedAdapter) → IsLinked v.builder c.args.candidate.now a → HasValidSides a) (sym c.self.view_is) c.requires.valid in
     let may = subst (λ (v : Collected). MayTake v c.args.candidate.now) (sym c.self.view_is) c.requires.built in
     let sound = subst (λ (t : Tables). IsSound t) c.component_types.ensures c.reveal-2.ensures.sound in
     subst (λ (v : Collected). IsSoundBehind v c.args.candidate.now) c.self.view_is
-    (sound-behind _ c.self.inside.checks c.check.new.self c.self.inside.state c.self.inside.state c.args.candidate.now c.self.invariant.0 whole sound typed may c.in_default.ensures.sound)
+    (sound-behind _ c.self.inside.checks c.check.new.self c.self.inside.state c.self.inside.state c.args.candidate.now c.self.invariant.0 whole sound typed valid may c.in_default.ensures.sound)

@@ -1,0 +1,80 @@
+-- What is linked for an adapter, by what is linked for the options of its sides, and the data that say where.
+use Rattle.std.proofs.Common.{◌≡◌, ◌<◌, ℕ, Bool, List, Some, sym, ap, ◌∙◌, subst, length, slice_get}
+use Rattle.std.proofs.lemmas.Option.{slice_get_within}
+use Rattle.fact_entity.specs.declared.id.Id.{Id}
+use Rattle.fact_entity.specs.declared.table.TypeFuncs.{TypeFuncs}
+use Rattle.fact_wasm.specs.declared.types.FuncType.{FuncType}
+use Rattle.fact_builder.specs.Builder.{Builder}
+use Rattle.fact_types.specs.Adapters.{LinkedAdapter, Side, is_wide}
+use Rattle.fact_types.specs.Functions.{HasSignature}
+use Rattle.fact_types.specs.declared.outside.CoreDef.{CoreDef}
+use Rattle.fact_types.specs.declared.import.Import.TheVariants as known
+use Rattle.fact_checks.specs.declared.adapter.AdapterOptionsDfg.{AdapterOptionsDfg}
+use Rattle.fact_checks.specs.declared.sides.Candidate.{Candidate}
+use Rattle.fact_checks.specs.Linked.{IsLinked, IsSideOf}
+use Rattle.fact_emit.specs.AdapterLinks.{AdapterLinks, IsAdapterLinked, IsLinkedIfAny, IsSideLinked}
+use Rattle.fact_emit.specs.ImportSection.{Callee, PostReturn}
+use Rattle.fact_emit.specs.Imports.{Extended}
+use Rattle.fact_emit.specs.Linked.{IsLinked as IsDefLinked}
+use Rattle.fact_emit.specs.States.{ModuleSoFar, functions_of}
+use Rattle.fact_emit.proofs.ImportLaws.{grown_get}
+use Rattle.fact_emit.proofs.KnownLaws.{linked_at}
+use Rattle.fact_compound.specs.Functions.{CompiledSync}
+use Rattle.fact_compound.specs.declared.adapters.AdapterData.{AdapterData}
+use Rattle.fact_compound.specs.declared.adapters.AdapterOptions.{AdapterOptions}
+use Rattle.fact_module.specs.Adding.{Adds, HasSideData}
+use Rattle.fact_module.specs.Links.{IsDataOfCandidate, IsDataOfSide, NamesOf, links_of, page_size_log2_of}
+
+-- ---- a side
+
+names-of : {b : Builder} {ty : Id TypeFuncs} {o : AdapterOptionsDfg} {s : Side} → IsSideOf b ty o s → NamesOf o s
+names-of h = record { instance = h.instance; memory = h.memory; realloc = h.realloc; callback = h.callback }
+
+side-data : {b : Builder} {ty : Id TypeFuncs} {o : AdapterOptionsDfg} {s : Side} {d : AdapterOptions} → IsSideOf b ty o s → IsDataOfSide ty o d → HasSideData b.tables s d
+side-data {b} {s = s} h fits = record {
+  signature = subst (λ ty. HasSignature b.tables ty s.params s.results) (sym fits.ty_is) h.signature;
+  memory64 = fits.memory64 ∙ ap is_wide (sym h.memory);
+  page_size_log2 = fits.page_size_log2 ∙ ap page_size_log2_of (sym h.memory);
+}
+
+-- ---- an adapter
+
+-- A function that was linked is among the imported functions of a later module.
+pub function-below : {old new last : ModuleSoFar} {d : CoreDef} {place : ℕ} (name : List ℕ) (ty : FuncType) → IsDefLinked old new (Callee name ty) d place → Extended new last → place < length (functions_of last)
+function-below {last = last} {d} {place} name ty linked later =
+    slice_get_within (functions_of last) place (known.CoreDef d) (grown_get later.functions place (known.CoreDef d) (linked_at (Callee name ty) linked))
+
+module _ {b : Builder} {c : Candidate} {a : LinkedAdapter} (is : IsLinked b c a) where
+  -- What an adapter names is linked where what its options name is.
+  pub adapter-linked : {old lifted lowered called new : ModuleSoFar} (at : AdapterLinks) (ty : FuncType) → slice_get b.module_types c.adapter.now.lift_options.core_type.number ≡ Some ty
+      → ((s : Side) → NamesOf c.adapter.now.lift_options s → IsSideLinked old lifted s at.lift) → ((s : Side) → NamesOf c.adapter.now.lower_options s → IsSideLinked lifted lowered s at.lower)
+      → IsDefLinked lowered called (Callee c.name.now ty) c.adapter.now.func at.callee
+      → IsLinkedIfAny called new (PostReturn c.name.now ty.results) c.adapter.now.lift_options.post_return at.post_return
+      → IsAdapterLinked old new a at
+  adapter-linked {old} {lifted} {lowered} {called} {new} at ty there lift lower callee post_return =
+      let same : ty ≡ a.lift.core_type = let e : Some ty ≡ Some a.lift.core_type = sym there ∙ is.sides.lift.core_type in cc in
+      record {
+        lifted = lifted;
+        lowered = lowered;
+        called = called;
+        lift = lift a.lift (names-of is.sides.lift);
+        lower = lower a.lower (names-of is.sides.lower);
+        callee = subst (λ d. IsDefLinked lowered called (Callee a.name a.lift.core_type) d at.callee) (sym is.sides.callee)
+            (subst (λ n. IsDefLinked lowered called (Callee n a.lift.core_type) c.adapter.now.func at.callee) (sym is.name)
+            (subst (λ t. IsDefLinked lowered called (Callee c.name.now t) c.adapter.now.func at.callee) same callee));
+        post_return = subst (λ d. IsLinkedIfAny called new (PostReturn a.name a.lift.core_type.results) d at.post_return) (sym is.sides.lift.post_return)
+            (subst (λ n. IsLinkedIfAny called new (PostReturn n a.lift.core_type.results) c.adapter.now.lift_options.post_return at.post_return) (sym is.name)
+            (subst (λ (t : FuncType). IsLinkedIfAny called new (PostReturn c.name.now t.results) c.adapter.now.lift_options.post_return at.post_return) same post_return));
+      }
+
+  -- A module with all that an adapter names, and then with the function that its data ask for, has the adapter added.
+  pub adapter-added : {debug : Bool} {old linked new : ModuleSoFar} (d : AdapterData) → IsDataOfCandidate c d → IsAdapterLinked old linked a (links_of d) → CompiledSync b.tables d debug linked new → Adds b.tables debug old new a
+  adapter-added {linked = linked} d fits links compiled = record {
+    «data» = d;
+    name = fits.name ∙ sym is.name;
+    lift = side-data is.sides.lift fits.lift;
+    lower = side-data is.sides.lower fits.lower;
+    linked = linked;
+    links = links;
+    compiled = compiled;
+  }
