@@ -152,8 +152,10 @@ fn are_told_so(
     state: &MachineState,
     changes: &str,
 ) -> Result<bool, AllocError> {
-    Ok(is_told_so(alloc, outcome, wanted)?
-        && memories_are_changed(alloc, state, &outcome.state, changes)?)
+    Ok(
+        is_told_so(alloc, outcome, wanted)?
+            && memories_are_changed(alloc, state, &outcome.state, changes)?,
+    )
 }
 
 /// The run of a function. What the machine says of it is not asked for here.

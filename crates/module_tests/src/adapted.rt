@@ -255,7 +255,7 @@ fn page_with(alloc: Global, made: &Module<'_>, bytes: &[u8]) -> Result<String, F
     Ok(page?)
 }
 
-/// Whether a module is encoded and built as these bytes, and has this page: the bytes in hex, and what its imports are.
+/// Whether a module is encoded and built as these bytes, and has this page, or any: the bytes in hex, and what its imports are.
 fn has_page(
     alloc: Global,
     made: &mut Module<'_>,
@@ -264,6 +264,9 @@ fn has_page(
 ) -> Result<bool, Fail> {
     if !is_built(alloc, made, bytes)? {
         return Ok(false);
+    }
+    if wanted == "any" {
+        return Ok(true);
     }
     let page = page_with(alloc, made, bytes)?;
     let is = page.as_str() == wanted;
@@ -279,7 +282,7 @@ fn is_page(alloc: Global, made: &mut Module<'_>, wanted: &str) -> Result<bool, F
 }
 
 /// A page by its name: without adapters; with the worked one; with two that share all but their names; and with two that share
-/// nothing but the trap.
+/// nothing but the trap. `any` is none of them.
 fn page_named(name: &str) -> &'static str {
     match name {
         "one" =>
@@ -287,7 +290,8 @@ fn page_named(name: &str) -> &'static str {
         "two" =>
             "0061736d0100000001080260017f0060000002430405666c61677309696e7374616e636531037f0105666c61677309696e7374616e636530037f010663616c6c656502663000000772756e74696d6505747261703000010303020000070b02026630000202663100030a53022801027f0240230122010d001001000b2300210241002400200020022400100041002401200124010b2801027f0240230122010d001001000b2300210241002400200020022400100041002401200124010b [CoreDef(InstanceFlags(Id { number: 1, .. })), CoreDef(InstanceFlags(Id { number: 0, .. })), CoreDef(Export { instance: Id { number: 0, .. }, name: Text { text: \"run\" } }), Trap(CannotLeaveComponent)]",
         "apart" =>
-            "0061736d01000000010d0360017f0060000060017e017f02750705666c61677309696e7374616e636531037f0105666c61677309696e7374616e636530037f010663616c6c656502663000000772756e74696d65057472617030000105666c61677309696e7374616e636533037f0105666c61677309696e7374616e636532037f010663616c6c656502663100020303020002070b02026630000302663100040a59022801027f0240230122010d001001000b2300210241002400200020022400100041002401200124010b2e02027f017f0240230322010d001001000b230221024100240220002002240210022103410024032003200124030b [CoreDef(InstanceFlags(Id { number: 1, .. })), CoreDef(InstanceFlags(Id { number: 0, .. })), CoreDef(Export { instance: Id { number: 0, .. }, name: Text { text: \"run\" } }), Trap(CannotLeaveComponent), CoreDef(InstanceFlags(Id { number: 3, .. })), CoreDef(InstanceFlags(Id { number: 2, .. })), CoreDef(Export { instance: Id { number: 0, .. }, name: Text { text: \"walk\" } })]",
+            "0061736d01000000010d0360017f0060000060017e017f02750705666c61677309696e7374616e636531037f0105666c61677309696e7374616e636530037f010663616c6c656502663000000772756e74696d65057472617030000105666c61677309696e7374616e636533037f0105666c61677309696e7374616e636532037f010663616c6c656502663100020303020002070b02026630000302663100040a5b022801027f0240230122010d001001000b2300210241002400200020022400100041002401200124010b3001047f0240230322010d001001000b23022102410024022000200224021002210341002403200321042001240320040b [CoreDef(InstanceFlags(Id { number: 1, .. })), CoreDef(InstanceFlags(Id { number: 0, .. })), CoreDef(Export { instance: Id { number: 0, .. }, name: Text { text: \"run\" } }), Trap(CannotLeaveComponent), CoreDef(InstanceFlags(Id { number: 3, .. })), CoreDef(InstanceFlags(Id { number: 2, .. })), CoreDef(Export { instance: Id { number: 0, .. }, name: Text { text: \"walk\" } })]",
+        "any" => "any",
         _ => "0061736d010000000101000201000301000701000a0100 []",
     }
 }
@@ -355,6 +359,7 @@ plain: f0 = taken, one; f1 callee:walk transparent = not built, one; f1 types:1,
 concurrency: f0 = not built, empty
 debug: f0 = taken, one; f1 types:1,1 core:1,1 instances:3,2 callee:walk = taken, apart
 exceptions: f0 = not built, empty
+plain: f0 = taken, one; f1 lower-memory:memory,0 = taken, any
 ";
 
 /// What the module that took the worked adapter answers to a second one. The greatest number of an instance is 2,147,483,647.
@@ -389,27 +394,26 @@ not built: instances:2147483647,2147483647
 not built: transparent
 not built: lift-post-return:free
 not built: lift-callback:resume
-not built: lower-memory:memory,0
 ";
 
-/// Types, each as its kind, its number of names and the options around it; and the answers where one side has it, and where
-/// both have it. The last two are 100 types in one another, and 101.
+/// Types, each as its kind, its number of names and the options around it; and the answers and the pages where one side has it, and
+/// where both have it. The last two are 100 types in one another, and 101.
 const TYPES: &str = "
-bool 0 0: type mismatch, not built
-record 0 0: bad type, bad type
-record 1 0: type mismatch, not built
-record 2 0: bad type, bad type
-flags 0 0: bad type, bad type
-flags 32 0: type mismatch, not built
-flags 33 0: bad type, bad type
-flags 33 100: bad type, bad type
-enum 0 0: bad type, bad type
-enum 4097 0: type mismatch, not built
-variant 0 1: bad type, bad type
-variant 4096 0: type mismatch, not built
-variant 4097 1: too large, too large
-enum 1 99: type mismatch, bad memory
-enum 1 100: too large, too large
+bool 0 0: type mismatch, empty / taken, any
+record 0 0: bad type, empty / bad type, empty
+record 1 0: type mismatch, empty / taken, any
+record 2 0: bad type, empty / bad type, empty
+flags 0 0: bad type, empty / bad type, empty
+flags 32 0: type mismatch, empty / taken, any
+flags 33 0: bad type, empty / bad type, empty
+flags 33 100: bad type, empty / bad type, empty
+enum 0 0: bad type, empty / bad type, empty
+enum 4097 0: type mismatch, empty / not built, empty
+variant 0 1: bad type, empty / bad type, empty
+variant 4096 0: type mismatch, empty / not built, empty
+variant 4097 1: too large, empty / too large, empty
+enum 1 99: type mismatch, empty / bad memory, empty
+enum 1 100: too large, empty / too large, empty
 ";
 
 /// The module that took the worked adapter answers this to a second one of these edits, and takes a third one as if there had
@@ -427,7 +431,7 @@ fn say_second(
     said
 }
 
-/// A module without adapters answers this to the worked adapter with function types of these numbers.
+/// A module without adapters answers this to the worked adapter with function types of these numbers, and has this page then.
 fn say_first(
     rt: &impl Abort,
     alloc: Global,
@@ -436,7 +440,7 @@ fn say_first(
     lower: u32,
     answer: &str,
 ) -> Result<(), Fail> {
-    let step = format!(in alloc; "f0 types:{lift},{lower} = {answer}, empty")?;
+    let step = format!(in alloc; "f0 types:{lift},{lower} = {answer}")?;
     let said = say_steps(rt, alloc, builder, "plain", step.as_str());
     drop(step);
     said
@@ -450,7 +454,7 @@ fn say_type(
     ty: &str,
     answers: &str,
 ) -> Result<(), Fail> {
-    let (one, both) = answers.split_once(", ").ok_or("no second answer")?;
+    let (one, both) = answers.split_once(" / ").ok_or("no second answer")?;
     let takes = add_func(rt, alloc, builder, ty, "")?;
     let gives = add_func(rt, alloc, builder, "", ty)?;
     say_first(rt, alloc, builder, takes, 0, one)?;
