@@ -16,9 +16,11 @@ use std::process::Abort;
 /// The fused module of a plan that has no fault and is built.
 fn fused_of(rt: &impl Abort, alloc: Global, plan: &FusePlan) -> Fused {
     assert!(rt; check_plan(alloc, plan).is_ok());
-    assert!(rt; is_built_plan(alloc, plan).ok().unwrap_or(false));
     assert!(rt; plan.tunables.fuel >= 1);
-    fuse(alloc, plan).ok().expect(rt, "a module")
+    match is_built_plan(alloc, plan) {
+        Ok(true) => fuse(alloc, plan).ok().expect(rt, "a module"),
+        _ => panic!(rt; "a plan that is built"),
+    }
 }
 
 /// The fused module of a text.
