@@ -10,7 +10,7 @@ use Rattle.fact_types.specs.declared.import.Import.TheVariants as known
 use Rattle.fact_emit.specs.ImportSection.{AreNamed, IsNamed, Mention, Role, StandsFor, imports_of}
 use Rattle.fact_emit.specs.Imports.{Extended}
 use Rattle.fact_emit.specs.Known.{AreKnown, AreLinked}
-use Rattle.fact_emit.specs.Linked.{HasTypeIfAny, IsLinked, type_of_role}
+use Rattle.fact_emit.specs.Linked.{HasTypeIfAny, IsDefLinked, type_of_role}
 use Rattle.fact_emit.specs.States.{HasType, IsImported, IsTrapImported, ModuleSoFar, nothing_so_far}
 use Rattle.fact_emit.proofs.ImportLaws.{extended_none, extended_on, grows_none}
 use Rattle.fact_emit.proofs.Named.{named-lengths, named-more, named-push, sort_for, stands-sort}
@@ -71,7 +71,7 @@ same_section old new (Some ty) (inl there) = ap (λ (s : ModuleSoFar). s.section
 same_section old new (Some ty) (inr anew) = ap (λ (s : ModuleSoFar). s.section) anew.1
 
 -- a definition in the role in which it is mentioned
-pub known_link : {old new : ModuleSoFar} {ms : List Mention} (m : Mention) (place : ℕ) → IsLinked old new m.role m.def place → AreKnown old ms → AreKnown new (ms ++ m ∷ [])
+pub known_link : {old new : ModuleSoFar} {ms : List Mention} (m : Mention) (place : ℕ) → IsDefLinked old new m.role m.def place → AreKnown old ms → AreKnown new (ms ++ m ∷ [])
 known_link {old} {new} {ms} m place l h =
     let typed : AreKnown l.typed ms = known_type_if_any old l.typed (type_of_role m.role) l.types h in
     let stands : StandsFor l.typed.types l.typed.section m.role l.import = subst (λ ws. StandsFor l.typed.types ws m.role l.import) (sym (same_section old l.typed (type_of_role m.role) l.types)) l.stands in
@@ -107,7 +107,7 @@ extended_import {old} {new} {w} {i} even x =
       | inr anew ↦ subst (Extended old) (sym anew.0) (extended-by old even w i)
     ]
 
-pub extended_link : {old new : ModuleSoFar} {ms : List Mention} {role : Role} {d : CoreDef} {place : ℕ} → AreKnown old ms → IsLinked old new role d place → Extended old new
+pub extended_link : {old new : ModuleSoFar} {ms : List Mention} {role : Role} {d : CoreDef} {place : ℕ} → AreKnown old ms → IsDefLinked old new role d place → Extended old new
 extended_link {old} {ms = ms} {role} h l =
     let even = named-lengths l.typed.types ms [] l.typed.section l.typed.imports (known_type_if_any old l.typed (type_of_role role) l.types h).named in
     extended_on (extended_type_if_any old l.typed (type_of_role role) l.types) (extended_import even l.imported)
@@ -126,5 +126,5 @@ links_on a b c [] ys (n ∷ ns) ms l k = absurd l
 links_on a b c (x ∷ xs) ys [] ms l k = absurd l
 
 -- a definition has its place among the imports of its kind
-pub linked_at : {old new : ModuleSoFar} {d : CoreDef} {place : ℕ} (role : Role) → IsLinked old new role d place → slice_get (imports_of (sort_for role) new.section new.imports) place ≡ Some (known.CoreDef d)
+pub linked_at : {old new : ModuleSoFar} {d : CoreDef} {place : ℕ} (role : Role) → IsDefLinked old new role d place → slice_get (imports_of (sort_for role) new.section new.imports) place ≡ Some (known.CoreDef d)
 linked_at {old} {new} {d} {place} role l = subst (λ q. slice_get (imports_of q new.section new.imports) place ≡ Some (known.CoreDef d)) (stands-sort l.typed.types old.section role l.import l.stands) l.imported.there

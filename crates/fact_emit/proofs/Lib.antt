@@ -16,6 +16,7 @@ pub mod LinkLaws
 pub mod LinkedLaws
 pub mod ListedLaws
 pub mod Locals
+pub mod MemberPairs
 pub mod MemberRuns
 pub mod Mentions
 pub mod Named
@@ -29,7 +30,7 @@ pub mod PlacesOfLaws
 pub mod RangedCode
 pub mod ScalarMoves
 pub mod ServingLaws
+pub mod SourceMembers
 pub mod StateLaws
-pub mod TupleFinds
 pub mod TypeKinds
 pub mod Using

@@ -15,7 +15,7 @@ use Rattle.fact_emit.specs.Areas.{IsLinearMemoryOf}
 use Rattle.fact_emit.specs.ImportSection.{Flags, Mention, Role, Storage, custom_page_size, imports_of}
 use Rattle.fact_emit.specs.Imports.{Extended, HasFlags, HasImport, HasMemory, Serves}
 use Rattle.fact_emit.specs.Known.{AreKnown, AreUsedAlike, IsUsedAlike, memory_of_role}
-use Rattle.fact_emit.specs.Linked.{IsLinked, type_of_role}
+use Rattle.fact_emit.specs.Linked.{IsDefLinked, type_of_role}
 use Rattle.fact_emit.specs.States.{ModuleSoFar, functions_of, globals_of, memories_of}
 use Rattle.fact_emit.specs.declared.places.LinearMemory.{LinearMemory}
 use Rattle.fact_emit.proofs.ImportLaws.{grown_get}
@@ -52,17 +52,17 @@ alike_to : {ms : List Mention} → AreUsedAlike ms → (d : CoreDef) (role : Rol
 alike_to alike d role there q c = alike.alike (record { def = d; role = q }) (record { def = d; role = role }) c there refl
 
 module _ {M : WasmModule} {p : ImportPlaces} {last : ModuleSoFar} {ms : List Mention} (serves : Serves M p last) (are_known : AreKnown last ms) {old new : ModuleSoFar} (later : Extended new last) where
-  pub knows_flags : (instance place : ℕ) → IsLinked old new (Flags instance) (def.InstanceFlags (record { table = _; number = instance })) place → KnowsFlags M p instance place
+  pub knows_flags : (instance place : ℕ) → IsDefLinked old new (Flags instance) (def.InstanceFlags (record { table = _; number = instance })) place → KnowsFlags M p instance place
   knows_flags instance place l = serves.flags instance place (flags_there last ms are_known instance place (grown_get later.globals place _ (linked_at (Flags instance) l)))
 
   module _ (alike : AreUsedAlike ms) where
-    pub knows_memory : (d : CoreDef) (wide : Bool) (log2 place : ℕ) → Contains ms (record { def = d; role = Storage wide log2 }) → IsLinked old new (Storage wide log2) d place
+    pub knows_memory : (d : CoreDef) (wide : Bool) (log2 place : ℕ) → Contains ms (record { def = d; role = Storage wide log2 }) → IsDefLinked old new (Storage wide log2) d place
         → KnowsMemory M p d place wide (custom_page_size log2)
     knows_memory d wide log2 place there l =
         serves.memories d place wide (custom_page_size log2)
         (memory_there last ms are_known d (Storage wide log2) (alike_to alike d (Storage wide log2) there) place wide (custom_page_size log2) refl (grown_get later.memories place _ (linked_at (Storage wide log2) l)))
 
-    pub knows_function : (d : CoreDef) (role : Role) (ty : FuncType) (place : ℕ) → type_of_role role ≡ Some ty → Contains ms (record { def = d; role = role }) → IsLinked old new role d place
+    pub knows_function : (d : CoreDef) (role : Role) (ty : FuncType) (place : ℕ) → type_of_role role ≡ Some ty → Contains ms (record { def = d; role = role }) → IsDefLinked old new role d place
         → KnowsFunction M p (known.CoreDef d) place ty.params ty.results
     knows_function d role ty place is there l =
         let at : slice_get (functions_of new) place ≡ Some (known.CoreDef d) = subst (λ q. slice_get (imports_of q new.section new.imports) place ≡ Some (known.CoreDef d)) (function-role role ty is) (linked_at role l) in

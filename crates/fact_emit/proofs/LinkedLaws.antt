@@ -6,7 +6,7 @@ use Rattle.fact_types.specs.declared.outside.MemoryOption.{MemoryOption}
 use Rattle.fact_types.specs.Adapters.{LinkedAdapter, Side, is_wide}
 use Rattle.fact_emit.specs.AdapterLinks.{AdapterLinks, IsAdapterLinked, IsLinkedIfAny, IsMemoryLinked, IsSideLinked, SideLinks}
 use Rattle.fact_emit.specs.ImportSection.{Callback, Callee, Flags, Mention, Realloc, Role, adapter_mentions, memory_mention, mention, side_mentions}
-use Rattle.fact_emit.specs.Linked.{IsLinked}
+use Rattle.fact_emit.specs.Linked.{IsDefLinked}
 use Rattle.fact_emit.specs.Listed.{AreLinkedInTurn}
 use Rattle.fact_emit.specs.States.{ModuleSoFar}
 
@@ -14,7 +14,7 @@ pub linked_on : (rs qs : List Mention) (a b c : ModuleSoFar) → AreLinkedInTurn
 linked_on [] qs a b c x y = subst (λ s. AreLinkedInTurn s c qs) x y
 linked_on (r ∷ rs) qs a b c x y = (x.0, x.1, x.2, linked_on rs qs x.0 b c x.3 y)
 
-linked_one : (a b : ModuleSoFar) (r : Role) (d : CoreDef) (place : ℕ) → IsLinked a b r d place → AreLinkedInTurn a b (record { def = d; role = r } ∷ [])
+linked_one : (a b : ModuleSoFar) (r : Role) (d : CoreDef) (place : ℕ) → IsDefLinked a b r d place → AreLinkedInTurn a b (record { def = d; role = r } ∷ [])
 linked_one a b r d place h = (b, place, h, refl)
 
 linked_mention : (a b : ModuleSoFar) (r : Role) (d : Option CoreDef) (place : Option ℕ) → IsLinkedIfAny a b r d place → AreLinkedInTurn a b (mention r d)

@@ -15,7 +15,7 @@ use Rattle.fact_types.specs.declared.import.Import.TheVariants as known
 use Rattle.fact_emit.specs.Brought.{AreTrapsImported}
 use Rattle.fact_emit.specs.ImportSection.{AreNamed, Callback, Callee, Flags, IsTrap, Mention, PostReturn, Realloc, Role, Sort, StandsFor, Storage, a_function, a_global, a_memory, def_of, imports_of, is_mentioned, sort_of, trap_number, with_mention, with_mentions}
 use Rattle.fact_emit.specs.Known.{AreUsedAlike, IsUsedAlike, memory_of_role}
-use Rattle.fact_emit.specs.Linked.{HasTypeIfAny, IsLinked, type_of_role}
+use Rattle.fact_emit.specs.Linked.{HasTypeIfAny, IsDefLinked, type_of_role}
 use Rattle.fact_emit.specs.Listed.{AreLinkedInTurn, ListsMentions}
 use Rattle.fact_emit.specs.States.{HasType, IsImported, IsTrapImported, ModuleSoFar, import_as, with_import}
 use Rattle.fact_emit.proofs.ImportLists.{get-map, get-there, map-push, there-get, unmap}
@@ -157,7 +157,7 @@ section_if_any old new (Some ty) (inl same) = ap (λ (s : ModuleSoFar). s.sectio
 section_if_any old new (Some ty) (inr anew) = ap (λ (s : ModuleSoFar). s.section) anew.1
 
 -- One mention: what is imported, and that the module lists it too.
-module _ (old new : ModuleSoFar) (ms : List Mention) (r : Mention) (place : ℕ) (h : ListsMentions old ms) (l : IsLinked old new r.role r.def place)
+module _ (old new : ModuleSoFar) (ms : List Mention) (r : Mention) (place : ℕ) (h : ListsMentions old ms) (l : IsDefLinked old new r.role r.def place)
     (alike : (q : Role) → Contains ms (record { def = r.def; role = q }) → sort_for q ≡ sort_for r.role) where
   here : ListsMentions l.typed ms
   here = listed_if_any old l.typed ms _ l.types h

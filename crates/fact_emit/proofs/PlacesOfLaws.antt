@@ -23,7 +23,7 @@ use Rattle.fact_types.specs.contracts.outside.UnsafeIntrinsicPartialEq.TheImpl a
 use Rattle.fact_types.specs.contracts.outside.UnsafeIntrinsicEq.TheImpl.Laws as intrinsic_laws
 use Rattle.fact_emit.specs.ImportedPlaces.{AreImportPlaces}
 use Rattle.fact_emit.specs.Imports.{AreOnce, StandsOnce}
-use Rattle.fact_emit.specs.PlacesOf.{place_of, places_of, same_bool, same_import, same_option}
+use Rattle.fact_emit.specs.PlacesOf.{import_places, place_among, same_bool, same_import, same_option}
 use Rattle.fact_emit.specs.States.{ModuleSoFar, functions_of}
 use Rattle.fact_emit.proofs.ExactItems.{exact_trap}
 
@@ -125,7 +125,7 @@ import_self (known.UnsafeIntrinsic f) = intrinsic_laws.laws-law.refl f
 -- ---- places
 
 -- an import that stands once is found where it stands
-found_at : (is : List Import) → StandsOnce is → (i : Import) (n : ℕ) → slice_get is n ≡ Some i → place_of i is ≡ n
+found_at : (is : List Import) → StandsOnce is → (i : Import) (n : ℕ) → slice_get is n ≡ Some i → place_among i is ≡ n
 found_at is o i n at =
     let within = slice_get_within is n i at in
     position_or_len_is (same_import i) is n i (omega (arith, within)) (λ k lt. before k lt (same_import i (get_or is k i)) refl) (λ lt. ap (same_import i) (get_or_from_slice_get is n i i at) ∙ import_self i)
@@ -138,7 +138,7 @@ found_at is o i n at =
         let is_n : k ≡ n = o.one k n i there at in
         absurd (omega (arith, is_n, lt))
 
-pub are_import_places : (s : ModuleSoFar) → AreOnce s → AreImportPlaces s (places_of s)
+pub are_import_places : (s : ModuleSoFar) → AreOnce s → AreImportPlaces s (import_places s)
 are_import_places s o = record {
   functions = found_at (functions_of s) o.functions;
   memories = λ d n at. found_at _ o.memories (known.CoreDef d) n at;

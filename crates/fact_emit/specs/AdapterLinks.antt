@@ -5,14 +5,14 @@ use Rattle.fact_types.specs.declared.outside.CoreDef.TheVariants as def
 use Rattle.fact_types.specs.declared.outside.MemoryOption.{MemoryOption}
 use Rattle.fact_types.specs.Adapters.{LinkedAdapter, Side, is_wide}
 use Rattle.fact_emit.specs.ImportSection.{Role, Flags, Storage, Realloc, Callback, Callee, PostReturn}
-use Rattle.fact_emit.specs.Linked.{IsLinked}
+use Rattle.fact_emit.specs.Linked.{IsDefLinked}
 use Rattle.fact_emit.specs.States.{ModuleSoFar}
 
 -- a core definition that an adapter may name, with its place among the imports of its kind
 pub record IsLinkedAt (old new : ModuleSoFar) (role : Role) (d : CoreDef) (place : Option ℕ) : Type 0 where
   pub number : ℕ
   pub place_is : place ≡ Some number
-  pub linked : IsLinked old new role d number
+  pub linked : IsDefLinked old new role d number
 
 -- it is linked where there is one
 abbrev pub IsLinkedIfAny : (old new : ModuleSoFar) → Role → Option CoreDef → (place : Option ℕ) → Type 0
@@ -35,7 +35,7 @@ pub record IsSideLinked (old new : ModuleSoFar) (s : Side) (at : SideLinks) : Ty
   pub flagged : ModuleSoFar
   pub stored : ModuleSoFar
   pub supplied : ModuleSoFar
-  pub flags : IsLinked old flagged (Flags s.instance) (def.InstanceFlags (record { table = _; number = s.instance })) at.flags
+  pub flags : IsDefLinked old flagged (Flags s.instance) (def.InstanceFlags (record { table = _; number = s.instance })) at.flags
   pub memory : IsMemoryLinked flagged stored s.memory at.memory
   pub realloc : IsLinkedIfAny stored supplied (Realloc (is_wide s.memory)) s.realloc at.realloc
   pub callback : IsLinkedIfAny supplied new Callback s.callback at.callback
@@ -53,5 +53,5 @@ pub record IsAdapterLinked (old new : ModuleSoFar) (a : LinkedAdapter) (at : Ada
   pub called : ModuleSoFar
   pub lift : IsSideLinked old lifted a.lift at.lift
   pub lower : IsSideLinked lifted lowered a.lower at.lower
-  pub callee : IsLinked lowered called (Callee a.name a.lift.core_type) a.callee at.callee
+  pub callee : IsDefLinked lowered called (Callee a.name a.lift.core_type) a.callee at.callee
   pub post_return : IsLinkedIfAny called new (PostReturn a.name a.lift.core_type.results) a.lift.post_return at.post_return

@@ -1,7 +1,7 @@
 -- What modules that import definitions in some roles know of them.
 use Rattle.std.specs.Prelude.{◌≡◌, ℕ, Bool, List, [], ◌∷◌, Contains, Option, Some, None}
 use Rattle.fact_emit.specs.ImportSection.{AreNamed, Mention, Role, Storage, custom_page_size}
-use Rattle.fact_emit.specs.Linked.{IsLinked, type_of_role}
+use Rattle.fact_emit.specs.Linked.{IsDefLinked, type_of_role}
 use Rattle.fact_emit.specs.States.{ModuleSoFar}
 
 -- the width and the custom page size of a memory that is used so
@@ -25,6 +25,6 @@ pub record AreKnown (s : ModuleSoFar) (ms : List Mention) : Type 0 where
 -- Definitions were imported in the roles in which they are mentioned, one after another, and have these places.
 abbrev pub AreLinked : (old new : ModuleSoFar) → List Mention → List ℕ → Type 0
 AreLinked old new [] [] = new ≡ old
-AreLinked old new (m ∷ ms) (n ∷ ns) = (mid : ModuleSoFar) × IsLinked old mid m.role m.def n × AreLinked mid new ms ns
+AreLinked old new (m ∷ ms) (n ∷ ns) = (mid : ModuleSoFar) × IsDefLinked old mid m.role m.def n × AreLinked mid new ms ns
 AreLinked old new [] (n ∷ ns) = ⊥
 AreLinked old new (m ∷ ms) [] = ⊥

@@ -12,6 +12,7 @@ pub mod Known
 pub mod KnownAdapters
 pub mod Linked
 pub mod Listed
+pub mod MemberPairs
 pub mod Movable
 pub mod Moved
 pub mod MovesValue
@@ -21,6 +22,7 @@ pub mod Parts
 pub mod Places
 pub mod PlacesOf
 pub mod Scalars
+pub mod Settings
 pub mod State
 pub mod States
 pub mod WidthLaws

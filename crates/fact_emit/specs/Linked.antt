@@ -24,7 +24,7 @@ HasTypeIfAny old new (Some ty) = HasType old new ty
 
 -- A core definition is imported as what it is used as, and has this place among the imports of its kind. A new import has the
 -- names and the type of this use.
-pub record IsLinked (old new : ModuleSoFar) (role : Role) (d : CoreDef) (place : ℕ) : Type 0 where
+pub record IsDefLinked (old new : ModuleSoFar) (role : Role) (d : CoreDef) (place : ℕ) : Type 0 where
   pub typed : ModuleSoFar
   pub types : HasTypeIfAny old typed (type_of_role role)
   pub import : WasmImport

@@ -2,7 +2,7 @@
 use Rattle.std.specs.Prelude.{◌≡◌, ◌≢◌, ℕ, List, [], ◌∷◌, AllPairs, map}
 use Rattle.std.specs.List.{filter_map}
 use Rattle.fact_emit.specs.ImportSection.{AreNamed, Mention, def_of}
-use Rattle.fact_emit.specs.Linked.{IsLinked}
+use Rattle.fact_emit.specs.Linked.{IsDefLinked}
 use Rattle.fact_emit.specs.States.{ModuleSoFar}
 
 -- Its imports have the names and types of what they are, each once, the core definitions among them are those of these mentions,
@@ -16,4 +16,4 @@ pub record ListsMentions (s : ModuleSoFar) (ms : List Mention) : Type 0 where
 -- The core definitions of these mentions are imported one after another, each where it was not imported before.
 abbrev pub AreLinkedInTurn : (old new : ModuleSoFar) → List Mention → Type 0
 AreLinkedInTurn old new [] = new ≡ old
-AreLinkedInTurn old new (r ∷ rs) = (next : ModuleSoFar) × (place : ℕ) × IsLinked old next r.role r.def place × AreLinkedInTurn next new rs
+AreLinkedInTurn old new (r ∷ rs) = (next : ModuleSoFar) × (place : ℕ) × IsDefLinked old next r.role r.def place × AreLinkedInTurn next new rs

@@ -40,14 +40,14 @@ same_import (known.UnsafeIntrinsic f) (known.UnsafeIntrinsic g) = intrinsic_eq.g
 same_import _ _ = false
 
 -- the first place of an import, or the number of imports where it is not there
-abbrev pub place_of : Import → List Import → ℕ
-place_of i is = position_or_len (same_import i) is
+abbrev pub place_among : Import → List Import → ℕ
+place_among i is = position_or_len (same_import i) is
 
-abbrev pub places_of : ModuleSoFar → ImportPlaces
-places_of s = record {
-  memory = λ d. place_of (known.CoreDef d) (memories_of s);
-  flags = λ n. place_of (known.CoreDef (def.InstanceFlags (record { table = _; number = n }))) (globals_of s);
-  function = λ i. place_of i (functions_of s);
+abbrev pub import_places : ModuleSoFar → ImportPlaces
+import_places s = record {
+  memory = λ d. place_among (known.CoreDef d) (memories_of s);
+  flags = λ n. place_among (known.CoreDef (def.InstanceFlags (record { table = _; number = n }))) (globals_of s);
+  function = λ i. place_among i (functions_of s);
   memory_types = filter_map type_of_memory s.section;
   global_types = filter_map type_of_global s.section;
 }

@@ -1,5 +1,5 @@
 -- What the instructions of each width do.
-use Rattle.std.proofs.Common.{◌≡◌, ℤ, FitsSigned, pos, negsuc, ℕ, ◌+◌, ◌%◌, ◌^◌, ◌≤◌, ◌<◌, Bool, true, false, List, [], ◌∷◌, ◌++◌, Option, Some, refl, sym, ap, ◌∙◌, subst, arith, length, map}
+use Rattle.std.proofs.Common.{◌≡◌, ℤ, FitsSigned, pos, negsuc, ℕ, ◌+◌, ◌%◌, ◌^◌, ◌≤◌, ◌<◌, Bool, true, false, List, [], ◌∷◌, ◌++◌, Option, Some, refl, sym, ap, ◌∙◌, subst, arith, length, map, slice_get}
 use Rattle.std.specs.Int.{w32, w64, cast_unsigned}
 use Rattle.fact_wasm.specs.declared.types.ValType.TheVariants as val
 use Rattle.fact_wasm.specs.declared.instr.MemArg.{MemArg}
@@ -13,11 +13,11 @@ use Rattle.fact_machine.specs.Machine.{Around, act, type_of}
 use Rattle.fact_machine.specs.Typing.{address_bits, address_operand, Operands, Context, Typing, instruction_type, typing}
 use Rattle.fact_machine.specs.Exits.{Falls, leads, Leaves, res_exit}
 use Rattle.fact_pieces.proofs.Lists.{get_set_here}
-use Rattle.fact_machine.proofs.MemoryRows.{HasMemory, read_within, write_within, leaves_i32_load, leaves_i64_load, leaves_i32_store, leaves_i64_store}
+use Rattle.fact_machine.proofs.MemoryRows.{read_within, write_within, leaves_i32_load, leaves_i64_load, leaves_i32_store, leaves_i64_store}
 use Rattle.fact_machine.proofs.Places.{load_after_store, store_keeps_length}
 use Rattle.fact_machine.proofs.RowLaws.{leaves_row}
 use Rattle.fact_machine.proofs.TypingRows.{typing_is, row_of, plain_row}
-use Rattle.fact_emit.specs.Widths.{address_bytes, integer_modulo, ReplacesOperands, PushesPointer, LoadsPointer, StoresPointer, LoadGivesStored, PointerCode, IsPointerCode, IsPointerType}
+use Rattle.fact_emit.specs.Widths.{address_bytes, integer_modulo, ReplacesOperands, PushesPointer, LoadsPointer, StoresPointer, LoadGivesStored, IsPointerCode, IsPointerType, code_32, code_64, pointer_code}
 
 -- ---- instructions on operands
 
@@ -61,13 +61,13 @@ reads_stored memory64 w index bytes a x fits below =
     read_within n a stored after (subst (λ k. a + n ≤ k) (sym (store_keeps_length bytes n a x fits)) fits)
     ∙ ap (λ k. Done k after) (load_after_store bytes n a x fits ∙ pointer_kept memory64 x below)
 
--- a memory stands in a world after a write to it, with the bytes that were written
-still_stands : {M : WasmModule} {w : World} {index : ℕ} {wide : Bool} {bytes : List ℕ} (n a x : ℕ) → HasMemory M w index wide bytes → HasMemory M (written n index bytes a x w) index wide (with_number n bytes a x)
-still_stands {w = w} {index = index} {bytes = bytes} n a x h = record { log2 = h.log2; imported = h.imported; there = get_set_here w.state.memories index (with_number n bytes a x) bytes h.there }
+-- a memory is there after a write to it, with the bytes that were written
+still_there : (w : World) (index : ℕ) (bytes : List ℕ) (n a x : ℕ) → slice_get w.state.memories index ≡ Some bytes → slice_get (written n index bytes a x w).state.memories index ≡ Some (with_number n bytes a x)
+still_there w index bytes n a x there = get_set_here w.state.memories index (with_number n bytes a x) bytes there
 
 -- what loads and stores a pointer gives what was stored
 load_gives_stored : (memory64 : Bool) (at : MemArg) (store load : Instr) → StoresPointer memory64 at store → LoadsPointer memory64 at load → LoadGivesStored memory64 at store load
-load_gives_stored memory64 at store load stores loads M w ls wide bytes base x h fits below =
+load_gives_stored memory64 at store load stores loads M w ls wide log2 bytes base x imported there fits below =
     let n = address_bytes memory64 in
     let a = base + at.offset in
     let place = address_operand wide base in
@@ -75,51 +75,11 @@ load_gives_stored memory64 at store load stores loads M w ls wide bytes base x h
     let after : World = written n at.memory_index bytes a x w in
     record {
       after = after;
-      stores = λ vs. subst (λ r. Leaves M 1 (store ∷ []) w (value ∷ place ∷ vs) ls (res_exit r ls (λ done w'. Falls w' vs ls))) (write_within n at.memory_index a x bytes w fits) (stores.leaves M w vs ls wide bytes base x h);
-      loads = λ vs. subst (λ r. Leaves M 1 (load ∷ []) after (place ∷ vs) ls (res_exit r ls (λ x w'. Falls w' (address_operand memory64 x ∷ vs) ls))) (reads_stored memory64 w at.memory_index bytes a x fits below) (loads.leaves M after vs ls wide (with_number n bytes a x) base (still_stands n a x h));
+      stores = λ vs. subst (λ r. Leaves M 1 (store ∷ []) w (value ∷ place ∷ vs) ls (res_exit r ls (λ done w'. Falls w' vs ls))) (write_within n at.memory_index a x bytes w fits) (stores.leaves M w vs ls wide log2 bytes base x imported there);
+      loads = λ vs. subst (λ r. Leaves M 1 (load ∷ []) after (place ∷ vs) ls (res_exit r ls (λ x w'. Falls w' (address_operand memory64 x ∷ vs) ls))) (reads_stored memory64 w at.memory_index bytes a x fits below) (loads.leaves M after vs ls wide log2 (with_number n bytes a x) base imported (still_there w at.memory_index bytes n a x there));
     }
 
 -- ---- the two widths
-
-abbrev pub code_32 : PointerCode
-code_32 = record {
-  add = I.I32Add;
-  sub = I.I32Sub;
-  mul = I.I32Mul;
-  shl = I.I32Shl;
-  and = I.I32And;
-  or = I.I32Or;
-  xor = I.I32Xor;
-  eq = I.I32Eq;
-  ne = I.I32Ne;
-  eqz = I.I32Eqz;
-  gt_u = I.I32GtU;
-  lt_u = I.I32LtU;
-  uconst = λ n. I.I32Const n;
-  iconst = λ n. I.I32Const (cast_unsigned w32 n);
-  load = λ at. I.I32Load at;
-  store = λ at. I.I32Store at;
-}
-
-abbrev pub code_64 : PointerCode
-code_64 = record {
-  add = I.I64Add;
-  sub = I.I64Sub;
-  mul = I.I64Mul;
-  shl = I.I64Shl;
-  and = I.I64And;
-  or = I.I64Or;
-  xor = I.I64Xor;
-  eq = I.I64Eq;
-  ne = I.I64Ne;
-  eqz = I.I64Eqz;
-  gt_u = I.I64GtU;
-  lt_u = I.I64LtU;
-  uconst = λ n. I.I64Const n;
-  iconst = λ n. I.I64Const (cast_unsigned w64 n);
-  load = λ at. I.I64Load at;
-  store = λ at. I.I64Store at;
-}
 
 pub pointer_32_is : IsPointerType false val.I32 4
 pointer_32_is = record { has_type = refl; has_size = refl }
@@ -129,16 +89,16 @@ pointer_64_is = record { has_type = refl; has_size = refl }
 
 -- loads and stores of each width
 loads_32 : (at : MemArg) → LoadsPointer false at (I.I32Load at)
-loads_32 at = record { typed = row_typed _ (I.outs-I32Load at); leaves = λ M w vs ls wide bytes base h. leaves_i32_load base h }
+loads_32 at = record { typed = row_typed _ (I.outs-I32Load at); leaves = λ M w vs ls wide log2 bytes base imported there. leaves_i32_load base (record { log2 = log2; imported = imported; there = there }) }
 
 stores_32 : (at : MemArg) → StoresPointer false at (I.I32Store at)
-stores_32 at = record { typed = row_typed _ (I.outs-I32Store at); leaves = λ M w vs ls wide bytes base x h. leaves_i32_store base h }
+stores_32 at = record { typed = row_typed _ (I.outs-I32Store at); leaves = λ M w vs ls wide log2 bytes base x imported there. leaves_i32_store base (record { log2 = log2; imported = imported; there = there }) }
 
 loads_64 : (at : MemArg) → LoadsPointer true at (I.I64Load at)
-loads_64 at = record { typed = row_typed _ (I.outs-I64Load at); leaves = λ M w vs ls wide bytes base h. leaves_i64_load base h }
+loads_64 at = record { typed = row_typed _ (I.outs-I64Load at); leaves = λ M w vs ls wide log2 bytes base imported there. leaves_i64_load base (record { log2 = log2; imported = imported; there = there }) }
 
 stores_64 : (at : MemArg) → StoresPointer true at (I.I64Store at)
-stores_64 at = record { typed = row_typed _ (I.outs-I64Store at); leaves = λ M w vs ls wide bytes base x h. leaves_i64_store base h }
+stores_64 at = record { typed = row_typed _ (I.outs-I64Store at); leaves = λ M w vs ls wide log2 bytes base x imported there. leaves_i64_store base (record { log2 = log2; imported = imported; there = there }) }
 
 pub code_32_is : IsPointerCode false code_32
 code_32_is = record {
@@ -181,3 +141,10 @@ code_64_is = record {
   stores = stores_64;
   gives_stored = λ at. load_gives_stored true at (I.I64Store at) (I.I64Load at) (stores_64 at) (loads_64 at);
 }
+
+-- the instructions of the two widths are those of each
+pub code_32_of : code_32 ≡ pointer_code false
+code_32_of = refl
+
+pub code_64_of : code_64 ≡ pointer_code true
+code_64_of = refl

@@ -1,20 +1,20 @@
 -- The instructions on pointers of a width, and what each of them does on the machine (core specification, "Execution",
 -- "Instructions", "Numeric Instructions" and "Memory Instructions"; "Validation", "Instructions"). A pointer of a width is an
 -- unsigned number of so many bits, as an operand of the type of that width's addresses.
-use Rattle.std.specs.Prelude.{◌≡◌, ℤ, FitsSigned, pos, negsuc, ℕ, suc, ◌+◌, ◌-◌, ◌%◌, ◌^◌, ◌≤◌, ◌<◌, Bool, true, false, List, [], ◌∷◌, ◌++◌, length, map, Option, bit_and, bit_or, bit_xor}
-use Rattle.std.specs.Int.{w32}
+use Rattle.std.specs.Prelude.{◌≡◌, ℤ, FitsSigned, pos, negsuc, ℕ, suc, ◌+◌, ◌-◌, ◌%◌, ◌^◌, ◌≤◌, ◌<◌, Bool, true, false, List, [], ◌∷◌, ◌++◌, length, map, slice_get, Option, Some, bit_and, bit_or, bit_xor}
+use Rattle.std.specs.Int.{w32, w64, cast_unsigned}
 use Rattle.fact_wasm.specs.declared.types.ValType.{ValType}
 use Rattle.fact_wasm.specs.declared.instr.MemArg.{MemArg}
 use Rattle.fact_wasm.specs.declared.instr.Instr.{Instr}
+use Rattle.fact_wasm.specs.declared.instr.Instr.TheVariants as I
 use Rattle.fact_wasm.specs.declared.module.WasmModule.{WasmModule}
 use Rattle.fact_machine.specs.declared.types.CoreValue.{CoreValue}
 use Rattle.fact_machine.specs.declared.types.CoreValue.TheVariants.{I32}
 use Rattle.fact_machine.specs.World.{World, read, write}
 use Rattle.fact_machine.specs.Numerics.{iadd, isub, imul, ishl, ieqz, ieq, ine, ilt_u, igt_u}
-use Rattle.fact_machine.specs.Machine.{type_of}
+use Rattle.fact_machine.specs.Machine.{type_of, memory_import}
 use Rattle.fact_machine.specs.Typing.{address_bits, address_type, address_operand, Operands, change, Context, load_typing, store_typing, typing}
 use Rattle.fact_machine.specs.Exits.{Falls, Leaves, res_exit}
-use Rattle.fact_machine.proofs.MemoryRows.{HasMemory}
 
 -- ---- numbers
 
@@ -56,18 +56,18 @@ TestsPointers memory64 value i = (x y : ℕ) → ReplacesOperands (address_opera
 abbrev pub TestsPointer : (memory64 : Bool) → (ℕ → ℕ) → Instr → Type 0
 TestsPointer memory64 value i = (x : ℕ) → ReplacesOperands (address_operand memory64 x ∷ []) (I32 (value x)) i
 
--- An instruction that loads a pointer: from so many bytes behind the address on top, in a memory of either width. It traps where
--- not all bytes of the pointer are there.
+-- An instruction that loads a pointer: from so many bytes behind the address on top, in a memory of either width that the module
+-- imports, and that has these bytes. It traps where not all bytes of the pointer are there.
 pub record LoadsPointer (memory64 : Bool) (at : MemArg) (i : Instr) : Type 0 where
   pub typed : (G : Context) (s : Operands) → typing i G s ≡ load_typing (address_exponent memory64) (address_type memory64) at G s
-  pub leaves : (M : WasmModule) (w : World) (vs : List CoreValue) (ls : List (Option CoreValue)) (wide : Bool) (bytes : List ℕ) (base : ℕ) → HasMemory M w at.memory_index wide bytes
+  pub leaves : (M : WasmModule) (w : World) (vs : List CoreValue) (ls : List (Option CoreValue)) (wide : Bool) (log2 : Option ℕ) (bytes : List ℕ) (base : ℕ) → memory_import M.imports at.memory_index ≡ Some (wide, log2) → slice_get w.state.memories at.memory_index ≡ Some bytes
       → Leaves M 1 (i ∷ []) w (address_operand wide base ∷ vs) ls (res_exit (read (address_bytes memory64) bytes (base + at.offset) w) ls (λ x w'. Falls w' (address_operand memory64 x ∷ vs) ls))
 
 -- An instruction that stores the pointer on top: at so many bytes behind the address below it. It traps where there is no room for
 -- all bytes of the pointer, and then changes nothing.
 pub record StoresPointer (memory64 : Bool) (at : MemArg) (i : Instr) : Type 0 where
   pub typed : (G : Context) (s : Operands) → typing i G s ≡ store_typing (address_exponent memory64) (address_type memory64) at G s
-  pub leaves : (M : WasmModule) (w : World) (vs : List CoreValue) (ls : List (Option CoreValue)) (wide : Bool) (bytes : List ℕ) (base x : ℕ) → HasMemory M w at.memory_index wide bytes
+  pub leaves : (M : WasmModule) (w : World) (vs : List CoreValue) (ls : List (Option CoreValue)) (wide : Bool) (log2 : Option ℕ) (bytes : List ℕ) (base x : ℕ) → memory_import M.imports at.memory_index ≡ Some (wide, log2) → slice_get w.state.memories at.memory_index ≡ Some bytes
       → Leaves M 1 (i ∷ []) w (address_operand memory64 x ∷ address_operand wide base ∷ vs) ls (res_exit (write (address_bytes memory64) at.memory_index bytes (base + at.offset) x w) ls (λ done w'. Falls w' vs ls))
 
 -- a store that goes on, and a load of the same place behind it
@@ -79,7 +79,7 @@ pub record StoredThenLoaded (M : WasmModule) (w : World) (ls : List (Option Core
 -- A load after a store at the same place gives what was stored.
 abbrev pub LoadGivesStored : (memory64 : Bool) → MemArg → (store load : Instr) → Type 0
 LoadGivesStored memory64 at store load =
-    (M : WasmModule) (w : World) (ls : List (Option CoreValue)) (wide : Bool) (bytes : List ℕ) (base x : ℕ) → HasMemory M w at.memory_index wide bytes
+    (M : WasmModule) (w : World) (ls : List (Option CoreValue)) (wide : Bool) (log2 : Option ℕ) (bytes : List ℕ) (base x : ℕ) → memory_import M.imports at.memory_index ≡ Some (wide, log2) → slice_get w.state.memories at.memory_index ≡ Some bytes
     → base + at.offset + address_bytes memory64 ≤ length bytes → x < 2 ^ address_bits memory64
     → StoredThenLoaded M w ls (address_operand wide base) (address_operand memory64 x) store load
 
@@ -102,6 +102,51 @@ pub record PointerCode : Type 0 where
   pub iconst : ℤ → Instr
   pub load : MemArg → Instr
   pub store : MemArg → Instr
+
+abbrev pub code_32 : PointerCode
+code_32 = record {
+  add = I.I32Add;
+  sub = I.I32Sub;
+  mul = I.I32Mul;
+  shl = I.I32Shl;
+  and = I.I32And;
+  or = I.I32Or;
+  xor = I.I32Xor;
+  eq = I.I32Eq;
+  ne = I.I32Ne;
+  eqz = I.I32Eqz;
+  gt_u = I.I32GtU;
+  lt_u = I.I32LtU;
+  uconst = λ n. I.I32Const n;
+  iconst = λ n. I.I32Const (cast_unsigned w32 n);
+  load = λ at. I.I32Load at;
+  store = λ at. I.I32Store at;
+}
+
+abbrev pub code_64 : PointerCode
+code_64 = record {
+  add = I.I64Add;
+  sub = I.I64Sub;
+  mul = I.I64Mul;
+  shl = I.I64Shl;
+  and = I.I64And;
+  or = I.I64Or;
+  xor = I.I64Xor;
+  eq = I.I64Eq;
+  ne = I.I64Ne;
+  eqz = I.I64Eqz;
+  gt_u = I.I64GtU;
+  lt_u = I.I64LtU;
+  uconst = λ n. I.I64Const n;
+  iconst = λ n. I.I64Const (cast_unsigned w64 n);
+  load = λ at. I.I64Load at;
+  store = λ at. I.I64Store at;
+}
+
+-- the instructions of each width
+abbrev pub pointer_code : (memory64 : Bool) → PointerCode
+pointer_code true = code_64
+pointer_code false = code_32
 
 -- What they do: numbers modulo 2 to the power of the width's bits, comparisons unsigned, constants by their values, and loads and
 -- stores of whole pointers.

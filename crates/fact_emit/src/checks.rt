@@ -1,6 +1,6 @@
 //! Tests that trap, and the debug checks of places.
 
-ghost use Rattle.std.specs.Prelude.{IfOk, OnOk, [], ◌∷◌, ◌≡◌, ◌++◌, ◌<◌, true, false};
+ghost use Rattle.std.specs.Prelude.{IfOk, OnOk, [], ◌∷◌, ◌≡◌, ◌++◌, ◌<◌};
 ghost use Rattle.fact_wasm.specs.Ranges.{AreRanged};
 ghost use Rattle.fact_wasm.specs.declared.instr.Instr.TheVariants as I;
 ghost use Rattle.fact_pieces.specs.Code.{trap_code};
@@ -10,6 +10,7 @@ ghost use Rattle.fact_emit.specs.Checks.{Guarded, ChecksUpper, ChecksAddress, Ch
 ghost use Rattle.fact_emit.specs.Places.{from_of, to_of};
 
 use crate::places::{Address, LinearMemory, SourcePlace, TargetPlace};
+use crate::width::{W32, W64, Width};
 use crate::writer::Writer;
 use fact_types::Trap;
 use fact_wasm::{BlockType, FuncName, Instr, OutOfMemory, Seq};
@@ -65,34 +66,22 @@ pub fn check_upper_half(
     Ok(())
 }
 
-/// Whether an address of 32 bits is a multiple of an alignment.
-fn place_test32(w: &Writer, address: Address, align: u32) -> Result<Vec<Instr>, OutOfMemory>
+/// Whether an address of a width is a multiple of an alignment.
+fn place_test_by<W: Width>(
+    w: &Writer,
+    address: Address,
+    align: u32,
+) -> Result<Vec<Instr>, OutOfMemory>
     requires { 0 < align }
-    ensures { IfOk result (λ test. test.items ≡ place_test false address.local address.offset align) }
+    ensures { IfOk result (λ test. test.items ≡ place_test W.memory64 address.local address.offset align) }
 {
     let test = vec![in w.alloc;
         Instr::LocalGet(address.local),
-        Instr::I32Const(address.offset),
-        Instr::I32Add,
-        Instr::I32Const(align - 1),
-        Instr::I32And,
-        Instr::I32Eqz,
-    ]?;
-    Ok(test)
-}
-
-/// Whether an address of 64 bits is a multiple of an alignment.
-fn place_test64(w: &Writer, address: Address, align: u32) -> Result<Vec<Instr>, OutOfMemory>
-    requires { 0 < align }
-    ensures { IfOk result (λ test. test.items ≡ place_test true address.local address.offset align) }
-{
-    let test = vec![in w.alloc;
-        Instr::LocalGet(address.local),
-        Instr::I64Const(u64::from(address.offset)),
-        Instr::I64Add,
-        Instr::I64Const(u64::from(align - 1)),
-        Instr::I64And,
-        Instr::I64Eqz,
+        W::ptr_uconst(address.offset),
+        W::ptr_add(),
+        W::ptr_uconst(align - 1),
+        W::ptr_and(),
+        W::ptr_eqz(),
     ]?;
     Ok(test)
 }
@@ -108,9 +97,9 @@ fn place_multiple_test(
     ensures { IfOk result (λ test. test.items ≡ place_test memory64 address.local address.offset align) }
 {
     if memory64 {
-        place_test64(w, address, align)
+        place_test_by::<W64>(w, address, align)
     } else {
-        place_test32(w, address, align)
+        place_test_by::<W32>(w, address, align)
     }
 }
 

@@ -5,12 +5,13 @@
 pub mod checks;
 pub mod imported;
 pub mod linking;
+pub mod members;
 pub mod numbers;
 pub mod places;
 pub mod pointers;
 pub mod products;
 pub mod scalars;
 pub mod state;
-pub mod tuples;
+pub mod tunables;
 pub mod width;
 pub mod writer;

@@ -5,10 +5,10 @@ ghost use Rattle.fact_types.specs.Signatures.{address as address_of};
 ghost use Rattle.fact_types.specs.declared.outside.CoreDef.TheVariants as def_is;
 ghost use Rattle.fact_emit.specs.ImportSection.{custom_page_size as custom_page_size_of, Flags, Storage, Realloc, Callback, Callee, PostReturn};
 ghost use Rattle.fact_emit.specs.Imports.{AreOnce, Extended};
-ghost use Rattle.fact_emit.specs.Linked.{IsLinked};
+ghost use Rattle.fact_emit.specs.Linked.{IsDefLinked};
 ghost use Rattle.fact_emit.specs.States.{OnlyTypesAdded};
 
-use crate::state::ModuleState;
+use crate::state::ModuleSections;
 use fact_entity::{EntityRef, RuntimeComponentInstanceIndex};
 use fact_types::CoreDef;
 use fact_wasm::{FuncType, ImportType, OutOfMemory, ValType};
@@ -31,10 +31,10 @@ fn address(memory64: bool) -> ValType
     if memory64 { ValType::I64 } else { ValType::I32 }
 }
 
-impl ModuleState {
+impl ModuleSections {
     /// The place of an instance's flags among the imported globals.
     pub fn flags(&mut self, instance: RuntimeComponentInstanceIndex) -> Result<u32, OutOfMemory>
-        ensures imported { IfOk result (λ place. IsLinked self.old self.new (Flags instance.number) (def_is.InstanceFlags instance) place) }
+        ensures imported { IfOk result (λ place. IsDefLinked self.old self.new (Flags instance.number) (def_is.InstanceFlags instance) place) }
         ensures keeps { Extended self.old self.new }
         ensures once { AreOnce self.old → AreOnce self.new }
         ensures refused { OnErr result (OnlyTypesAdded self.old self.new) }
@@ -59,7 +59,7 @@ impl ModuleState {
         memory64: bool,
         page_size_log2: u8,
     ) -> Result<u32, OutOfMemory>
-        ensures imported { IfOk result (λ place. IsLinked self.old self.new (Storage memory64 page_size_log2) def.now place) }
+        ensures imported { IfOk result (λ place. IsDefLinked self.old self.new (Storage memory64 page_size_log2) def.now place) }
         ensures keeps { Extended self.old self.new }
         ensures once { AreOnce self.old → AreOnce self.new }
         ensures refused { OnErr result (OnlyTypesAdded self.old self.new) }
@@ -77,7 +77,7 @@ impl ModuleState {
 
     /// The place of a function that gives memory among the imported functions.
     pub fn realloc(&mut self, def: &CoreDef, memory64: bool) -> Result<u32, OutOfMemory>
-        ensures imported { IfOk result (λ place. IsLinked self.old self.new (Realloc memory64) def.now place) }
+        ensures imported { IfOk result (λ place. IsDefLinked self.old self.new (Realloc memory64) def.now place) }
         ensures keeps { Extended self.old self.new }
         ensures once { AreOnce self.old → AreOnce self.new }
         ensures refused { OnErr result (OnlyTypesAdded self.old self.new) }
@@ -92,7 +92,7 @@ impl ModuleState {
 
     /// The place of a callback among the imported functions.
     pub fn callback(&mut self, def: &CoreDef) -> Result<u32, OutOfMemory>
-        ensures imported { IfOk result (λ place. IsLinked self.old self.new Callback def.now place) }
+        ensures imported { IfOk result (λ place. IsDefLinked self.old self.new Callback def.now place) }
         ensures keeps { Extended self.old self.new }
         ensures once { AreOnce self.old → AreOnce self.new }
         ensures refused { OnErr result (OnlyTypesAdded self.old self.new) }
@@ -111,7 +111,7 @@ impl ModuleState {
         def: &CoreDef,
         ty: &FuncType,
     ) -> Result<u32, OutOfMemory>
-        ensures imported { IfOk result (λ place. IsLinked self.old self.new (Callee adapter.now ty.now) def.now place) }
+        ensures imported { IfOk result (λ place. IsDefLinked self.old self.new (Callee adapter.now ty.now) def.now place) }
         ensures keeps { Extended self.old self.new }
         ensures once { AreOnce self.old → AreOnce self.new }
         ensures refused { OnErr result (OnlyTypesAdded self.old self.new) }
@@ -128,7 +128,7 @@ impl ModuleState {
         def: &CoreDef,
         results: &[ValType],
     ) -> Result<u32, OutOfMemory>
-        ensures imported { IfOk result (λ place. IsLinked self.old self.new (PostReturn adapter.now results.now) def.now place) }
+        ensures imported { IfOk result (λ place. IsDefLinked self.old self.new (PostReturn adapter.now results.now) def.now place) }
         ensures keeps { Extended self.old self.new }
         ensures once { AreOnce self.old → AreOnce self.new }
         ensures refused { OnErr result (OnlyTypesAdded self.old self.new) }

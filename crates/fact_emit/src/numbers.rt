@@ -10,6 +10,7 @@ ghost use Rattle.fact_emit.specs.Writers.{Wrote};
 
 use crate::checks::check_upper_half;
 use crate::places::{Address, LinearMemory, SourcePlace, TargetPlace, TypedLocal};
+use crate::width::{W32, W64, Width};
 use crate::writer::Writer;
 use fact_wasm::{Instr, MemArg, OutOfMemory, ValType};
 
@@ -40,8 +41,8 @@ fn load(linear: LinearMemory, number: NumberSize, address: Address) -> Instr
     match number {
         NumberSize::Bits8 => Instr::I32Load8U(argument(linear, address, 0)),
         NumberSize::Bits16 => Instr::I32Load16U(argument(linear, address, 1)),
-        NumberSize::Bits32 => Instr::I32Load(argument(linear, address, 2)),
-        NumberSize::Bits64 => Instr::I64Load(argument(linear, address, 3)),
+        NumberSize::Bits32 => W32::ptr_load(argument(linear, address, 2)),
+        NumberSize::Bits64 => W64::ptr_load(argument(linear, address, 3)),
     }
 }
 
@@ -52,8 +53,8 @@ fn store(linear: LinearMemory, number: NumberSize, address: Address) -> Instr
     match number {
         NumberSize::Bits8 => Instr::I32Store8(argument(linear, address, 0)),
         NumberSize::Bits16 => Instr::I32Store16(argument(linear, address, 1)),
-        NumberSize::Bits32 => Instr::I32Store(argument(linear, address, 2)),
-        NumberSize::Bits64 => Instr::I64Store(argument(linear, address, 3)),
+        NumberSize::Bits32 => W32::ptr_store(argument(linear, address, 2)),
+        NumberSize::Bits64 => W64::ptr_store(argument(linear, address, 3)),
     }
 }
 

@@ -10,14 +10,15 @@ ghost use Rattle.fact_types.specs.Tables.{IsLive, HasShape};
 ghost use Rattle.fact_emit.specs.Moved.{MovedFrom, MovedNode, MovedValue, MovedMember, CheckedPlaces, IsLiveFound};
 ghost use Rattle.fact_emit.specs.Kinds.{flags_number_of, discriminant_number_of};
 ghost use Rattle.fact_emit.specs.Numbers.{number_sized};
+ghost use Rattle.fact_emit.specs.MemberPairs.{ArePairs, MovedPairs};
 ghost use Rattle.fact_emit.specs.Parts.{bytes_by};
 ghost use Rattle.fact_emit.specs.Places.{from_of, to_of};
 
 use crate::checks::{check_source, check_target};
+use crate::members::{MemberPair, pair_fields, pair_members};
 use crate::numbers::NumberSize;
 use crate::places::{Sides, SourcePlace, TargetPlace};
 use crate::scalars::{Canonical, NumberTest, move_number, move_scalar, move_tested};
-use crate::tuples::find_member;
 use crate::writer::Writer;
 use fact_entity::{TypeEnumIndex, TypeFlagsIndex, TypeRecordIndex, TypeTupleIndex};
 use fact_types::{CanonicalAbiInfo, ComponentTypes, DiscriminantSize, FieldPlace, InterfaceType};
@@ -218,20 +219,11 @@ fn move_record(
     requires to_live { IsLive types.now (ty.Record to) }
     ensures { OnOk result (MovedNode types.now (ty.Record from) (ty.Record to) sides (from_of sides.from source.entry) (to_of sides.to target.entry) w.old w.new) }
 {
-    types.reveal();
-    let _source = types.canonical_abi(&InterfaceType::Record(from));
-    let _whole = types.canonical_abi(&InterfaceType::Record(to));
-    let mut rest = target;
-    let mut end: u32 = 0;
-    for field in types[to].fields.as_slice() {
-        let found = types.find_field(from, &field.name);
-        let place = next_place(types.canonical_abi(&field.ty), sides.to.memory64, &mut end);
-        let count = flat_length(types, &field.ty);
-        let spot = rest.part(0, count, place);
-        move_member(types, w, sides, found, field.ty, source, spot)?;
-        rest = rest.past(count);
-    }
-    Ok(())
+    let pairs = pair_fields(w.alloc, types, from, to)?;
+    let whole = InterfaceType::Record(to);
+    let moved = move_pairs(types, w, sides, whole, pairs.as_slice(), source, target);
+    drop(pairs);
+    moved
 }
 
 /// Moves the members of a tuple, each from the source member of its place, without a check of the tuple's own places.
@@ -249,17 +241,34 @@ pub fn move_tuple(
     requires to_live { IsLive types.now (ty.Tuple to) }
     ensures { OnOk result (MovedNode types.now (ty.Tuple from) (ty.Tuple to) sides (from_of sides.from source.entry) (to_of sides.to target.entry) w.old w.new) }
 {
-    types.reveal();
-    let _source = types.canonical_abi(&InterfaceType::Tuple(from));
-    let _whole = types.canonical_abi(&InterfaceType::Tuple(to));
+    let pairs = pair_members(w.alloc, types, from, to)?;
+    let whole = InterfaceType::Tuple(to);
+    let moved = move_pairs(types, w, sides, whole, pairs.as_slice(), source, target);
+    drop(pairs);
+    moved
+}
+
+/// Moves the members of a record or a tuple in the order of its destination, each from the source member that was found for it.
+#[cycle(moving)]
+fn move_pairs(
+    types: &ComponentTypes,
+    w: &mut Writer,
+    sides: Sides,
+    whole: InterfaceType,
+    pairs: &[MemberPair],
+    source: SourcePlace<'_>,
+    target: TargetPlace<'_>,
+) -> Result<(), OutOfMemory>
+    requires { ArePairs types.now whole pairs.now }
+    ensures { OnOk result (MovedPairs types.now whole pairs.now sides (from_of sides.from source.entry) (to_of sides.to target.entry) w.old w.new) }
+{
     let mut rest = target;
     let mut end: u32 = 0;
-    for (at, member) in types[to].types.as_slice().iter().enumerate() {
-        let found = find_member(types, from, at);
-        let place = next_place(types.canonical_abi(member), sides.to.memory64, &mut end);
-        let count = flat_length(types, member);
+    for pair in pairs {
+        let place = next_place(types.canonical_abi(&pair.ty), sides.to.memory64, &mut end);
+        let count = flat_length(types, &pair.ty);
         let spot = rest.part(0, count, place);
-        move_member(types, w, sides, found, *member, source, spot)?;
+        move_member(types, w, sides, pair.found, pair.ty, source, spot)?;
         rest = rest.past(count);
     }
     Ok(())

@@ -1,4 +1,4 @@
-//! The parts of a module that is being made.
+//! A module that is being made: its sections, and what it is made with.
 
 ghost use Rattle.std.specs.Prelude.{◌≡◌, ◌⊎◌, ◌+◌, ◌++◌, ◌∷◌, [], ◌<◌, ◌≤◌, ◌^◌, Contains, IsTrue, None, Some, position, slice_get, length, IfOk, IsFalse, OnErr, OnOk, codes, count_by};
 ghost use Rattle.std.specs.Fmt.{decimal};
@@ -10,10 +10,13 @@ ghost use Rattle.fact_types.specs.declared.import.Import.TheVariants as known;
 ghost use Rattle.fact_emit.specs.declared.imported.ImportedItem.TheVariants as variant;
 ghost use Rattle.fact_emit.specs.ImportSection.{a_function, a_memory, imported_type, is_of, trap_number as trap_number_of};
 ghost use Rattle.fact_emit.specs.Imports.{AreOnce, Extended, HasImport};
+ghost use Rattle.fact_emit.specs.Settings.{OnlySectionsChanged};
 ghost use Rattle.fact_emit.specs.State.{IsAdded, IsKept};
 ghost use Rattle.fact_emit.specs.States.{HasType, IsImported, IsTrapImported, OnlyTypesAdded, export_as, functions_of, import_as, known_as, module_of, nothing_so_far};
 
 use crate::imported::ImportedItem;
+use crate::tunables::{Tunables, WasmFeatures};
+use fact_builder::ComponentTypesBuilder;
 use fact_entity::{EntityRef, FuncIndex, GlobalIndex, Interner, MemoryIndex};
 use fact_types::{CoreDef, Import, Trap};
 use fact_wasm::{
@@ -29,7 +32,7 @@ const MOST_FUNCTIONS: usize = 4_294_967_295;
 /// The sections of a module that is being made, and what its imports are. Each type stands in them once, and so does each
 /// definition and each trap among the imports of its kind. A refusal leaves the imports as they were.
 #[derive(Drop)]
-pub struct ModuleState {
+pub struct ModuleSections {
     alloc: Global,
     types: CoreTypes,
     // The imports of each kind, in order.
@@ -42,7 +45,7 @@ pub struct ModuleState {
     imports: Seq<Import>,
 }
 
-impl Model for ModuleState {
+impl Model for ModuleSections {
     ghost use Rattle.fact_emit.specs.State.{IsIndexed};
     ghost use Rattle.fact_emit.specs.States.{ModuleSoFar};
     ghost use Rattle.fact_wasm.specs.contracts.instr.Instr as instr;
@@ -176,13 +179,13 @@ fn trap_number(trap: Trap) -> u32
     }
 }
 
-impl ModuleState {
+impl ModuleSections {
     /// Nothing is there yet. It takes no memory.
-    pub fn new(alloc: Global) -> ModuleState
+    pub fn new(alloc: Global) -> ModuleSections
         ensures nothing { result ≡ nothing_so_far }
         ensures once { AreOnce result }
     {
-        ModuleState {
+        ModuleSections {
             alloc,
             types: CoreTypes::new(alloc),
             globals: Interner::new(alloc),
@@ -369,7 +372,7 @@ impl ModuleState {
         ensures parts { (result.0 ≡ module_of self) × (result.1 ≡ self.imports) }
         ensures numbered { length (functions_of self) + length self.functions < 2 ^ 32 }
     {
-        let ModuleState {
+        let ModuleSections {
             types,
             globals,
             memories,
@@ -451,5 +454,95 @@ impl ModuleState {
                 true,
             ),
         }
+    }
+}
+
+/// A module that is being made: its sections, the types of adapters, and what else `Module::new` was given.
+#[derive(Drop)]
+pub struct ModuleState<'a> {
+    pub sections: ModuleSections,
+    pub builder: &'a ComponentTypesBuilder,
+    pub tunables: &'a Tunables,
+    pub features: WasmFeatures,
+}
+
+impl<'a> ModuleState<'a> {
+    /// Nothing is there yet. It takes no memory.
+    pub fn new(
+        alloc: Global,
+        types: &'a ComponentTypesBuilder,
+        tunables: &'a Tunables,
+        features: WasmFeatures,
+    ) -> ModuleState<'a>
+        ensures nothing { result.sections ≡ nothing_so_far }
+        ensures once { AreOnce result.sections }
+        ensures builder { result.builder.now ≡ types.now }
+        ensures tunables { result.tunables.now ≡ tunables.now }
+        ensures features { result.features ≡ features }
+    {
+        ModuleState {
+            sections: ModuleSections::new(alloc),
+            builder: types,
+            tunables,
+            features,
+        }
+    }
+
+    /// The core function types so far.
+    pub fn core_types(&self) -> &CoreTypes
+        ensures { result.now ≡ self.now.sections.types }
+    {
+        self.sections.core_types()
+    }
+
+    /// The imports so far, as they stand in the module.
+    pub fn import_section(&self) -> &Seq<WasmImport>
+        ensures { result.now ≡ self.now.sections.section }
+    {
+        self.sections.import_section()
+    }
+
+    /// What the imports so far are, in the same order.
+    pub fn imports(&self) -> &[Import]
+        ensures { result.now ≡ self.now.sections.imports }
+    {
+        self.sections.imports()
+    }
+
+    /// The defined functions so far.
+    pub fn functions(&self) -> &Seq<WasmFunc>
+        ensures { result.now ≡ self.now.sections.functions }
+    {
+        self.sections.functions()
+    }
+
+    /// The number of a core type, which comes last where it is new.
+    pub fn function(&mut self, params: &[ValType], results: &[ValType]) -> Result<u32, OutOfMemory>
+        ensures place { IfOk result (λ n. slice_get self.new.sections.types n ≡ Some (signature params.now results.now)) }
+        ensures types { OnOk result (HasType self.old.sections self.new.sections (signature params.now results.now)) }
+        ensures extended { Extended self.old.sections self.new.sections }
+        ensures keeps { OnlySectionsChanged self.old self.new }
+        ensures once { AreOnce self.old.sections → AreOnce self.new.sections }
+        ensures refused { OnErr result (self.new ≡ self.old) }
+    {
+        self.sections.function(params, results)
+    }
+
+    /// The place of a core definition among the imports of its kind. A new one is imported last, under these names, with this
+    /// type.
+    pub fn core_def(
+        &mut self,
+        def: &CoreDef,
+        module: &str,
+        name: &str,
+        ty: ImportType,
+    ) -> Result<u32, OutOfMemory>
+        ensures imported { IfOk result (λ place. IsImported self.old.sections self.new.sections (import_as «module».now name.now ty) (known.CoreDef def.now) place) }
+        ensures extended { Extended self.old.sections self.new.sections }
+        ensures keeps { OnlySectionsChanged self.old self.new }
+        ensures once { AreOnce self.old.sections → AreOnce self.new.sections }
+        ensures refused { OnErr result (self.new ≡ self.old) }
+    {
+        self.sections.core_def(def, module, name, ty)
     }
 }

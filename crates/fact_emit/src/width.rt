@@ -2,8 +2,8 @@
 
 ghost use Rattle.std.specs.Prelude.{◌≡◌, ℕ, Bool, true, false};
 ghost use Rattle.fact_wasm.specs.declared.types.ValType.{ValType};
-ghost use Rattle.fact_emit.specs.Widths.{PointerCode, IsPointerType, IsPointerCode};
-ghost use Rattle.fact_emit.specs.WidthLaws.{code_32, code_64, code_32_is, code_64_is, pointer_32_is, pointer_64_is};
+ghost use Rattle.fact_emit.specs.Widths.{PointerCode, IsPointerType, IsPointerCode, code_32, code_64, pointer_code};
+ghost use Rattle.fact_emit.specs.WidthLaws.{code_32_is, code_64_is, code_32_of, code_64_of, pointer_32_is, pointer_64_is};
 
 use fact_wasm::{Instr, MemArg, ValType};
 
@@ -93,7 +93,10 @@ pub trait Width {
     // the type and the bytes are those of the width,
     ghost is_pointer: { IsPointerType memory64 PTR SIZE };
 
-    // and the instructions do what their names say
+    // the instructions are those of the width,
+    ghost is_width: { code ≡ pointer_code memory64 };
+
+    // and do what their names say
     ghost is_code: { IsPointerCode memory64 code };
 }
 
@@ -117,6 +120,8 @@ impl Width for W32 {
     const SIZE: u32 = 4;
 
     ghost is_pointer = { pointer_32_is };
+
+    ghost is_width = { code_32_of };
 
     ghost is_code = { code_32_is };
 
@@ -200,6 +205,8 @@ impl Width for W64 {
 
     ghost is_pointer = { pointer_64_is };
 
+    ghost is_width = { code_64_of };
+
     ghost is_code = { code_64_is };
 
     fn ptr_add() -> Instr {
@@ -270,5 +277,6 @@ impl Width for W64 {
 /// What the type and the instructions of every width are. The call does nothing: its contract is the laws.
 pub fn laws_of_width<W: Width>()
     ensures pointer { IsPointerType W.memory64 W.PTR W.SIZE }
+    ensures width { W.code ≡ pointer_code W.memory64 }
     ensures code { IsPointerCode W.memory64 W.code }
 {}

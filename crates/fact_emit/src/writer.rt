@@ -6,7 +6,7 @@ ghost use Rattle.fact_emit.specs.Imports.{AreOnce};
 ghost use Rattle.fact_machine.specs.Typing.{is_number};
 ghost use Rattle.fact_emit.specs.Writers.{Wrote, AddedLocal, Took, Freed, TookTrap, Same, free_local_of, taken_in};
 
-use crate::state::ModuleState;
+use crate::state::ModuleSections;
 use fact_types::Trap;
 use fact_wasm::{Instr, OutOfMemory, Seq, ValType};
 use std::alloc::{AllocError, Global};
@@ -23,7 +23,7 @@ pub struct Local {
 #[derive(Drop)]
 pub struct Writer {
     pub alloc: Global,
-    pub imports: ModuleState,
+    pub imports: ModuleSections,
     pub code: Vec<Instr>,
     pub locals: Vec<Local>,
     // Locals that were freed, the last one last. One that is in use again is passed over.
@@ -39,7 +39,7 @@ impl Writer {
     {
         Writer {
             alloc,
-            imports: ModuleState::new(alloc),
+            imports: ModuleSections::new(alloc),
             code: Vec::new(alloc),
             locals: Vec::new(alloc),
             free: Vec::new(alloc),
@@ -47,7 +47,7 @@ impl Writer {
     }
 
     /// No code and no locals yet, of a function of this module. It takes no memory.
-    pub fn over(alloc: Global, imports: ModuleState) -> Writer
+    pub fn over(alloc: Global, imports: ModuleSections) -> Writer
         ensures imports { result.imports ≡ imports }
         ensures code { result.code.items ≡ [] }
         ensures locals { result.locals.items ≡ [] }
@@ -62,7 +62,7 @@ impl Writer {
     }
 
     /// The module around the code, the code, and the locals.
-    pub fn into_parts(self) -> (ModuleState, Vec<Instr>, Vec<Local>)
+    pub fn into_parts(self) -> (ModuleSections, Vec<Instr>, Vec<Local>)
         ensures imports { result.0 ≡ self.imports }
         ensures code { result.1 ≡ self.code }
         ensures locals { result.2 ≡ self.locals }

@@ -1,0 +1,20 @@
+use Rattle.std.proofs.Common.{[], ◌∷◌, ◌++◌, Some, refl, ap, ◌∙◌, codes, subst}
+use Rattle.std.specs.Fmt.{decimal}
+use Rattle.fact_wasm.specs.CoreTypes.{signature}
+use Rattle.fact_wasm.specs.declared.types.ValType.{ValType}
+use Rattle.fact_wasm.specs.declared.module.ImportType.TheVariants as import_type
+use Rattle.fact_emit.specs.States.{HasType, import_as}
+use Rattle.fact_emit.proofs.state.ModuleSections.realloc.Goals as goal
+
+pub returns-clause-imported : goal.returns-clause-imported
+returns-clause-imported c = record {
+  typed = c.function.new.self;
+  types = subst (λ (p : ValType). HasType c.args.self.now c.function.new.self (signature (p ∷ p ∷ p ∷ p ∷ []) (p ∷ []))) c.address-p.ensures c.in_ok-ty.ensures.types;
+  import = import_as (codes "realloc") c.deref.result.now (import_type.Func c.in_ok-ty.ty);
+  stands = record {
+    is_from = refl;
+    is_named = c.deref.ensures ∙ c.in_ok-name.ensures.ok ∙ ap (λ n. codes "f" ++ decimal n) c.function_count-count.ensures;
+    is_typed = c.in_ok-ty.ensures.place ∙ ap (λ (p : ValType). Some (signature (p ∷ p ∷ p ∷ p ∷ []) (p ∷ []))) c.address-p.ensures;
+  };
+  imported = c.in_ok-place.ensures.imported;
+}
