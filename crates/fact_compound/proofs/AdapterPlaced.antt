@@ -14,7 +14,7 @@ use Rattle.fact_emit.specs.AdapterLinks.{AdapterLinks, SideLinks}
 use Rattle.fact_emit.specs.ImportSection.{custom_page_size}
 use Rattle.fact_emit.specs.KnownAdapters.{KnowsAdapter, KnowsSide}
 use Rattle.fact_emit.proofs.LinkLaws.{linear_memory_of}
-use Rattle.fact_compound.specs.Described.{HasResultMemory, LinksAdapter, LinksSide, linear_of}
+use Rattle.fact_compound.specs.Described.{HasResultMemory, KnowsAdapterData, KnowsSideData, linear_of}
 use Rattle.fact_compound.specs.Placed.{AreOptionsOf, IsDataOf}
 use Rattle.fact_compound.specs.declared.adapters.AdapterOptions.{AdapterOptions}
 use Rattle.fact_compound.specs.declared.adapters.AdapterData.{AdapterData}
@@ -32,7 +32,7 @@ module _ (M : WasmModule) (p : ImportPlaces) where
         let same : here.number ≡ (linear_of o).memory = cc in
         linear_memory_of s m (linear_of o) is options.wide (options.page_size m is) (subst (λ n. KnowsMemory M p m.def n m.memory64 (custom_page_size m.page_size_log2)) same here.knows)
 
-    links_side : LinksSide M p o s
+    links_side : KnowsSideData M p o s
     links_side = record {
       flags = subst (λ n. KnowsFlags M p s.instance n) (sym options.flags) knows.flags;
       memory = result_memory (flat_values (is_wide s.memory) 1 s.results) refl;
@@ -43,7 +43,7 @@ module _ (M : WasmModule) (p : ImportPlaces) where
       → a.lift.core_type ≡ record { params = (lift_signature_of a).params; results = (lift_signature_of a).results }
       → (flat_values (is_wide a.lift.memory) 1 a.lift.results ≡ None → (m : MemoryOption) × (a.lift.memory ≡ Some m))
       → (flat_values (is_wide a.lower.memory) 1 a.lower.results ≡ None → (m : MemoryOption) × (a.lower.memory ≡ Some m))
-      → LinksAdapter M p d a
+      → KnowsAdapterData M p d a
   links_adapter a at d knows is signature lift_needs lower_needs = record {
     lift = links_side a.lift at.lift d.lift knows.lift is.lift lift_needs;
     lower = links_side a.lower at.lower d.lower knows.lower is.lower lower_needs;

@@ -28,7 +28,7 @@ use Rattle.fact_moves.specs.Actions.{Action, Give, Visit, ◌>>=◌}
 use Rattle.fact_moves.specs.Adapters.{AdapterTunables, params_transfer, move_params}
 use Rattle.fact_moves.specs.Moves.{aligned_source, aligned_target, flat_length, part, spot, past, with_field, move, move_fields}
 use Rattle.fact_moves.specs.Sides.{LiftLowerOptions, Transfer, Source, Values, Target, Slots, low_half, width_of_side}
-use Rattle.fact_emit.proofs.TupleFinds.{same_place, other_place}
+use Rattle.fact_emit.proofs.SourceMembers.{same_place, other_place}
 use Rattle.fact_compound.specs.PassedOn.{is_passed_on, core_type_of, ArePassedOn, visits}
 use Rattle.fact_compound.proofs.Flats.{are_flat}
 use Rattle.fact_compound.proofs.ParamMoves.{params_are}

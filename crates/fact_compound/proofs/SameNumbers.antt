@@ -1,43 +1,41 @@
 -- Lists of the same numbers, and the shapes of such types.
-use Rattle.std.proofs.Common.{◌≡◌, ℕ, zero, suc, ◌+◌, ◌<◌, ◌≤◌, true, List, [], ◌∷◌, ◌++◌, Some, None, refl, sym, ap, ◌∙◌, subst, arith, length, map, take, get_or, slice_get}
+use Rattle.std.proofs.Common.{◌≡◌, Bool, true, false, IsTrue, List, [], ◌∷◌, Some, refl, sym, ap, ◌∙◌, subst, map, slice_get}
+use Rattle.std.specs.Prelude.{◌↔◌}
+use Rattle.std.specs.Bool.{Decides}
+use Rattle.std.specs.Cmp.Lexicographic.{pointwise}
 use Rattle.std.specs.List.{list_all}
-use Rattle.std.proofs.lemmas.List.{take_more, take_all}
+use Rattle.std.proofs.lemmas.Bool.{false≢true}
+use Rattle.std.proofs.lemmas.Slice.Eq.{slice_eq-Decides}
 use Rattle.fact_entity.specs.declared.id.Id.{Id}
 use Rattle.fact_entity.specs.declared.table.TypeFuncs.{TypeFuncs}
 use Rattle.fact_types.specs.declared.interface.InterfaceType.{InterfaceType}
 use Rattle.fact_types.specs.declared.interface.InterfaceType.TheVariants as ty
+use Rattle.fact_types.specs.contracts.interface.InterfaceTypePartialEq.TheImpl as type_eq
+use Rattle.fact_types.specs.contracts.interface.InterfaceTypeEq.TheImpl.Laws.{laws-law as type_laws}
+use Rattle.fact_types.specs.Exact.{exact_type}
 use Rattle.fact_types.specs.declared.kinds.TypeFunc.{TypeFunc}
 use Rattle.fact_types.specs.declared.kinds.TypeTuple.{TypeTuple}
 use Rattle.fact_types.specs.Functions.{HaveShapes, HasSignature}
 use Rattle.fact_types.specs.Shapes.{Shape, s_plain, s_node}
 use Rattle.fact_types.specs.Tables.{Tables, HasShape}
-use Rattle.fact_machine.proofs.Tests.{first_of, second_of, both}
+use Rattle.fact_machine.proofs.Tests.{first_of, second_of}
 use Rattle.fact_compound.specs.PassedOn.{is_passed_on, ArePassedOn}
 
--- ---- the loop
+-- ---- lists
 
-pub record SameOn (from to : List InterfaceType) (at : ℕ) : Type 0 where
-  pub same : take at to ≡ take at from
-  pub numbers : list_all is_passed_on (take at from) ≡ true
+same_type : (a b : InterfaceType) → Decides (type_eq.ghosts.eq a b) (a ≡ b)
+same_type a b = (exact_type a b, λ e. ap (type_eq.ghosts.eq a) (sym e) ∙ type_laws.refl a)
 
-pub same_first : {from to : List InterfaceType} → SameOn from to 0
-same_first = record { same = refl; numbers = refl }
+same_types : (xs ys : List InterfaceType) (b : Bool) → b ≡ pointwise type_eq.ghosts.eq xs ys → Decides b (xs ≡ ys)
+same_types = slice_eq-Decides same_type
 
-all_more : (xs : List InterfaceType) (x : InterfaceType) → list_all is_passed_on xs ≡ true → is_passed_on x ≡ true → list_all is_passed_on (xs ++ x ∷ []) ≡ true
-all_more [] x h e = both e refl
-all_more (y ∷ xs) x h e = both (first_of (is_passed_on y) (list_all is_passed_on xs) h) (all_more xs x (second_of (is_passed_on y) (list_all is_passed_on xs) h) e)
+-- two tests: the first fails, or the second decides
+pub other_types : (xs ys : List InterfaceType) (same : Bool) → same ≡ pointwise type_eq.ghosts.eq xs ys → same ≡ false → IsTrue same ↔ ((xs ≡ ys) × (list_all is_passed_on xs ≡ true))
+other_types xs ys same is failed = (λ e. absurd (false≢true (sym failed ∙ e)), λ h. (same_types xs ys same is).1 h.0)
 
-pub same_next : {from to : List InterfaceType} {at : ℕ} (d e : InterfaceType) → at < length from → length from ≡ length to → get_or from at d ≡ get_or to at e → is_passed_on (get_or from at d) ≡ true → SameOn from to at → SameOn from to (at + 1)
-same_next {from} {to} {at} d e lt long same number h = record {
-  same = take_more to at e (omega (arith, lt, long)) ∙ (λ i. h.same i ++ (sym same) i ∷ []) ∙ sym (take_more from at d lt);
-  numbers = subst (λ ts. list_all is_passed_on ts ≡ true) (sym (take_more from at d lt)) (all_more (take at from) (get_or from at d) h.numbers number);
-}
-
-pub same_all : {from to : List InterfaceType} {at : ℕ} → length from ≤ at → length from ≡ length to → SameOn from to at → to ≡ from
-same_all {from} {to} {at} le long h = sym (take_all at to (omega (arith, le, long))) ∙ h.same ∙ take_all at from le
-
-pub numbers_all : {from to : List InterfaceType} {at : ℕ} → length from ≤ at → SameOn from to at → list_all is_passed_on from ≡ true
-numbers_all {from} {at = at} le h = subst (λ ts. list_all is_passed_on ts ≡ true) (take_all at from le) h.numbers
+pub same_numbers : (xs ys : List InterfaceType) (same numbers : Bool) → same ≡ pointwise type_eq.ghosts.eq xs ys → same ≡ true → numbers ≡ list_all is_passed_on xs
+    → IsTrue numbers ↔ ((xs ≡ ys) × (list_all is_passed_on xs ≡ true))
+same_numbers xs ys same numbers is passed all = (λ e. ((same_types xs ys same is).0 passed, sym all ∙ e), λ h. all ∙ h.1)
 
 -- ---- shapes
 
@@ -65,11 +63,28 @@ params_have {t} {i} {f} {e} fun tup ps rs h =
     let taken : h.taken ≡ e = let both : Some h.taken ≡ Some e = sym h.taken_there ∙ there in cc in
     subst (λ (g : TypeTuple). HaveShapes t g.types ps) taken h.takes
 
+-- plain shapes are those of these types alone
+plain_types : (t : Tables) (xs ys : List InterfaceType) → HaveShapes t xs (map (λ y. s_plain y) ys) → xs ≡ ys
+plain_types t [] [] h = refl
+plain_types t [] (y ∷ ys) h = absurd h
+plain_types t (x ∷ xs) [] h = absurd h
+plain_types t (x ∷ xs) (y ∷ ys) h = λ i. h.0.0 i ∷ plain_types t xs ys h.1 i
+
 pub are_passed : {t : Tables} {i j : Id TypeFuncs} {f g : TypeFunc} {d e : TypeTuple} → slice_get t.functions i.number ≡ Some f → slice_get t.tuples f.params.number ≡ Some d → slice_get t.functions j.number ≡ Some g → slice_get t.tuples g.params.number ≡ Some e
-    → e.types ≡ d.types → list_all is_passed_on d.types ≡ true → (ps rs qs ss : List Shape) → HasSignature t i ps rs → HasSignature t j qs ss → ArePassedOn ps qs
-are_passed {t} {d = d} {e} fi di fj ej same all ps rs qs ss h k = record {
-  types = d.types;
-  all = all;
-  from_are = number_shapes t d.types ps all (params_have fi di ps rs h);
-  to_are = number_shapes t e.types qs (ap (list_all is_passed_on) same ∙ all) (params_have fj ej qs ss k) ∙ ap (map (λ t. s_plain t)) same;
-}
+    → (found : Bool) → (IsTrue found ↔ ((d.types ≡ e.types) × (list_all is_passed_on d.types ≡ true))) → (ps rs qs ss : List Shape) → HasSignature t i ps rs → HasSignature t j qs ss → (IsTrue found ↔ ArePassedOn ps qs)
+are_passed {t} {d = d} {e} fi di fj ej found exact ps rs qs ss h k =
+    let from = params_have fi di ps rs h in
+    let to = params_have fj ej qs ss k in (
+      λ is_so.
+          let (same, all) = exact.0 is_so in
+          record {
+            types = d.types;
+            all = all;
+            from_are = number_shapes t d.types ps all from;
+            to_are = number_shapes t e.types qs (ap (list_all is_passed_on) (sym same) ∙ all) to ∙ ap (map (λ t. s_plain t)) (sym same);
+          },
+      λ p.
+          let d_are = plain_types t d.types p.types (subst (HaveShapes t d.types) p.from_are from) in
+          let e_are = plain_types t e.types p.types (subst (HaveShapes t e.types) p.to_are to) in
+          exact.1 (d_are ∙ sym e_are, ap (list_all is_passed_on) d_are ∙ p.all),
+    )

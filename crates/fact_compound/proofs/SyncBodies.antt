@@ -24,7 +24,7 @@ use Rattle.fact_pieces.specs.Places.{Slot, InLocals, ToLocals, FromUsed, ToUsed,
 use Rattle.fact_pieces.proofs.Blocks.{weaker}
 use Rattle.fact_pieces.proofs.Rules.{within}
 use Rattle.fact_emit.specs.Places.{AreDistinctSlots, TargetTaken, HasDistinctSlots, Using}
-use Rattle.fact_compound.specs.Described.{DescribesAdapter, LinksAdapter, HasResultMemory, linear_of}
+use Rattle.fact_compound.specs.Described.{DescribesAdapter, KnowsAdapterData, HasResultMemory, linear_of}
 use Rattle.fact_compound.specs.Passing.{last_local, results_from, results_to, tuple_size}
 use Rattle.fact_compound.specs.Syncs.{lower_type_of, EmitsSync}
 use Rattle.fact_emit.specs.declared.writer.Writer.{Writer}
@@ -78,7 +78,7 @@ few_results m (Some fs) ts ss few h e = omega (arith, sym (slots_long ss) ∙ ap
 flat_few : (m : Bool) (limit : ℕ) {ss : List Shape} (fs : List ValType) → AreFlat m limit ss fs → length fs ≤ limit
 flat_few m limit fs f = omega (arith, ap length f.are ∙ values_long _, f.few)
 
-module _ {t : Tables} {d : AdapterData} {debug : Bool} {u : AdapterTunables} {a : LinkedAdapter} (h : DescribesAdapter t d debug u a) {M : WasmModule} {p : ImportPlaces} {locals : List ValType} {taken : ℕ → Bool} (links : LinksAdapter M p d a) (l : SyncPlaces) (room : HasLocals a l taken locals)
+module _ {t : Tables} {d : AdapterData} {debug : Bool} {u : AdapterTunables} {a : LinkedAdapter} (h : DescribesAdapter t d debug u a) {M : WasmModule} {p : ImportPlaces} {locals : List ValType} {taken : ℕ → Bool} (links : KnowsAdapterData M p d a) (l : SyncPlaces) (room : HasLocals a l taken locals)
     (lift_size : tuple_size (linear_of d.lift).memory64 a.lift.results ≤ 4294967295) (lower_size : tuple_size (linear_of d.lower).memory64 a.lower.results ≤ 4294967295) {code : List Instr}
     (k : IsSyncCode d debug l taken a.lower.params a.lower.results a.lift.params a.lift.results M p locals code) where
   abbrev kept : ℕ → Bool

@@ -29,7 +29,7 @@ use Rattle.fact_emit.specs.declared.writer.Writer.{Writer}
 use Rattle.fact_emit.proofs.BroughtLaws.{brought_between}
 use Rattle.fact_emit.proofs.ImportLaws.{grown_get, grows_none, grows_on}
 use Rattle.fact_emit.proofs.Locals.{get_map}
-use Rattle.fact_compound.specs.Described.{DescribesAdapter, LinksAdapter}
+use Rattle.fact_compound.specs.Described.{DescribesAdapter, KnowsAdapterData}
 use Rattle.fact_compound.specs.Functions.{slots_from, AddedSyncLocals, PutBody, DoesBody, WroteBody, places_with, sync_types, params_among, added_slots, unless_passed}
 use Rattle.fact_compound.specs.Syncs.{DoesSync, EmitsSync, lower_type_of}
 use Rattle.fact_compound.specs.Code.{slot_types}
@@ -119,7 +119,7 @@ module _ {t : Tables} {d : AdapterData} {debug : Bool} (passed : Bool) (are : pa
       distinct = all_distinct;
     }
 
-    body_does : (M : WasmModule) (p : ImportPlaces) → Serves M p c.imports → LinksAdapter M p d a → DoesBody u a M p (types_of_locals c) c.code.items
+    body_does : (M : WasmModule) (p : ImportPlaces) → Serves M p c.imports → KnowsAdapterData M p d a → DoesBody u a M p (types_of_locals c) c.code.items
     body_does M p serves links =
         let e = y.put.emits u a h in
         let later : Later c M p (types_of_locals c) = record { serves = serves; begin = grows_none refl } in

@@ -44,7 +44,7 @@ use Rattle.fact_emit.proofs.BroughtLaws.{brought_between}
 use Rattle.fact_emit.proofs.DefinedKept.{defined_brought, defined_type, extended_defined}
 use Rattle.fact_emit.proofs.ImportLaws.{extended_on, grown_get}
 use Rattle.fact_emit.proofs.ServingLaws.{serves_sooner}
-use Rattle.fact_compound.specs.Described.{DescribesAdapter, LinksAdapter}
+use Rattle.fact_compound.specs.Described.{DescribesAdapter, KnowsAdapterData}
 use Rattle.fact_compound.specs.Functions.{sync_types, DoesBody, WroteBody, WroteFunction, CompiledSync}
 use Rattle.fact_compound.specs.Syncs.{IsSyncFunction, lower_type_of}
 use Rattle.fact_compound.specs.declared.adapters.AdapterData.{AdapterData}
@@ -120,7 +120,7 @@ module _ {t : Tables} {d : AdapterData} {debug : Bool} {lower lift : Signature} 
   all_types : types_of_locals c ≡ lower.params ++ local_types f.locals
   all_types = w.params.is ∙ ap (λ ts. lower.params ++ ts) (sym declared)
 
-  module _ {u : AdapterTunables} {a : LinkedAdapter} (h : DescribesAdapter t d debug u a) (lower_is : lower ≡ lower_signature_of a) (lift_is : lift ≡ lift_signature_of a) {M : WasmModule} {p : ImportPlaces} (serves : Serves M p new) (links : LinksAdapter M p d a) where
+  module _ {u : AdapterTunables} {a : LinkedAdapter} (h : DescribesAdapter t d debug u a) (lower_is : lower ≡ lower_signature_of a) (lift_is : lift ≡ lift_signature_of a) {M : WasmModule} {p : ImportPlaces} (serves : Serves M p new) (links : KnowsAdapterData M p d a) where
     body : DoesBody u a M p (types_of_locals c) c.code.items
     body = w.is u a h lower_is lift_is M p (subst (λ s. Serves M p s) after serves) links
 

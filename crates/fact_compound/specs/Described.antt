@@ -69,12 +69,12 @@ abbrev pub HasResultMemory : WasmModule → ImportPlaces → AdapterOptions → 
 HasResultMemory M p o s (Some flats) = Unit {0}
 HasResultMemory M p o s None = IsLinearMemoryOf M p (options_of s) (linear_of o)
 
-pub record LinksSide (M : WasmModule) (p : ImportPlaces) (o : AdapterOptions) (s : Side) : Type 0 where
+pub record KnowsSideData (M : WasmModule) (p : ImportPlaces) (o : AdapterOptions) (s : Side) : Type 0 where
   pub flags : KnowsFlags M p s.instance o.flags.number
   pub memory : HasResultMemory M p o s (flat_values (is_wide s.memory) 1 s.results)
 
 -- Flags, memories and the callee have the places that the data say.
-pub record LinksAdapter (M : WasmModule) (p : ImportPlaces) (d : AdapterData) (a : LinkedAdapter) : Type 0 where
-  pub lift : LinksSide M p d.lift a.lift
-  pub lower : LinksSide M p d.lower a.lower
+pub record KnowsAdapterData (M : WasmModule) (p : ImportPlaces) (d : AdapterData) (a : LinkedAdapter) : Type 0 where
+  pub lift : KnowsSideData M p d.lift a.lift
+  pub lower : KnowsSideData M p d.lower a.lower
   pub callee : KnowsFunction M p (import.CoreDef a.callee) d.callee.number (lift_signature_of a).params (lift_signature_of a).results

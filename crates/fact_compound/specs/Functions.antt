@@ -30,7 +30,7 @@ use Rattle.fact_emit.specs.States.{HasType, ModuleSoFar, export_as, with_exporte
 use Rattle.fact_emit.specs.Writers.{AreNumberTypes, types_of_locals, used_local_of}
 use Rattle.fact_emit.specs.declared.writer.Writer.{Writer}
 use Rattle.fact_compound.specs.Code.{slot_types}
-use Rattle.fact_compound.specs.Described.{DescribesAdapter, LinksAdapter}
+use Rattle.fact_compound.specs.Described.{DescribesAdapter, KnowsAdapterData}
 use Rattle.fact_compound.specs.Syncs.{IsSyncFunction, EmitsSync, WritesSync, lower_type_of}
 use Rattle.fact_compound.specs.Written.{SyncPlaces, all_slots}
 use Rattle.fact_compound.specs.declared.adapters.AdapterData.{AdapterData}
@@ -113,7 +113,7 @@ pub record WroteBody (t : Tables) (d : AdapterData) (debug : Bool) (lower lift :
   pub params : Grows lower.params (types_of_locals new)
   pub numbers : AreNumberTypes (sync_types false lower lift) → AreNumberTypes (types_of_locals new)
   pub is : (u : AdapterTunables) (a : LinkedAdapter) → DescribesAdapter t d debug u a → lower ≡ lower_signature_of a → lift ≡ lift_signature_of a
-      → (M : WasmModule) (p : ImportPlaces) → Serves M p new.imports → LinksAdapter M p d a → DoesBody u a M p (types_of_locals new) new.code.items
+      → (M : WasmModule) (p : ImportPlaces) → Serves M p new.imports → KnowsAdapterData M p d a → DoesBody u a M p (types_of_locals new) new.code.items
 
 -- ---- the function
 
@@ -124,7 +124,7 @@ pub record WroteFunction (t : Tables) (d : AdapterData) (debug : Bool) (lower li
   pub once : AreOnce old → AreOnce new
   pub brought : Brought old new f.body
   pub is : (u : AdapterTunables) (a : LinkedAdapter) → DescribesAdapter t d debug u a → lower ≡ lower_signature_of a → lift ≡ lift_signature_of a
-      → (M : WasmModule) (p : ImportPlaces) → Serves M p new → LinksAdapter M p d a → IsSyncFunction u a M p f
+      → (M : WasmModule) (p : ImportPlaces) → Serves M p new → KnowsAdapterData M p d a → IsSyncFunction u a M p f
 
 -- The function of a sync adapter stands behind the module's functions, and its export, under the adapter's name, behind the
 -- exports. Before that its type was declared, and its code brought in traps. It has the core type of every adapter that the data

@@ -23,7 +23,7 @@ use Rattle.fact_emit.specs.declared.writer.Writer.{Writer}
 use Rattle.fact_compound.specs.Written.{SyncPlaces, HasLocals}
 use Rattle.fact_emit.specs.Imports.{Extended, Serves}
 use Rattle.fact_emit.specs.States.{ModuleSoFar}
-use Rattle.fact_compound.specs.Described.{DescribesAdapter, LinksAdapter}
+use Rattle.fact_compound.specs.Described.{DescribesAdapter, KnowsAdapterData}
 use Rattle.fact_compound.specs.declared.adapters.AdapterData.{AdapterData}
 
 -- the core type of the function that an adapter gives its lower side
@@ -40,16 +40,16 @@ pub record IsSyncFunction (u : AdapterTunables) (a : LinkedAdapter) (M : WasmMod
 -- module that has what was imported so far and in which the adapter's own parts have their places.
 pub record WritesSync (t : Tables) (d : AdapterData) (debug : Bool) (old new : ModuleSoFar) (f : WasmFunc) : Type 0 where
   pub imports : Extended old new
-  pub is : (u : AdapterTunables) (a : LinkedAdapter) → DescribesAdapter t d debug u a → (M : WasmModule) (p : ImportPlaces) → Serves M p new → LinksAdapter M p d a → IsSyncFunction u a M p f
+  pub is : (u : AdapterTunables) (a : LinkedAdapter) → DescribesAdapter t d debug u a → (M : WasmModule) (p : ImportPlaces) → Serves M p new → KnowsAdapterData M p d a → IsSyncFunction u a M p f
 
 -- ---- the body as it is written
 
 -- In a module in which the adapter's parts have their places, and a function with these locals, the code does the adapter's action
 -- with the arguments that its locals hold. It is typed, with the results on the stack.
 pub record DoesSync (u : AdapterTunables) (a : LinkedAdapter) (d : AdapterData) (l : SyncPlaces) (taken : ℕ → Bool) (M : WasmModule) (p : ImportPlaces) (locals : List ValType) (code : List Instr) : Type 0 where
-  pub does : LinksAdapter M p d a → HasLocals a l taken locals → (args : List CoreValue) (ls : Locals) → held_types ls ≡ locals → AreHeld ls l.args args
+  pub does : KnowsAdapterData M p d a → HasLocals a l taken locals → (args : List CoreValue) (ls : Locals) → held_types ls ≡ locals → AreHeld ls l.args args
       → Does M p Onward 900 0 [] ls code (sync u a args) reverse (HaveResultTypes (lower_type_of a))
-  pub typed : LinksAdapter M p d a → HasLocals a l taken locals → IsTyped M locals [] code [] (OnStack (reverse (lower_signature_of a).results))
+  pub typed : KnowsAdapterData M p d a → HasLocals a l taken locals → IsTyped M locals [] code [] (OnStack (reverse (lower_signature_of a).results))
 
 -- Code was written that does so, for every adapter that the data describe.
 pub record EmitsSync (t : Tables) (d : AdapterData) (debug : Bool) (l : SyncPlaces) (old new : Writer) : Type 0 where

@@ -16,7 +16,7 @@ use fact_wasm::Text;
 /// How a side keeps values in memory: the place of its memory among the imported memories, where it has one; whether addresses
 /// have 64 bits, which they have not without a memory; the exponent of the page size in bytes; and the place of its realloc among
 /// the imported functions.
-#[derive(Clone, Copy)]
+#[derive(Clone, Copy, PartialEq, Eq, Hash)]
 pub struct LinearMemoryOptions {
     pub memory: Option<MemoryIndex>,
     pub memory64: bool,
@@ -25,7 +25,7 @@ pub struct LinearMemoryOptions {
 }
 
 /// The canonical options of a side (canonical ABI, "Canonical ABI options"), with the places of what they name among the imports.
-#[derive(Clone, Copy)]
+#[derive(Clone, Copy, PartialEq, Eq, Hash)]
 pub struct Options {
     pub string_encoding: StringEncoding,
     pub linear: LinearMemoryOptions,

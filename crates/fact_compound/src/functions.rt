@@ -3,6 +3,7 @@
 ghost use Rattle.std.specs.Prelude.{IfOk, OnOk, ◌≡◌, ◌-◌, ◌<◌, ◌++◌, ◌∷◌, [], false, drop, length, map, take};
 ghost use Rattle.fact_machine.specs.Typing.{local_types};
 ghost use Rattle.fact_emit.specs.Places.{slots_of_locals};
+ghost use Rattle.fact_emit.specs.Settings.{OnlySectionsChanged};
 ghost use Rattle.fact_emit.specs.States.{functions_of};
 ghost use Rattle.fact_emit.specs.declared.writer.Local as local_is;
 ghost use Rattle.fact_compound.specs.Functions.{AddedLocals, AddedSyncLocals, core_slots, unless_passed, PutBody, WroteBody, WroteFunction, CompiledSync, params_among};
@@ -13,7 +14,7 @@ use crate::syncs::{SyncLocals, put_sync};
 use crate::tuples::{are_flat_results, tuples_of};
 use fact_builder::ComponentTypesBuilder;
 use fact_emit::places::TypedLocal;
-use fact_emit::state::ModuleState;
+use fact_emit::state::{ModuleSections, ModuleState};
 use fact_emit::writer::{Local, Writer};
 use fact_types::{ComponentTypes, SideSig, Signature};
 use fact_wasm::{FuncName, Instr, OutOfMemory, Seq, ValType, WasmFunc};
@@ -214,7 +215,7 @@ fn function_of(
 /// Writes the function of a sync adapter, of the type of a number, over a module, to which it may add traps.
 fn write_function(
     types: &ComponentTypes,
-    state: &mut ModuleState,
+    sections: &mut ModuleSections,
     adapter: &AdapterData,
     debug: bool,
     lower: &Signature,
@@ -223,14 +224,14 @@ fn write_function(
 ) -> Result<WasmFunc, OutOfMemory>
     requires lower_live { adapter.now.lower.ty.number < length types.now.functions }
     requires lift_live { adapter.now.lift.ty.number < length types.now.functions }
-    requires callee { adapter.now.callee.number < length (functions_of state.old) }
-    ensures { IfOk result (λ f. WroteFunction types.now adapter.now debug lower.now lift.now ty state.old state.new f) }
+    requires callee { adapter.now.callee.number < length (functions_of sections.old) }
+    ensures { IfOk result (λ f. WroteFunction types.now adapter.now debug lower.now lift.now ty sections.old sections.new f) }
 {
-    let alloc = state.alloc();
-    let mut w = Writer::over(alloc, mem::replace(state, ModuleState::new(alloc)));
+    let alloc = sections.alloc();
+    let mut w = Writer::over(alloc, mem::replace(sections, ModuleSections::new(alloc)));
     let said = write_body(types, &mut w, adapter, debug, lower, lift);
     let (imports, code, locals) = w.into_parts();
-    drop(mem::replace(state, imports));
+    drop(mem::replace(sections, imports));
     match said {
         Ok(()) => {
             let function = function_of(alloc, code, locals, lower.params.len(), ty)?;
@@ -258,27 +259,39 @@ fn sync_side(side: &AdapterOptions) -> SideSig
     }
 }
 
-/// Compiles a sync adapter: its function comes behind those of the module, its export under the adapter's name behind the exports,
-/// and the traps that it calls behind the imports, where they are new. The types are live, and the data's numbers are those of
-/// imports of the module. After a want of memory the module may have types and traps that nothing uses, and the function without
-/// its export.
-pub fn compile_sync(
+/// Compiles a sync adapter over the types of a builder: see `compile`.
+fn compile_sync(
     types: &ComponentTypesBuilder,
-    state: &mut ModuleState,
+    sections: &mut ModuleSections,
     adapter: &AdapterData,
     debug: bool,
 ) -> Result<(), OutOfMemory>
     requires lower_live { adapter.now.lower.ty.number < length types.now.tables.functions }
     requires lift_live { adapter.now.lift.ty.number < length types.now.tables.functions }
-    requires callee { adapter.now.callee.number < length (functions_of state.old) }
-    ensures { OnOk result (CompiledSync types.now.tables adapter.now debug state.old state.new) }
+    requires callee { adapter.now.callee.number < length (functions_of sections.old) }
+    ensures { OnOk result (CompiledSync types.now.tables adapter.now debug sections.old sections.new) }
 {
     let lower = types.lower_signature(&sync_side(&adapter.lower))?;
     let lift = types.lift_signature(&sync_side(&adapter.lift))?;
-    let ty = state.function(lower.params.as_slice(), lower.results.as_slice())?;
+    let ty = sections.function(lower.params.as_slice(), lower.results.as_slice())?;
     let tables = types.component_types();
-    let function = write_function(tables, state, adapter, debug, &lower, &lift, ty)?;
-    let number = state.define(function)?;
-    state.export(adapter.name.as_str(), FuncName::Defined(number))?;
+    let function = write_function(tables, sections, adapter, debug, &lower, &lift, ty)?;
+    let number = sections.define(function)?;
+    sections.export(adapter.name.as_str(), FuncName::Defined(number))?;
     Ok(())
+}
+
+/// Compiles an adapter over the types and the tunables of a module: its function comes behind those of the module, its export
+/// under the adapter's name behind the exports, and the traps that it calls behind the imports, where they are new. The types are
+/// live, and the data's numbers are those of imports of the module. After a want of memory the module may have types and traps
+/// that nothing uses, and the function without its export.
+pub fn compile(state: &mut ModuleState<'_>, adapter: &AdapterData) -> Result<(), OutOfMemory>
+    requires lower_live { adapter.now.lower.ty.number < length state.old.builder.now.tables.functions }
+    requires lift_live { adapter.now.lift.ty.number < length state.old.builder.now.tables.functions }
+    requires callee { adapter.now.callee.number < length (functions_of state.old.sections) }
+    ensures compiled { OnOk result (CompiledSync state.old.builder.now.tables adapter.now state.old.tunables.now.debug_adapter_modules state.old.sections state.new.sections) }
+    ensures keeps { OnlySectionsChanged state.old state.new }
+{
+    let debug = state.tunables.debug_adapter_modules;
+    compile_sync(state.builder, &mut state.sections, adapter, debug)
 }

@@ -21,7 +21,7 @@ use Rattle.fact_carry.specs.Places.{HasKnownMemory}
 use Rattle.fact_emit.specs.AdapterLinks.{SideLinks}
 use Rattle.fact_emit.specs.ImportSection.{a_memory, imports_of}
 use Rattle.fact_emit.specs.KnownAdapters.{KnowsSide}
-use Rattle.fact_emit.specs.PlacesOf.{place_of, places_of, same_import}
+use Rattle.fact_emit.specs.PlacesOf.{import_places, place_among, same_import}
 use Rattle.fact_emit.specs.States.{ModuleSoFar, memories_of}
 use Rattle.fact_forms.specs.Linking.{KnownTellMemories}
 
@@ -32,12 +32,12 @@ is_def d (known.CoreDef e) h = ap known.CoreDef (sym (exact_def d e h))
 is_def d _ h = absurd (false≢true h)
 
 -- what is found is at the place at which it is found
-found_there : (d : CoreDef) (is : List Import) → place_of (known.CoreDef d) is < length is → get_or is (place_of (known.CoreDef d) is) (known.CoreDef d) ≡ known.CoreDef d
-found_there d is h = is_def d (get_or is (place_of (known.CoreDef d) is) (known.CoreDef d)) (passes_at_first (same_import (known.CoreDef d)) is (known.CoreDef d) h)
+found_there : (d : CoreDef) (is : List Import) → place_among (known.CoreDef d) is < length is → get_or is (place_among (known.CoreDef d) is) (known.CoreDef d) ≡ known.CoreDef d
+found_there d is h = is_def d (get_or is (place_among (known.CoreDef d) is) (known.CoreDef d)) (passes_at_first (same_import (known.CoreDef d)) is (known.CoreDef d) h)
 
-one_place : (d e : CoreDef) (is : List Import) → place_of (known.CoreDef d) is < length is → place_of (known.CoreDef d) is ≡ place_of (known.CoreDef e) is → d ≡ e
+one_place : (d e : CoreDef) (is : List Import) → place_among (known.CoreDef d) is < length is → place_among (known.CoreDef d) is ≡ place_among (known.CoreDef e) is → d ≡ e
 one_place d e is h same =
-    let i = place_of (known.CoreDef d) is in
+    let i = place_among (known.CoreDef d) is in
     let at_e : get_or is i (known.CoreDef e) ≡ known.CoreDef e = ap (λ k. get_or is k (known.CoreDef e)) same ∙ found_there e is (omega (arith, h, same)) in
     let both : known.CoreDef d ≡ known.CoreDef e = sym (found_there d is h) ∙ get_or_default is i (known.CoreDef d) (known.CoreDef e) h ∙ at_e in
     cc
@@ -64,17 +64,17 @@ known_memory M p s at h = go s.memory refl
     go None e = tt
     go (Some m) e = let here = h.memory m e in record { page = _; is = ap (slice_get p.memory_types) here.knows.placed ∙ here.knows.kind }
 
-among : (M : WasmModule) (s : ModuleSoFar) (z : Side) (at : SideLinks) (m : MemoryOption) → length s.section ≡ length s.imports → KnowsSide M (places_of s) z at → z.memory ≡ Some m
-    → place_of (known.CoreDef m.def) (memories_of s) < length (memories_of s)
+among : (M : WasmModule) (s : ModuleSoFar) (z : Side) (at : SideLinks) (m : MemoryOption) → length s.section ≡ length s.imports → KnowsSide M (import_places s) z at → z.memory ≡ Some m
+    → place_among (known.CoreDef m.def) (memories_of s) < length (memories_of s)
 among M s z at m e h is =
     let here = h.memory m is in
     let within : here.number < length (filter_map type_of_memory s.section) = slice_get_within _ here.number _ here.knows.kind in
-    let placed : place_of (known.CoreDef m.def) (memories_of s) ≡ here.number = here.knows.placed in
+    let placed : place_among (known.CoreDef m.def) (memories_of s) ≡ here.number = here.knows.placed in
     omega (arith, within, placed, as_many s.section s.imports e)
 
 pub known_tell_memories : KnownTellMemories
 known_tell_memories M s a at e h = record {
-  lower = known_memory M (places_of s) a.lower at.lower h.lower;
-  lift = known_memory M (places_of s) a.lift at.lift h.lift;
+  lower = known_memory M (import_places s) a.lower at.lower h.lower;
+  lift = known_memory M (import_places s) a.lift at.lift h.lift;
   apart = λ m n is_m is_n same. one_place m.def n.def (memories_of s) (among M s a.lower at.lower m e h.lower is_m) same;
 }

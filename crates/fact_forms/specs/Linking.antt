@@ -7,7 +7,7 @@ use Rattle.fact_emit.specs.ImportSection.{adapter_mentions}
 use Rattle.fact_emit.specs.AdapterLinks.{AdapterLinks}
 use Rattle.fact_emit.specs.Known.{AreUsedAlike}
 use Rattle.fact_emit.specs.KnownAdapters.{KnowsAdapter}
-use Rattle.fact_emit.specs.PlacesOf.{places_of}
+use Rattle.fact_emit.specs.PlacesOf.{import_places}
 use Rattle.fact_emit.specs.States.{ModuleSoFar}
 use Rattle.fact_forms.specs.Sound.{EachPassed, TellsMemories}
 
@@ -19,4 +19,4 @@ PassedAreUsedAlike = EachPassed (λ before a. AreUsedAlike (flat_map adapter_men
 -- names.
 abbrev pub KnownTellMemories : Type 0
 KnownTellMemories =
-    (M : WasmModule) (s : ModuleSoFar) (a : LinkedAdapter) (at : AdapterLinks) → length s.section ≡ length s.imports → KnowsAdapter M (places_of s) a at → TellsMemories (places_of s) a
+    (M : WasmModule) (s : ModuleSoFar) (a : LinkedAdapter) (at : AdapterLinks) → length s.section ≡ length s.imports → KnowsAdapter M (import_places s) a at → TellsMemories (import_places s) a

@@ -14,7 +14,7 @@ use Rattle.fact_types.specs.declared.import.Import.{Import}
 use Rattle.fact_moves.specs.Laws.{call_event}
 use Rattle.fact_moves.specs.Running.{Call}
 use Rattle.fact_emit.specs.ImportSection.{Mention, AreNamed, IsNamed, a_function, imports_of, same_sort, sort_of}
-use Rattle.fact_emit.specs.PlacesOf.{place_of, same_import}
+use Rattle.fact_emit.specs.PlacesOf.{place_among, same_import}
 use Rattle.fact_emit.proofs.PlacesOfLaws.{exact_import}
 use Rattle.fact_promises.specs.Names.{places_in, IsCall, AreCalls, IsNamedLog}
 use Rattle.fact_promises.proofs.LoggedImports.{IsOfImport}
@@ -22,10 +22,10 @@ use Rattle.fact_promises.proofs.LoggedImports.{IsOfImport}
 -- ---- places
 
 -- what stands at the place of an import is that import
-pub placed_is : (i j : Import) (is : List Import) → slice_get is (place_of i is) ≡ Some j → j ≡ i
+pub placed_is : (i j : Import) (is : List Import) → slice_get is (place_among i is) ≡ Some j → j ≡ i
 placed_is i j is h =
-    let found : same_import i (get_or is (place_of i is) j) ≡ true = passes_at_first (same_import i) is j (slice_get_within is (place_of i is) j h) in
-    sym (exact_import i j (ap (same_import i) (sym (get_or_from_slice_get is (place_of i is) j j h)) ∙ found))
+    let found : same_import i (get_or is (place_among i is) j) ≡ true = passes_at_first (same_import i) is j (slice_get_within is (place_among i is) j h) in
+    sym (exact_import i j (ap (same_import i) (sym (get_or_from_slice_get is (place_among i is) j j h)) ∙ found))
 
 -- ---- what stands at a number
 

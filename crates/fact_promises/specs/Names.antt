@@ -7,7 +7,7 @@ use Rattle.fact_machine.specs.declared.types.Event.{Event}
 use Rattle.fact_types.specs.declared.import.Import.{Import}
 use Rattle.fact_moves.specs.Running.{ImportPlaces, Call}
 use Rattle.fact_emit.specs.ImportSection.{imported_function}
-use Rattle.fact_emit.specs.PlacesOf.{places_of}
+use Rattle.fact_emit.specs.PlacesOf.{import_places}
 use Rattle.fact_emit.specs.States.{ModuleSoFar}
 
 -- a module, whose import section names these imports
@@ -16,7 +16,7 @@ finished m is = record { types = m.types; section = m.imports; imports = is; fun
 
 -- the places at which it has what is imported
 abbrev pub places_in : WasmModule → List Import → ImportPlaces
-places_in m is = places_of (finished m is)
+places_in m is = import_places (finished m is)
 
 -- An event is this call: the function of its number is imported as what is called.
 pub record IsCall (m : WasmModule) (is : List Import) (e : Event) (c : Call) : Type 0 where

@@ -2,7 +2,4 @@ use Rattle.fact_compound.proofs.SameNumbers.{are_passed}
 use Rattle.fact_compound.proofs.passing.are_passed_on.Goals as goal
 
 pub returns : goal.returns
-returns c = λ yes.
-    let same = rw (c.as_slice.ensures, c.as_slice-2.ensures) at (c.are_same_numbers.ensures.same yes) in
-    let all = rw c.as_slice.ensures at (c.are_same_numbers.ensures.numbers yes) in
-    are_passed c.index.ensures c.index-from.ensures c.index-2.ensures c.index-to.ensures same all
+returns c = are_passed c.index.ensures c.index-from.ensures c.index-2.ensures c.index-to.ensures c.are_same_numbers.result (rw (c.as_slice.ensures, c.as_slice-2.ensures) at c.are_same_numbers.ensures)
