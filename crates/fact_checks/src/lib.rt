@@ -21,5 +21,7 @@ pub use adapter::{Adapter, AdapterOptionsDfg};
 pub use checks::AdapterChecks;
 pub use fact_plan_types::{FuseError, Place};
 pub use fact_types::MemoryOption;
-pub use plan::{MOST_INSTANCE, candidate_of, check_plan, linked_adapter, one_first_fault};
+pub use plan::{
+    MOST_INSTANCE, candidate_of, check_adapters, check_plan, linked_adapter, one_first_fault,
+};
 pub use sides::Candidate;

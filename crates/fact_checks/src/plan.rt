@@ -129,8 +129,8 @@ fn check_each(
     Ok(())
 }
 
-/// Checks the adapters of a plan over its types.
-fn check_adapters(alloc: Global, plan: &FusePlan, types: &PlanTypes) -> Result<(), FuseError>
+/// Tells the first fault of a plan whose types and functions have none, over its types.
+pub fn check_adapters(alloc: Global, plan: &FusePlan, types: &PlanTypes) -> Result<(), FuseError>
     requires types { AreTypesOf plan.now types.now }
     requires faultless { AreFaultless plan.now }
     ensures faultless { OnOk result (IsFaultlessPlan plan.now) }

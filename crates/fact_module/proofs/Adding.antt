@@ -3,6 +3,7 @@ use Rattle.std.proofs.Common.{◌≡◌, ℕ, suc, ◌+◌, Bool, List, [], ◌�
 use Rattle.std.specs.List.{flat_map}
 use Rattle.fact_wasm.specs.declared.instr.FuncName.TheVariants as func
 use Rattle.fact_wasm.specs.Ranges.{AreBodiesRanged}
+use Rattle.fact_machine.proofs.Tests.{get_append}
 use Rattle.fact_uses.specs.Bindings.{AreConsistent}
 use Rattle.fact_checks.specs.AdapterRules.{uses_of}
 use Rattle.fact_types.specs.Adapters.{LinkedAdapter}
@@ -15,14 +16,14 @@ use Rattle.fact_emit.specs.States.{ModuleSoFar, functions_of, nothing_so_far, wi
 use Rattle.fact_emit.proofs.ImportLaws.{extended_none, extended_on}
 use Rattle.fact_emit.proofs.KnownLaws.{extended_link, known_link}
 use Rattle.fact_emit.proofs.LinkedLaws.{linked_adapter}
+use Rattle.fact_emit.proofs.ImportLists.{get-last, last-or-before}
 use Rattle.fact_module.specs.Adding.{Adds}
 use Rattle.fact_module.specs.Exports.{exported_functions_of}
-use Rattle.fact_module.specs.Holding.{Holds, Placed, numbered}
+use Rattle.fact_module.specs.Holding.{HasAdded, Holds, numbered}
 use Rattle.fact_module.specs.InParts.{IsInParts}
 use Rattle.fact_module.specs.Links.{links_of}
 use Rattle.fact_module.proofs.AlikeLaws.{alike_next}
 use Rattle.fact_module.proofs.PartLaws.{KeepsFunctions, bodies_adapter, in_parts_adapter, in_parts_nothing, keeps, listed_adapter}
-use Rattle.fact_module.proofs.Sections.{get-append, get-last, last-or-before}
 
 pub holds-nothing : (t : Tables) (debug : Bool) → Holds t debug nothing_so_far []
 holds-nothing t debug = record {
@@ -73,7 +74,7 @@ module _ (t : Tables) (debug : Bool) (old new : ModuleSoFar) (adapters : List Li
   pub exports-more : new.exports ≡ old.exports ++ record { name = a.name; func = func.Defined (length add.compiled.written.functions) } ∷ []
   exports-more = ap (λ (s : ModuleSoFar). s.exports) is-new ∙ ap (λ es. es ++ record { name = a.name; func = func.Defined (length add.compiled.written.functions) } ∷ []) kept.exports
 
-  last-placed : Placed t debug new a (length adapters)
+  last-placed : HasAdded t debug new a (length adapters)
   last-placed = record {
     old = old;
     new = new;
@@ -84,7 +85,7 @@ module _ (t : Tables) (debug : Bool) (old new : ModuleSoFar) (adapters : List Li
     function_there = ap (slice_get new.functions) (sym h.count) ∙ ap (λ fs. slice_get fs (length old.functions)) functions-more ∙ get-last old.functions add.compiled.function;
   }
 
-  placed-more : (b : LinkedAdapter) (k : ℕ) → Placed t debug old b k → Placed t debug new b k
+  placed-more : (b : LinkedAdapter) (k : ℕ) → HasAdded t debug old b k → HasAdded t debug new b k
   placed-more b k p = record {
     old = p.old;
     new = p.new;
@@ -92,7 +93,7 @@ module _ (t : Tables) (debug : Bool) (old new : ModuleSoFar) (adapters : List Li
     lists = p.lists;
     adds = p.adds;
     later = extended_on p.later grown-adds;
-    function_there = ap (λ fs. slice_get fs k) functions-more ∙ get-append old.functions (add.compiled.function ∷ []) k _ p.function_there;
+    function_there = ap (λ fs. slice_get fs k) functions-more ∙ get_append old.functions (add.compiled.function ∷ []) k _ p.function_there;
   }
 
   -- the module of all
@@ -110,6 +111,6 @@ module _ (t : Tables) (debug : Bool) (old new : ModuleSoFar) (adapters : List Li
         count = let more = ap length functions-more in omega (arith, more, h.count, length-append old.functions (add.compiled.function ∷ []), length-append adapters (a ∷ []));
         placed = λ k b e. elim (last-or-before adapters a k b e) [
           | inl there ↦ placed-more b k (h.placed k b there)
-          | inr at_last ↦ subst (λ n. Placed t debug new b n) (sym at_last.0) (subst (λ x. Placed t debug new x (length adapters)) at_last.1 last-placed)
+          | inr at_last ↦ subst (λ n. HasAdded t debug new b n) (sym at_last.0) (subst (λ x. HasAdded t debug new x (length adapters)) at_last.1 last-placed)
         ];
       }

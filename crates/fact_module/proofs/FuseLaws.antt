@@ -1,6 +1,6 @@
 -- The adapters of a plan, taken one after another: where the plan is built, each of them is.
-use Rattle.std.proofs.Common.{◌≡◌, ℕ, ◌+◌, ◌<◌, ◌≤◌, true, List, [], Some, sym, ap, ◌∙◌, subst, arith, length, slice_get, take_all, inl, inr}
-use Rattle.std.specs.Prelude.{Err, Ok, OnOk, Result}
+use Rattle.std.proofs.Common.{◌≡◌, ℕ, ◌+◌, ◌<◌, ◌≤◌, Bool, true, IsTrue, List, [], Some, refl, sym, ap, ◌∙◌, subst, arith, length, slice_get, take_all, inl, inr}
+use Rattle.std.specs.Prelude.{◌↔◌, Err, IfSome, Ok, OnOk, Result}
 use Rattle.std.specs.List.{filter_map}
 use Rattle.std.proofs.lemmas.Bool.{cases_lt}
 use Rattle.std.proofs.lemmas.Option.{slice_get_within}
@@ -13,9 +13,11 @@ use Rattle.fact_builder.specs.Builder.{Builder}
 use Rattle.fact_plan.specs.declared.plan.FusePlan.{FusePlan}
 use Rattle.fact_plan.specs.declared.plan.PlanAdapter.{PlanAdapter}
 use Rattle.fact_plan_types.specs.declared.plan_types.PlanTypes.{PlanTypes}
-use Rattle.fact_plan_types.specs.PlanTypes.{AreFaultless, AreTypesOf}
+use Rattle.fact_plan_types.specs.PlanTypes.{AreFaultless, AreTypesOf, told}
 use Rattle.fact_plan_types.specs.Faults.{Fault, too_large}
 use Rattle.fact_plan_types.specs.TypeRules.{most_entries}
+use Rattle.fact_plan_types.specs.declared.error.FuseError.{FuseError}
+use Rattle.fact_plan_types.specs.declared.error.FuseError.TheVariants.{OutOfMemory}
 use Rattle.fact_plan_types.specs.declared.error.Place.{Place}
 use Rattle.fact_plan_types.specs.declared.error.Place.TheVariants.{Adapter as at_adapter}
 use Rattle.fact_checks.specs.declared.adapter.Adapter.{Adapter}
@@ -26,6 +28,7 @@ use Rattle.fact_checks.specs.AdapterRules.{AdapterHas, AdapterLacks, HasAdapterF
 use Rattle.fact_checks.specs.FirstFault.{IsFaultlessPlan, IsFirstAt}
 use Rattle.fact_checks.specs.Linked.{HasSides, IsLinked, IsSideOf, NamesTypesOf}
 use Rattle.fact_checks.specs.Links.{IsFirstHere, LinksAdapter}
+use Rattle.fact_checks.proofs.FaultLaws.{faultless-first}
 use Rattle.fact_checks.proofs.LinkLaws.{sides-typed, some_and}
 use Rattle.fact_checks.proofs.PlanLaws.{before-next, first-linked, none-here}
 use Rattle.fact_forms.specs.Built.{IsBuiltAdapter, IsBuiltPlan}
@@ -34,7 +37,9 @@ use Rattle.fact_forms.proofs.PlanLaws.{built_at}
 use Rattle.fact_forms.proofs.RulesValid.{looked_up_valid, same_signature}
 use Rattle.fact_module.specs.Collected.{AreTaken, Collected, HasTaken, IsTakenAs, KeepsSettings, taken_of}
 use Rattle.fact_module.specs.Taking.{IsFirstBehind, IsSoundBehind, MayTake}
+use Rattle.fact_module.specs.Fused.{MayFuse}
 use Rattle.fact_module.specs.Fusing.{HasTakenAll, HasTakenTo, IsFor}
+use Rattle.fact_module.proofs.JudgeLaws.{told-some}
 use Rattle.fact_module.proofs.TakeLaws.{is-linked, is-taken, zip-push}
 
 -- ---- what a builder says of an adapter is one
@@ -159,3 +164,13 @@ all-taken p b c k at end = record {
   features = at.is_for.features;
   taken = subst (λ (xs : List PlanAdapter). AreTaken c (filter_map (adapter_of p) xs)) (take_all k p.adapters end) at.taken;
 }
+
+-- ---- plans that may be fused
+
+-- one with a fault may be
+pub may-faulty : (p : FusePlan) (e : FuseError) → (e ≡ OutOfMemory → ⊥) → IfSome (told e) (λ x. IsFirstAt p x.0 x.1) → (IsTrue true ↔ MayFuse p)
+may-faulty p e fault h = let (x, first) = told-some e fault (λ x. IsFirstAt p x.0 x.1) h in (λ _ none. absurd (faultless-first p x.0 x.1 none first), λ _. refl)
+
+-- one without may be where it is built
+pub may-faultless : (p : FusePlan) (built : Bool) → IsFaultlessPlan p → (IsTrue built ↔ IsBuiltPlan p) → (IsTrue built ↔ MayFuse p)
+may-faultless p built none exact = (λ e _. exact.0 e, λ may. exact.1 (may none))

@@ -12,6 +12,7 @@ use Rattle.fact_plan_types.specs.declared.error.FuseError.{FuseError}
 use Rattle.fact_plan_types.specs.declared.error.FuseError.TheVariants as error
 use Rattle.fact_plan_types.specs.declared.error.Place.{Place}
 use Rattle.fact_plan_types.specs.declared.error.Place.TheVariants.{Adapter as at_adapter}
+use Rattle.fact_plan_types.proofs.HandleLaws.{there as get-within}
 use Rattle.fact_checks.specs.declared.adapter.Adapter.{Adapter}
 use Rattle.fact_checks.specs.declared.sides.Candidate.{Candidate}
 use Rattle.fact_types.specs.Adapters.{LinkedAdapter}
@@ -28,7 +29,6 @@ use Rattle.fact_module.specs.Adapted.{HasFaultFor, IsFaultlessFor, IsFirst, MayA
 use Rattle.fact_module.specs.Collected.{AreTaken, Collected, IsMade, taken_of}
 use Rattle.fact_module.specs.Taking.{IsFirstBehind, IsSoundBehind, MayTake}
 use Rattle.fact_module.specs.Typed.{HasSoundTypes, TypesHaveFirst}
-use Rattle.fact_module.proofs.Sections.{get-within}
 use Rattle.fact_module.proofs.TakeLaws.{first-behind, is-linked, is-taken}
 
 -- ---- types are looked at before what is linked
@@ -128,7 +128,7 @@ checks-refused c checks s k candidate o made whole types h =
     IfSome_then o h (λ x told. (linked-first c k candidate types made.some.0 made.some.1 x.0 (first-behind c checks s candidate x.0 made whole told.0), told.1))
 
 -- every error but a want of memory tells a fault
-told-some : (e : FuseError) → (e ≡ error.OutOfMemory → ⊥) → (P : Fault × Place → Type 0) → IfSome (told e) P → (x : Fault × Place) × P x
+pub told-some : (e : FuseError) → (e ≡ error.OutOfMemory → ⊥) → (P : Fault × Place → Type 0) → IfSome (told e) P → (x : Fault × Place) × P x
 told-some error.OutOfMemory fault P h = absurd (fault refl)
 told-some (error.UnknownIndex place) fault P h = (_, h)
 told-some (error.BadType place) fault P h = (_, h)

@@ -6,7 +6,6 @@ pub mod JudgeLaws
 pub mod LinkingLaws
 pub mod Ordered
 pub mod PartLaws
-pub mod Sections
 pub mod TakeLaws
 pub mod TypedLaws
 pub mod Whole

@@ -15,7 +15,7 @@ use Rattle.fact_checks.specs.Linked.{IsLinked, IsSideOf}
 use Rattle.fact_emit.specs.AdapterLinks.{AdapterLinks, IsAdapterLinked, IsLinkedIfAny, IsSideLinked}
 use Rattle.fact_emit.specs.ImportSection.{Callee, PostReturn}
 use Rattle.fact_emit.specs.Imports.{Extended}
-use Rattle.fact_emit.specs.Linked.{IsLinked as IsDefLinked}
+use Rattle.fact_emit.specs.Linked.{IsDefLinked}
 use Rattle.fact_emit.specs.States.{ModuleSoFar, functions_of}
 use Rattle.fact_emit.proofs.ImportLaws.{grown_get}
 use Rattle.fact_emit.proofs.KnownLaws.{linked_at}

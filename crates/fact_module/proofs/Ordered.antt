@@ -9,14 +9,14 @@ use Rattle.fact_types.specs.Adapters.{LinkedAdapter}
 use Rattle.fact_types.specs.declared.import.Import.{Import}
 use Rattle.fact_emit.specs.ImportSection.{Mention, a_function, adapter_mentions, imports_of, is_of, with_mentions}
 use Rattle.fact_emit.proofs.Mentions.{mentions-on}
-use Rattle.fact_module.specs.Order.{AreParts, Definition, IsPart, Item, Other, Part, functions_in, item_of, items, items_in, own_places}
+use Rattle.fact_module.specs.Order.{AreParts, Definition, IsPart, Item, ModulePart, Other, functions_in, item_of, items, items_in, own_places}
 
 -- ---- parts
 
 pub flat_map-push : {X Y : Type 0} (f : X → List Y) (xs : List X) (x : X) → flat_map f (xs ++ x ∷ []) ≡ flat_map f xs ++ f x
 flat_map-push f xs x = flat_map-append f xs (x ∷ []) ∙ ap (λ l. flat_map f xs ++ l) (append-nil (f x))
 
-pub parts-push : (imported : List Import) (before : List Part) (adapters : List LinkedAdapter) (parts : List Part) (a : LinkedAdapter) (p : Part)
+pub parts-push : (imported : List Import) (before : List ModulePart) (adapters : List LinkedAdapter) (parts : List ModulePart) (a : LinkedAdapter) (p : ModulePart)
     → AreParts imported before adapters parts → IsPart imported (before ++ parts) a p → AreParts imported before (adapters ++ a ∷ []) (parts ++ p ∷ [])
 parts-push imported before [] [] a p h i = (subst (λ b. IsPart imported b a p) (append-nil before) i, tt)
 parts-push imported before [] (q ∷ parts) a p h i = absurd h
@@ -24,11 +24,11 @@ parts-push imported before (b ∷ adapters) [] a p h i = absurd h
 parts-push imported before (b ∷ adapters) (q ∷ parts) a p h i =
     (h.0, parts-push imported (before ++ q ∷ []) adapters parts a p h.1 (subst (λ b. IsPart imported b a p) (sym (append_assoc before (q ∷ []) parts)) i))
 
-abbrev pub defs_in : Part → List Mention
+abbrev pub defs_in : ModulePart → List Mention
 defs_in p = p.defs
 
 -- all first mentions are the parts'
-pub parts-mention : (imported : List Import) (before : List Part) (adapters : List LinkedAdapter) (parts : List Part) → AreParts imported before adapters parts
+pub parts-mention : (imported : List Import) (before : List ModulePart) (adapters : List LinkedAdapter) (parts : List ModulePart) → AreParts imported before adapters parts
     → with_mentions (flat_map defs_in before) (flat_map adapter_mentions adapters) ≡ flat_map defs_in before ++ flat_map defs_in parts
 parts-mention imported before [] [] h = sym (append-nil (flat_map defs_in before))
 parts-mention imported before [] (q ∷ parts) h = absurd h
@@ -41,7 +41,7 @@ parts-mention imported before (a ∷ adapters) (p ∷ parts) h =
     ∙ ap (λ l. l ++ flat_map defs_in parts) one
     ∙ append_assoc (flat_map defs_in before) p.defs (flat_map defs_in parts)
 
-pub own-push : (n : ℕ) (parts : List Part) (p : Part) → own_places n (parts ++ p ∷ []) ≡ own_places n parts ++ range_with_len (n + length (flat_map functions_in parts)) (length p.own)
+pub own-push : (n : ℕ) (parts : List ModulePart) (p : ModulePart) → own_places n (parts ++ p ∷ []) ≡ own_places n parts ++ range_with_len (n + length (flat_map functions_in parts)) (length p.own)
 own-push n [] p = let e : n ≡ n + 0 = omega arith in append-nil (range_with_len n (length p.own)) ∙ ap (λ k. range_with_len k (length p.own)) e
 own-push n (q ∷ parts) p =
     let e : n + length (functions_in q) + length (flat_map functions_in parts) ≡ n + length (flat_map functions_in (q ∷ parts)) = omega (arith, length-append (functions_in q) (flat_map functions_in parts)) in
@@ -77,10 +77,10 @@ pub numbers-others : (ns : List ℕ) → numbers_of (map Other ns) ≡ ns
 numbers-others [] = refl
 numbers-others (n ∷ ns) = ap (λ l. n ∷ l) (numbers-others ns)
 
-abbrev pub others_in : Part → List ℕ
+abbrev pub others_in : ModulePart → List ℕ
 others_in p = p.others
 
-pub numbers-parts : (parts : List Part) → numbers_of (flat_map items_in parts) ≡ flat_map others_in parts
+pub numbers-parts : (parts : List ModulePart) → numbers_of (flat_map items_in parts) ≡ flat_map others_in parts
 numbers-parts [] = refl
 numbers-parts (p ∷ parts) =
     filter_map-append other_number (items_in p) (flat_map items_in parts)

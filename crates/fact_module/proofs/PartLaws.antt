@@ -22,6 +22,7 @@ use Rattle.fact_types.specs.declared.import.Import.{Import}
 use Rattle.fact_types.specs.declared.import.Import.TheVariants as known
 use Rattle.fact_types.specs.declared.outside.Trap.{Trap}
 use Rattle.fact_types.specs.Adapters.{LinkedAdapter}
+use Rattle.fact_plan_types.proofs.HandleLaws.{there as get-within}
 use Rattle.fact_emit.specs.Brought.{AreTrapsImported, Brought}
 use Rattle.fact_emit.specs.ImportSection.{Mention, NamesImports, a_function, adapter_mentions, imports_of, is_of, mentions, same_sort, sort_of, with_mention, with_mentions}
 use Rattle.fact_emit.specs.Known.{AreUsedAlike}
@@ -37,9 +38,8 @@ use Rattle.fact_emit.proofs.Mentions.{mentions-push}
 use Rattle.fact_emit.proofs.NamedLaws.{ranged_named}
 use Rattle.fact_module.specs.Exports.{exported_functions_of}
 use Rattle.fact_module.specs.InParts.{IsInParts}
-use Rattle.fact_module.specs.Order.{AreParts, AreWritten, Definition, IsOrdered, Item, NoneWaits, Other, Part, defined_place, functions_in, is_prepare_call, item_of, items, items_in, names, newly_asked, others_among, others_named}
+use Rattle.fact_module.specs.Order.{AreParts, AreWritten, Definition, IsOrdered, Item, ModulePart, NoneWaits, Other, defined_place, functions_in, is_prepare_call, item_of, items, items_in, names, newly_asked, others_among, others_named}
 use Rattle.fact_module.proofs.FirstNamed.{added_kept, all_filtered, calls_in_order, defined_none, is_other, numbers_others, prepares_none}
-use Rattle.fact_module.proofs.Sections.{get-within}
 use Rattle.fact_module.proofs.Ordered.{defs_in, flat_map-push, items-append, numbers-defs, numbers-others, numbers-parts, numbers_of, other_number, others_in, own-push, parts-mention, parts-push}
 
 abbrev items_so_far : ModuleSoFar → List Item
@@ -269,7 +269,7 @@ module _ (old linked declared brought : ModuleSoFar) (ty : FuncType) (adapters :
     grown : Grows (functions_of old) (functions_of brought)
     grown = grows_on (links_grow (adapter_mentions a) old linked (listed_even old (mentions adapters) lists) links) (grows_on (grows_none (functions_typed declares)) (traps_grow b.traps declared brought even b.imported))
 
-    part : Part
+    part : ModulePart
     part = record { defs = defines.defs; others = adds.others; own = f ∷ []; helpers = [] }
 
     -- The sections of the module stand adapter by adapter.

@@ -22,6 +22,7 @@ use Rattle.fact_uses.proofs.BindingLaws.{AreConsistent-covered, Covers-nothing}
 use Rattle.fact_uses.specs.Bindings.{AreConsistent}
 use Rattle.fact_plan_types.specs.Faults.{Fault}
 use Rattle.fact_plan_types.proofs.ShapeLists.{all-more}
+use Rattle.fact_plan_types.proofs.HandleLaws.{there as get-within}
 use Rattle.fact_checks.specs.declared.adapter.Adapter.{Adapter}
 use Rattle.fact_checks.specs.declared.adapter.AdapterOptionsDfg.{AdapterOptionsDfg}
 use Rattle.fact_checks.specs.declared.sides.Candidate.{Candidate}
@@ -31,8 +32,8 @@ use Rattle.fact_checks.specs.Checked.{AreBound, Checks, IsFirstOf, IsSoundNext}
 use Rattle.fact_checks.specs.Linked.{HasSides, IsLinked, IsSideOf, NamesTypesOf}
 use Rattle.fact_types.specs.declared.import.Import.{Import}
 use Rattle.fact_module.specs.declared.taken.TakenAdapter.{TakenAdapter}
-use Rattle.fact_module.specs.declared.tunables.Tunables.{Tunables}
-use Rattle.fact_module.specs.declared.tunables.WasmFeatures.{WasmFeatures}
+use Rattle.fact_emit.specs.declared.tunables.Tunables.{Tunables}
+use Rattle.fact_emit.specs.declared.tunables.WasmFeatures.{WasmFeatures}
 use Rattle.fact_module.specs.Collected.{AreTaken, Collected, IsStateOf, Extends, HasLinkedFault, IsMade, IsTakenAs, KeepsPromises, no_tree, taken_of}
 use Rattle.fact_emit.specs.Imports.{Extended}
 use Rattle.fact_emit.specs.States.{ModuleSoFar, functions_of, module_of, nothing_so_far}
@@ -46,7 +47,6 @@ use Rattle.fact_module.specs.Faithful.{Promised}
 use Rattle.fact_module.specs.Holding.{AreBuilt}
 use Rattle.fact_module.specs.Taking.{HasFaultBehind, IsFirstBehind, MayTake}
 use Rattle.fact_module.proofs.Adding.{exports-more, functions-more, grown-adds, holds-more, holds-nothing}
-use Rattle.fact_module.proofs.Sections.{get-within}
 use Rattle.fact_module.proofs.Whole.{whole-promised, whole-range}
 
 -- ---- what a typed adapter names can be looked up

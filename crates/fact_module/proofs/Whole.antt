@@ -16,8 +16,8 @@ use Rattle.fact_promises.specs.Runs.{Behaves}
 use Rattle.fact_module.specs.Exports.{exported_as}
 use Rattle.fact_module.specs.Faithful.{Promised, adapter_tunables}
 use Rattle.fact_module.specs.Holding.{AreBuilt, Holds}
-use Rattle.fact_module.specs.declared.tunables.Tunables.{Tunables}
-use Rattle.fact_module.specs.declared.tunables.WasmFeatures.{WasmFeatures}
+use Rattle.fact_emit.specs.declared.tunables.Tunables.{Tunables}
+use Rattle.fact_emit.specs.declared.tunables.WasmFeatures.{WasmFeatures}
 use Rattle.fact_module.proofs.PartLaws.{bodies_in_range, count_is, is_ordered, names_imports}
 use Rattle.fact_module.proofs.WholeExports.{exports-are, named-export, numbered-within, one-name}
 use Rattle.fact_module.proofs.WholeFunctions.{each_sync, function_behaves}

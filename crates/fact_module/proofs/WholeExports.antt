@@ -14,6 +14,7 @@ use Rattle.fact_types.specs.Tables.{Tables}
 use Rattle.fact_checks.specs.AdapterRules.{export_names}
 use Rattle.fact_emit.specs.States.{ModuleSoFar, module_of}
 use Rattle.fact_emit.proofs.ImportLaws.{grown_get}
+use Rattle.fact_emit.proofs.ImportLists.{get-map}
 use Rattle.fact_compound.specs.Described.{DescribesAdapter}
 use Rattle.fact_compound.specs.Syncs.{lower_type_of}
 use Rattle.fact_compound.specs.declared.adapters.AdapterData.{AdapterData}
@@ -24,9 +25,8 @@ use Rattle.fact_module.specs.Adding.{HasSideData}
 use Rattle.fact_module.specs.Exports.{IsExportOf, Whole, callee_of, exported, exported_as, exported_functions_of}
 use Rattle.fact_module.specs.Faithful.{adapter_tunables}
 use Rattle.fact_module.specs.Holding.{AreBuilt, Holds, numbered}
-use Rattle.fact_module.specs.declared.tunables.Tunables.{Tunables}
-use Rattle.fact_module.specs.declared.tunables.WasmFeatures.{WasmFeatures}
-use Rattle.fact_module.proofs.Sections.{get-map}
+use Rattle.fact_emit.specs.declared.tunables.Tunables.{Tunables}
+use Rattle.fact_emit.specs.declared.tunables.WasmFeatures.{WasmFeatures}
 
 -- ---- lists
 

@@ -14,6 +14,7 @@ use Rattle.fact_types.specs.declared.outside.MemoryOption.{MemoryOption}
 use Rattle.fact_entity.specs.declared.id.Id.{Id}
 use Rattle.fact_entity.specs.declared.table.Memories.{Memories}
 use Rattle.fact_uses.specs.Bindings.{AreConsistent}
+use Rattle.fact_plan_types.proofs.HandleLaws.{there as get-within}
 use Rattle.fact_checks.specs.AdapterRules.{uses_of}
 use Rattle.fact_moves.specs.Adapters.{AdapterTunables, flat_results}
 use Rattle.fact_moves.specs.Running.{ImportPlaces}
@@ -23,7 +24,7 @@ use Rattle.fact_emit.specs.ImportSection.{Mention, Sort, a_function, a_global, a
 use Rattle.fact_emit.specs.Imports.{AreOnce, Extended, Serves, StandsOnce}
 use Rattle.fact_emit.specs.Known.{AreKnown, AreUsedAlike}
 use Rattle.fact_emit.specs.KnownAdapters.{KnowsAdapter, KnowsSide}
-use Rattle.fact_emit.specs.PlacesOf.{places_of}
+use Rattle.fact_emit.specs.PlacesOf.{import_places}
 use Rattle.fact_emit.specs.States.{ModuleSoFar, module_of}
 use Rattle.fact_emit.proofs.AdapterKnown.{has_places, have_core_types, knows_adapter}
 use Rattle.fact_emit.proofs.ImportLaws.{extended_on}
@@ -32,7 +33,7 @@ use Rattle.fact_emit.proofs.ListedLaws.{listed_even}
 use Rattle.fact_emit.proofs.Mentions.{in-mentions, of-a-kind}
 use Rattle.fact_emit.proofs.PlacesOfLaws.{are_import_places}
 use Rattle.fact_emit.proofs.ServingLaws.{serves_all, serves_sooner}
-use Rattle.fact_compound.specs.Described.{DescribesAdapter, LinksAdapter, memory_place}
+use Rattle.fact_compound.specs.Described.{DescribesAdapter, KnowsAdapterData, memory_place}
 use Rattle.fact_compound.specs.Placed.{AreOptionsOf, IsDataOf}
 use Rattle.fact_compound.specs.Syncs.{IsSyncFunction}
 use Rattle.fact_compound.specs.declared.adapters.AdapterOptions.{AdapterOptions}
@@ -49,12 +50,11 @@ use Rattle.fact_promises.specs.Runs.{Behaves}
 use Rattle.fact_promises.proofs.Behaviour.{functions_behave}
 use Rattle.fact_module.specs.Adding.{HasSideData}
 use Rattle.fact_module.specs.Faithful.{adapter_tunables}
-use Rattle.fact_module.specs.Holding.{AreBuilt, Holds, Placed}
-use Rattle.fact_module.specs.Links.{links_of, number_of, page_size_log2_of, side_links_of}
-use Rattle.fact_module.specs.declared.tunables.Tunables.{Tunables}
-use Rattle.fact_module.specs.declared.tunables.WasmFeatures.{WasmFeatures}
+use Rattle.fact_module.specs.Holding.{AreBuilt, HasAdded, Holds}
+use Rattle.fact_module.specs.Links.{links_of, number_if_any, page_size_log2_of, side_links_of}
+use Rattle.fact_emit.specs.declared.tunables.Tunables.{Tunables}
+use Rattle.fact_emit.specs.declared.tunables.WasmFeatures.{WasmFeatures}
 use Rattle.fact_module.proofs.PartLaws.{names_imports}
-use Rattle.fact_module.proofs.Sections.{get-within}
 use Rattle.fact_module.proofs.WholeExports.{all-at, built-at, describes, in-flat, type-placed}
 use Rattle.fact_module.proofs.WholeTyped.{IsTypedSync}
 
@@ -92,7 +92,7 @@ side_memory_is : (o : LiftLowerOptions) (m : Option MemoryOption) → HasSideMem
 side_memory_is o None h = absurd h
 side_memory_is o (Some n) h = (n, refl)
 
-place_there : (o : Option (Id Memories)) (n : ℕ) → number_of o ≡ Some n → number_of o ≡ Some (memory_place o)
+place_there : (o : Option (Id Memories)) (n : ℕ) → number_if_any o ≡ Some n → number_if_any o ≡ Some (memory_place o)
 place_there None n e = cc
 place_there (Some m) n e = refl
 
@@ -115,7 +115,7 @@ module _ (t : Tables) (tunables : Tunables) (features : WasmFeatures) (s : Modul
   here = module_of s
 
   abbrev places : ImportPlaces
-  places = places_of s
+  places = import_places s
 
   abbrev settings : AdapterTunables
   settings = adapter_tunables tunables features
@@ -137,7 +137,7 @@ module _ (t : Tables) (tunables : Tunables) (features : WasmFeatures) (s : Modul
   alike = mentions_alike adapters consistent
 
   module _ (j : ℕ) (a : LinkedAdapter) (at : slice_get adapters j ≡ Some a) where
-    placed : Placed t tunables.debug_adapter_modules s a j
+    placed : HasAdded t tunables.debug_adapter_modules s a j
     placed = h.placed j a at
 
     is_built : IsBuiltAdapter tunables.concurrency_support features.exceptions a
@@ -168,7 +168,7 @@ module _ (t : Tables) (tunables : Tunables) (features : WasmFeatures) (s : Modul
     lower_needs : flat_values (is_wide a.lower.memory) 1 a.lower.results ≡ None → (m : MemoryOption) × (a.lower.memory ≡ Some m)
     lower_needs none = side_memory_is (options_of a.lower) a.lower.memory (is_sound.results_into (lower_flat_results a.lower writable.sync.lower ∙ none))
 
-    links : LinksAdapter here places placed.adds.«data» a
+    links : KnowsAdapterData here places placed.adds.«data» a
     links =
         let data_is : IsDataOf a (links_of placed.adds.«data») placed.adds.«data» = record {
           lift = options_placed here places t a.lift placed.adds.«data».lift placed.adds.lift knows.lift;

@@ -19,18 +19,19 @@ use Rattle.fact_types.specs.declared.import.Import.{Import}
 use Rattle.fact_types.specs.declared.import.Import.TheVariants as known
 use Rattle.fact_types.specs.declared.outside.CoreDef.{CoreDef}
 use Rattle.fact_types.specs.declared.outside.MemoryOption.{MemoryOption}
+use Rattle.fact_plan_types.proofs.HandleLaws.{there as get-within}
 use Rattle.fact_checks.specs.AdapterRules.{export_names}
 use Rattle.fact_moves.specs.Adapters.{AdapterTunables}
 use Rattle.fact_moves.specs.Running.{ImportPlaces}
 use Rattle.fact_emit.specs.ImportSection.{AreNamed, Callback, Callee, Flags, IsNamed, Mention, PostReturn, Realloc, Role, StandsFor, Storage, adapter_mentions, custom_page_size, imported_type, memory_mention, mention, mentions, side_mentions}
 use Rattle.fact_emit.specs.States.{ModuleSoFar, module_of}
 use Rattle.fact_emit.proofs.Mentions.{in-mentions}
+use Rattle.fact_emit.proofs.ImportLists.{get-map}
 use Rattle.fact_compound.specs.Syncs.{IsSyncFunction, lower_type_of}
 use Rattle.fact_forms.specs.Sound.{HasUsualPages, IsSoundAdapter}
 use Rattle.fact_module.specs.Holding.{AreBuilt, Holds, numbered}
-use Rattle.fact_module.specs.declared.tunables.Tunables.{Tunables}
-use Rattle.fact_module.specs.declared.tunables.WasmFeatures.{WasmFeatures}
-use Rattle.fact_module.proofs.Sections.{get-map, get-within}
+use Rattle.fact_emit.specs.declared.tunables.Tunables.{Tunables}
+use Rattle.fact_emit.specs.declared.tunables.WasmFeatures.{WasmFeatures}
 use Rattle.fact_module.proofs.WholeExports.{all-at, all-by-place, built-exports, one-place}
 
 -- ---- lists

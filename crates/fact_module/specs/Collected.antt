@@ -12,8 +12,8 @@ use Rattle.fact_checks.specs.AdapterRules.{LinkedHas}
 use Rattle.fact_checks.specs.Checked.{AreChecked, Checks}
 use Rattle.fact_checks.specs.Linked.{HasSides}
 use Rattle.fact_types.specs.declared.import.Import.{Import}
-use Rattle.fact_module.specs.declared.tunables.Tunables.{Tunables}
-use Rattle.fact_module.specs.declared.tunables.WasmFeatures.{WasmFeatures}
+use Rattle.fact_emit.specs.declared.tunables.Tunables.{Tunables}
+use Rattle.fact_emit.specs.declared.tunables.WasmFeatures.{WasmFeatures}
 use Rattle.fact_module.specs.declared.taken.TakenAdapter.{TakenAdapter}
 use Rattle.fact_emit.specs.States.{ModuleSoFar}
 use Rattle.fact_forms.specs.Built.{IsBuiltAdapter}

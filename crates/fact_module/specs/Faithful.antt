@@ -11,8 +11,8 @@ use Rattle.fact_emit.specs.ImportSection.{NamesImports}
 use Rattle.fact_promises.specs.Runs.{Behaves}
 use Rattle.fact_module.specs.Exports.{IsExportOf, exported, exported_as}
 use Rattle.fact_module.specs.Order.{IsOrdered}
-use Rattle.fact_module.specs.declared.tunables.Tunables.{Tunables}
-use Rattle.fact_module.specs.declared.tunables.WasmFeatures.{WasmFeatures}
+use Rattle.fact_emit.specs.declared.tunables.Tunables.{Tunables}
+use Rattle.fact_emit.specs.declared.tunables.WasmFeatures.{WasmFeatures}
 
 -- what the actions of adapters hang on
 abbrev pub adapter_tunables : Tunables → WasmFeatures → AdapterTunables

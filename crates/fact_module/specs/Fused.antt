@@ -3,10 +3,16 @@ use Rattle.fact_wasm.specs.Ranges.{InRange}
 use Rattle.fact_wasm.specs.Spelling.{Spells}
 use Rattle.fact_plan.specs.declared.plan.FusePlan.{FusePlan}
 use Rattle.fact_checks.specs.Adapters.{adapters_of}
+use Rattle.fact_checks.specs.FirstFault.{IsFaultlessPlan}
+use Rattle.fact_forms.specs.Built.{IsBuiltPlan}
 use Rattle.fact_module.specs.declared.fusion.Fused.{Fused}
-use Rattle.fact_module.specs.declared.tunables.Tunables.{Tunables}
-use Rattle.fact_module.specs.declared.tunables.WasmFeatures.{WasmFeatures}
+use Rattle.fact_emit.specs.declared.tunables.Tunables.{Tunables}
+use Rattle.fact_emit.specs.declared.tunables.WasmFeatures.{WasmFeatures}
 use Rattle.fact_module.specs.Faithful.{Promised}
+
+-- A plan is built, where it has no fault; one that has a fault may be of any form.
+abbrev pub MayFuse : FusePlan → Type 0
+MayFuse p = IsFaultlessPlan p → IsBuiltPlan p
 
 -- what a module of a plan is made with: the plan's concurrency, debug checks and fuel
 abbrev pub tunables_of : FusePlan → Tunables

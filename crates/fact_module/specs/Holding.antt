@@ -16,7 +16,7 @@ use Rattle.fact_module.specs.Adding.{Adds}
 use Rattle.fact_module.specs.InParts.{IsInParts}
 
 -- The adapter of a number was added to it: what it names is imported, and its function stands there.
-pub record Placed (t : Tables) (debug : Bool) (s : ModuleSoFar) (a : LinkedAdapter) (k : ℕ) : Type 0 where
+pub record HasAdded (t : Tables) (debug : Bool) (s : ModuleSoFar) (a : LinkedAdapter) (k : ℕ) : Type 0 where
   pub old : ModuleSoFar
   pub new : ModuleSoFar
   -- those that were added before it
@@ -38,7 +38,7 @@ pub record Holds (t : Tables) (debug : Bool) (s : ModuleSoFar) (adapters : List 
   pub bodies : AreBodiesRanged (length (functions_of s)) 0 s.functions
   pub exports : s.exports ≡ numbered 0 adapters
   pub count : length s.functions ≡ length adapters
-  pub placed : (k : ℕ) (a : LinkedAdapter) → slice_get adapters k ≡ Some a → Placed t debug s a k
+  pub placed : (k : ℕ) (a : LinkedAdapter) → slice_get adapters k ≡ Some a → HasAdded t debug s a k
 
 -- Each of these adapters is built.
 abbrev pub AreBuilt : (concurrency exceptions : Bool) → List LinkedAdapter → Type 0

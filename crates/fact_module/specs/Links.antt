@@ -11,20 +11,20 @@ use Rattle.fact_compound.specs.declared.adapters.AdapterData.{AdapterData}
 use Rattle.fact_compound.specs.declared.adapters.AdapterOptions.{AdapterOptions}
 use Rattle.fact_emit.specs.AdapterLinks.{AdapterLinks, SideLinks}
 
-abbrev pub number_of : {T : Type 0} → Option (Id T) → Option ℕ
-number_of place = option_map (λ i. i.number) place
+abbrev pub number_if_any : {T : Type 0} → Option (Id T) → Option ℕ
+number_if_any place = option_map (λ i. i.number) place
 
 -- where the module has what a side names
 abbrev pub side_links_of : AdapterOptions → SideLinks
 side_links_of o = record {
   flags = o.flags.number;
-  memory = number_of o.options.linear.memory;
-  realloc = number_of o.options.linear.realloc;
-  callback = number_of o.options.callback;
+  memory = number_if_any o.options.linear.memory;
+  realloc = number_if_any o.options.linear.realloc;
+  callback = number_if_any o.options.callback;
 }
 
 abbrev pub links_of : AdapterData → AdapterLinks
-links_of d = record { lift = side_links_of d.lift; lower = side_links_of d.lower; callee = d.callee.number; post_return = number_of d.lift.post_return }
+links_of d = record { lift = side_links_of d.lift; lower = side_links_of d.lower; callee = d.callee.number; post_return = number_if_any d.lift.post_return }
 
 -- a side names what these options name
 pub record NamesOf (o : AdapterOptionsDfg) (s : Side) : Type 0 where

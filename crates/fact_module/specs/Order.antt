@@ -12,17 +12,13 @@ use Rattle.fact_types.specs.declared.import.Import.{Import}
 use Rattle.fact_types.specs.declared.import.Import.TheVariants as known
 use Rattle.fact_module.specs.Exports.{exported_functions_of}
 use Rattle.fact_emit.specs.ImportSection.{Mention, a_function, adapter_mentions, imports_of, is_of, with_mentions}
-use Rattle.fact_emit.specs.NamedFunctions.{all_added_once, functions_named}
+use Rattle.fact_emit.specs.NamedFunctions.{all_added_once, functions_named, imported_place}
 
 -- ---- what code names
 
 -- the functions that a body names, front to back
 abbrev pub names : WasmFunc → List FuncName
 names f = functions_named f.body
-
-abbrev pub imported_place : FuncName → Option ℕ
-imported_place (func.Import k) = Some k
-imported_place (func.Defined k) = None
 
 abbrev pub defined_place : FuncName → Option ℕ
 defined_place (func.Import k) = None
@@ -64,17 +60,17 @@ pub data AreWritten (functions : List WasmFunc) : (waiting : List ℕ) → (next
 
 -- What is new with an adapter: the core definitions that it is the first to mention, the other imports that its code is the
 -- first to name, by their numbers among the imported functions, its own functions, and those that these ask for.
-pub record Part : Type 0 where
+pub record ModulePart : Type 0 where
   pub defs : List Mention
   pub others : List ℕ
   pub own : List WasmFunc
   pub helpers : List WasmFunc
 
-abbrev pub functions_in : Part → List WasmFunc
+abbrev pub functions_in : ModulePart → List WasmFunc
 functions_in p = p.own ++ p.helpers
 
 -- An adapter's part, behind these others, where these are all imported functions.
-pub record IsPart (imported : List Import) (before : List Part) (a : LinkedAdapter) (p : Part) : Type 0 where
+pub record IsPart (imported : List Import) (before : List ModulePart) (a : LinkedAdapter) (p : ModulePart) : Type 0 where
   pub defs : with_mentions (flat_map (λ q. q.defs) before) (adapter_mentions a) ≡ flat_map (λ q. q.defs) before ++ p.defs
   pub own : length p.own ≡ length (exported_functions_of a)
   pub next : ℕ
@@ -85,7 +81,7 @@ pub record IsPart (imported : List Import) (before : List Part) (a : LinkedAdapt
   pub others : all_added_once (flat_map (λ q. q.others) before) (flat_map (others_named imported) (p.own ++ written)) ≡ flat_map (λ q. q.others) before ++ p.others
 
 -- The parts, behind these others, are those of the adapters, one by one.
-abbrev pub AreParts : List Import → List Part → List LinkedAdapter → List Part → Type 0
+abbrev pub AreParts : List Import → List ModulePart → List LinkedAdapter → List ModulePart → Type 0
 AreParts imported before [] [] = Unit {0}
 AreParts imported before (a ∷ adapters) (p ∷ parts) = IsPart imported before a p × AreParts imported (before ++ p ∷ []) adapters parts
 AreParts imported before [] (p ∷ parts) = ⊥
@@ -108,18 +104,18 @@ items n (w ∷ ws) (i ∷ is) = item_of n i ∷ items (if is_of a_function w the
 items n _ _ = []
 
 -- what is imported anew with an adapter: first its core definitions, then what its code needs
-abbrev pub items_in : Part → List Item
+abbrev pub items_in : ModulePart → List Item
 items_in p = map (λ r. Definition r.def) p.defs ++ map Other p.others
 
 -- the numbers of the adapters' own functions, where so many functions stand before
-abbrev pub own_places : ℕ → List Part → List ℕ
+abbrev pub own_places : ℕ → List ModulePart → List ℕ
 own_places n [] = []
 own_places n (p ∷ parts) = range_with_len n (length p.own) ++ own_places (n + length (functions_in p)) parts
 
 -- The imports of the module stand adapter by adapter, as they are new with it, the core definitions in the order of mention, the
 -- others in the order in which its code is written. So do its functions, and the exported ones are each adapter's own, in order.
 pub record IsOrdered (m : WasmModule) (is : List Import) (adapters : List LinkedAdapter) : Type 0 where
-  pub parts : List Part
+  pub parts : List ModulePart
   pub are_parts : AreParts (imports_of a_function m.imports is) [] adapters parts
   pub imports : items 0 m.imports is ≡ flat_map items_in parts
   pub functions : m.funcs ≡ flat_map functions_in parts

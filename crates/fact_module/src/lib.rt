@@ -7,11 +7,11 @@ mod fusion;
 mod linking;
 mod module;
 mod taken;
-mod tunables;
 mod typed;
 
 pub use dfg::ComponentDfg;
 pub use fact_checks::{Adapter, AdapterOptionsDfg, FuseError, MemoryOption, Place, check_plan};
+pub use fact_emit::tunables::{Tunables, WasmFeatures};
 pub use fact_forms::is_built_plan;
 pub use fact_plan::{
     FusePlan, PlanAdapter, PlanFunc, PlanMemory, PlanRef, PlanSide, PlanTunables, PlanType,
@@ -21,6 +21,5 @@ pub use fact_types::{
     CoreDef, FixedEncoding, Import, RuntimeComponentInstanceIndex, RuntimeInstanceIndex,
     StringEncoding, TrampolineIndex, Transcode, Trap, UnsafeIntrinsic,
 };
-pub use fusion::{Fused, fuse};
+pub use fusion::{Fused, fuse, may_fuse};
 pub use module::Module;
-pub use tunables::{Tunables, WasmFeatures};

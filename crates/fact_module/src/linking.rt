@@ -7,12 +7,12 @@ ghost use Rattle.fact_emit.specs.ImportSection.{Callback, PostReturn, Realloc};
 ghost use Rattle.fact_emit.specs.Imports.{Extended};
 ghost use Rattle.fact_emit.specs.States.{functions_of};
 ghost use Rattle.fact_checks.specs.Linked.{IsLinked};
-ghost use Rattle.fact_module.specs.Links.{IsDataOfCandidate, IsDataOfSide, NamesOf, links_of, number_of, page_size_log2_of, side_links_of};
+ghost use Rattle.fact_module.specs.Links.{IsDataOfCandidate, IsDataOfSide, NamesOf, links_of, number_if_any, page_size_log2_of, side_links_of};
 
 use fact_builder::ComponentTypesBuilder;
 use fact_checks::{AdapterOptionsDfg, Candidate};
 use fact_compound::adapters::{AdapterData, AdapterOptions, LinearMemoryOptions, Options};
-use fact_emit::state::ModuleState;
+use fact_emit::state::ModuleSections;
 use fact_entity::{EntityRef, FuncIndex, GlobalIndex, MemoryIndex, TypeFuncIndex};
 use fact_types::{CoreDef, MemoryOption};
 use fact_wasm::{OutOfMemory, Text, ValType};
@@ -33,78 +33,78 @@ fn memory_type(memory: &Option<MemoryOption>) -> (bool, u8)
 
 /// The place of a side's memory among the imported memories.
 fn link_memory(
-    state: &mut ModuleState,
+    sections: &mut ModuleSections,
     memory: &Option<MemoryOption>,
 ) -> Result<Option<MemoryIndex>, OutOfMemory>
-    ensures { IfOk result (λ place. IsMemoryLinked state.old state.new memory.now (number_of place)) }
+    ensures { IfOk result (λ place. IsMemoryLinked sections.old sections.new memory.now (number_if_any place)) }
 {
     let Some(memory) = memory else {
         return Ok(None);
     };
-    let place = state.memory(&memory.def, memory.memory64, memory.page_size_log2)?;
+    let place = sections.memory(&memory.def, memory.memory64, memory.page_size_log2)?;
     Ok(Some(MemoryIndex::from_u32(place)))
 }
 
 /// The place of a side's realloc among the imported functions.
 fn link_realloc(
-    state: &mut ModuleState,
+    sections: &mut ModuleSections,
     memory64: bool,
     realloc: &Option<CoreDef>,
 ) -> Result<Option<FuncIndex>, OutOfMemory>
-    ensures { IfOk result (λ place. IsLinkedIfAny state.old state.new (Realloc memory64) realloc.now (number_of place)) }
+    ensures { IfOk result (λ place. IsLinkedIfAny sections.old sections.new (Realloc memory64) realloc.now (number_if_any place)) }
 {
     let Some(realloc) = realloc else {
         return Ok(None);
     };
-    let place = state.realloc(realloc, memory64)?;
+    let place = sections.realloc(realloc, memory64)?;
     Ok(Some(FuncIndex::from_u32(place)))
 }
 
 /// The place of a side's callback among the imported functions.
 fn link_callback(
-    state: &mut ModuleState,
+    sections: &mut ModuleSections,
     callback: &Option<CoreDef>,
 ) -> Result<Option<FuncIndex>, OutOfMemory>
-    ensures { IfOk result (λ place. IsLinkedIfAny state.old state.new Callback callback.now (number_of place)) }
+    ensures { IfOk result (λ place. IsLinkedIfAny sections.old sections.new Callback callback.now (number_if_any place)) }
 {
     let Some(callback) = callback else {
         return Ok(None);
     };
-    let place = state.callback(callback)?;
+    let place = sections.callback(callback)?;
     Ok(Some(FuncIndex::from_u32(place)))
 }
 
 /// The place of the post-return of an adapter of this name, whose callee has these results, among the imported functions.
 fn link_post_return(
-    state: &mut ModuleState,
+    sections: &mut ModuleSections,
     name: &str,
     results: &[ValType],
     post_return: &Option<CoreDef>,
 ) -> Result<Option<FuncIndex>, OutOfMemory>
-    ensures linked { IfOk result (λ place. IsLinkedIfAny state.old state.new (PostReturn name.now results.now) post_return.now (number_of place)) }
-    ensures keeps { Extended state.old state.new }
+    ensures linked { IfOk result (λ place. IsLinkedIfAny sections.old sections.new (PostReturn name.now results.now) post_return.now (number_if_any place)) }
+    ensures keeps { Extended sections.old sections.new }
 {
     let Some(post_return) = post_return else {
         return Ok(None);
     };
-    let place = state.post_return(name, post_return, results)?;
+    let place = sections.post_return(name, post_return, results)?;
     Ok(Some(FuncIndex::from_u32(place)))
 }
 
 /// The side of an adapter with this function type, with what it names imported.
 fn link_side(
-    state: &mut ModuleState,
+    sections: &mut ModuleSections,
     ty: TypeFuncIndex,
     options: &AdapterOptionsDfg,
 ) -> Result<AdapterOptions, OutOfMemory>
-    ensures linked { IfOk result (λ o. (s : Side) → NamesOf options.now s → IsSideLinked state.old state.new s (side_links_of o)) }
+    ensures linked { IfOk result (λ o. (s : Side) → NamesOf options.now s → IsSideLinked sections.old sections.new s (side_links_of o)) }
     ensures described { IfOk result (λ o. IsDataOfSide ty options.now o) }
 {
     let (memory64, page_size_log2) = memory_type(&options.memory);
-    let flags = state.flags(options.instance)?;
-    let memory = link_memory(state, &options.memory)?;
-    let realloc = link_realloc(state, memory64, &options.realloc)?;
-    let callback = link_callback(state, &options.callback)?;
+    let flags = sections.flags(options.instance)?;
+    let memory = link_memory(sections, &options.memory)?;
+    let realloc = link_realloc(sections, memory64, &options.realloc)?;
+    let callback = link_callback(sections, &options.callback)?;
     let linear = LinearMemoryOptions {
         memory,
         memory64,
@@ -128,27 +128,27 @@ fn link_side(
 
 /// An adapter with all that it names imported, in the order in which it names them.
 pub fn link_adapter(
-    state: &mut ModuleState,
+    sections: &mut ModuleSections,
     builder: &ComponentTypesBuilder,
     candidate: &Candidate<'_>,
 ) -> Result<AdapterData, OutOfMemory>
     requires typed { candidate.now.adapter.now.lift_options.core_type.number < length builder.now.module_types }
-    ensures linked { IfOk result (λ d. (a : LinkedAdapter) → IsLinked builder.now candidate.now a → IsAdapterLinked state.old state.new a (links_of d)) }
-    ensures callee { IfOk result (λ d. d.callee.number < length (functions_of state.new)) }
+    ensures linked { IfOk result (λ d. (a : LinkedAdapter) → IsLinked builder.now candidate.now a → IsAdapterLinked sections.old sections.new a (links_of d)) }
+    ensures callee { IfOk result (λ d. d.callee.number < length (functions_of sections.new)) }
     ensures described { IfOk result (λ d. IsDataOfCandidate candidate.now d) }
 {
     let adapter = candidate.adapter;
     let core_type = &builder[adapter.lift_options.core_type];
-    let mut lift = link_side(state, adapter.lift_ty, &adapter.lift_options)?;
-    let lower = link_side(state, adapter.lower_ty, &adapter.lower_options)?;
-    let callee = state.callee(candidate.name, &adapter.func, core_type)?;
+    let mut lift = link_side(sections, adapter.lift_ty, &adapter.lift_options)?;
+    let lower = link_side(sections, adapter.lower_ty, &adapter.lower_options)?;
+    let callee = sections.callee(candidate.name, &adapter.func, core_type)?;
     lift.post_return = link_post_return(
-        state,
+        sections,
         candidate.name,
         core_type.results.as_slice(),
         &adapter.lift_options.post_return,
     )?;
-    let name = Text::from_str(state.alloc(), candidate.name)?;
+    let name = Text::from_str(sections.alloc(), candidate.name)?;
     Ok(AdapterData {
         name,
         lift,

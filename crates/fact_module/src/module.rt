@@ -13,6 +13,7 @@ ghost use Rattle.fact_forms.specs.Sound.{HasValidSides};
 ghost use Rattle.fact_module.specs.Adding.{Adds};
 ghost use Rattle.fact_module.specs.Faithful.{Promised};
 ghost use Rattle.fact_emit.specs.ImportSection.{NamesImports};
+ghost use Rattle.fact_emit.specs.Settings.{OnlySectionsChanged};
 ghost use Rattle.fact_module.specs.Order.{IsOrdered};
 ghost use Rattle.fact_module.specs.Taking.{IsFirstBehind, IsSoundBehind, MayTake};
 ghost use Rattle.fact_module.specs.Typed.{HasSoundTypes};
@@ -20,12 +21,12 @@ ghost use Rattle.fact_module.specs.Typed.{HasSoundTypes};
 use crate::dfg::ComponentDfg;
 use crate::linking::link_adapter;
 use crate::taken::{TakenAdapter, copy_candidate};
-use crate::tunables::{Tunables, WasmFeatures};
 use crate::typed::check_types;
 use fact_builder::ComponentTypesBuilder;
 use fact_checks::{AdapterChecks, Candidate, FuseError};
-use fact_compound::functions::compile_sync;
+use fact_compound::functions::compile;
 use fact_emit::state::ModuleState;
+use fact_emit::tunables::{Tunables, WasmFeatures};
 use fact_entity::{AdapterId, EntityRef};
 use fact_forms::is_built;
 use fact_type_rules::FunctionTypes;
@@ -38,13 +39,10 @@ use std::marker::Model;
 /// adapters that it took, its tree, what its imports are, and what it was made with.
 pub struct Module<'a> {
     alloc: Global,
-    builder: &'a ComponentTypesBuilder,
-    tunables: &'a Tunables,
-    features: WasmFeatures,
     types: FunctionTypes<'a>,
     checks: AdapterChecks<'a>,
     taken: Vec<TakenAdapter>,
-    state: ModuleState,
+    state: ModuleState<'a>,
     // False once a want of memory left the state in parts.
     whole: bool,
 }
@@ -60,9 +58,9 @@ impl<'a> Model for Module<'a> {
 
     ghost coded = { Prim.hlevel (codes, instr.the_row.coded) };
 
-    ghost view = { λ m. record { builder = m.builder.now; tunables = m.tunables.now; features = m.features; taken = m.taken.items; tree = module_of m.state; imports = m.state.imports; whole = m.whole } };
+    ghost view = { λ m. record { builder = m.state.builder.now; tunables = m.state.tunables.now; features = m.state.features; taken = m.taken.items; tree = module_of m.state.sections; imports = m.state.sections.imports; whole = m.whole } };
 
-    ghost invariant = { λ m. IsMade (record { builder = m.builder.now; tunables = m.tunables.now; features = m.features; taken = m.taken.items; tree = module_of m.state; imports = m.state.imports; whole = m.whole }) m.checks m.state × (m.types ≡ m.builder.now) };
+    ghost invariant = { λ m. IsMade (record { builder = m.state.builder.now; tunables = m.state.tunables.now; features = m.state.features; taken = m.taken.items; tree = module_of m.state.sections; imports = m.state.sections.imports; whole = m.whole }) m.checks m.state.sections × (m.types ≡ m.state.builder.now) };
 }
 
 // It ends by a function of its own, so that crates that end one prove nothing of its parts.
@@ -70,9 +68,6 @@ impl Drop for Module<'_> {
     fn drop(self) {
         let Module {
             alloc: _,
-            builder: _,
-            tunables: _,
-            features: _,
             types,
             checks,
             taken,
@@ -87,24 +82,20 @@ impl Drop for Module<'_> {
 }
 
 /// Whether an error is a want of memory.
-fn is_memory(error: FuseError) -> bool
+pub(crate) fn is_memory(error: FuseError) -> bool
     ensures { IsTrue result ↔ (error ≡ FuseError.OutOfMemory) }
 {
     matches!(error, FuseError::OutOfMemory)
 }
 
 /// Imports what an adapter names, and adds its function.
-fn add_adapter(
-    builder: &ComponentTypesBuilder,
-    debug: bool,
-    state: &mut ModuleState,
-    candidate: &Candidate<'_>,
-) -> Result<(), OutOfMemory>
-    requires typed { NamesTypesOf builder.now candidate.now.adapter.now }
-    ensures { OnOk result ((a : LinkedAdapter) → IsLinked builder.now candidate.now a → Adds builder.now.tables debug state.old state.new a) }
+fn add_adapter(state: &mut ModuleState<'_>, candidate: &Candidate<'_>) -> Result<(), OutOfMemory>
+    requires typed { NamesTypesOf state.old.builder.now candidate.now.adapter.now }
+    ensures added { OnOk result ((a : LinkedAdapter) → IsLinked state.old.builder.now candidate.now a → Adds state.old.builder.now.tables state.old.tunables.now.debug_adapter_modules state.old.sections state.new.sections a) }
+    ensures keeps { OnlySectionsChanged state.old state.new }
 {
-    let linked = link_adapter(state, builder, candidate)?;
-    let compiled = compile_sync(builder, state, &linked, debug);
+    let linked = link_adapter(&mut state.sections, state.builder, candidate)?;
+    let compiled = compile(state, &linked);
     drop(linked);
     compiled
 }
@@ -131,18 +122,17 @@ fn push_taken(
 /// Adds the code of an adapter, and the adapter to those that were taken.
 fn emit(
     alloc: Global,
-    builder: &ComponentTypesBuilder,
-    debug: bool,
-    state: &mut ModuleState,
+    state: &mut ModuleState<'_>,
     taken: &mut Vec<TakenAdapter>,
     candidate: &Candidate<'_>,
 ) -> Result<(), OutOfMemory>
-    requires typed { NamesTypesOf builder.now candidate.now.adapter.now }
+    requires typed { NamesTypesOf state.old.builder.now candidate.now.adapter.now }
     ensures taken { OnOk result (taken.new.items ≡ taken.old.items ++ taken_of candidate.now ∷ []) }
-    ensures emitted { OnOk result ((a : LinkedAdapter) → IsLinked builder.now candidate.now a → Adds builder.now.tables debug state.old state.new a) }
+    ensures emitted { OnOk result ((a : LinkedAdapter) → IsLinked state.old.builder.now candidate.now a → Adds state.old.builder.now.tables state.old.tunables.now.debug_adapter_modules state.old.sections state.new.sections a) }
+    ensures keeps { OnlySectionsChanged state.old state.new }
     ensures refused { OnErr result (taken.new.items ≡ taken.old.items) }
 {
-    add_adapter(builder, debug, state, candidate)?;
+    add_adapter(state, candidate)?;
     push_taken(alloc, taken, candidate)
 }
 
@@ -159,13 +149,10 @@ impl<'a> Module<'a> {
     {
         Module {
             alloc,
-            builder: types,
-            tunables,
-            features,
             types: FunctionTypes::new(alloc, types),
             checks: AdapterChecks::new(alloc, types, tunables.concurrency_support),
             taken: Vec::new(alloc),
-            state: ModuleState::new(alloc),
+            state: ModuleState::new(alloc, types, tunables, features),
             whole: true,
         }
     }
@@ -178,7 +165,12 @@ impl<'a> Module<'a> {
         ensures faultless { OnOk result (IsFaultlessFor self.old number (taken_of candidate.now)) }
         ensures refused { IfErr result (λ e. IfSome (told e) (λ x. IsFirst self.old number (taken_of candidate.now) x.0 × (x.1 ≡ place_at.Adapter number))) }
     {
-        check_types(self.builder, &mut self.types, number, candidate.adapter)?;
+        check_types(
+            self.state.builder,
+            &mut self.types,
+            number,
+            candidate.adapter,
+        )?;
         self.checks.judge(number, candidate)
     }
 
@@ -196,22 +188,15 @@ impl<'a> Module<'a> {
         ensures lost { result ≡ Err FuseError.OutOfMemory → self.new.whole ≡ false }
         ensures refused { IfErr result (λ e. IfSome (told e) (λ x. (self.new ≡ self.old) × IsFirstBehind self.old candidate.now x.0 × (x.1 ≡ place_at.Adapter number))) }
     {
-        self.builder.reveal();
-        self.builder.component_types().reveal();
+        self.state.builder.reveal();
+        self.state.builder.component_types().reveal();
         if let Err(error) = self.checks.check(number, candidate) {
             if is_memory(error) {
                 self.whole = false;
             }
             return Err(error);
         }
-        match emit(
-            self.alloc,
-            self.builder,
-            self.tunables.debug_adapter_modules,
-            &mut self.state,
-            &mut self.taken,
-            candidate,
-        ) {
+        match emit(self.alloc, &mut self.state, &mut self.taken, candidate) {
             Ok(()) => Ok(()),
             Err(_) => {
                 self.whole = false;
@@ -245,7 +230,12 @@ impl<'a> Module<'a> {
         }
         let candidate = component.candidate(name, adapter);
         let number = adapter.as_u32();
-        if let Err(error) = check_types(self.builder, &mut self.types, number, candidate.adapter) {
+        if let Err(error) = check_types(
+            self.state.builder,
+            &mut self.types,
+            number,
+            candidate.adapter,
+        ) {
             if is_memory(error) {
                 self.whole = false;
             }
@@ -280,9 +270,9 @@ impl<'a> Module<'a> {
         }
         Ok(is_built(
             &mut self.types,
-            self.builder,
-            self.tunables.concurrency_support,
-            self.features.exceptions,
+            self.state.builder,
+            self.state.tunables.concurrency_support,
+            self.state.features.exceptions,
             &candidate,
         )?)
     }
@@ -299,7 +289,7 @@ impl<'a> Module<'a> {
         if !self.whole {
             return Err(FuseError::OutOfMemory);
         }
-        Ok(self.state.copy()?)
+        Ok(self.state.sections.copy()?)
     }
 
     /// The bytes of the module of the adapters so far (core specification, "Binary Format"), as [`Module::build`].
@@ -325,9 +315,6 @@ impl<'a> Module<'a> {
     {
         let Module {
             alloc: _,
-            builder: _,
-            tunables: _,
-            features: _,
             types,
             checks,
             taken,
@@ -337,7 +324,8 @@ impl<'a> Module<'a> {
         drop(types);
         drop(checks);
         drop(taken);
-        state.into_parts()
+        let ModuleState { sections, .. } = state;
+        sections.into_parts()
     }
 
     /// What the imports so far are, in the order of the import section.

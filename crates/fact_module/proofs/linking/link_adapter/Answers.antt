@@ -1,15 +1,15 @@
 use Rattle.std.proofs.Common.{ℕ, ap, sym, subst}
 use Rattle.fact_emit.specs.ImportSection.{Callee}
-use Rattle.fact_emit.specs.Linked.{IsLinked}
+use Rattle.fact_emit.specs.Linked.{IsDefLinked}
 use Rattle.fact_module.proofs.LinkingLaws.{adapter-linked, function-below}
 use Rattle.fact_module.proofs.linking.link_adapter.Goals as goal
 
 pub returns-clause-linked : goal.returns-clause-linked
 returns-clause-linked c a is =
-    let callee = subst (λ (n : ℕ). IsLinked c.link_side-2.new.state c.callee.new.self (Callee c.args.candidate.now.name.now c.index-core_type.result.now) c.args.candidate.now.adapter.now.func n) (sym (ap (λ i. i.number) c.from_u32.ensures)) c.in_ok-callee.ensures.imported in
+    let callee = subst (λ (n : ℕ). IsDefLinked c.link_side-2.new.sections c.callee.new.self (Callee c.args.candidate.now.name.now c.index-core_type.result.now) c.args.candidate.now.adapter.now.func n) (sym (ap (λ i. i.number) c.from_u32.ensures)) c.in_ok-callee.ensures.imported in
     adapter-linked is _ c.index-core_type.result.now c.index-core_type.ensures c.in_ok-lift.ensures.linked c.in_ok-lower.ensures.linked callee (rw c.as_slice.ensures at c.in_ok-lift-2.ensures.linked)
 
 pub returns-clause-callee : goal.returns-clause-callee
 returns-clause-callee c =
-    let callee = subst (λ (n : ℕ). IsLinked c.link_side-2.new.state c.callee.new.self (Callee c.args.candidate.now.name.now c.index-core_type.result.now) c.args.candidate.now.adapter.now.func n) (sym (ap (λ i. i.number) c.from_u32.ensures)) c.in_ok-callee.ensures.imported in
+    let callee = subst (λ (n : ℕ). IsDefLinked c.link_side-2.new.sections c.callee.new.self (Callee c.args.candidate.now.name.now c.index-core_type.result.now) c.args.candidate.now.adapter.now.func n) (sym (ap (λ i. i.number) c.from_u32.ensures)) c.in_ok-callee.ensures.imported in
     function-below c.args.candidate.now.name.now c.index-core_type.result.now callee c.link_post_return.ensures.keeps

@@ -18,7 +18,7 @@ pub take-requires-clause-built : goal.take-requires-clause-built
 take-requires-clause-built c =
     let whole = c.if-not-self.false in
     let may = subst (λ (v : Collected). OfAdapter c.args.component.now c.args.adapter c.args.name.now (MayAdapt v c.args.adapter.number)) (sym c.self.view_is) c.requires.built in
-    let types = subst (λ k. HasSoundTypes c.self.inside.builder.now k c.candidate-candidate.result.adapter.now) c.as_u32-number.ensures c.in_default.ensures.sound in
+    let types = subst (λ k. HasSoundTypes c.self.inside.state.builder.now k c.candidate-candidate.result.adapter.now) c.as_u32-number.ensures c.in_default.ensures.sound in
     adapt-take _ c.args.adapter.number c.candidate-candidate.result types whole
     (adapter-of c.args.component.now c.args.adapter c.args.name.now (taken_of c.candidate-candidate.result) (MayAdapt _ c.args.adapter.number) c.candidate-candidate.ensures c.requires.live may)
 

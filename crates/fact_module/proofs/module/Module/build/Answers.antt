@@ -7,4 +7,4 @@ returns-clause-built c = rw (← c.self.view_is) c.in_ok-copy.ensures.copy
 
 pub returns-clause-promised : goal.returns-clause-promised
 returns-clause-promised c =
-    rw (← c.self.view_is) (keeps-promises _ c.self.inside.checks c.self.inside.state c.self.invariant.0 refl refl c.if-not-self.false c.copy.ensures.numbered)
+    rw (← c.self.view_is) (keeps-promises _ c.self.inside.checks c.self.inside.state.sections c.self.invariant.0 refl refl c.if-not-self.false c.copy.ensures.numbered)

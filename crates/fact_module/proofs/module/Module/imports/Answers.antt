@@ -4,8 +4,8 @@ use Rattle.fact_module.proofs.module.Module.imports.Goals as goal
 
 pub returns-clause-named : goal.returns-clause-named
 returns-clause-named c =
-    rw (← c.self.view_is, c.imports.ensures) (λ whole adapters taken. (promised-of _ c.self.inside.checks c.self.inside.state c.self.invariant.0 refl refl whole adapters taken).faithful.imports)
+    rw (← c.self.view_is, c.imports.ensures) (λ whole adapters taken. (promised-of _ c.self.inside.checks c.self.inside.state.sections c.self.invariant.0 refl refl whole adapters taken).faithful.imports)
 
 pub returns-clause-ordered : goal.returns-clause-ordered
 returns-clause-ordered c =
-    rw (← c.self.view_is, c.imports.ensures) (λ whole adapters taken. (promised-of _ c.self.inside.checks c.self.inside.state c.self.invariant.0 refl refl whole adapters taken).order)
+    rw (← c.self.view_is, c.imports.ensures) (λ whole adapters taken. (promised-of _ c.self.inside.checks c.self.inside.state.sections c.self.invariant.0 refl refl whole adapters taken).order)

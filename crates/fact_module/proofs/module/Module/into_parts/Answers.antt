@@ -10,9 +10,9 @@ returns-clause-parts c =
 pub returns-clause-in_range : goal.returns-clause-in_range
 returns-clause-in_range c =
     let whole = ap (λ (v : Collected). v.whole) c.self.view_is ∙ c.requires in
-    rw c.into_parts.ensures.parts.0 (keeps-promises _ c.self.inside.checks c.self.inside.state c.self.invariant.0 refl refl whole c.into_parts.ensures.numbered).in_range
+    rw c.into_parts.ensures.parts.0 (keeps-promises _ c.self.inside.checks c.self.inside.state.sections c.self.invariant.0 refl refl whole c.into_parts.ensures.numbered).in_range
 
 pub returns-clause-promised : goal.returns-clause-promised
 returns-clause-promised c =
     let whole = ap (λ (v : Collected). v.whole) c.self.view_is ∙ c.requires in
-    rw (← c.self.view_is, c.into_parts.ensures.parts.0) (promised-of _ c.self.inside.checks c.self.inside.state c.self.invariant.0 refl refl whole)
+    rw (← c.self.view_is, c.into_parts.ensures.parts.0) (promised-of _ c.self.inside.checks c.self.inside.state.sections c.self.invariant.0 refl refl whole)

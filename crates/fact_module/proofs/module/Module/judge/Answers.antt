@@ -17,4 +17,4 @@ pub returns-clause-refused : goal.returns-clause-refused
 returns-clause-refused c =
     let whole = ap (λ (v : Collected). v.whole) c.self.view_is ∙ c.requires.whole in
     subst (λ (v : Collected). IfErr c.judge.result (λ e. IfSome (told e) (λ x. IsFirst v c.args.number (taken_of c.args.candidate.now) x.0 × (x.1 ≡ place_at.Adapter c.args.number)))) c.self.view_is
-    (IfErr-weaker c.judge.result _ _ (λ e. checks-refused _ c.self.inside.checks c.self.inside.state c.args.number c.args.candidate.now (told e) c.self.invariant.0 whole c.in_ok-check_types.ensures.sound) c.judge.ensures.refused)
+    (IfErr-weaker c.judge.result _ _ (λ e. checks-refused _ c.self.inside.checks c.self.inside.state.sections c.args.number c.args.candidate.now (told e) c.self.invariant.0 whole c.in_ok-check_types.ensures.sound) c.judge.ensures.refused)

@@ -10,7 +10,7 @@ use Rattle.fact_module.proofs.TakeLaws.{extends-more, made-more, refused-behind,
 use Rattle.fact_module.proofs.module.Module.take.Goals as goal
 
 pub returns-else-is_memory-clause-refused : goal.returns-else-is_memory-clause-refused
-returns-else-is_memory-clause-refused c = refused-behind _ _ _ c.self.inside.state _ _ (told _) c.self.view_is c.self.invariant.0 c.requires.whole c.in-Err.ensures.refused
+returns-else-is_memory-clause-refused c = refused-behind _ _ _ c.self.inside.state.sections _ _ (told _) c.self.view_is c.self.invariant.0 c.requires.whole c.in-Err.ensures.refused
 
 pub invariant_of-self-in-Ok : goal.invariant_of-self-in-Ok
 invariant_of-self-in-Ok c =
@@ -19,9 +19,10 @@ invariant_of-self-in-Ok c =
     let valid = subst (λ (v : Collected). (a : LinkedAdapter) → IsLinked v.builder c.args.candidate.now a → HasValidSides a) (sym c.self.view_is) c.requires.valid in
     let may = subst (λ (v : Collected). MayTake v c.args.candidate.now) (sym c.self.view_is) c.requires.built in
     let sound = subst (λ (t : Tables). IsSound t) c.component_types.ensures c.reveal-2.ensures.sound in
-    let made = made-more _ c.self.inside.checks c.check.new.self c.self.inside.state c.emit.new.state c.args.candidate.now c.self.invariant.0 whole sound typed valid may c.in_default.ensures.sound
-    _ refl refl refl c.in-Ok.ensures.taken c.in_default.ensures.builder c.in_default.ensures.concurrency c.in-Ok.ensures.emitted in
-    (made, c.self.invariant.1)
+    let kept = c.emit.ensures.keeps in
+    let made = made-more _ c.self.inside.checks c.check.new.self c.self.inside.state.sections c.emit.new.state.sections c.args.candidate.now c.self.invariant.0 whole sound typed valid may c.in_default.ensures.sound
+    _ kept.builder kept.tunables kept.features c.in-Ok.ensures.taken c.in_default.ensures.builder c.in_default.ensures.concurrency c.in-Ok.ensures.emitted in
+    (made, c.self.invariant.1 ∙ sym kept.builder)
 
 pub returns-in-Ok-clause-taken : goal.returns-in-Ok-clause-taken
 returns-in-Ok-clause-taken c =
@@ -38,7 +39,7 @@ returns-in-Ok-clause-extends c =
     let may = subst (λ (v : Collected). MayTake v c.args.candidate.now) (sym c.self.view_is) c.requires.built in
     let sound = subst (λ (t : Tables). IsSound t) c.component_types.ensures c.reveal-2.ensures.sound in
     rw (← c.self.view_is)
-    (extends-more _ c.self.inside.checks c.check.new.self c.self.inside.state c.emit.new.state c.args.candidate.now c.self.invariant.0 whole sound typed valid may c.in_default.ensures.sound
+    (extends-more _ c.self.inside.checks c.check.new.self c.self.inside.state.sections c.emit.new.state.sections c.args.candidate.now c.self.invariant.0 whole sound typed valid may c.in_default.ensures.sound
     _ _ refl refl refl refl c.in-Ok.ensures.emitted)
 
 pub returns-in-Ok-clause-sound : goal.returns-in-Ok-clause-sound
@@ -49,4 +50,4 @@ returns-in-Ok-clause-sound c =
     let may = subst (λ (v : Collected). MayTake v c.args.candidate.now) (sym c.self.view_is) c.requires.built in
     let sound = subst (λ (t : Tables). IsSound t) c.component_types.ensures c.reveal-2.ensures.sound in
     subst (λ (v : Collected). IsSoundBehind v c.args.candidate.now) c.self.view_is
-    (sound-behind _ c.self.inside.checks c.check.new.self c.self.inside.state c.self.inside.state c.args.candidate.now c.self.invariant.0 whole sound typed valid may c.in_default.ensures.sound)
+    (sound-behind _ c.self.inside.checks c.check.new.self c.self.inside.state.sections c.self.inside.state.sections c.args.candidate.now c.self.invariant.0 whole sound typed valid may c.in_default.ensures.sound)
