@@ -1,17 +1,33 @@
-//! Tests of values that are read from memory and from core values, and carried from a type to another one.
+//! Tests of component types and of their values: of types made of their members, of their indices and facts, of their flat types
+//! and signatures, and of their agreement; of values that are read from memory and from core values, and carried from a type to
+//! another one.
 #![tactic(auto)]
 
 #[cfg(test)]
+mod agreement;
+#[cfg(test)]
 mod carried;
 #[cfg(test)]
-mod handles;
+mod facts;
 #[cfg(test)]
-mod kinds;
+mod flat;
+#[cfg(test)]
+mod indices;
 #[cfg(test)]
 mod lifted;
 #[cfg(test)]
 mod live;
 #[cfg(test)]
 mod loaded;
+#[cfg(test)]
+mod making;
+#[cfg(test)]
+mod parts;
+#[cfg(test)]
+mod questions;
+#[cfg(test)]
+mod signatures;
+#[cfg(test)]
+mod values;
 #[cfg(test)]
 mod words;

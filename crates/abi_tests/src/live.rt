@@ -1,39 +1,38 @@
-//! Whether types name entries that are in the tables.
+//! Whether types name entries that the builder holds.
 
 ghost use Rattle.std.specs.Prelude.{IsTrue, All};
 ghost use Rattle.fact_types.specs.Tables.{IsLive, IsLiveMember};
 
 use fact_builder::ComponentTypesBuilder;
-use fact_types::{ComponentTypes, InterfaceType};
-use fact_wasm::Text;
-use indexmap::IndexMap;
+use fact_types::{InterfaceType, RecordField};
 
-/// Whether a type is a number, a character or a string, or names an entry that is in the tables.
-pub fn is_live(types: &ComponentTypes, ty: &InterfaceType) -> bool
-    ensures { IsTrue result → IsLive types.now ty.now }
+/// Whether a type is a number, a character or a string, or names an entry that the builder holds.
+pub fn is_live(builder: &ComponentTypesBuilder, ty: &InterfaceType) -> bool
+    ensures { IsTrue result → IsLive builder.now.tables ty.now }
 {
-    types.is_live(*ty)
+    builder.component_types().is_live(*ty)
 }
 
 /// Whether a payload, if there is one, has such a type.
-fn is_live_payload(types: &ComponentTypes, payload: &Option<InterfaceType>) -> bool
-    ensures { IsTrue result → IsLiveMember types.now payload.now }
+pub fn is_live_payload(builder: &ComponentTypesBuilder, payload: &Option<InterfaceType>) -> bool
+    ensures { IsTrue result → IsLiveMember builder.now.tables payload.now }
 {
     match payload {
-        Some(ty) => is_live(types, ty),
+        Some(ty) => is_live(builder, ty),
         None => true,
     }
 }
 
-/// Whether the payload of each case, if any, has such a type.
-pub fn are_live_cases(
-    builder: &ComponentTypesBuilder,
-    cases: &IndexMap<Text, Option<InterfaceType>>,
-) -> bool
-    ensures { IsTrue result → All (λ c. IsLiveMember builder.now.tables c.1) cases.now.entries }
+/// Whether each of several types is such a type.
+pub fn are_live(builder: &ComponentTypesBuilder, types: &[InterfaceType]) -> bool
+    ensures { IsTrue result → All (IsLive builder.now.tables) types.now }
 {
-    let types = builder.component_types();
-    cases
-        .iter()
-        .all(|(_, payload)| is_live_payload(types, payload))
+    types.iter().all(|ty| is_live(builder, ty))
+}
+
+/// Whether each of several fields has such a type.
+pub fn are_live_fields(builder: &ComponentTypesBuilder, fields: &[RecordField]) -> bool
+    ensures { IsTrue result → All (λ f. IsLive builder.now.tables f.ty) fields.now }
+{
+    fields.iter().all(|field| is_live(builder, &field.ty))
 }

@@ -3,3 +3,5 @@
 
 #[cfg(test)]
 mod moved;
+#[cfg(test)]
+mod stated;

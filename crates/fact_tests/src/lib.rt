@@ -10,6 +10,8 @@ mod entry_faults;
 #[cfg(test)]
 mod faults;
 #[cfg(test)]
+mod fused;
+#[cfg(test)]
 mod machine;
 #[cfg(test)]
 mod many;

@@ -1,15 +1,18 @@
 //! Modules on the machine. A row of runs is the state, the number of the function and the steps, the arguments, the answers of
 //! the outside, and how the run ended, its outside calls, and the globals then; and where memories changed, what stands there.
+//! An outside call is the number of its function, behind `:` the trap that this is imported as, if it is one, the arguments, and
+//! behind `at` the globals before it.
 //!
 //! A state is its globals and its memories: `SIZE` is a memory of so many bytes, each 170, in which `ADDRESS=HEX` stands behind
-//! further commas. An answer leaves the state as it was at the start. Answers are parted by `;`.
+//! further commas. An answer leaves the state as it was at the start, but for the globals behind ` leaves `. Answers are parted
+//! by `;`.
 
 use crate::plans::{PLAN, edited};
 use crate::rows::{number_of, numbers_of, parts_of};
-use fact_machine::{Answer, CoreValue, Machine, MachineState, Outcome};
-use fact_module::{FusePlan, Fused, check_plan, fuse, is_built_plan};
+use fact_machine::{Answer, CoreValue, Event, Machine, MachineState, Outcome};
+use fact_module::{FusePlan, Fused, Import, Trap, check_plan, fuse, may_fuse};
 use fact_plan::{plan_of, read_value};
-use fact_wasm::{Seq, WasmModule};
+use fact_wasm::{ImportType, Seq, WasmModule};
 use std::alloc::{AllocError, Global};
 use std::process::Abort;
 
@@ -17,7 +20,7 @@ use std::process::Abort;
 fn fused_of(rt: &impl Abort, alloc: Global, plan: &FusePlan) -> Fused {
     assert!(rt; check_plan(alloc, plan).is_ok());
     assert!(rt; plan.tunables.fuel >= 1);
-    match is_built_plan(alloc, plan) {
+    match may_fuse(alloc, plan) {
         Ok(true) => fuse(alloc, plan).ok().expect(rt, "a module"),
         _ => panic!(rt; "a plan that is built"),
     }
@@ -56,16 +59,23 @@ fn values_of(alloc: Global, words: &str) -> Result<Seq<CoreValue>, AllocError> {
     Ok(values)
 }
 
-/// The answer of an outside call, which leaves this state.
+/// The answer of an outside call that returns, which leaves this state, but for the globals that it names.
+fn return_of(alloc: Global, words: &str, state: &MachineState) -> Result<Answer, AllocError> {
+    let (words, globals) = words.split_once(" leaves ").unwrap_or((words, ""));
+    let results = values_of(alloc, words)?;
+    let mut state = state.try_clone()?;
+    if !globals.is_empty() {
+        state.globals = values_of(alloc, globals)?;
+    }
+    Ok(Answer::Returns { results, state })
+}
+
+/// The answer of an outside call, which leaves this state, but for the globals that it names.
 fn answer_of(alloc: Global, words: &str, state: &MachineState) -> Result<Answer, AllocError> {
     match words.trim() {
         "traps" => Ok(Answer::Traps),
         "throws" => Ok(Answer::Throws),
-        words => {
-            let results = values_of(alloc, words)?;
-            let state = state.try_clone()?;
-            Ok(Answer::Returns { results, state })
-        }
+        words => return_of(alloc, words, state),
     }
 }
 
@@ -89,19 +99,52 @@ fn add_answers(
     Ok(())
 }
 
+/// The trap that an imported function is, by the list of imports at the place of the function.
+fn trap_of(fused: &Fused, func: u32) -> Option<Trap> {
+    let imports = fused.module.imports.as_slice();
+    let mut number = 0;
+    for (import, named) in imports.iter().zip(fused.imports.as_slice()) {
+        if let ImportType::Func(_) = import.ty {
+            if number == func {
+                return match named {
+                    Import::Trap(trap) => Some(*trap),
+                    _ => None,
+                };
+            }
+            number = number.wrapping_add(1);
+        }
+    }
+    None
+}
+
+/// Adds an outside call.
+fn add_event(text: &mut String, fused: &Fused, event: &Event) -> Result<(), AllocError> {
+    write!(text, " {}", event.func)?;
+    if let Some(trap) = trap_of(fused, event.func) {
+        write!(text, ":{trap:?}")?;
+    }
+    let globals = event.before.globals.as_slice();
+    write!(text, "{:?} at {globals:?}", event.args.as_slice())
+}
+
 /// Adds how a run ended, its outside calls, and the globals then.
-fn add_told(text: &mut String, outcome: &Outcome) -> Result<(), AllocError> {
+fn add_told(text: &mut String, fused: &Fused, outcome: &Outcome) -> Result<(), AllocError> {
     write!(text, "{:?}", outcome.end)?;
     for event in outcome.log.as_slice() {
-        write!(text, " {}{:?}", event.func, event.args.as_slice())?;
+        add_event(text, fused, event)?;
     }
     write!(text, " {:?}", outcome.state.globals.as_slice())
 }
 
 /// Whether an outcome is told so.
-fn is_told_so(alloc: Global, outcome: &Outcome, wanted: &str) -> Result<bool, AllocError> {
+fn is_told_so(
+    alloc: Global,
+    fused: &Fused,
+    outcome: &Outcome,
+    wanted: &str,
+) -> Result<bool, AllocError> {
     let mut text = String::new(alloc);
-    let told = add_told(&mut text, outcome);
+    let told = add_told(&mut text, fused, outcome);
     let is_so = text.as_str() == wanted;
     drop(text);
     told?;
@@ -149,13 +192,14 @@ fn memories_are_changed(
 /// Whether an outcome is told so, and its memories are those from before but for the changes.
 fn are_told_so(
     alloc: Global,
+    fused: &Fused,
     outcome: &Outcome,
     wanted: &str,
     state: &MachineState,
-    changes: &str,
 ) -> Result<bool, AllocError> {
+    let (wanted, changes) = wanted.split_once(" | ").unwrap_or((wanted, ""));
     Ok(
-        is_told_so(alloc, outcome, wanted)?
+        is_told_so(alloc, fused, outcome, wanted)?
             && memories_are_changed(alloc, state, &outcome.state, changes)?,
     )
 }
@@ -176,7 +220,7 @@ fn run(
 /// Whether a run from a state, with these arguments, is told as the row says.
 fn run_is_told(
     alloc: Global,
-    module: &WasmModule,
+    fused: &Fused,
     state: &MachineState,
     args: &[CoreValue],
     row: [&str; 5],
@@ -186,13 +230,12 @@ fn run_is_told(
     let func = u32::try_from(func).unwrap_or(u32::MAX);
     let mut answers = Vec::new(alloc);
     let outcome = match add_answers(&mut answers, alloc, words, state) {
-        Ok(()) => run(alloc, module, (func, steps), args, state, &answers),
+        Ok(()) => run(alloc, &fused.module, (func, steps), args, state, &answers),
         Err(error) => Err(error),
     };
     drop(answers);
     let outcome = outcome?;
-    let (wanted, changes) = wanted.split_once(" | ").unwrap_or((wanted, ""));
-    let holds = are_told_so(alloc, &outcome, wanted, state, changes);
+    let holds = are_told_so(alloc, fused, &outcome, wanted, state);
     drop(outcome);
     holds
 }
@@ -200,12 +243,12 @@ fn run_is_told(
 /// The same, with the arguments of the row.
 fn run_holds(
     alloc: Global,
-    module: &WasmModule,
+    fused: &Fused,
     state: &MachineState,
     row: [&str; 5],
 ) -> Result<bool, AllocError> {
     let args = values_of(alloc, row[2])?;
-    let holds = run_is_told(alloc, module, state, args.as_slice(), row);
+    let holds = run_is_told(alloc, fused, state, args.as_slice(), row);
     drop(args);
     holds
 }
@@ -250,23 +293,18 @@ fn state_of(alloc: Global, words: &str) -> Result<MachineState, AllocError> {
 }
 
 /// Whether a row of runs holds.
-fn row_holds(alloc: Global, module: &WasmModule, row: &str) -> Result<bool, AllocError> {
+fn row_holds(alloc: Global, fused: &Fused, row: &str) -> Result<bool, AllocError> {
     let row = parts_of(row);
     let state = state_of(alloc, row[0])?;
-    let holds = run_holds(alloc, module, &state, row);
+    let holds = run_holds(alloc, fused, &state, row);
     drop(state);
     holds
 }
 
 /// Each row of runs holds.
-fn rows_hold(
-    rt: &impl Abort,
-    alloc: Global,
-    module: &WasmModule,
-    rows: &str,
-) -> Result<(), AllocError> {
+fn rows_hold(rt: &impl Abort, alloc: Global, fused: &Fused, rows: &str) -> Result<(), AllocError> {
     for row in rows.trim().lines() {
-        assert!(rt; row_holds(alloc, module, row)?, "{row}");
+        assert!(rt; row_holds(alloc, fused, row)?, "{row}");
     }
     Ok(())
 }
@@ -274,7 +312,7 @@ fn rows_hold(
 /// Each row of runs holds of the module of a plan.
 pub fn runs_hold(rt: &impl Abort, alloc: Global, plan: &str, rows: &str) -> Result<(), AllocError> {
     let fused = fused(rt, alloc, plan)?;
-    let said = rows_hold(rt, alloc, &fused.module, rows);
+    let said = rows_hold(rt, alloc, &fused, rows);
     drop(fused);
     said
 }
@@ -295,12 +333,12 @@ pub fn edited_runs_hold(
 
 /// Runs of the worked module, which takes 16 steps.
 const WORKED: &str = "
-i32:1 i32:1 | 0 1000 | i32:7 | nothing | Returned(Seq { items: [] }) 0[I32(7)] [I32(1), I32(1)]
-i32:1 i32:1 | 0 16 | i32:7 | nothing | Returned(Seq { items: [] }) 0[I32(7)] [I32(1), I32(1)]
-i32:1 i32:1 | 0 15 | i32:7 | nothing | Going 0[I32(7)] [I32(1), I32(0)]
+i32:1 i32:1 | 0 1000 | i32:7 | nothing | Returned(Seq { items: [] }) 0[I32(7)] at [I32(1), I32(1)] [I32(1), I32(1)]
+i32:1 i32:1 | 0 16 | i32:7 | nothing | Returned(Seq { items: [] }) 0[I32(7)] at [I32(1), I32(1)] [I32(1), I32(1)]
+i32:1 i32:1 | 0 15 | i32:7 | nothing | Going 0[I32(7)] at [I32(1), I32(1)] [I32(1), I32(0)]
 i32:1 i32:1 | 0 0 | i32:7 | nothing | Going [I32(1), I32(1)]
 i32:1 i32:1 | 0 1000 | i32:7 | lacks | Lacks [I32(1), I32(1)]
-i32:1 i32:0 | 0 1000 | i32:7 | traps | Trapped 1[] [I32(1), I32(0)]
+i32:1 i32:0 | 0 1000 | i32:7 | traps | Trapped 1:CannotLeaveComponent[] at [I32(1), I32(0)] [I32(1), I32(0)]
 ";
 
 /// The edits that make a plan of a function with a result, and its run.
@@ -308,7 +346,7 @@ const RESULT: &str =
     r#"[["x","u32"]],"results":[] => [["x","u32"]],"results":["u64"] | ["i32"],"results":[] => ["i32"],"results":["i64"]"#;
 
 const RESULT_RUN: &str = "
-i32:1 i32:1 | 0 1000 | i32:7 | i64:9 | Returned(Seq { items: [I64(9)] }) 0[I32(7)] [I32(1), I32(1)]
+i32:1 i32:1 | 0 1000 | i32:7 | i64:9 | Returned(Seq { items: [I64(9)] }) 0[I32(7)] at [I32(1), I32(1)] [I32(1), I32(1)]
 ";
 
 /// The same of a function of 16 parameters.
@@ -316,7 +354,7 @@ const SIXTEEN: &str =
     r#"[["x","u32"]],"results":[] => [["a","u32"],["b","u64"],["c","u32"],["d","u64"],["e","u32"],["f","u64"],["g","u32"],["h","u64"],["i","u32"],["j","u64"],["k","u32"],["l","u64"],["m","u32"],["n","u64"],["o","u32"],["p","u64"]],"results":[] | ["i32"],"results":[] => ["i32","i64","i32","i64","i32","i64","i32","i64","i32","i64","i32","i64","i32","i64","i32","i64"],"results":[]"#;
 
 const SIXTEEN_RUN: &str = "
-i32:1 i32:1 | 0 1000 | i32:0 i64:1099511627776 i32:1 i64:1099511627777 i32:2 i64:1099511627778 i32:3 i64:1099511627779 i32:4 i64:1099511627780 i32:5 i64:1099511627781 i32:6 i64:1099511627782 i32:7 i64:1099511627783 | nothing | Returned(Seq { items: [] }) 0[I32(0), I64(1099511627776), I32(1), I64(1099511627777), I32(2), I64(1099511627778), I32(3), I64(1099511627779), I32(4), I64(1099511627780), I32(5), I64(1099511627781), I32(6), I64(1099511627782), I32(7), I64(1099511627783)] [I32(1), I32(1)]
+i32:1 i32:1 | 0 1000 | i32:0 i64:1099511627776 i32:1 i64:1099511627777 i32:2 i64:1099511627778 i32:3 i64:1099511627779 i32:4 i64:1099511627780 i32:5 i64:1099511627781 i32:6 i64:1099511627782 i32:7 i64:1099511627783 | nothing | Returned(Seq { items: [] }) 0[I32(0), I64(1099511627776), I32(1), I64(1099511627777), I32(2), I64(1099511627778), I32(3), I64(1099511627779), I32(4), I64(1099511627780), I32(5), I64(1099511627781), I32(6), I64(1099511627782), I32(7), I64(1099511627783)] at [I32(1), I32(1)] [I32(1), I32(1)]
 ";
 
 #[test]

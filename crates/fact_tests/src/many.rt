@@ -120,10 +120,10 @@ fn fifty_adapters_are_printed(rt: HostRuntime) -> Result<(), AllocError> {
 
 /// The run of the first of the fifty, and of another one. The trap stands behind the first callee.
 const FIRST_RUN: &str =
-    "i32:1 i32:1 | % 1000 | i32:% i32:% i32:% i32:% i32:% i32:% | nothing | Returned(Seq { items: [] }) %[I32(%), I32(%), I32(%), I32(%), I32(%), I32(%)] [I32(1), I32(1)]\n";
+    "i32:1 i32:1 | % 1000 | i32:% i32:% i32:% i32:% i32:% i32:% | nothing | Returned(Seq { items: [] }) %[I32(%), I32(%), I32(%), I32(%), I32(%), I32(%)] at [I32(1), I32(1)] [I32(1), I32(1)]\n";
 
 const NEXT_RUN: &str =
-    "i32:1 i32:1 | % 1000 | i32:% i32:% i32:% i32:% i32:% i32:% | nothing | Returned(Seq { items: [] }) &[I32(%), I32(%), I32(%), I32(%), I32(%), I32(%)] [I32(1), I32(1)]\n";
+    "i32:1 i32:1 | % 1000 | i32:% i32:% i32:% i32:% i32:% i32:% | nothing | Returned(Seq { items: [] }) &[I32(%), I32(%), I32(%), I32(%), I32(%), I32(%)] at [I32(1), I32(1)] [I32(1), I32(1)]\n";
 
 /// Each of these runs holds of the module of a plan.
 fn series_holds(
@@ -165,13 +165,13 @@ const PAIR: &str =
 /// Their runs. The globals are the flags of the lift instance and of the two lower ones; imported functions 0 and 2 are the
 /// callees, and 1 is the trap.
 const PAIR_RUNS: &str = "
-i32:1 i32:1 i32:1 | 0 1000 | i32:7 | nothing | Returned(Seq { items: [] }) 0[I32(7)] [I32(1), I32(1), I32(1)]
-i32:1 i32:1 i32:1 | 1 1000 | i64:1099511627776 | i32:9 | Returned(Seq { items: [I32(9)] }) 2[I64(1099511627776)] [I32(1), I32(1), I32(1)]
-i32:0 i32:1 i32:1 | 0 1000 | i32:7 | nothing | Returned(Seq { items: [] }) 0[I32(7)] [I32(0), I32(1), I32(1)]
-i32:5 i32:1 i32:0 | 0 1000 | i32:7 | nothing | Returned(Seq { items: [] }) 0[I32(7)] [I32(5), I32(1), I32(0)]
-i32:5 i32:0 i32:1 | 1 1000 | i64:3 | i32:9 | Returned(Seq { items: [I32(9)] }) 2[I64(3)] [I32(5), I32(0), I32(1)]
-i32:1 i32:0 i32:1 | 0 1000 | i32:7 | nothing | Trapped 1[] [I32(1), I32(0), I32(1)]
-i32:1 i32:1 i32:0 | 1 1000 | i64:3 | nothing | Trapped 1[] [I32(1), I32(1), I32(0)]
+i32:1 i32:1 i32:1 | 0 1000 | i32:7 | nothing | Returned(Seq { items: [] }) 0[I32(7)] at [I32(1), I32(1), I32(1)] [I32(1), I32(1), I32(1)]
+i32:1 i32:1 i32:1 | 1 1000 | i64:1099511627776 | i32:9 | Returned(Seq { items: [I32(9)] }) 2[I64(1099511627776)] at [I32(1), I32(1), I32(1)] [I32(1), I32(1), I32(1)]
+i32:0 i32:1 i32:1 | 0 1000 | i32:7 | nothing | Returned(Seq { items: [] }) 0[I32(7)] at [I32(0), I32(1), I32(1)] [I32(0), I32(1), I32(1)]
+i32:5 i32:1 i32:0 | 0 1000 | i32:7 | nothing | Returned(Seq { items: [] }) 0[I32(7)] at [I32(5), I32(1), I32(0)] [I32(5), I32(1), I32(0)]
+i32:5 i32:0 i32:1 | 1 1000 | i64:3 | i32:9 | Returned(Seq { items: [I32(9)] }) 2[I64(3)] at [I32(5), I32(0), I32(1)] [I32(5), I32(0), I32(1)]
+i32:1 i32:0 i32:1 | 0 1000 | i32:7 | nothing | Trapped 1:CannotLeaveComponent[] at [I32(1), I32(0), I32(1)] [I32(1), I32(0), I32(1)]
+i32:1 i32:1 i32:0 | 1 1000 | i64:3 | nothing | Trapped 1:CannotLeaveComponent[] at [I32(1), I32(1), I32(0)] [I32(1), I32(1), I32(0)]
 ";
 
 #[test]

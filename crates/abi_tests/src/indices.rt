@@ -141,35 +141,8 @@ pub fn core_type(
     core_type_told(rt, alloc, builder, index)
 }
 
-/// A record, and how many fields it has.
-const RECORDS: &str = "
-u8 u32 record:a,b = Some(2)
-";
-
-/// How many fields a record has that the builder holds.
-fn count_fields(builder: &ComponentTypesBuilder, ty: InterfaceType) -> Option<usize> {
-    match ty {
-        InterfaceType::Record(i) if builder.component_types().get(i).is_some() => Some(
-            builder[i].fields.len(),
-        ),
-        _ => None,
-    }
-}
-
-/// How many fields a record has, as a row tells it.
-pub fn fields(
-    rt: &impl Abort,
-    alloc: Global,
-    builder: &mut ComponentTypesBuilder,
-    words: &str,
-) -> Result<String, PushError> {
-    let ty = type_of(rt, alloc, builder, words)?;
-    Ok(format!(in alloc; "{:?}", count_fields(builder, ty))?)
-}
-
 #[test]
 fn equal_types_have_one_index(rt: HostRuntime) -> Result<(), Fail> {
     say_table(&rt, rt.alloc(), Question::Index, ROWS)?;
-    say_table(&rt, rt.alloc(), Question::CoreType, CORE_TYPES)?;
-    say_table(&rt, rt.alloc(), Question::Fields, RECORDS)
+    say_table(&rt, rt.alloc(), Question::CoreType, CORE_TYPES)
 }

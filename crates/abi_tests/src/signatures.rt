@@ -45,16 +45,19 @@ fn func_of(
     })
 }
 
-/// A side, `wide` with a memory of 64 bits, and its core parameters and results.
+/// A side, `wide` with a memory of 64 bits, of a function, its core parameters and results, and whether the function holds a handle.
 const ROWS: &str = "
-lower: u32 u64 > f64 = [I32, I64] [F64]
-lower wide: u32 u32 u32 u32 u32 u32 u32 u32 u32 u32 u32 u32 u32 u32 u32 u32 u32 > string = [I64, I64] []
-lower async: u32 u32 u32 u32 > u32 = [I32, I32, I32, I32, I32] [I32]
-lower async: u32 u32 u32 u32 u32 > = [I32] [I32]
-lift: u32 u64 > f64 = [I32, I64] [F64]
-lift wide: u32 u32 u32 u32 u32 u32 u32 u32 u32 u32 u32 u32 u32 u32 u32 u32 u32 > string = [I64] [I64]
-lift async callback: u32 u64 > f64 = [I32, I64] [I32]
-lift async: u32 u64 > f64 = [I32, I64] []
+lower: u32 u64 > f64 = [I32, I64] [F64] no
+lower wide: u32 u32 u32 u32 u32 u32 u32 u32 u32 u32 u32 u32 u32 u32 u32 u32 u32 > string = [I64, I64] [] no
+lower async: u32 u32 u32 u32 > u32 = [I32, I32, I32, I32, I32] [I32] no
+lower async: u32 u32 u32 u32 u32 > = [I32] [I32] no
+lift: u32 u64 > f64 = [I32, I64] [F64] no
+lift wide: u32 u32 u32 u32 u32 u32 u32 u32 u32 u32 u32 u32 u32 u32 u32 u32 u32 > string = [I64] [I64] no
+lift async callback: u32 u64 > f64 = [I32, I64] [I32] no
+lift async: u32 u64 > f64 = [I32, I64] [] no
+lower: u32 own > = [I32, I32] [] yes
+lower: string > u8 stream = [I32, I32] [I32] yes
+lower: u32 string > string = [I32, I32, I32, I32] [] no
 ";
 
 /// The core signature of a side in words.
@@ -85,9 +88,11 @@ fn told(
     ty: TypeFuncIndex,
     words: &str,
 ) -> Result<String, PushError> {
+    assert!(rt; builder.component_types().get(ty).is_some());
     let signature = signature_of(rt, builder, ty, words)?;
+    let handle = yes_or_no(builder.func_contains_any_handle(ty));
     let (params, results) = (signature.params.as_slice(), signature.results.as_slice());
-    Ok(format!(in alloc; "{params:?} {results:?}")?)
+    Ok(format!(in alloc; "{params:?} {results:?} {handle}")?)
 }
 
 /// The core signature of a side of a function in words, as a row tells it.
@@ -100,31 +105,6 @@ pub fn signature(
     let (side, func) = words.split_once(": ").expect(rt, "a function");
     let ty = func_of(rt, alloc, builder, func)?;
     told(rt, alloc, builder, ty, side)
-}
-
-/// A function, and whether it holds a handle.
-const HANDLES: &str = "
-u32 own > = yes
-string > u8 stream = yes
-u32 string > string = no
-";
-
-/// Whether a function holds a handle.
-fn has_handle(rt: &impl Abort, builder: &ComponentTypesBuilder, ty: TypeFuncIndex) -> bool {
-    assert!(rt; builder.component_types().get(ty).is_some());
-    builder.func_contains_any_handle(ty)
-}
-
-/// Whether a function holds a handle, as a row tells it.
-pub fn handles(
-    rt: &impl Abort,
-    alloc: Global,
-    builder: &mut ComponentTypesBuilder,
-    words: &str,
-) -> Result<String, PushError> {
-    let ty = func_of(rt, alloc, builder, words)?;
-    let holds = has_handle(rt, builder, ty);
-    Ok(String::from_str(alloc, yes_or_no(holds))?)
 }
 
 /// Two functions, and whether they have one index.
@@ -149,6 +129,5 @@ pub fn one_function(
 #[test]
 fn functions_are_told(rt: HostRuntime) -> Result<(), Fail> {
     say_table(&rt, rt.alloc(), Question::Signature, ROWS)?;
-    say_table(&rt, rt.alloc(), Question::Handles, HANDLES)?;
     say_table(&rt, rt.alloc(), Question::OneFunction, EQUAL)
 }

@@ -15,8 +15,21 @@ use indexmap::{IndexMap, IndexSet};
 use std::alloc::Global;
 use std::process::Abort;
 
-/// The names in a list of names.
+/// So many names: these letters with `0` behind them, with `1`, and so on.
+fn numbered_names(alloc: Global, letters: &str, count: u32) -> Result<IndexSet<Text>, PushError> {
+    let mut names = IndexSet::new(alloc);
+    for number in 0..count {
+        let name = format!(in alloc; "{letters}{number}")?;
+        names.insert(Text::from_string(name))?;
+    }
+    Ok(names)
+}
+
+/// The names in a list of names, or so many numbered ones behind `*`.
 pub fn names_of(alloc: Global, list: &str) -> Result<IndexSet<Text>, PushError> {
+    if let Some((letters, count)) = list.split_once("*") {
+        return numbered_names(alloc, letters, count.parse::<u32>().unwrap_or(0));
+    }
     let mut names = IndexSet::new(alloc);
     for name in list.split(',') {
         names.insert(Text::from_str(alloc, name)?)?;
@@ -95,9 +108,16 @@ fn resource() -> TypeResourceTable {
     TypeResourceTable::Abstract(AbstractResourceIndex::from_u32(0))
 }
 
-/// An own of a resource, of a table of its own.
-pub fn make_own(builder: &mut ComponentTypesBuilder) -> Result<InterfaceType, PushError> {
-    Ok(InterfaceType::Own(builder.push_resource_table(resource())?))
+/// An own of a resource, of the table of a number, or of a new one.
+pub fn make_own(
+    builder: &mut ComponentTypesBuilder,
+    number: &str,
+) -> Result<InterfaceType, PushError> {
+    let table = match number.parse::<u32>() {
+        Ok(number) => EntityRef::from_u32(number),
+        Err(_) => builder.push_resource_table(resource())?,
+    };
+    Ok(InterfaceType::Own(table))
 }
 
 /// A borrow of a resource, of a table of its own.

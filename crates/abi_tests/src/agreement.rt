@@ -4,7 +4,7 @@ ghost use Rattle.fact_types.specs.Tables.{IsLive};
 
 use crate::live::{are_live, is_live};
 use crate::questions::{Question, say_table, yes_or_no};
-use crate::words::{repeated, type_of, types_of};
+use crate::words::{type_of, types_of};
 use fact_agreement::Agreement;
 use fact_builder::ComponentTypesBuilder;
 use fact_entity::PushError;
@@ -13,7 +13,8 @@ use std::alloc::Global;
 use std::process::Abort;
 use std::test::Fail;
 
-/// A source type, a destination type, and whether they agree.
+/// A source type, a destination type, and whether they agree. Types that many others share are compared once: in the last rows,
+/// where each level holds the one below twice, there are 2 to the power of 60 pairs.
 const ROWS: &str = "
 bool / bool = yes
 bool / u8 = no
@@ -122,6 +123,8 @@ u8 future list option / s8 future list option = yes
 u8 record:a tuple:1 / u8 record:b tuple:1 = no
 - variant:a list / - - variant:a,b list = yes
 - - variant:a,b list / - variant:a list = no
+- variant:a * 60 same tuple:2 list / - - variant:b,a * 60 same tuple:2 list = yes
+- - variant:b,a * 60 same tuple:2 list / - variant:a * 60 same tuple:2 list = no
 ";
 
 /// Whether a type agrees with another, asked twice, and in lists.
@@ -156,20 +159,6 @@ fn agreed(
     answer
 }
 
-/// Whether a type in words agrees with another.
-fn agree_in_words(
-    rt: &impl Abort,
-    alloc: Global,
-    builder: &mut ComponentTypesBuilder,
-    from: &str,
-    to: &str,
-) -> Result<String, PushError> {
-    let source = type_of(rt, alloc, builder, from)?;
-    let destination = type_of(rt, alloc, builder, to)?;
-    let agree = agreed(rt, alloc, builder, source, destination)?;
-    Ok(String::from_str(alloc, yes_or_no(agree))?)
-}
-
 /// Whether a type agrees with another, as a row tells it.
 pub fn agree(
     rt: &impl Abort,
@@ -178,7 +167,10 @@ pub fn agree(
     words: &str,
 ) -> Result<String, PushError> {
     let (from, to) = words.split_once(" / ").expect(rt, "a destination");
-    agree_in_words(rt, alloc, builder, from, to)
+    let source = type_of(rt, alloc, builder, from)?;
+    let destination = type_of(rt, alloc, builder, to)?;
+    let agree = agreed(rt, alloc, builder, source, destination)?;
+    Ok(String::from_str(alloc, yes_or_no(agree))?)
 }
 
 /// Lists of types, and whether they agree.
@@ -227,31 +219,8 @@ pub fn agree_by_place(
     Ok(String::from_str(alloc, yes_or_no(agree))?)
 }
 
-/// Each level holds the one below twice.
-const LEVEL: &str = "same tuple:2 list";
-
-/// Types that many others share are compared once: here there are 2 to the power of 60 pairs.
-const SHARED: &str = "
-- variant:a / - - variant:b,a = yes
-- - variant:b,a / - variant:a = no
-";
-
-/// Whether a type agrees with another that many others share, as a row tells it.
-pub fn agree_deep(
-    rt: &impl Abort,
-    alloc: Global,
-    builder: &mut ComponentTypesBuilder,
-    words: &str,
-) -> Result<String, PushError> {
-    let (from, to) = words.split_once(" / ").expect(rt, "a destination");
-    let from = repeated(alloc, from, LEVEL, 60)?;
-    let to = repeated(alloc, to, LEVEL, 60)?;
-    agree_in_words(rt, alloc, builder, from.as_str(), to.as_str())
-}
-
 #[test]
 fn types_agree(rt: HostRuntime) -> Result<(), Fail> {
     say_table(&rt, rt.alloc(), Question::Agree, ROWS)?;
-    say_table(&rt, rt.alloc(), Question::AgreeByPlace, LISTS)?;
-    say_table(&rt, rt.alloc(), Question::AgreeDeep, SHARED)
+    say_table(&rt, rt.alloc(), Question::AgreeByPlace, LISTS)
 }

@@ -2,13 +2,11 @@
 
 use crate::live::is_live;
 use crate::questions::{Question, say_table};
-use crate::words::{number_of, type_of};
+use crate::words::type_of;
 use fact_builder::ComponentTypesBuilder;
-use fact_entity::PushError;
-use fact_making::{make_enum, make_flags};
-use fact_types::{ComponentTypes, InterfaceType, Lookup, TypeMap, VariantInfo};
+use fact_entity::{PushError, TypeRecordIndex};
+use fact_types::{InterfaceType, Lookup, TypeMap, VariantInfo};
 use fact_wasm::Text;
-use indexmap::IndexSet;
 use std::alloc::Global;
 use std::process::Abort;
 use std::test::Fail;
@@ -92,6 +90,18 @@ u16 option string u16 option result tuple:2 = tuple 16 4 32 8
 u16 option string u16 option result tuple:2 fixed:3 = fixed 48 4 96 8
 u16 option fixed:8 = fixed 32 2 32 2
 u32 u8 u64 u16 list record:a,b,c map = map 8 4 16 8
+enum:n*32 = enum 1 1 1 1
+flags:n*32 = flags 4 4 4 4
+enum:n*33 = enum 1 1 1 1
+flags:n*33 = flags 8 4 8 4
+enum:n*256 = enum 1 1 1 1
+flags:n*256 = flags 32 4 32 4
+enum:n*257 = enum 2 2 2 2
+flags:n*257 = flags 36 4 36 4
+enum:n*8160 = enum 2 2 2 2
+flags:n*8160 = flags 1020 4 1020 4
+enum:n*8161 = enum 2 2 2 2
+flags:n*8161 = too large
 ";
 
 /// The kind of a type that was made.
@@ -210,29 +220,33 @@ pub fn inside(
     }
 }
 
-/// A field of a record, the flat types before it, and its places in memories of 32 bits and of 64 bits.
+/// A field of a record, the flat types before it, and its places in memories of 32 bits and of 64 bits, and how many fields there
+/// are.
 const FIELDS: &str = "
-a in u8 u64 u16 list record:a,b,c = Some(0) 0 0
-b in u8 u64 u16 list record:a,b,c = Some(1) 8 8
-c in u8 u64 u16 list record:a,b,c = Some(2) 16 16
+a in u8 u64 u16 list record:a,b,c = Some(0) 0 0 of 3
+b in u8 u64 u16 list record:a,b,c = Some(1) 8 8 of 3
+c in u8 u64 u16 list record:a,b,c = Some(2) 16 16 of 3
 d in u8 u64 u16 list record:a,b,c = none
+b in u8 u32 record:a,b = Some(1) 4 4 of 2
 ";
 
 /// Where a field of a record stands, as a row tells it.
 fn place_told(
+    rt: &impl Abort,
     alloc: Global,
-    types: &ComponentTypes,
-    record: InterfaceType,
+    builder: &ComponentTypesBuilder,
+    record: TypeRecordIndex,
     name: &Text,
 ) -> Result<String, PushError> {
-    let place = match record {
-        InterfaceType::Record(i) if types.get(i).is_some() => types.find_field(i, name),
-        _ => None,
-    };
-    match place {
+    let types = builder.component_types();
+    assert!(rt; types.get(record).is_some());
+    match types.find_field(record, name) {
         Some(field) => Ok(format!(in alloc;
-            "{:?} {} {}",
-            field.flat_place, field.place32, field.place64
+            "{:?} {} {} of {}",
+            field.flat_place,
+            field.place32,
+            field.place64,
+            builder[record].fields.len()
         )?),
         None => Ok(String::from_str(alloc, "none")?),
     }
@@ -246,68 +260,16 @@ pub fn place(
     words: &str,
 ) -> Result<String, PushError> {
     let (name, words) = words.split_once(" in ").expect(rt, "a record");
-    let record = type_of(rt, alloc, builder, words)?;
+    let InterfaceType::Record(record) = type_of(rt, alloc, builder, words)? else {
+        return Ok(String::new(alloc));
+    };
     let name = Text::from_str(alloc, name)?;
-    place_told(alloc, builder.component_types(), record, &name)
-}
-
-/// How many names, and what comes of making an enum of them, or flags of them.
-const LONG: &str = "
-enum 32 = enum 1 1 1 1
-flags 32 = flags 4 4 4 4
-enum 33 = enum 1 1 1 1
-flags 33 = flags 8 4 8 4
-enum 256 = enum 1 1 1 1
-flags 256 = flags 32 4 32 4
-enum 257 = enum 2 2 2 2
-flags 257 = flags 36 4 36 4
-enum 8160 = enum 2 2 2 2
-flags 8160 = flags 1020 4 1020 4
-enum 8161 = enum 2 2 2 2
-flags 8161 = too large
-";
-
-/// So many names.
-fn numbers(alloc: Global, count: u32) -> Result<IndexSet<Text>, PushError> {
-    let mut names = IndexSet::new(alloc);
-    for number in 0..count {
-        names.insert(Text::from_string(format!(in alloc; "{number}")?))?;
-    }
-    Ok(names)
-}
-
-/// An enum of so many names, or flags.
-fn make_of_many_names(
-    alloc: Global,
-    builder: &mut ComponentTypesBuilder,
-    kind: &str,
-    count: u32,
-) -> Result<InterfaceType, PushError> {
-    let names = numbers(alloc, count)?;
-    match kind {
-        "enum" => make_enum(builder, names),
-        _ => make_flags(builder, names),
-    }
-}
-
-/// What comes of many names, as a row tells it.
-pub fn made_of_names(
-    rt: &impl Abort,
-    alloc: Global,
-    builder: &mut ComponentTypesBuilder,
-    words: &str,
-) -> Result<String, PushError> {
-    let (kind, count) = words.split_once(" ").expect(rt, "how many names");
-    match make_of_many_names(alloc, builder, kind, number_of(rt, count)) {
-        Ok(ty) => told(rt, alloc, builder, &ty),
-        Err(error) => refused(alloc, error),
-    }
+    place_told(rt, alloc, builder, record, &name)
 }
 
 #[test]
 fn types_are_made(rt: HostRuntime) -> Result<(), Fail> {
     say_table(&rt, rt.alloc(), Question::Made, ROWS)?;
     say_table(&rt, rt.alloc(), Question::Inside, INSIDE)?;
-    say_table(&rt, rt.alloc(), Question::Place, FIELDS)?;
-    say_table(&rt, rt.alloc(), Question::Many, LONG)
+    say_table(&rt, rt.alloc(), Question::Place, FIELDS)
 }

@@ -1,11 +1,14 @@
 //! Tables of types in words, each with what is asked of its rows. Behind ` = ` a row has the answer.
 
-use crate::agreement::{agree, agree_by_place, agree_deep};
-use crate::facts::{known, known_deep};
+use crate::agreement::{agree, agree_by_place};
+use crate::carried::carried;
+use crate::facts::known;
 use crate::flat::{flat, flat_up_to};
-use crate::indices::{core_type, fields, index};
-use crate::making::{inside, made, made_of_names, place};
-use crate::signatures::{handles, one_function, signature};
+use crate::indices::{core_type, index};
+use crate::lifted::lifted;
+use crate::loaded::loaded;
+use crate::making::{inside, made, place};
+use crate::signatures::{one_function, signature};
 use fact_builder::ComponentTypesBuilder;
 use fact_entity::PushError;
 use std::alloc::Global;
@@ -21,34 +24,30 @@ pub enum Question {
     Inside,
     /// Where a field of a record stands.
     Place,
-    /// What comes of many names.
-    Many,
     /// How deep a type nests, and what it holds.
     Known,
-    /// The same of a type that nests deep.
-    KnownDeep,
     /// The flat types of a type.
     Flat,
     /// The core types of several, if they are allowed so many.
     FlatUpTo,
     /// The index of a type.
     Index,
-    /// How many fields a record has.
-    Fields,
     /// The index of a core function type.
     CoreType,
     /// Whether a type agrees with another.
     Agree,
     /// Whether types agree with others by place.
     AgreeByPlace,
-    /// Whether types agree that many others share.
-    AgreeDeep,
     /// The core signature of a side of an adapter.
     Signature,
-    /// Whether a function holds a handle.
-    Handles,
     /// Whether two functions have one index.
     OneFunction,
+    /// The value that stands in a memory.
+    Loaded,
+    /// The value that core values stand for.
+    Lifted,
+    /// What a value is carried to.
+    Carried,
 }
 
 /// The answer to a question, as a row tells it.
@@ -63,20 +62,18 @@ fn answer(
         Question::Made => made(rt, alloc, builder, words),
         Question::Inside => inside(rt, alloc, builder, words),
         Question::Place => place(rt, alloc, builder, words),
-        Question::Many => made_of_names(rt, alloc, builder, words),
         Question::Known => known(rt, alloc, builder, words),
-        Question::KnownDeep => known_deep(rt, alloc, builder, words),
         Question::Flat => flat(rt, alloc, builder, words),
         Question::FlatUpTo => flat_up_to(rt, alloc, builder, words),
         Question::Index => index(rt, alloc, builder, words),
-        Question::Fields => fields(rt, alloc, builder, words),
         Question::CoreType => core_type(rt, alloc, builder, words),
         Question::Agree => agree(rt, alloc, builder, words),
         Question::AgreeByPlace => agree_by_place(rt, alloc, builder, words),
-        Question::AgreeDeep => agree_deep(rt, alloc, builder, words),
         Question::Signature => signature(rt, alloc, builder, words),
-        Question::Handles => handles(rt, alloc, builder, words),
         Question::OneFunction => one_function(rt, alloc, builder, words),
+        Question::Loaded => loaded(rt, alloc, builder, words),
+        Question::Lifted => lifted(rt, alloc, builder, words),
+        Question::Carried => carried(rt, alloc, builder, words),
     }
 }
 

@@ -2,14 +2,14 @@
 
 use crate::live::is_live;
 use crate::questions::{Question, say_table, yes_or_no};
-use crate::words::{number_of, repeated, type_of};
+use crate::words::type_of;
 use fact_builder::ComponentTypesBuilder;
 use fact_entity::PushError;
 use std::alloc::Global;
 use std::process::Abort;
 use std::test::Fail;
 
-/// A type, how deep it nests, and whether it holds such a pointer, and a borrow.
+/// A type, how deep it nests, and whether it holds such a pointer, and a borrow. Past 101 levels are told as 101.
 const ROWS: &str = "
 bool = 1 no no
 u64 = 1 no no
@@ -58,6 +58,16 @@ own list = 2 yes no
 borrow list = 2 yes yes
 borrow future = 2 no no
 flags:a option = 2 no no
+u8 * 98 list = 99 yes no
+u8 * 99 list = 100 yes no
+u8 * 100 list = 101 yes no
+u8 * 101 list = 101 yes no
+u8 * 300 list = 101 yes no
+- future * 99 future = 100 no no
+- future * 100 future = 101 no no
+- future * 150 stream = 101 no no
+string * 99 option = 100 yes no
+string * 200 option = 101 yes no
 ";
 
 /// What is known of a type, as a row tells it.
@@ -74,35 +84,7 @@ pub fn known(
     Ok(format!(in alloc; "{} {pointer} {borrow}", builder.nesting(&ty))?)
 }
 
-/// A type, what is put around it, how many times, and what is known then. Past 101 levels are told as 101.
-const DEEP: &str = "
-u8 / list / 98 = 99 yes no
-u8 / list / 99 = 100 yes no
-u8 / list / 100 = 101 yes no
-u8 / list / 101 = 101 yes no
-u8 / list / 300 = 101 yes no
-- future / future / 99 = 100 no no
-- future / future / 100 = 101 no no
-- future / stream / 150 = 101 no no
-string / option / 99 = 100 yes no
-string / option / 200 = 101 yes no
-";
-
-/// What is known of a type with others around it, as a row tells it.
-pub fn known_deep(
-    rt: &impl Abort,
-    alloc: Global,
-    builder: &mut ComponentTypesBuilder,
-    words: &str,
-) -> Result<String, PushError> {
-    let (words, around) = words.split_once(" / ").expect(rt, "what is around");
-    let (others, times) = around.split_once(" / ").expect(rt, "how many times");
-    let words = repeated(alloc, words, others, number_of(rt, times) as usize)?;
-    known(rt, alloc, builder, words.as_str())
-}
-
 #[test]
 fn types_nest_and_hold_pointers(rt: HostRuntime) -> Result<(), Fail> {
-    say_table(&rt, rt.alloc(), Question::Known, ROWS)?;
-    say_table(&rt, rt.alloc(), Question::KnownDeep, DEEP)
+    say_table(&rt, rt.alloc(), Question::Known, ROWS)
 }
