@@ -100,7 +100,7 @@ abbrev pub IsApartAt : ℕ → To → Type 0
 IsApartAt count (ToLocals ss) = AreApart (take count ss) (drop count ss)
 IsApartAt count (ToMemory memory base offset) = Unit {0}
 
-slots_more : (used : ℕ → Bool) (ss : List Slot) (i : ℕ) → used i ≡ true → with_slots used ss i ≡ true
+pub slots_more : (used : ℕ → Bool) (ss : List Slot) (i : ℕ) → used i ≡ true → with_slots used ss i ≡ true
 slots_more used [] i u = u
 slots_more used (s ∷ ss) i u = local_more (with_slots used ss) s.0 i (slots_more used ss i u)
 
@@ -108,7 +108,7 @@ slots_other : (used : ℕ → Bool) (ss : List Slot) (i : ℕ) → IsNone i ss �
 slots_other used [] i n u = u
 slots_other used (s ∷ ss) i n u = local_other (with_slots used ss) s.0 i n.0 (slots_other used ss i n.1 u)
 
-slots_here : (used : ℕ → Bool) (ss : List Slot) → AreUsed (with_slots used ss) ss
+pub slots_here : (used : ℕ → Bool) (ss : List Slot) → AreUsed (with_slots used ss) ss
 slots_here used [] = tt
 slots_here used (s ∷ ss) = (local_here (with_slots used ss) s.0, wider ss (slots_here used ss))
   where
@@ -116,40 +116,40 @@ slots_here used (s ∷ ss) = (local_here (with_slots used ss) s.0, wider ss (slo
     wider [] u = tt
     wider (t ∷ ts) u = (local_more (with_slots used ss) s.0 t.0 u.0, wider ts u.1)
 
-free_behind : (used : ℕ → Bool) (ls : Locals) (ss ss' : List Slot) (ts : List ValType) → AreApart ss ss' → AreFree used ls ss' ts → AreFree (with_slots used ss) ls ss' ts
+pub free_behind : (used : ℕ → Bool) (ls : Locals) (ss ss' : List Slot) (ts : List ValType) → AreApart ss ss' → AreFree used ls ss' ts → AreFree (with_slots used ss) ls ss' ts
 free_behind used ls ss [] [] a f = tt
 free_behind used ls ss [] (t ∷ ts) a f = absurd f
 free_behind used ls ss (s ∷ ss') [] a f = absurd f
 free_behind used ls ss (s ∷ ss') (t ∷ ts) a f = (f.0, f.1, slots_other used ss s.0 a.0 f.2, free_behind used ls ss ss' ts a.1 f.3)
 
 module _ (memory64 : Bool) where
-  stands_part : (ls : Locals) (count place bytes : ℕ) (from : From) (s : Source) → StandsAt ls memory64 from s → StandsAt ls memory64 (from_part count place bytes from) (source_part count place bytes s)
+  pub stands_part : (ls : Locals) (count place bytes : ℕ) (from : From) (s : Source) → StandsAt ls memory64 from s → StandsAt ls memory64 (from_part count place bytes from) (source_part count place bytes s)
   stands_part ls count place bytes (InLocals ss) (Values vs) h = held_take ls count (drop place ss) (drop place vs) (held_drop ls place ss vs h)
   stands_part ls count place bytes (InLocals ss) (AtAddress a) h = absurd h
   stands_part ls count place bytes (InMemory memory base offset) (Values vs) h = absurd h
   stands_part ls count place bytes (InMemory memory base offset) (AtAddress a) h = record { start = h.start; there = h.there; is = let e = h.is in omega arith }
 
-  goes_spot : (used : ℕ → Bool) (ls : Locals) (count bytes : ℕ) (to : To) (d : Target) → MayGo used ls memory64 to d → MayGo used ls memory64 (to_spot count bytes to) (target_spot count bytes d)
+  pub goes_spot : (used : ℕ → Bool) (ls : Locals) (count bytes : ℕ) (to : To) (d : Target) → MayGo used ls memory64 to d → MayGo used ls memory64 (to_spot count bytes to) (target_spot count bytes d)
   goes_spot used ls count bytes (ToLocals ss) (Slots ts) h = free_take used ls count ss ts h
   goes_spot used ls count bytes (ToLocals ss) (Into a) h = absurd h
   goes_spot used ls count bytes (ToMemory memory base offset) (Slots ts) h = absurd h
   goes_spot used ls count bytes (ToMemory memory base offset) (Into a) h = record { start = h.start; there = h.there; is = let e = h.is in omega arith }
 
-  goes_past : (used : ℕ → Bool) (ls : Locals) (count bytes : ℕ) (to : To) (d : Target) → IsApartAt count to → MayGo used ls memory64 to d → MayGo (with_to used (to_spot count bytes to)) ls memory64 (to_past count to) (target_past count d)
+  pub goes_past : (used : ℕ → Bool) (ls : Locals) (count bytes : ℕ) (to : To) (d : Target) → IsApartAt count to → MayGo used ls memory64 to d → MayGo (with_to used (to_spot count bytes to)) ls memory64 (to_past count to) (target_past count d)
   goes_past used ls count bytes (ToLocals ss) (Slots ts) a h = free_behind used ls (take count ss) (drop count ss) (drop count ts) a (free_drop used ls count ss ts h)
   goes_past used ls count bytes (ToLocals ss) (Into x) a h = absurd h
   goes_past used ls count bytes (ToMemory memory base offset) (Slots ts) a h = absurd h
   goes_past used ls count bytes (ToMemory memory base offset) (Into x) a h = h
 
-to_more : (used : ℕ → Bool) (to : To) (i : ℕ) → used i ≡ true → with_to used to i ≡ true
+pub to_more : (used : ℕ → Bool) (to : To) (i : ℕ) → used i ≡ true → with_to used to i ≡ true
 to_more used (ToLocals ss) i u = slots_more used ss i u
 to_more used (ToMemory memory base offset) i u = u
 
-stood_stays : (used : ℕ → Bool) (to : To) {ls ls' : Locals} (vs : List CoreValue) → KeepsLocals (with_to used to) ls ls' → Stood ls to vs → Stood ls' to vs
+pub stood_stays : (used : ℕ → Bool) (to : To) {ls ls' : Locals} (vs : List CoreValue) → KeepsLocals (with_to used to) ls ls' → Stood ls to vs → Stood ls' to vs
 stood_stays used (ToLocals ss) vs k h = held_kept k ss vs (slots_here used ss) h
 stood_stays used (ToMemory memory base offset) vs k h = h
 
-stood_both : (ls : Locals) (count bytes : ℕ) (to : To) (vs us : List CoreValue) → Stood ls (to_spot count bytes to) vs → Stood ls (to_past count to) us → Stood ls to (vs ++ us)
+pub stood_both : (ls : Locals) (count bytes : ℕ) (to : To) (vs us : List CoreValue) → Stood ls (to_spot count bytes to) vs → Stood ls (to_past count to) us → Stood ls to (vs ++ us)
 stood_both ls count bytes (ToLocals ss) vs us h g = held_both ls count ss vs us h g
 stood_both ls count bytes (ToMemory memory base offset) vs us h g = ap (λ l. l ++ us) h ∙ g
 

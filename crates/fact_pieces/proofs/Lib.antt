@@ -1,5 +1,6 @@
 pub mod Aligned
 pub mod Blocks
+pub mod CaseMoves
 pub mod Chars
 pub mod FieldMoves
 pub mod Functions
@@ -35,3 +36,4 @@ pub mod TypedStates
 pub mod TypingLaws
 pub mod UsedLocals
 pub mod Worlds
+pub mod Zeros

@@ -15,6 +15,7 @@ use Rattle.fact_abi.specs.Places.{count_of_members, case_bytes}
 use Rattle.fact_moves.specs.Actions.{Action, Visit, trap}
 use Rattle.fact_moves.specs.Moves.{move, move_case}
 use Rattle.fact_moves.specs.Sides.{Source, Target, read_number}
+use Rattle.fact_pieces.specs.Code.{sum_code}
 use Rattle.fact_pieces.specs.Does.{Locals, Onward, held_types, Does}
 use Rattle.fact_pieces.specs.Knows.{KnowsFunction}
 use Rattle.fact_pieces.specs.Places.{Setting, transfer, is_on, DebugChecks, From, To, StandsAt, MayGo, Stood, KeepsLocals, FromUsed, ToUsed, FromTyped, Moves, Number, size_of, Readable, read_code, node_check}
@@ -27,7 +28,7 @@ use Rattle.fact_pieces.proofs.Scalars.{IsNarrow}
 use Rattle.fact_pieces.proofs.Tested.{Temporary}
 use Rattle.fact_pieces.proofs.Aligned.{Checked, moves_checked}
 use Rattle.fact_pieces.proofs.FieldMoves.{moves_same}
-use Rattle.fact_pieces.proofs.Sums.{sum_code, sum_does, typed_sum}
+use Rattle.fact_pieces.proofs.Sums.{sum_does, typed_sum}
 use Rattle.fact_pieces.proofs.TypingLaws.{typed_then, typed_next, typed_one}
 use Rattle.fact_pieces.proofs.TypedRows.{takes_local_get, takes_local_set}
 use Rattle.fact_pieces.proofs.TypedShapes.{IsClosedCode}

@@ -14,7 +14,7 @@ use Rattle.fact_abi.specs.Limits.{CaseType, case_type}
 use Rattle.fact_abi.specs.Places.{count_of_members}
 use Rattle.fact_moves.specs.Actions.{Action, trap}
 use Rattle.fact_moves.specs.Running.{ImportPlaces}
-use Rattle.fact_pieces.specs.Code.{trap_code, cases_code}
+use Rattle.fact_pieces.specs.Code.{trap_code, labels_from, sum_code}
 use Rattle.fact_pieces.specs.Does.{Locals, Onward, Does, PushesValue}
 use Rattle.fact_pieces.specs.Knows.{KnowsFunction}
 use Rattle.fact_pieces.specs.Typed.{OnStack, Never, IsTyped}
@@ -26,22 +26,17 @@ use Rattle.fact_machine.proofs.Tests.{get_append}
 
 -- ---- numbers of cases
 
--- so many numbers from one on
-abbrev pub numbers : ℕ → ℕ → List ℕ
-numbers i zero = []
-numbers i (suc n) = i ∷ numbers (suc i) n
-
-number_at : (i n x : ℕ) → x < n → slice_get (numbers i n) x ≡ Some (i + x)
+number_at : (i n x : ℕ) → x < n → slice_get (labels_from i n) x ≡ Some (i + x)
 number_at i zero x lt = absurd (omega arith)
 number_at i (suc n) zero lt = let e : i ≡ i + 0 = omega arith in ap (λ m. Some m) e
 number_at i (suc n) (suc x) lt = let e : suc i + x ≡ i + suc x = omega arith in number_at (suc i) n x (omega arith) ∙ ap (λ m. Some m) e
 
-number_past : (i n x : ℕ) → n ≤ x → slice_get (numbers i n) x ≡ None
+number_past : (i n x : ℕ) → n ≤ x → slice_get (labels_from i n) x ≡ None
 number_past i zero x le = refl
 number_past i (suc n) zero le = absurd (omega arith)
 number_past i (suc n) (suc x) le = number_past (suc i) n x (omega arith)
 
-numbers_below : (i n most : ℕ) → i + n ≤ suc most → AllByRecursion (λ l. l ≤ most) (numbers i n)
+numbers_below : (i n most : ℕ) → i + n ≤ suc most → AllByRecursion (λ l. l ≤ most) (labels_from i n)
 numbers_below i zero most le = tt
 numbers_below i (suc n) most le = (omega arith, numbers_below (suc i) n most (omega arith))
 
@@ -66,10 +61,6 @@ last_of (x ∷ xs) y (suc n) e = last_of xs y n (omega arith)
 
 -- ---- the code of a sum
 
--- the code of each case, and a trap past the last
-abbrev pub sum_code : (number : List Instr) → (trap : ℕ) → List (List Instr) → List Instr
-sum_code number trap codes = cases_code number (numbers 0 (length codes)) (length codes) (codes ++ trap_code trap ∷ [])
-
 module _ {A : Type 0} {M : WasmModule} {p : ImportPlaces} {ls : Locals} {Holds : A → Locals → Type 0} {extra spare steps : ℕ} {number : List Instr} (ms : Members) (codes : List (List Instr)) (trap_at x : ℕ) (k : CaseType → Action A) (all : length codes ≡ count_of_members ms)
     (traps : KnowsFunction M p (import.Trap InvalidDiscriminant) trap_at [] []) (pushes : PushesValue M steps ls number (I32 x))
     (each : (n : ℕ) (c : CaseType) → case_type ms n ≡ Some c → (code : List Instr) × (slice_get codes n ≡ Some code) × Does M p Onward extra spare [] ls code (k c) (λ a. []) Holds) where
@@ -79,15 +70,15 @@ module _ {A : Type 0} {M : WasmModule} {p : ImportPlaces} {ls : Locals} {Holds :
       let one = each x c e in
       let lt : x < length codes = subst (λ n. x < n) (sym all) (case_within ms x c e) in
       let zero_more : 0 + x ≡ x = omega arith in
-      let at : label_at (numbers 0 (length codes)) (length codes) x ≡ x = ap (λ o. elim o as (λ (o : Option ℕ). ℕ) [ None ↦ length codes | Some l ↦ l ]) (number_at 0 (length codes) x lt) ∙ zero_more in
+      let at : label_at (labels_from 0 (length codes)) (length codes) x ≡ x = ap (λ o. elim o as (λ (o : Option ℕ). ℕ) [ None ↦ length codes | Some l ↦ l ]) (number_at 0 (length codes) x lt) ∙ zero_more in
       let there = ap (slice_get (codes ++ trap_code trap_at ∷ [])) at ∙ get_append codes (trap_code trap_at ∷ []) x one.0 one.1 in
-      within (omega (arith, length-append codes (trap_code trap_at ∷ []))) (cases (numbers 0 (length codes)) (length codes) x (codes ++ trap_code trap_at ∷ []) pushes there one.2)
+      within (omega (arith, length-append codes (trap_code trap_at ∷ []))) (cases (labels_from 0 (length codes)) (length codes) x (codes ++ trap_code trap_at ∷ []) pushes there one.2)
   by_case None e =
       let le : length codes ≤ x = subst (λ n. n ≤ x) (sym all) (case_past ms x e) in
-      let at : label_at (numbers 0 (length codes)) (length codes) x ≡ length codes = ap (λ o. elim o as (λ (o : Option ℕ). ℕ) [ None ↦ length codes | Some l ↦ l ]) (number_past 0 (length codes) x le) in
+      let at : label_at (labels_from 0 (length codes)) (length codes) x ≡ length codes = ap (λ o. elim o as (λ (o : Option ℕ). ℕ) [ None ↦ length codes | Some l ↦ l ]) (number_past 0 (length codes) x le) in
       let there = ap (slice_get (codes ++ trap_code trap_at ∷ [])) at ∙ last_of codes (trap_code trap_at) (length codes) refl in
       let trapped : Does M p Onward (suc extra) spare [] ls (trap_code trap_at) (trap InvalidDiscriminant) (λ (a : A). []) Holds = calls_trap traps in
-      within (omega (arith, length-append codes (trap_code trap_at ∷ []))) (cases (numbers 0 (length codes)) (length codes) x (codes ++ trap_code trap_at ∷ []) pushes there trapped)
+      within (omega (arith, length-append codes (trap_code trap_at ∷ []))) (cases (labels_from 0 (length codes)) (length codes) x (codes ++ trap_code trap_at ∷ []) pushes there trapped)
 
   -- what is done with the case of a number, or a trap where there is none
   pub sum_does : Does M p Onward (extra + steps + length codes + 5) spare [] ls (sum_code number trap_at codes) (elim (case_type ms x) as (λ (o : Option CaseType). Action A) [ None ↦ trap InvalidDiscriminant | Some c ↦ k c ]) (λ a. []) Holds
@@ -101,5 +92,5 @@ closed_append (d ∷ cs) c h l = (h.0, closed_append cs c h.1 l)
 pub typed_sum : {M : WasmModule} {locals : List ValType} {labels : List (List ValType)} {p : ImportPlaces} {number : List Instr} {ins : List ValType} (codes : List (List Instr)) (trap_at : ℕ) → KnowsFunction M p (import.Trap InvalidDiscriminant) trap_at [] []
     → IsTyped M locals [] number [] (OnStack (val.I32 ∷ [])) → AllByRecursion (IsClosedCode M locals) codes → IsTyped M locals labels (sum_code number trap_at codes) ins (OnStack ins)
 typed_sum codes trap_at h x each =
-    typed_cases (numbers 0 (length codes)) (length codes) (codes ++ trap_code trap_at ∷ []) (omega (arith, length-append codes (trap_code trap_at ∷ []))) (numbers_below 0 (length codes) (length (codes ++ trap_code trap_at ∷ [])) (omega (arith, length-append codes (trap_code trap_at ∷ [])))) x
+    typed_cases (labels_from 0 (length codes)) (length codes) (codes ++ trap_code trap_at ∷ []) (omega (arith, length-append codes (trap_code trap_at ∷ []))) (numbers_below 0 (length codes) (length (codes ++ trap_code trap_at ∷ [])) (omega (arith, length-append codes (trap_code trap_at ∷ [])))) x
     (closed_append codes (trap_code trap_at) each (record { ends = Never; closed = tt; typed = typed_trap h }))

@@ -1,5 +1,5 @@
 -- Shapes of code that pieces are made of.
-use Rattle.std.specs.Prelude.{ℕ, ◌%◌, ◌^◌, Bool, true, false, List, [], ◌∷◌, ◌++◌, length, Option}
+use Rattle.std.specs.Prelude.{ℕ, zero, suc, ◌%◌, ◌^◌, Bool, true, false, List, [], ◌∷◌, ◌++◌, length, Option}
 use Rattle.fact_wasm.specs.declared.instr.BlockType.TheVariants.{Empty}
 use Rattle.fact_wasm.specs.declared.instr.FuncName.TheVariants as func
 use Rattle.fact_wasm.specs.declared.instr.Instr.{Instr}
@@ -23,6 +23,15 @@ arms (c ∷ cs) = (c ++ I.Br (length cs) ∷ []) ∷ arms cs
 -- a number, and the case whose label the table has at its place, or else the last
 abbrev pub cases_code : List Instr → List ℕ → ℕ → List (List Instr) → List Instr
 cases_code number labels last cs = I.Block Empty (nest (arms cs) (number ++ I.BrTable labels last ∷ [])) ∷ []
+
+-- so many labels from one on
+abbrev pub labels_from : ℕ → ℕ → List ℕ
+labels_from i zero = []
+labels_from i (suc n) = i ∷ labels_from (suc i) n
+
+-- the code of each case of a sum, and a trap past the last
+abbrev pub sum_code : (number : List Instr) → (trap : ℕ) → List (List Instr) → List Instr
+sum_code number trap codes = cases_code number (labels_from 0 (length codes)) (length codes) (codes ++ trap_code trap ∷ [])
 
 -- A turn of a loop: `test` pushes a number that is not 0 where no turn is left, and `body` is a turn, which counts.
 abbrev pub turn_code : (test body : List Instr) → List Instr

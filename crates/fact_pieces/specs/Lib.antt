@@ -1,3 +1,4 @@
+pub mod Cases
 pub mod Code
 pub mod Does
 pub mod Knows

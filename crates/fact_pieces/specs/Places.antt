@@ -353,3 +353,8 @@ to_past count (ToMemory memory base offset) = ToMemory memory base offset
 abbrev pub IsNone : ℕ → List Slot → Type 0
 IsNone i [] = Unit {0}
 IsNone i (s ∷ ss) = (nat_eq i s.0 ≡ false) × IsNone i ss
+
+-- no local stands in two slots
+abbrev pub AreDistinctSlots : List Slot → Type 0
+AreDistinctSlots [] = Unit {0}
+AreDistinctSlots (s ∷ ss) = IsNone s.0 ss × AreDistinctSlots ss
