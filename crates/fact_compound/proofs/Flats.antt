@@ -14,8 +14,8 @@ use Rattle.fact_types.proofs.CountLaws.{count_is_length}
 use Rattle.fact_types.specs.Shapes.{Shape, layout_of}
 use Rattle.fact_types.specs.Signatures.{width, flat_values}
 use Rattle.fact_types.specs.Tuples.{members_from, tuple_members, tuple_of}
-use Rattle.fact_pieces.specs.Places.{Slot, MayHold}
-use Rattle.fact_emit.specs.Fitting.{AreRoom, number_for_flat}
+use Rattle.fact_pieces.specs.Places.{Slot}
+use Rattle.fact_emit.specs.Fitting.{IsSlotFor, AreRoom}
 
 upto_some : {X : Type 0} (n : ℕ) (xs : List X) → length xs ≤ n → upto n xs ≡ Some xs
 upto_some n xs h = ap (λ b. if b then Some xs else None) (le-leb (length xs) n h)
@@ -89,11 +89,11 @@ are_flat m limit ss ts h = go (flat_each (width m) ss) refl (sym (by_each m limi
 
 -- ---- room
 
-may_hold : (f : FlatType) → MayHold (number_for_flat f) (value_type f)
-may_hold flat_type.I32 = tt
-may_hold flat_type.I64 = tt
-may_hold flat_type.F32 = tt
-may_hold flat_type.F64 = tt
+is_slot : (f : FlatType) → IsSlotFor f (value_type f)
+is_slot flat_type.I32 = tt
+is_slot flat_type.I64 = tt
+is_slot flat_type.F32 = tt
+is_slot flat_type.F64 = tt
 
 -- slots of the value types of flat types have room for their values
 pub slots_room : (slots : List Slot) (fs : List FlatType) → map (λ (s : Slot). s.1) slots ≡ map value_type fs → AreRoom slots fs
@@ -103,7 +103,7 @@ slots_room (s ∷ ss) [] e = cc
 slots_room (s ∷ ss) (f ∷ fs) e =
     let here : s.1 ≡ value_type f = cc in
     let rest : map (λ (s : Slot). s.1) ss ≡ map value_type fs = cc in
-    (subst (λ t. MayHold (number_for_flat f) t) (sym here) (may_hold f), slots_room ss fs rest)
+    (subst (IsSlotFor f) (sym here) (is_slot f), slots_room ss fs rest)
 
 -- ---- the count of a layout
 

@@ -26,7 +26,7 @@ use Rattle.fact_emit.specs.States.{ModuleSoFar, functions_of}
 use Rattle.fact_emit.specs.Writers.{AreNumberTypes, types_of_locals, is_local_in_use, taken_in, Wrote, Took, Freed, TookTrap}
 use Rattle.fact_emit.proofs.BroughtLaws.{brought_as, brought_before, brought_between, brought_on, brought_trap}
 use Rattle.fact_emit.proofs.NamedLaws.{ranged_more}
-use Rattle.fact_emit.proofs.ImportLaws.{extended_none, extended_on, grown_get, grows_none, grows_on, later_import, later_memory}
+use Rattle.fact_emit.proofs.ImportLaws.{extended_none, extended_on, grown_get, grows_none, grows_on}
 use Rattle.fact_emit.proofs.ServingLaws.{serves_sooner}
 
 -- ---- growing
@@ -47,19 +47,19 @@ grew_on {a} {b} {c} x y = record {
 }
 
 -- what is later than a writer is later than the writer before
-sooner : {a b : Writer} {M : WasmModule} {p : ImportPlaces} {locals : List ValType} → Extended a.imports b.imports → Grows (types_of_locals a) (types_of_locals b) → Later b M p locals → Later a M p locals
+pub sooner : {a b : Writer} {M : WasmModule} {p : ImportPlaces} {locals : List ValType} → Extended a.imports b.imports → Grows (types_of_locals a) (types_of_locals b) → Later b M p locals → Later a M p locals
 sooner imports grows l = record {
   serves = serves_sooner imports l.serves;
   begin = grows_on grows l.begin;
 }
 
-same_types : (a b : Writer) → b.locals ≡ a.locals → types_of_locals b ≡ types_of_locals a
+pub same_types : (a b : Writer) → b.locals ≡ a.locals → types_of_locals b ≡ types_of_locals a
 same_types a b e = ap (λ v. map (λ (l : Local). l.ty) v.items) e
 
-same_locals : (a b : Writer) → b.locals ≡ a.locals → Grows (types_of_locals a) (types_of_locals b)
+pub same_locals : (a b : Writer) → b.locals ≡ a.locals → Grows (types_of_locals a) (types_of_locals b)
 same_locals a b e = grows_none (same_types a b e)
 
-still_numbers : (a b : Writer) → types_of_locals b ≡ types_of_locals a → AreNumberTypes (types_of_locals a) → AreNumberTypes (types_of_locals b)
+pub still_numbers : (a b : Writer) → types_of_locals b ≡ types_of_locals a → AreNumberTypes (types_of_locals a) → AreNumberTypes (types_of_locals b)
 still_numbers a b e n = subst AreNumberTypes (sym e) n
 
 -- ---- one after another
@@ -79,7 +79,7 @@ emits_as f x = record { grew = x.grew; does = λ M p locals l. f M p locals x.gr
 
 -- ---- exact code
 
-same_still : (a b : Writer) → b.locals ≡ a.locals → (i : ℕ) → taken_in b i ≡ taken_in a i
+pub same_still : (a b : Writer) → b.locals ≡ a.locals → (i : ℕ) → taken_in b i ≡ taken_in a i
 same_still a b e i = ap (λ v. is_local_in_use (slice_get v.items i)) e
 
 -- instructions that were put there, in range with the functions that were imported before

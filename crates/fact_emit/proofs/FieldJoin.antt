@@ -126,7 +126,7 @@ module _ (M : WasmModule) (p : ImportPlaces) (locals : List ValType) (o : LiftLo
 -- ---- locals in use
 
 module _ {taken used : ℕ → Bool} {src : From} {dst : To} (h : Using taken used src dst) where
-  using_spot : (count place bytes n room : ℕ) → Using taken used (from_part count place bytes src) (to_spot n room dst)
+  pub using_spot : (count place bytes n room : ℕ) → Using taken used (from_part count place bytes src) (to_spot n room dst)
   using_spot count place bytes n room = record { within = h.within; from = from src h.from; to = to dst h.to; target = target dst h.target; distinct = distinct dst h.distinct }
     where
       from : (src : From) → FromUsed used src → FromUsed used (from_part count place bytes src)
@@ -145,7 +145,7 @@ module _ {taken used : ℕ → Bool} {src : From} {dst : To} (h : Using taken us
       distinct (ToLocals slots) u = distinct_take n slots u
       distinct (ToMemory memory base offset) u = tt
 
-  using_past : (n room : ℕ) → Using taken (with_to used (to_spot n room dst)) src (to_past n dst)
+  pub using_past : (n room : ℕ) → Using taken (with_to used (to_spot n room dst)) src (to_past n dst)
   using_past n room = record { within = within_past dst h.target; from = from dst src h.from; to = to dst h.to; target = target dst h.target; distinct = distinct dst h.distinct }
     where
       within_past : (dst : To) → TargetTaken taken dst → (i : ℕ) → with_to used (to_spot n room dst) i ≡ true → taken i ≡ true
@@ -172,7 +172,7 @@ module _ {taken used : ℕ → Bool} {src : From} {dst : To} (h : Using taken us
       distinct (ToLocals slots) u = distinct_drop n slots u
       distinct (ToMemory memory base offset) u = tt
 
-apart_dst : (n : ℕ) (dst : To) → HasDistinctSlots dst → IsApartAt n dst
+pub apart_dst : (n : ℕ) (dst : To) → HasDistinctSlots dst → IsApartAt n dst
 apart_dst n (ToLocals slots) h = apart_at n slots h
 apart_dst n (ToMemory memory base offset) h = tt
 

@@ -108,7 +108,7 @@ module _ (t : Tables) (i : Id FlagsTable) (e : FlagsType) (here : slice_get t.fl
 
 -- ---- enums
 
-case_size : (d : DiscriminantSize) → size_of (discriminant_number_of d) ≡ discriminant_bytes d
+pub case_size : (d : DiscriminantSize) → size_of (discriminant_number_of d) ≡ discriminant_bytes d
 case_size Size1 = refl
 case_size Size2 = refl
 case_size Size4 = refl

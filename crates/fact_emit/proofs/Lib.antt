@@ -3,6 +3,7 @@ pub mod Alignments
 pub mod AreaMoves
 pub mod BroughtLaws
 pub mod CheckMoves
+pub mod ChosenBodies
 pub mod DefinedKept
 pub mod Emitting
 pub mod ExactItems
@@ -32,5 +33,11 @@ pub mod ScalarMoves
 pub mod ServingLaws
 pub mod SourceMembers
 pub mod StateLaws
+pub mod SumCases
+pub mod SumEmits
+pub mod SumFinds
+pub mod SumJoin
+pub mod SumRoom
 pub mod TypeKinds
 pub mod Using
+pub mod ZeroCode

@@ -6,6 +6,9 @@ use Rattle.fact_entity.specs.declared.table.TypeRecords.{TypeRecords}
 use Rattle.fact_entity.specs.declared.table.TypeTuples.{TypeTuples}
 use Rattle.fact_entity.specs.declared.table.TypeFlags.{TypeFlags as FlagsTable}
 use Rattle.fact_entity.specs.declared.table.TypeEnums.{TypeEnums}
+use Rattle.fact_entity.specs.declared.table.TypeOptions.{TypeOptions}
+use Rattle.fact_entity.specs.declared.table.TypeResults.{TypeResults}
+use Rattle.fact_entity.specs.declared.table.TypeVariants.{TypeVariants}
 use Rattle.fact_wasm.specs.declared.types.ValType.{ValType}
 use Rattle.fact_wasm.specs.declared.instr.Instr.{Instr}
 use Rattle.fact_wasm.specs.declared.module.WasmModule.{WasmModule}
@@ -17,7 +20,7 @@ use Rattle.fact_types.specs.declared.interface.InterfaceType.TheVariants as ty
 use Rattle.fact_types.specs.Fields.{Field, IsFound, Finds}
 use Rattle.fact_types.specs.FlatShapes.{IsCounted, AreCounted}
 use Rattle.fact_types.specs.Layout.{extent}
-use Rattle.fact_types.specs.Shapes.{k_record, k_tuple, k_flags, k_enum, Shape, s_plain, s_node, Members, layout_of, ends_of}
+use Rattle.fact_types.specs.Shapes.{k_record, k_variant, k_tuple, k_flags, k_enum, k_option, k_result, Shape, s_plain, s_node, Members, layout_of, ends_of}
 use Rattle.fact_types.specs.Signatures.{width}
 use Rattle.fact_types.specs.Tables.{Tables, HasShape}
 use Rattle.fact_types.proofs.PlaceLaws.{ends_within}
@@ -42,7 +45,7 @@ use Rattle.fact_emit.proofs.CheckMoves.{places_emits}
 use Rattle.fact_emit.proofs.Emitting.{emits_as, emits_then, grew_on, grew_wrote}
 use Rattle.fact_emit.proofs.Found.{flat_is, some_within}
 use Rattle.fact_emit.proofs.ScalarMoves.{reached}
-use Rattle.fact_emit.proofs.TypeKinds.{record_kind, tuple_kind, record_type, tuple_type, flags_type, enum_type}
+use Rattle.fact_emit.proofs.TypeKinds.{record_kind, tuple_kind, record_type, tuple_type, flags_type, enum_type, variant_type, option_type, result_type}
 
 -- ---- the checks of places
 
@@ -198,8 +201,9 @@ from_moved {t} is m = record { grew = m.grew; emits = λ s u hs hu cs cu can. m.
 -- a scalar, where the type is of no other kind that is moved
 pub scalar_moved : {t : Tables} {from to : InterfaceType} {sides : Sides} {src : From} {dst : To} {first last : Writer}
     → ((i : Id TypeRecords) → from ≢ ty.Record i) → ((i : Id TypeTuples) → from ≢ ty.Tuple i) → ((i : Id FlagsTable) → from ≢ ty.Flags i) → ((i : Id TypeEnums) → from ≢ ty.Enum i)
+    → ((i : Id TypeVariants) → from ≢ ty.Variant i) → ((i : Id TypeOptions) → from ≢ ty.Option i) → ((i : Id TypeResults) → from ≢ ty.Result i)
     → MovedScalar from sides src dst first last → MovedNode t from to sides src dst first last
-scalar_moved {t} {from} {to} {sides} {src} {dst} {first} {last} no_record no_tuple no_flags no_enum scalar = record { grew = scalar.grew; emits = λ s u hs hu cs cu can. moved s u hs can }
+scalar_moved {t} {from} {to} {sides} {src} {dst} {first} {last} no_record no_tuple no_flags no_enum no_variant no_option no_result scalar = record { grew = scalar.grew; emits = λ s u hs hu cs cu can. moved s u hs can }
   where
     moved : (s u : Shape) → HasShape t from s → CanMove s u → Emits first last (MovesNode sides src dst (taken_in first) s u)
     moved (s_plain a) (s_plain b) hs can =
@@ -210,6 +214,9 @@ scalar_moved {t} {from} {to} {sides} {src} {dst} {first} {last} no_record no_tup
     moved (s_node k_tuple ms) (s_node k_tuple ns) hs can = let (i, is) = tuple_type t from ms hs in absurd (no_tuple i is)
     moved (s_node k_flags ms) (s_node k_flags ns) hs can = let (i, is) = flags_type t from ms hs in absurd (no_flags i is)
     moved (s_node k_enum ms) (s_node k_enum ns) hs can = let (i, is) = enum_type t from ms hs in absurd (no_enum i is)
+    moved (s_node k_variant ms) (s_node k_variant ns) hs can = let (i, is) = variant_type t from ms hs in absurd (no_variant i is)
+    moved (s_node k_option ms) (s_node k_option ns) hs can = let (i, is) = option_type t from ms hs in absurd (no_option i is)
+    moved (s_node k_result ms) (s_node k_result ns) hs can = let (i, is) = result_type t from ms hs in absurd (no_result i is)
     moved _ _ hs can = absurd can
 
 -- ---- members

@@ -74,10 +74,10 @@ pub read_address : {a b : Writer} (debug : Bool) (n : Number) (m : LinearMemory)
 read_address {a} {b} debug n m address is w = subst (λ s. Emits a b (ReadsNumber debug n (from_of m s))) (sym is) (memory_emits w)
 
 -- with code behind it
-abbrev ReadsThen : Bool → Number → From → List Instr → WasmModule → ImportPlaces → List ValType → List Instr → Type 0
+abbrev pub ReadsThen : Bool → Number → From → List Instr → WasmModule → ImportPlaces → List ValType → List Instr → Type 0
 ReadsThen debug n from ys M p locals code = HasUpperAt M p (checks_at debug p) n from × (code ≡ read_code (checks_at debug p) n from ++ ys)
 
-reads_then : {a b c : Writer} {debug : Bool} {n : Number} {from : From} {ys : List Instr} → AreRanged 0 0 ys → Emits a b (ReadsNumber debug n from) → Wrote b c ys → Emits a c (ReadsThen debug n from ys)
+pub reads_then : {a b c : Writer} {debug : Bool} {n : Number} {from : From} {ys : List Instr} → AreRanged 0 0 ys → Emits a b (ReadsNumber debug n from) → Wrote b c ys → Emits a c (ReadsThen debug n from ys)
 reads_then ranged x y = emits_then (λ M p locals c k r is. (r.has, λ i. r.is i ++ is i)) x (emits_wrote ranged y)
 
 pub pointer_emits : {a b c d : Writer} {debug memory64 : Bool} {n : Number} {from : From} {local : ℕ} → n ≡ pointer memory64 → Emits a b (ReadsNumber debug n from) → Wrote b c (widen n val.I64) → Wrote c d (I.LocalSet local ∷ []) → Emits a d (ReadsPointer debug memory64 from local)
@@ -90,7 +90,7 @@ pointer_emits {debug = debug} {memory64} {n} {from} {local} e x y z =
 -- ---- settings with checks
 
 module _ (M : WasmModule) (p : ImportPlaces) (checks : DebugChecks) (o : LiftLowerOptions) (memory64 : Bool) (n : Number) where
-  readable : (from : From) → HasUpperAt M p checks n from → Readable M p Off o memory64 n from → Readable M p checks o memory64 n from
+  pub readable : (from : From) → HasUpperAt M p checks n from → Readable M p Off o memory64 n from → Readable M p checks o memory64 n from
   readable (InLocals []) h r = r
   readable (InLocals (s ∷ ss)) h r = (r.0, h)
   readable (InMemory memory base offset) h r = r
@@ -128,7 +128,7 @@ number_emits {a} {n = n} k {src} {dst} sides h x y z v =
 
 -- ---- numbers that are tested
 
-narrow_of : (n : Number) → n ≢ N64 → IsNarrow n
+pub narrow_of : (n : Number) → n ≢ N64 → IsNarrow n
 narrow_of N8 ne = narrow_8
 narrow_of N16 ne = narrow_16
 narrow_of N32 ne = narrow_32

@@ -6,8 +6,9 @@ use Rattle.fact_wasm.specs.declared.instr.Instr.TheVariants as I
 use Rattle.fact_wasm.specs.declared.types.ValType.{ValType}
 use Rattle.fact_wasm.specs.declared.types.ValType.TheVariants as val
 use Rattle.fact_wasm.specs.Ranges.{AreRanged}
+use Rattle.fact_pieces.specs.Cases.{tag_code, zero_code, zero_const, zero_slots}
 use Rattle.fact_pieces.specs.Code.{length_code, pages_code, trap_code}
-use Rattle.fact_pieces.specs.Places.{InMemory, Number, N8, N16, N32, N64, Off, To, ToLocals, ToMemory, code_before, code_behind, from_i32, from_i64, narrow, place_test, read_code, to_i32, to_i64, upper_test, widen}
+use Rattle.fact_pieces.specs.Places.{InMemory, Number, N8, N16, N32, N64, Off, Slot, To, ToLocals, ToMemory, code_before, code_behind, from_i32, from_i64, narrow, place_test, read_code, to_i32, to_i64, upper_test, widen}
 use Rattle.fact_pieces.specs.Tests.{aligned_code, bounds_code, pointer}
 use Rattle.fact_emit.specs.declared.scalars.Canonical.{Canonical}
 use Rattle.fact_emit.specs.declared.scalars.Canonical.TheVariants.{AsIs, Truth, Signed8, Signed16, Low}
@@ -92,6 +93,28 @@ canonical_ranged Truth = ranged_none 0 0 (canonical_code Truth) (simp the_lemmas
 canonical_ranged Signed8 = ranged_none 0 0 (canonical_code Signed8) (simp the_lemmas)
 canonical_ranged Signed16 = ranged_none 0 0 (canonical_code Signed16) (simp the_lemmas)
 canonical_ranged (Low bits) = ranged_none 0 0 (canonical_code (Low bits)) (simp the_lemmas)
+
+-- ---- cases
+
+zero_ranged : (t : ValType) → AreRanged 0 0 (zero_const t ∷ [])
+zero_ranged val.I32 = ranged_none 0 0 (zero_const val.I32 ∷ []) (simp the_lemmas)
+zero_ranged val.I64 = ranged_none 0 0 (zero_const val.I64 ∷ []) (simp the_lemmas)
+zero_ranged val.F32 = ranged_none 0 0 (zero_const val.F32 ∷ []) (simp the_lemmas)
+zero_ranged val.F64 = ranged_none 0 0 (zero_const val.F64 ∷ []) (simp the_lemmas)
+zero_ranged val.FuncRef = ranged_none 0 0 (zero_const val.FuncRef ∷ []) (simp the_lemmas)
+
+slots_ranged : (ss : List Slot) → AreRanged 0 0 (zero_slots ss)
+slots_ranged [] = tt
+slots_ranged (s ∷ ss) = ranged_append 0 0 (zero_const s.1 ∷ []) (I.LocalSet s.0 ∷ zero_slots ss) (zero_ranged s.1) (ranged_append 0 0 (I.LocalSet s.0 ∷ []) (zero_slots ss) (set_ranged s.0) (slots_ranged ss))
+
+pub zeros_ranged : (rest : To) → AreRanged 0 0 (zero_code rest)
+zeros_ranged (ToLocals slots) = slots_ranged slots
+zeros_ranged (ToMemory memory base offset) = tt
+
+pub tag_ranged : (n : Number) (number : ℕ) (dst : To) → AreRanged 0 0 (tag_code n number dst)
+tag_ranged n number dst =
+    ranged_append 0 0 (code_before dst) (I.I32Const number ∷ code_behind n dst) (before_ranged dst)
+    (ranged_append 0 0 (I.I32Const number ∷ []) (code_behind n dst) (ranged_none 0 0 (I.I32Const number ∷ []) (simp the_lemmas)) (behind_ranged n dst))
 
 -- ---- pointers
 

@@ -1,6 +1,7 @@
 -- Types of one number: places that fit them fit their numbers, and their moves are those of numbers.
 use Rattle.std.proofs.Common.{◌≡◌, ◌≢◌, ℕ, ◌+◌, ◌^◌, ◌≤◌, ◌<◌, Bool, true, false, List, [], ◌∷◌, refl, sym, ap, ◌∙◌, subst, arith}
 use Rattle.fact_wasm.specs.declared.types.ValType.{ValType}
+use Rattle.fact_wasm.specs.declared.types.ValType.TheVariants as val
 use Rattle.fact_wasm.specs.declared.instr.Instr.{Instr}
 use Rattle.fact_wasm.specs.declared.module.WasmModule.{WasmModule}
 use Rattle.fact_types.specs.declared.flats.FlatType.{FlatType}
@@ -20,7 +21,7 @@ use Rattle.fact_emit.specs.declared.scalars.Canonical.{Canonical}
 use Rattle.fact_emit.specs.declared.scalars.NumberTest.TheVariants.{ScalarValue}
 use Rattle.fact_emit.specs.declared.writer.Writer.{Writer}
 use Rattle.fact_emit.specs.Emits.{Emits}
-use Rattle.fact_emit.specs.Fitting.{number_for_flat, bytes_of_shape, CanRead, CanWrite, FitsShapes, node_moves, MovesNode}
+use Rattle.fact_emit.specs.Fitting.{number_for_flat, IsSlotFor, bytes_of_shape, CanRead, CanWrite, FitsShapes, node_moves, MovesNode}
 use Rattle.fact_emit.specs.Movable.{is_scalar}
 use Rattle.fact_emit.specs.MovesValue.{Act, MovesValue}
 use Rattle.fact_emit.specs.Numbers.{FitsUnchecked}
@@ -35,15 +36,27 @@ pub reached : (memory64 : Bool) (offset bytes : ℕ) → offset + bytes ≤ 4294
 reached true offset bytes h = omega (arith, h)
 reached false offset bytes h = omega (arith, h)
 
+-- a slot of a flat type may hold its number
+pub slot_holds : (f : FlatType) (v : ValType) → IsSlotFor f v → MayHold (number_for_flat f) v
+slot_holds flat_type.I32 val.I32 h = tt
+slot_holds flat_type.I32 val.I64 h = tt
+slot_holds flat_type.I64 val.I64 h = tt
+slot_holds flat_type.F32 val.F32 h = tt
+slot_holds flat_type.F32 val.I32 h = tt
+slot_holds flat_type.F32 val.I64 h = tt
+slot_holds flat_type.F64 val.F64 h = tt
+slot_holds flat_type.F64 val.I64 h = tt
+slot_holds _ _ h = absurd h
+
 module _ (M : WasmModule) (p : ImportPlaces) (locals : List ValType) (o : LiftLowerOptions) (memory64 : Bool) (f : FlatType) (n : Number) (holds : (t : ValType) → MayHold (number_for_flat f) t → MayHold n t) (bytes : ℕ) where
   reads_one : (src : From) → CanRead M p locals o memory64 src (f ∷ []) bytes → Readable M p Off o memory64 n src × FromTyped locals memory64 src
   reads_one (InLocals []) c = absurd c.room
-  reads_one (InLocals (s ∷ ss)) c = ((holds s.1 c.room.0, tt), c.typed)
+  reads_one (InLocals (s ∷ ss)) c = ((holds s.1 (slot_holds f s.1 c.room.0), tt), c.typed)
   reads_one (InMemory memory base offset) c = (c.side, record { local = c.local; reached = reached memory64 offset bytes c.reach })
 
   writes_one : (dst : To) → CanWrite M p locals o memory64 dst (f ∷ []) bytes → Writable M p o memory64 n dst × ToTyped locals memory64 dst
   writes_one (ToLocals []) c = absurd c.room
-  writes_one (ToLocals (s ∷ [])) c = (holds s.1 c.room.0, c.typed)
+  writes_one (ToLocals (s ∷ [])) c = (holds s.1 (slot_holds f s.1 c.room.0), c.typed)
   writes_one (ToLocals (s ∷ (s' ∷ ss))) c = absurd c.room.1
   writes_one (ToMemory memory base offset) c = (c.side, record { local = c.local; reached = reached memory64 offset bytes c.reach })
 

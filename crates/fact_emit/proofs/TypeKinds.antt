@@ -6,6 +6,9 @@ use Rattle.fact_entity.specs.declared.table.TypeRecords.{TypeRecords}
 use Rattle.fact_entity.specs.declared.table.TypeTuples.{TypeTuples}
 use Rattle.fact_entity.specs.declared.table.TypeFlags.{TypeFlags as FlagsTable}
 use Rattle.fact_entity.specs.declared.table.TypeEnums.{TypeEnums}
+use Rattle.fact_entity.specs.declared.table.TypeOptions.{TypeOptions}
+use Rattle.fact_entity.specs.declared.table.TypeResults.{TypeResults}
+use Rattle.fact_entity.specs.declared.table.TypeVariants.{TypeVariants}
 use Rattle.fact_types.specs.declared.interface.InterfaceType.{InterfaceType}
 use Rattle.fact_types.specs.declared.interface.InterfaceType.TheVariants as ty
 use Rattle.fact_types.specs.declared.kinds.TypeTuple.{TypeTuple}
@@ -78,6 +81,21 @@ module _ (t : Tables) where
       let (k, ms, is) = plain_kind t (ty.Enum i) refl s h in
       (ms, is ∙ ap (λ k. s_node k ms) (kind_is t (ty.Enum i) k ms (subst (HasShape t (ty.Enum i)) is h)))
 
+  pub variant_kind : (i : Id TypeVariants) (s : Shape) → HasShape t (ty.Variant i) s → (ms : Members) × (s ≡ s_node k_variant ms)
+  variant_kind i s h =
+      let (k, ms, is) = plain_kind t (ty.Variant i) refl s h in
+      (ms, is ∙ ap (λ k. s_node k ms) (kind_is t (ty.Variant i) k ms (subst (HasShape t (ty.Variant i)) is h)))
+
+  pub option_kind : (i : Id TypeOptions) (s : Shape) → HasShape t (ty.Option i) s → (ms : Members) × (s ≡ s_node k_option ms)
+  option_kind i s h =
+      let (k, ms, is) = plain_kind t (ty.Option i) refl s h in
+      (ms, is ∙ ap (λ k. s_node k ms) (kind_is t (ty.Option i) k ms (subst (HasShape t (ty.Option i)) is h)))
+
+  pub result_kind : (i : Id TypeResults) (s : Shape) → HasShape t (ty.Result i) s → (ms : Members) × (s ≡ s_node k_result ms)
+  result_kind i s h =
+      let (k, ms, is) = plain_kind t (ty.Result i) refl s h in
+      (ms, is ∙ ap (λ k. s_node k ms) (kind_is t (ty.Result i) k ms (subst (HasShape t (ty.Result i)) is h)))
+
   -- only records have shapes of records, and so on
   pub record_type : (a : InterfaceType) (ms : Members) → HasShape t a (s_node k_record ms) → (i : Id TypeRecords) × (a ≡ ty.Record i)
   record_type a ms h = go a (kind_is t a k_record ms h)
@@ -117,6 +135,36 @@ module _ (t : Tables) where
       go (ty.Future i) e = absurd (let no : k_enum ≡ k_future e.0 e.1 = e.2 in cc)
       go (ty.Stream i) e = absurd (let no : k_enum ≡ k_stream e.0 e.1 = e.2 in cc)
       go (ty.FixedLengthList i) e = absurd (let no : k_enum ≡ k_fixed e.0 = e.1 in cc)
+      go _ e = absurd cc
+
+  pub variant_type : (a : InterfaceType) (ms : Members) → HasShape t a (s_node k_variant ms) → (i : Id TypeVariants) × (a ≡ ty.Variant i)
+  variant_type a ms h = go a (kind_is t a k_variant ms h)
+    where
+      go : (a : InterfaceType) → KindIs a k_variant → (i : Id TypeVariants) × (a ≡ ty.Variant i)
+      go (ty.Variant i) e = (i, refl)
+      go (ty.Future i) e = absurd (let no : k_variant ≡ k_future e.0 e.1 = e.2 in cc)
+      go (ty.Stream i) e = absurd (let no : k_variant ≡ k_stream e.0 e.1 = e.2 in cc)
+      go (ty.FixedLengthList i) e = absurd (let no : k_variant ≡ k_fixed e.0 = e.1 in cc)
+      go _ e = absurd cc
+
+  pub option_type : (a : InterfaceType) (ms : Members) → HasShape t a (s_node k_option ms) → (i : Id TypeOptions) × (a ≡ ty.Option i)
+  option_type a ms h = go a (kind_is t a k_option ms h)
+    where
+      go : (a : InterfaceType) → KindIs a k_option → (i : Id TypeOptions) × (a ≡ ty.Option i)
+      go (ty.Option i) e = (i, refl)
+      go (ty.Future i) e = absurd (let no : k_option ≡ k_future e.0 e.1 = e.2 in cc)
+      go (ty.Stream i) e = absurd (let no : k_option ≡ k_stream e.0 e.1 = e.2 in cc)
+      go (ty.FixedLengthList i) e = absurd (let no : k_option ≡ k_fixed e.0 = e.1 in cc)
+      go _ e = absurd cc
+
+  pub result_type : (a : InterfaceType) (ms : Members) → HasShape t a (s_node k_result ms) → (i : Id TypeResults) × (a ≡ ty.Result i)
+  result_type a ms h = go a (kind_is t a k_result ms h)
+    where
+      go : (a : InterfaceType) → KindIs a k_result → (i : Id TypeResults) × (a ≡ ty.Result i)
+      go (ty.Result i) e = (i, refl)
+      go (ty.Future i) e = absurd (let no : k_result ≡ k_future e.0 e.1 = e.2 in cc)
+      go (ty.Stream i) e = absurd (let no : k_result ≡ k_stream e.0 e.1 = e.2 in cc)
+      go (ty.FixedLengthList i) e = absurd (let no : k_result ≡ k_fixed e.0 = e.1 in cc)
       go _ e = absurd cc
 
   -- ---- their members

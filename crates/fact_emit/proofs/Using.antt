@@ -17,7 +17,7 @@ used_more h [] x = tt
 used_more h (s ∷ ss) x = (h s.0 x.0, used_more h ss x.1)
 
 -- more locals are in use in the writer
-using_more : {u v used : ℕ → Bool} {src : From} {dst : To} → ((i : ℕ) → u i ≡ true → v i ≡ true) → Using u used src dst → Using v used src dst
+pub using_more : {u v used : ℕ → Bool} {src : From} {dst : To} → ((i : ℕ) → u i ≡ true → v i ≡ true) → Using u used src dst → Using v used src dst
 using_more {u} {v} {dst = dst} h x = record { within = λ i e. h i (x.within i e); from = x.from; to = x.to; target = target dst x.target; distinct = x.distinct }
   where
     target : (dst : To) → TargetTaken u dst → TargetTaken v dst

@@ -29,6 +29,17 @@ pub record Grew (old new : Writer) : Type 0 where
   pub numbers : AreNumberTypes (types_of_locals old) → AreNumberTypes (types_of_locals new)
   pub still : (i : ℕ) → taken_in new i ≡ taken_in old i
 
+-- Bodies were written aside, one behind the other. The code is what it was, the module grew by what these bodies brought into it,
+-- and else as above.
+pub record GrewAside (old new : Writer) (bodies : List Instr) : Type 0 where
+  pub code : new.code.items ≡ old.code.items
+  pub brought : Brought old.imports new.imports bodies
+  pub imports : Extended old.imports new.imports
+  pub once : AreOnce old.imports → AreOnce new.imports
+  pub locals : Grows (types_of_locals old) (types_of_locals new)
+  pub numbers : AreNumberTypes (types_of_locals old) → AreNumberTypes (types_of_locals new)
+  pub still : (i : ℕ) → taken_in new i ≡ taken_in old i
+
 -- ---- pieces of code
 
 -- what is said of a piece of code in a module, at its places of imports, in a function with locals of these types

@@ -1,6 +1,7 @@
 -- Places that have room for values of shapes.
 use Rattle.std.specs.Prelude.{◌≡◌, ℕ, ◌+◌, ◌≤◌, Bool, List, [], ◌∷◌, length, Some, slice_get}
 use Rattle.fact_wasm.specs.declared.types.ValType.{ValType}
+use Rattle.fact_wasm.specs.declared.types.ValType.TheVariants as val
 use Rattle.fact_wasm.specs.declared.module.WasmModule.{WasmModule}
 use Rattle.fact_machine.specs.Typing.{address_type}
 use Rattle.fact_types.specs.declared.flats.FlatType.{FlatType}
@@ -14,7 +15,7 @@ use Rattle.fact_moves.specs.Actions.{Visit}
 use Rattle.fact_moves.specs.Moves.{move, move_fields, move_case, move_to_plain, move_to_node}
 use Rattle.fact_moves.specs.Running.{ImportPlaces}
 use Rattle.fact_moves.specs.Sides.{LiftLowerOptions, width_of_side}
-use Rattle.fact_pieces.specs.Places.{Slot, From, InLocals, InMemory, To, ToLocals, ToMemory, Number, N32, N64, MayHold, SideMemory, AreLocals, Setting}
+use Rattle.fact_pieces.specs.Places.{Slot, From, InLocals, InMemory, To, ToLocals, ToMemory, Number, N32, N64, SideMemory, AreLocals, Setting}
 use Rattle.fact_emit.specs.declared.places.Sides.{Sides}
 use Rattle.fact_emit.specs.Emits.{Piece}
 use Rattle.fact_emit.specs.MovesValue.{Act, MovesValue}
@@ -28,10 +29,22 @@ number_for_flat flat_type.I64 = N64
 number_for_flat flat_type.F32 = N32
 number_for_flat flat_type.F64 = N64
 
+-- the types of slots of a flat type: its own, and those that it has where it is joined with others (canonical ABI, `join`)
+abbrev pub IsSlotFor : FlatType → ValType → Type 0
+IsSlotFor flat_type.I32 val.I32 = Unit {0}
+IsSlotFor flat_type.I32 val.I64 = Unit {0}
+IsSlotFor flat_type.I64 val.I64 = Unit {0}
+IsSlotFor flat_type.F32 val.F32 = Unit {0}
+IsSlotFor flat_type.F32 val.I32 = Unit {0}
+IsSlotFor flat_type.F32 val.I64 = Unit {0}
+IsSlotFor flat_type.F64 val.F64 = Unit {0}
+IsSlotFor flat_type.F64 val.I64 = Unit {0}
+IsSlotFor _ _ = ⊥
+
 -- slots that may hold values of these flat types, one for each
 abbrev pub AreRoom : List Slot → List FlatType → Type 0
 AreRoom [] [] = Unit {0}
-AreRoom (s ∷ ss) (t ∷ ts) = MayHold (number_for_flat t) s.1 × AreRoom ss ts
+AreRoom (s ∷ ss) (t ∷ ts) = IsSlotFor t s.1 × AreRoom ss ts
 AreRoom [] (t ∷ ts) = ⊥
 AreRoom (s ∷ ss) [] = ⊥
 

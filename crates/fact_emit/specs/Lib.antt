@@ -1,5 +1,6 @@
 pub mod AdapterLinks
 pub mod Areas
+pub mod Bodies
 pub mod Brought
 pub mod Checks
 pub mod Emits
@@ -15,6 +16,7 @@ pub mod Listed
 pub mod MemberPairs
 pub mod Movable
 pub mod Moved
+pub mod MovedSums
 pub mod MovesValue
 pub mod NamedFunctions
 pub mod Numbers
@@ -25,6 +27,7 @@ pub mod Scalars
 pub mod Settings
 pub mod State
 pub mod States
+pub mod Sums
 pub mod WidthLaws
 pub mod Widths
 pub mod Writers

@@ -1,12 +1,13 @@
 -- The places of the writing functions as places of pieces of code.
-use Rattle.std.specs.Prelude.{◌≡◌, ℕ, Bool, true, false, List, [], ◌∷◌, map}
+pub use Rattle.fact_pieces.specs.Places.{AreDistinctSlots}
+use Rattle.std.specs.Prelude.{◌≡◌, ℕ, Bool, true, false, List, map}
 use Rattle.fact_wasm.specs.declared.types.ValType.{ValType}
 use Rattle.fact_wasm.specs.declared.module.WasmModule.{WasmModule}
 use Rattle.fact_types.specs.declared.import.Import.TheVariants as import
 use Rattle.fact_types.specs.declared.outside.Trap.TheVariants.{DebugAssertPointerAligned, DebugAssertUpperBitsUnset}
 use Rattle.fact_moves.specs.Running.{ImportPlaces}
 use Rattle.fact_moves.specs.Sides.{LiftLowerOptions}
-use Rattle.fact_pieces.specs.Places.{Slot, From, InLocals, InMemory, To, ToLocals, ToMemory, DebugChecks, Off, On, Setting, AreUsed, FromUsed, ToUsed, IsNone}
+use Rattle.fact_pieces.specs.Places.{Slot, From, InLocals, InMemory, To, ToLocals, ToMemory, DebugChecks, Off, On, Setting, AreUsed, FromUsed, ToUsed}
 use Rattle.fact_emit.specs.declared.places.TypedLocal.{TypedLocal}
 use Rattle.fact_emit.specs.declared.places.SourcePlace.{SourcePlace}
 use Rattle.fact_emit.specs.declared.places.SourcePlace.TheVariants as source
@@ -50,11 +51,6 @@ setting_of sides a b concurrency M p locals = record {
 abbrev pub TargetTaken : (ℕ → Bool) → To → Type 0
 TargetTaken taken (ToLocals slots) = AreUsed taken slots
 TargetTaken taken (ToMemory memory base offset) = Unit {0}
-
--- no local stands in two slots
-abbrev pub AreDistinctSlots : List Slot → Type 0
-AreDistinctSlots [] = Unit {0}
-AreDistinctSlots (s ∷ ss) = IsNone s.0 ss × AreDistinctSlots ss
 
 abbrev pub HasDistinctSlots : To → Type 0
 HasDistinctSlots (ToLocals slots) = AreDistinctSlots slots

@@ -47,6 +47,20 @@ pub record Wrote (old new : Writer) (added : List Instr) : Type 0 where
   pub locals : new.locals ≡ old.locals
   pub imports : new.imports ≡ old.imports
 
+-- a body begins: the code from before it was handed out, and none is there
+pub record Began (old new : Writer) (out : List Instr) : Type 0 where
+  pub outer : out ≡ old.code.items
+  pub code : new.code.items ≡ []
+  pub locals : new.locals ≡ old.locals
+  pub imports : new.imports ≡ old.imports
+
+-- a body ends: it was handed out, and the code from before it is back
+pub record Ended (old new : Writer) (outer out : List Instr) : Type 0 where
+  pub body : out ≡ old.code.items
+  pub code : new.code.items ≡ outer
+  pub locals : new.locals ≡ old.locals
+  pub imports : new.imports ≡ old.imports
+
 -- a local of a type was taken: it was not in use, and now is
 pub record Took (old new : Writer) (ty : ValType) (local : ℕ) : Type 0 where
   pub code : new.code.items ≡ old.code.items

@@ -2,6 +2,7 @@
 //! check, convert and write values at places. What each function ensures is what the code does that it has written.
 #![tactic(auto)]
 
+pub mod bodies;
 pub mod checks;
 pub mod imported;
 pub mod linking;
@@ -12,6 +13,7 @@ pub mod pointers;
 pub mod products;
 pub mod scalars;
 pub mod state;
+pub mod sums;
 pub mod tunables;
 pub mod width;
 pub mod writer;

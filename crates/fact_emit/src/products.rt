@@ -1,28 +1,39 @@
-//! Records and tuples, and values of any type that these functions move.
+//! Records, tuples, variants, options and results, and values of any type that these functions move.
 
-ghost use Rattle.std.specs.Prelude.{OnOk, ◌≡◌, ◌<◌, ◌+◌, unwrap_or};
+ghost use Rattle.std.specs.Prelude.{IfOk, OnOk, ◌≡◌, ◌<◌, ◌+◌, length, unwrap_or};
 ghost use Rattle.fact_types.specs.declared.interface.InterfaceType.TheVariants as ty;
 ghost use Rattle.fact_types.specs.Fits.{FieldFits};
 ghost use Rattle.fact_types.specs.Layout.{extent, aligned};
 ghost use Rattle.fact_types.specs.Shapes.{Shape, layout_of};
 ghost use Rattle.fact_types.specs.Signatures.{width};
-ghost use Rattle.fact_types.specs.Tables.{IsLive, HasShape};
+ghost use Rattle.fact_types.specs.Tables.{IsLive, IsLiveMember, HasShape};
 ghost use Rattle.fact_emit.specs.Moved.{MovedFrom, MovedNode, MovedValue, MovedMember, CheckedPlaces, IsLiveFound};
+ghost use Rattle.fact_emit.specs.MovedSums.{IsLiveNumbered, MovedSome, MovedPayload, MovedCase, WroteBodies, MovedSumBy, MovedSum};
 ghost use Rattle.fact_emit.specs.Kinds.{flags_number_of, discriminant_number_of};
 ghost use Rattle.fact_emit.specs.Numbers.{number_sized};
 ghost use Rattle.fact_emit.specs.MemberPairs.{ArePairs, MovedPairs};
 ghost use Rattle.fact_emit.specs.Parts.{bytes_by};
 ghost use Rattle.fact_emit.specs.Places.{from_of, to_of};
+ghost use Rattle.fact_emit.specs.Sums.{IsSumOf};
 
+use crate::bodies::put_cases;
 use crate::checks::{check_source, check_target};
 use crate::members::{MemberPair, pair_fields, pair_members};
-use crate::numbers::NumberSize;
+use crate::numbers::{NumberSize, read_number};
 use crate::places::{Sides, SourcePlace, TargetPlace};
 use crate::scalars::{Canonical, NumberTest, move_number, move_scalar, move_tested};
+use crate::sums::{
+    PairedCase, Sum, option_sum, payload_place, put_left_over, put_tag, result_sum, variant_sum,
+};
 use crate::writer::Writer;
-use fact_entity::{TypeEnumIndex, TypeFlagsIndex, TypeRecordIndex, TypeTupleIndex};
-use fact_types::{CanonicalAbiInfo, ComponentTypes, DiscriminantSize, FieldPlace, InterfaceType};
-use fact_wasm::{Instr, OutOfMemory};
+use fact_entity::{
+    TypeEnumIndex, TypeFlagsIndex, TypeOptionIndex, TypeRecordIndex, TypeResultIndex,
+    TypeTupleIndex, TypeVariantIndex,
+};
+use fact_types::{
+    CanonicalAbiInfo, ComponentTypes, DiscriminantSize, FieldPlace, InterfaceType, VariantInfo,
+};
+use fact_wasm::{Instr, OutOfMemory, Seq, ValType};
 use std::alloc::AllocError;
 
 /// The number of flat types of a live type that has at most 16.
@@ -197,6 +208,18 @@ fn move_node(
             InterfaceType::Tuple(j) => move_tuple(types, w, sides, i, j, source, target)?,
             _ => w.put(Instr::Unreachable)?,
         },
+        InterfaceType::Variant(i) => match to {
+            InterfaceType::Variant(j) => move_variant(types, w, sides, i, j, source, target)?,
+            _ => w.put(Instr::Unreachable)?,
+        },
+        InterfaceType::Option(i) => match to {
+            InterfaceType::Option(j) => move_option(types, w, sides, i, j, source, target)?,
+            _ => w.put(Instr::Unreachable)?,
+        },
+        InterfaceType::Result(i) => match to {
+            InterfaceType::Result(j) => move_result(types, w, sides, i, j, source, target)?,
+            _ => w.put(Instr::Unreachable)?,
+        },
         InterfaceType::Flags(i) => move_flags(types, w, sides, i, source, target)?,
         InterfaceType::Enum(i) => move_enum(types, w, sides, i, source, target)?,
         _ => move_scalar(w, sides, from, source, target)?,
@@ -299,5 +322,268 @@ fn move_member(
         }
         None => w.put(Instr::Unreachable)?,
     }
+    Ok(())
+}
+
+/// Moves a variant, by its case.
+#[cycle(moving)]
+fn move_variant(
+    types: &ComponentTypes,
+    w: &mut Writer,
+    sides: Sides,
+    from: TypeVariantIndex,
+    to: TypeVariantIndex,
+    source: SourcePlace<'_>,
+    target: TargetPlace<'_>,
+) -> Result<(), OutOfMemory>
+    requires from_live { IsLive types.now (ty.Variant from) }
+    requires to_live { IsLive types.now (ty.Variant to) }
+    ensures { OnOk result (MovedNode types.now (ty.Variant from) (ty.Variant to) sides (from_of sides.from source.entry) (to_of sides.to target.entry) w.old w.new) }
+{
+    let sum = variant_sum(w.alloc, types, from, to)?;
+    let source_type = InterfaceType::Variant(from);
+    let target_type = InterfaceType::Variant(to);
+    move_sum(
+        types,
+        w,
+        sides,
+        source_type,
+        target_type,
+        &sum,
+        source,
+        target,
+    )?;
+    Ok(())
+}
+
+/// Moves an option, by its case.
+#[cycle(moving)]
+fn move_option(
+    types: &ComponentTypes,
+    w: &mut Writer,
+    sides: Sides,
+    from: TypeOptionIndex,
+    to: TypeOptionIndex,
+    source: SourcePlace<'_>,
+    target: TargetPlace<'_>,
+) -> Result<(), OutOfMemory>
+    requires from_live { IsLive types.now (ty.Option from) }
+    requires to_live { IsLive types.now (ty.Option to) }
+    ensures { OnOk result (MovedNode types.now (ty.Option from) (ty.Option to) sides (from_of sides.from source.entry) (to_of sides.to target.entry) w.old w.new) }
+{
+    let sum = option_sum(w.alloc, types, from, to)?;
+    let source_type = InterfaceType::Option(from);
+    let target_type = InterfaceType::Option(to);
+    move_sum(
+        types,
+        w,
+        sides,
+        source_type,
+        target_type,
+        &sum,
+        source,
+        target,
+    )?;
+    Ok(())
+}
+
+/// Moves a result, by its case.
+#[cycle(moving)]
+fn move_result(
+    types: &ComponentTypes,
+    w: &mut Writer,
+    sides: Sides,
+    from: TypeResultIndex,
+    to: TypeResultIndex,
+    source: SourcePlace<'_>,
+    target: TargetPlace<'_>,
+) -> Result<(), OutOfMemory>
+    requires from_live { IsLive types.now (ty.Result from) }
+    requires to_live { IsLive types.now (ty.Result to) }
+    ensures { OnOk result (MovedNode types.now (ty.Result from) (ty.Result to) sides (from_of sides.from source.entry) (to_of sides.to target.entry) w.old w.new) }
+{
+    let sum = result_sum(w.alloc, types, from, to)?;
+    let source_type = InterfaceType::Result(from);
+    let target_type = InterfaceType::Result(to);
+    move_sum(
+        types,
+        w,
+        sides,
+        source_type,
+        target_type,
+        &sum,
+        source,
+        target,
+    )?;
+    Ok(())
+}
+
+/// Moves a value of cases, by a local that holds its discriminant.
+#[cycle(moving)]
+fn move_sum(
+    types: &ComponentTypes,
+    w: &mut Writer,
+    sides: Sides,
+    from: InterfaceType,
+    to: InterfaceType,
+    sum: &Sum,
+    source: SourcePlace<'_>,
+    target: TargetPlace<'_>,
+) -> Result<(), OutOfMemory>
+    requires from_live { IsLive types.now from }
+    requires to_live { IsLive types.now to }
+    requires cases { IsSumOf types.now from to sum.now }
+    ensures { OnOk result (MovedSum types.now from to sides (from_of sides.from source.entry) (to_of sides.to target.entry) w.old w.new) }
+{
+    let local = w.take_local(ValType::I32)?;
+    move_sum_by(types, w, sides, from, to, sum, local, source, target)?;
+    w.free_local(local)?;
+    Ok(())
+}
+
+/// Moves a value of cases: reads its discriminant to a local, and runs the code of its case, with a trap past the last one.
+#[cycle(moving)]
+fn move_sum_by(
+    types: &ComponentTypes,
+    w: &mut Writer,
+    sides: Sides,
+    from: InterfaceType,
+    to: InterfaceType,
+    sum: &Sum,
+    local: u32,
+    source: SourcePlace<'_>,
+    target: TargetPlace<'_>,
+) -> Result<(), OutOfMemory>
+    requires from_live { IsLive types.now from }
+    requires to_live { IsLive types.now to }
+    requires cases { IsSumOf types.now from to sum.now }
+    ensures { OnOk result (MovedSumBy types.now from to local sides (from_of sides.from source.entry) (to_of sides.to target.entry) w.old w.new) }
+{
+    types.reveal();
+    read_number(
+        w,
+        sides.debug,
+        sides.from,
+        discriminant_number(sum.from.size),
+        source,
+    )?;
+    w.put(Instr::LocalSet(local))?;
+    let bodies = case_bodies(types, w, sides, from, to, sum, source, target)?;
+    put_cases(w, local, bodies)?;
+    Ok(())
+}
+
+/// The code of each case, which stands aside.
+#[cycle(moving)]
+fn case_bodies(
+    types: &ComponentTypes,
+    w: &mut Writer,
+    sides: Sides,
+    from: InterfaceType,
+    to: InterfaceType,
+    sum: &Sum,
+    source: SourcePlace<'_>,
+    target: TargetPlace<'_>,
+) -> Result<Vec<Seq<Instr>>, OutOfMemory>
+    requires from_live { IsLive types.now from }
+    requires to_live { IsLive types.now to }
+    requires cases { IsSumOf types.now from to sum.now }
+    ensures { IfOk result (λ bodies. WroteBodies types.now from to sides (from_of sides.from source.entry) (to_of sides.to target.entry) (length sum.now.cases.items) bodies.items w.old w.new) }
+{
+    types.reveal();
+    let mut bodies = Vec::new(w.alloc);
+    for case in sum.cases.as_slice() {
+        let outer = w.begin();
+        move_case(types, w, sides, (sum.from, sum.to), *case, source, target)?;
+        let body = w.end(outer);
+        bodies.push(body)?;
+    }
+    Ok(bodies)
+}
+
+/// Moves a case: writes the number of the case of its name, moves its payload, and puts zeros into the slots that are left over.
+#[cycle(moving)]
+fn move_case(
+    types: &ComponentTypes,
+    w: &mut Writer,
+    sides: Sides,
+    infos: (VariantInfo, VariantInfo),
+    case: PairedCase,
+    source: SourcePlace<'_>,
+    target: TargetPlace<'_>,
+) -> Result<(), OutOfMemory>
+    requires from_live { IsLiveMember types.now case.payload }
+    requires to_live { IsLiveNumbered types.now case.found }
+    ensures { OnOk result (MovedCase types.now infos.0 infos.1 case sides (from_of sides.from source.entry) (to_of sides.to target.entry) w.old w.new) }
+{
+    match case.found {
+        Some(found) => {
+            let size = discriminant_number(infos.1.size);
+            put_tag(w, sides.to, size, found.number, target)?;
+            move_payload(
+                types,
+                w,
+                sides,
+                infos,
+                case.payload,
+                found.payload,
+                source,
+                target,
+            )?;
+        }
+        None => w.put(Instr::Unreachable)?,
+    }
+    Ok(())
+}
+
+/// Moves the payload of a case, behind its discriminant, and puts zeros into the slots that are left over.
+#[cycle(moving)]
+fn move_payload(
+    types: &ComponentTypes,
+    w: &mut Writer,
+    sides: Sides,
+    infos: (VariantInfo, VariantInfo),
+    from: Option<InterfaceType>,
+    to: Option<InterfaceType>,
+    source: SourcePlace<'_>,
+    target: TargetPlace<'_>,
+) -> Result<(), OutOfMemory>
+    requires from_live { IsLiveMember types.now from }
+    requires to_live { IsLiveMember types.now to }
+    ensures { OnOk result (MovedPayload types.now infos.0 infos.1 from to sides (from_of sides.from source.entry) (to_of sides.to target.entry) w.old w.new) }
+{
+    match from {
+        Some(from) => match to {
+            Some(to) => move_some(types, w, sides, infos, from, to, source, target)?,
+            None => w.put(Instr::Unreachable)?,
+        },
+        None => put_left_over(w, sides.to, target.past(1))?,
+    }
+    Ok(())
+}
+
+/// Moves a payload that is there.
+#[cycle(moving)]
+fn move_some(
+    types: &ComponentTypes,
+    w: &mut Writer,
+    sides: Sides,
+    infos: (VariantInfo, VariantInfo),
+    from: InterfaceType,
+    to: InterfaceType,
+    source: SourcePlace<'_>,
+    target: TargetPlace<'_>,
+) -> Result<(), OutOfMemory>
+    requires from_live { IsLive types.now from }
+    requires to_live { IsLive types.now to }
+    ensures { OnOk result (MovedSome types.now infos.0 infos.1 from to sides (from_of sides.from source.entry) (to_of sides.to target.entry) w.old w.new) }
+{
+    let bytes = payload_place(infos.0, sides.from.memory64);
+    let part = source.part(1, flat_length(types, &from), bytes);
+    let rest = target.past(1);
+    let count = flat_length(types, &to);
+    let spot = rest.part(0, count, payload_place(infos.1, sides.to.memory64));
+    translate(types, w, sides, from, to, part, spot)?;
+    put_left_over(w, sides.to, rest.past(count))?;
     Ok(())
 }

@@ -4,12 +4,13 @@ ghost use Rattle.std.specs.Prelude.{IsTrue, IfOk, IfSome, OnOk, ◌≡◌, ◌++
 ghost use Rattle.fact_types.specs.declared.import.Import.TheVariants as import;
 ghost use Rattle.fact_emit.specs.Imports.{AreOnce};
 ghost use Rattle.fact_machine.specs.Typing.{is_number};
-ghost use Rattle.fact_emit.specs.Writers.{Wrote, AddedLocal, Took, Freed, TookTrap, Same, free_local_of, taken_in};
+ghost use Rattle.fact_emit.specs.Writers.{Wrote, AddedLocal, Took, Freed, TookTrap, Began, Ended, Same, free_local_of, taken_in};
 
 use crate::state::ModuleSections;
 use fact_types::Trap;
 use fact_wasm::{Instr, OutOfMemory, Seq, ValType};
 use std::alloc::{AllocError, Global};
+use std::mem;
 
 /// A local: its type, and whether it is in use.
 #[derive(Clone, Copy)]
@@ -82,6 +83,20 @@ impl Writer {
     {
         self.code.push(instr)?;
         Ok(())
+    }
+
+    /// Begins a body: the code so far is handed out, and no code is there.
+    pub fn begin(&mut self) -> Vec<Instr>
+        ensures { Began self.old self.new result.items }
+    {
+        mem::replace(&mut self.code, Vec::new(self.alloc))
+    }
+
+    /// Ends a body, which is handed out, and puts the code from before it back.
+    pub fn end(&mut self, outer: Vec<Instr>) -> Seq<Instr>
+        ensures { Ended self.old self.new outer.items result }
+    {
+        Seq::from_vec(mem::replace(&mut self.code, outer))
     }
 
     /// The place of a trap among the imported functions.
