@@ -62,8 +62,12 @@ fn is_unbuilt(ty: InterfaceType) -> bool
         | InterfaceType::Float64
         | InterfaceType::Char
         | InterfaceType::Record(_)
+        | InterfaceType::Variant(_)
         | InterfaceType::Tuple(_)
-        | InterfaceType::Flags(_) => false,
+        | InterfaceType::Flags(_)
+        | InterfaceType::Enum(_)
+        | InterfaceType::Option(_)
+        | InterfaceType::Result(_) => false,
         _ => true,
     }
 }
