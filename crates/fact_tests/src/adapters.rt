@@ -203,7 +203,7 @@ i32:1 i32:1 20,12=feff,16=0000c03f 40 | 0 1000 | i64:32 | i64:12 | Returned(Seq 
 "#;
 
 /// Each plan, with the runs behind it.
-fn plans_hold(rt: &impl Abort, alloc: Global, table: &str) -> Result<(), AllocError> {
+pub fn plans_hold(rt: &impl Abort, alloc: Global, table: &str) -> Result<(), AllocError> {
     for part in table.trim().split("\n{") {
         let part = part.strip_prefix("{").unwrap_or(part);
         let (plan, rows) = part.split_once("\n").unwrap_or((part, ""));

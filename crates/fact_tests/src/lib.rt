@@ -28,4 +28,6 @@ mod runs;
 #[cfg(test)]
 mod streams;
 #[cfg(test)]
+mod variants;
+#[cfg(test)]
 mod words;

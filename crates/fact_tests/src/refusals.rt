@@ -337,7 +337,7 @@ DuplicateName at adapter 1: }}]} => }},{"name":"f0","func":0,"lift":{"ty":0,"ins
 UnknownIndex at adapter 0: "core_type":0 => "core_type":1
 BadType at type 0: "types":[] => "types":[{"record":[]}]
 TooLarge at type 0: "types":[] => "types":[{"fixed-list":["u64",536870912]}]
-sound: "types":[] => "types":[{"variant":[["x","u32"],["y",null]]},{"variant":[["z",null],["y",null],["x","u32"]]}] | [["x","u32"]],"results":[]} => [["x",0]],"results":[]},{"params":[["x",1]],"results":[]} | ["i32"] => ["i32","i32"] | "lift":{"ty":0 => "lift":{"ty":1
+sound: "types":[] => "types":[{"variant":[["x","u32"],["y",null]]},{"variant":[["z",null],["y",null],["x","u32"]]}] | [["x","u32"]],"results":[]} => [["x",0]],"results":[]},{"params":[["x",1]],"results":[]} | ["i32"] => ["i32","i32"] | "lift":{"ty":0 => "lift":{"ty":1 | }}]} => }}],"tunables":{"concurrency":true}}
 TypeMismatch at adapter 0: "types":[] => "types":[{"variant":[["x","u32"],["y",null]]},{"variant":[["z",null],["y",null],["x","u32"]]}] | [["x","u32"]],"results":[]} => [["x",0]],"results":[]},{"params":[["x",1]],"results":[]} | ["i32"] => ["i32","i32"] | "lower":{"ty":0 => "lower":{"ty":1
 sound: {"params":["i32"],"results":[]} => {"params":["i32"],"results":[]},{"params":["i32"],"results":["i32"]} | "instance":0,"core_type":0 => "instance":0,"core_type":1,"async":true | }}]} => }}],"tunables":{"concurrency":true}}
 BadOptions at adapter 0: {"params":["i32"],"results":[]} => {"params":["i32"],"results":[]},{"params":["i32"],"results":["i32"]} | "instance":0,"core_type":0 => "instance":0,"core_type":1,"async":true
