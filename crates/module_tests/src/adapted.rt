@@ -408,9 +408,9 @@ flags 32 0: type mismatch, empty / taken, any
 flags 33 0: bad type, empty / bad type, empty
 flags 33 100: bad type, empty / bad type, empty
 enum 0 0: bad type, empty / bad type, empty
-enum 4097 0: type mismatch, empty / not built, empty
+enum 4097 0: type mismatch, empty / taken, any
 variant 0 1: bad type, empty / bad type, empty
-variant 4096 0: type mismatch, empty / not built, empty
+variant 4096 0: type mismatch, empty / taken, any
 variant 4097 1: too large, empty / too large, empty
 enum 1 99: type mismatch, empty / bad memory, empty
 enum 1 100: too large, empty / too large, empty
