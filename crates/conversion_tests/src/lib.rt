@@ -1,0 +1,5 @@
+//! Tests of the tables of the source.
+#![tactic(auto)]
+
+#[cfg(test)]
+mod source;
