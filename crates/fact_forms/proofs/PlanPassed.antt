@@ -12,8 +12,8 @@ use Rattle.fact_types.specs.Shapes.{Shape, s_plain}
 use Rattle.fact_types.specs.Steps.{◌>>=◌}
 use Rattle.fact_types.specs.Valid.{IsValid}
 use Rattle.fact_types.proofs.ShapeLaws.{none_some}
-use Rattle.fact_plan.specs.declared.plain.PrimitiveValType.{PrimitiveValType}
-use Rattle.fact_plan.specs.declared.plain.PrimitiveValType.TheVariants as word
+use Rattle.fact_source.specs.declared.defined.PrimitiveValType.{PrimitiveValType}
+use Rattle.fact_source.specs.declared.defined.PrimitiveValType.TheVariants as word
 use Rattle.fact_plan.specs.declared.plan.FusePlan.{FusePlan}
 use Rattle.fact_plan.specs.declared.plan.PlanAdapter.{PlanAdapter}
 use Rattle.fact_plan.specs.declared.plan.PlanFunc.{PlanFunc}

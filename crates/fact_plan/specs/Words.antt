@@ -6,8 +6,8 @@ use Rattle.fact_wasm.specs.declared.types.ValType.{ValType}
 use Rattle.fact_wasm.specs.declared.types.ValType.TheVariants as val
 use Rattle.fact_types.specs.declared.outside.StringEncoding.{StringEncoding}
 use Rattle.fact_types.specs.declared.outside.StringEncoding.TheVariants as encoding
-use Rattle.fact_plan.specs.declared.plain.PrimitiveValType.{PrimitiveValType}
-use Rattle.fact_plan.specs.declared.plain.PrimitiveValType.TheVariants as word
+use Rattle.fact_source.specs.declared.defined.PrimitiveValType.{PrimitiveValType}
+use Rattle.fact_source.specs.declared.defined.PrimitiveValType.TheVariants as word
 use Rattle.fact_plan.specs.declared.plan.PlanRef.{PlanRef}
 use Rattle.fact_plan.specs.declared.plan.PlanRef.TheVariants.{Word, Entry}
 use Rattle.fact_plan.specs.declared.fault.PlanFault.{PlanFault}

@@ -8,14 +8,13 @@ mod entries;
 mod fault;
 mod objects;
 mod parts;
-mod plain;
 mod plan;
 mod reading;
 mod words;
 
+pub use fact_source::PrimitiveValType;
 pub use fault::{PlanFault, fault_line};
 pub use objects::plan_of;
-pub use plain::PrimitiveValType;
 pub use plan::{
     FusePlan, PlanAdapter, PlanFunc, PlanMemory, PlanRef, PlanSide, PlanTunables, PlanType,
 };

@@ -3,7 +3,7 @@
 //! Each list is numbered from 0, and a number names the item at that place. No number has been looked up: it may be past
 //! the end of its list.
 
-use crate::plain::PrimitiveValType;
+use fact_source::PrimitiveValType;
 use fact_types::{CoreDef, StringEncoding};
 use fact_wasm::{FuncType, Seq, Text};
 

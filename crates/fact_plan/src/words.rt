@@ -4,8 +4,8 @@ ghost use Rattle.fact_plan.specs.Words.{encoding_in, ref_in, val_type_in, word_o
 
 use crate::fault::PlanFault;
 use crate::parts::FromJson;
-use crate::plain::PrimitiveValType;
 use crate::plan::PlanRef;
+use fact_source::PrimitiveValType;
 use fact_types::StringEncoding;
 use fact_wasm::ValType;
 use serde_json::Value;

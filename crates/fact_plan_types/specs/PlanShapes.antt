@@ -7,8 +7,8 @@ use Rattle.fact_types.specs.declared.interface.InterfaceType.{InterfaceType}
 use Rattle.fact_types.specs.declared.interface.InterfaceType.TheVariants as type
 use Rattle.fact_types.specs.contracts.interface.InterfaceTypePartialEq.TheImpl as type_eq
 use Rattle.fact_types.specs.Shapes.{Kind, k_record, k_variant, k_list, k_tuple, k_map, k_flags, k_enum, k_option, k_result, k_fixed, k_future, k_stream, Shape, s_plain, s_node, Members, no_members, bare, typed, none_name, some_name, ok_name, error_name}
-use Rattle.fact_plan.specs.declared.plain.PrimitiveValType.{PrimitiveValType}
-use Rattle.fact_plan.specs.declared.plain.PrimitiveValType.TheVariants as word
+use Rattle.fact_source.specs.declared.defined.PrimitiveValType.{PrimitiveValType}
+use Rattle.fact_source.specs.declared.defined.PrimitiveValType.TheVariants as word
 use Rattle.fact_plan.specs.declared.plan.PlanRef.{PlanRef}
 use Rattle.fact_plan.specs.declared.plan.PlanRef.TheVariants.{Word, Entry}
 use Rattle.fact_plan.specs.declared.plan.PlanType.{PlanType}

@@ -6,7 +6,7 @@ use Rattle.fact_types.specs.Layout.{payloads, record_layout}
 use Rattle.fact_types.specs.Shapes.{k_map, Shape, s_node, layout_of, layouts_of}
 use Rattle.fact_types.specs.Valid.{nesting}
 use Rattle.fact_types.specs.Handles.{has_borrow}
-use Rattle.fact_plan.specs.declared.plain.PrimitiveValType.TheVariants as word
+use Rattle.fact_source.specs.declared.defined.PrimitiveValType.TheVariants as word
 use Rattle.fact_plan.specs.declared.plan.PlanRef.{PlanRef}
 use Rattle.fact_plan.specs.declared.plan.PlanRef.TheVariants.{Word, Entry}
 use Rattle.fact_plan.specs.declared.plan.PlanType.{PlanType}
