@@ -130,8 +130,8 @@ def_in None = None
 def_in (Some m) = Some m.def
 
 -- the memories and the reallocs of an adapter, each with the instance of the side that names it
-abbrev pub memories_of : LinkedAdapter → List (CoreDef × ℕ)
-memories_of a = bound (def_in a.lift.memory) a.lift.instance ++ bound (def_in a.lower.memory) a.lower.instance
+abbrev pub adapter_memories : LinkedAdapter → List (CoreDef × ℕ)
+adapter_memories a = bound (def_in a.lift.memory) a.lift.instance ++ bound (def_in a.lower.memory) a.lower.instance
 
 abbrev pub reallocs_of : LinkedAdapter → List (CoreDef × ℕ)
 reallocs_of a = bound a.lift.realloc a.lift.instance ++ bound a.lower.realloc a.lower.instance
@@ -153,7 +153,7 @@ LacksMemory a = LiftLacksMemory a.lift ⊎ LowerLacksMemory a.lower
 -- one definition is named as memory, or as realloc, under two instances
 abbrev pub SharesMemory : List LinkedAdapter → LinkedAdapter → Type 0
 SharesMemory before a =
-    (AreConsistent (flat_map memories_of (with before a)) → ⊥)
+    (AreConsistent (flat_map adapter_memories (with before a)) → ⊥)
     ⊎ (AreConsistent (flat_map reallocs_of (with before a)) → ⊥)
 
 -- a side lacks what it needs, or has a memory that it cannot use

@@ -7,13 +7,13 @@ use Rattle.fact_plan_types.specs.Faults.{Fault, rank}
 use Rattle.fact_checks.specs.declared.bound.Bound.{Bound}
 use Rattle.fact_checks.specs.declared.sides.Candidate.{Candidate}
 use Rattle.fact_types.specs.Adapters.{LinkedAdapter}
-use Rattle.fact_checks.specs.AdapterRules.{LinkedHas, export_names, memories_of, reallocs_of, uses_of}
+use Rattle.fact_checks.specs.AdapterRules.{LinkedHas, export_names, adapter_memories, reallocs_of, uses_of}
 use Rattle.fact_checks.specs.Binding.{AreAllDifferent}
 use Rattle.fact_checks.specs.Linked.{IsLinked}
 
 -- What was bound and exported is what these adapters use and export, each thing once.
 pub record AreBound (b : Bound) (before : List LinkedAdapter) : Type 0 where
-  pub memories : Covers b.memories (flat_map memories_of before)
+  pub memories : Covers b.memories (flat_map adapter_memories before)
   pub reallocs : Covers b.reallocs (flat_map reallocs_of before)
   pub uses : Covers b.uses (flat_map uses_of before)
   pub names : b.names ≡ flat_map export_names before

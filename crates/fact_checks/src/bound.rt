@@ -6,7 +6,7 @@ ghost use Rattle.fact_uses.specs.Bindings.{AreConsistent, Covers};
 ghost use Rattle.fact_uses.specs.Fronts.{IsFront};
 ghost use Rattle.fact_builder.specs.Builder.{Builder};
 ghost use Rattle.fact_types.specs.Adapters.{LinkedAdapter};
-ghost use Rattle.fact_checks.specs.AdapterRules.{HasBadMemory, HasDuplicateName, HasImportConflict, export_names, memories_of, reallocs_of, uses_of, with};
+ghost use Rattle.fact_checks.specs.AdapterRules.{HasBadMemory, HasDuplicateName, HasImportConflict, export_names, adapter_memories, reallocs_of, uses_of, with};
 ghost use Rattle.fact_checks.specs.Binding.{AreAllDifferent};
 ghost use Rattle.fact_checks.specs.Linked.{HasSides, IsLinked, NamesTypesOf};
 
@@ -75,9 +75,9 @@ fn shares_memory(
     adapter: &Adapter,
 ) -> Result<bool, OutOfMemory>
     ensures exact { IfOk result (λ found. (b : Builder) (before : List LinkedAdapter) (a : LinkedAdapter) → HasSides b adapter.now a
-        → Covers bound.old (flat_map memories_of before) → (IsTrue found ↔ (AreConsistent (flat_map memories_of (with before a)) → ⊥))) }
+        → Covers bound.old (flat_map adapter_memories before) → (IsTrue found ↔ (AreConsistent (flat_map adapter_memories (with before a)) → ⊥))) }
     ensures bound { IfOk result (λ found. IsFalse found → (b : Builder) (before : List LinkedAdapter) (a : LinkedAdapter) → HasSides b adapter.now a
-        → Covers bound.old (flat_map memories_of before) → Covers bound.new (flat_map memories_of (with before a))) }
+        → Covers bound.old (flat_map adapter_memories before) → Covers bound.new (flat_map adapter_memories (with before a))) }
     ensures front { IsFront bound.old bound.new }
 {
     let pairs = memories(alloc, adapter)?;
@@ -113,9 +113,9 @@ pub(crate) fn has_bad_memory(
 ) -> Result<bool, OutOfMemory>
     requires { NamesTypesOf builder.now adapter.now }
     ensures exact { IfOk result (λ found. (before : List LinkedAdapter) (a : LinkedAdapter) → HasSides builder.now adapter.now a
-        → Covers bound_memories.old (flat_map memories_of before) → Covers bound_reallocs.old (flat_map reallocs_of before) → (IsTrue found ↔ HasBadMemory before a)) }
+        → Covers bound_memories.old (flat_map adapter_memories before) → Covers bound_reallocs.old (flat_map reallocs_of before) → (IsTrue found ↔ HasBadMemory before a)) }
     ensures memories { IfOk result (λ found. IsFalse found → (before : List LinkedAdapter) (a : LinkedAdapter) → HasSides builder.now adapter.now a
-        → Covers bound_memories.old (flat_map memories_of before) → Covers bound_memories.new (flat_map memories_of (with before a))) }
+        → Covers bound_memories.old (flat_map adapter_memories before) → Covers bound_memories.new (flat_map adapter_memories (with before a))) }
     ensures reallocs { IfOk result (λ found. IsFalse found → (before : List LinkedAdapter) (a : LinkedAdapter) → HasSides builder.now adapter.now a
         → Covers bound_reallocs.old (flat_map reallocs_of before) → Covers bound_reallocs.new (flat_map reallocs_of (with before a))) }
     ensures memories_front { IsFront bound_memories.old bound_memories.new }

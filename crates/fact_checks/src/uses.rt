@@ -6,7 +6,7 @@ ghost use Rattle.fact_entity.specs.declared.table.TypeFuncs.{TypeFuncs};
 ghost use Rattle.fact_builder.specs.Builder.{Builder};
 ghost use Rattle.fact_uses.specs.Fronts.{IsFront};
 ghost use Rattle.fact_types.specs.ImportTypes.{callback_type as callback_type_of, realloc_type as realloc_type_of};
-ghost use Rattle.fact_checks.specs.AdapterRules.{IsCalleeTwice, IsSameAs, bound, callee_uses, def_in, memories_of, memory_use as memory_use_of, reallocs_of, side_uses, uses_of};
+ghost use Rattle.fact_checks.specs.AdapterRules.{IsCalleeTwice, IsSameAs, bound, callee_uses, def_in, adapter_memories, memory_use as memory_use_of, reallocs_of, side_uses, uses_of};
 ghost use Rattle.fact_types.specs.Adapters.{LinkedAdapter, Side};
 ghost use Rattle.fact_checks.specs.Binding.{Binds};
 ghost use Rattle.fact_checks.specs.Linked.{HasSides, IsSideOf, NamesTypesOf};
@@ -79,7 +79,7 @@ fn push_memory<V: Drop>(
 
 /// The memories of an adapter, each with the instance of the side that names it.
 pub(crate) fn memories(alloc: Global, adapter: &Adapter) -> Result<Vec<(CoreDef, u32)>, OutOfMemory>
-    ensures { IfOk result (λ pairs. (b : Builder) (linked : LinkedAdapter) → HasSides b adapter.now linked → pairs.items ≡ memories_of linked) }
+    ensures { IfOk result (λ pairs. (b : Builder) (linked : LinkedAdapter) → HasSides b adapter.now linked → pairs.items ≡ adapter_memories linked) }
 {
     let mut pairs = Vec::new(alloc);
     let lift = &adapter.lift_options;

@@ -8,7 +8,7 @@ use Rattle.fact_types.specs.declared.outside.CoreDef.{CoreDef}
 use Rattle.fact_types.specs.declared.outside.MemoryOption.{MemoryOption}
 use Rattle.fact_types.specs.Adapters.{LinkedAdapter, Side, is_crossing}
 use Rattle.fact_types.specs.Shapes.{Shape}
-use Rattle.fact_checks.specs.AdapterRules.{CannotUseMemory, IsByPointer, IsOdd, LiftNeedsMemory, LiftNeedsRealloc, LowerNeedsMemory, LowerNeedsRealloc, LowerResultsByPointer, SharesMemory, bound, def_in, memories_of, with}
+use Rattle.fact_checks.specs.AdapterRules.{CannotUseMemory, IsByPointer, IsOdd, LiftNeedsMemory, LiftNeedsRealloc, LowerNeedsMemory, LowerNeedsRealloc, LowerResultsByPointer, SharesMemory, bound, def_in, adapter_memories, with}
 use Rattle.fact_uses.specs.Bindings.{AreConsistent}
 use Rattle.fact_moves.specs.Adapters.{flat_results}
 use Rattle.fact_moves.specs.Sides.{LiftLowerOptions, options_of}
@@ -95,13 +95,13 @@ bound_there o m v e = subst (λ o. Contains (bound (def_in o) v) (m.def, v)) (sy
 -- memories of two instances are two definitions
 pub two_definitions : (before : List LinkedAdapter) (a : LinkedAdapter) → (SharesMemory before a → ⊥) → is_crossing a ≡ true → (m n : MemoryOption) → a.lower.memory ≡ Some m → a.lift.memory ≡ Some n → m.def ≢ n.def
 two_definitions before a apart crossing m n is_m is_n same =
-    let all = flat_map memories_of (with before a) in
+    let all = flat_map adapter_memories (with before a) in
     let consistent : AreConsistent all = stable_consistent stable_nat all (λ none. apart (inl none)) in
     let lower : Contains all (m.def, a.lower.instance) =
-    contains_last memories_of before a (m.def, a.lower.instance)
+    contains_last adapter_memories before a (m.def, a.lower.instance)
     (Contains-append_right (bound (def_in a.lift.memory) a.lift.instance) (bound (def_in a.lower.memory) a.lower.instance) (m.def, a.lower.instance) (bound_there a.lower.memory m a.lower.instance is_m)) in
     let lift : Contains all (n.def, a.lift.instance) =
-    contains_last memories_of before a (n.def, a.lift.instance)
+    contains_last adapter_memories before a (n.def, a.lift.instance)
     (Contains-append_left (bound (def_in a.lift.memory) a.lift.instance) (bound (def_in a.lower.memory) a.lower.instance) (n.def, a.lift.instance) (bound_there a.lift.memory n a.lift.instance is_n)) in
     let one : a.lower.instance ≡ a.lift.instance = one_value all (m.def, a.lower.instance) (n.def, a.lift.instance) consistent lower lift same in
     false≢true (sym (ap not (eq-eqb a.lift.instance a.lower.instance (sym one))) ∙ crossing)
