@@ -200,9 +200,9 @@ pub moves_checked : {S : Setting} {used : ℕ → Bool} {extra spare : ℕ} {fro
     → Checked S t u from_align to_align from to → Moves S used extra (16 + spare) from to act code
     → Moves S used extra spare from to (λ s d. aligned_node (transfer S) t u s d (act s d)) (node_check S from_align to_align from to ++ code)
 moves_checked {S} {used} {extra} {spare} {from} {to} {act} {code} {t} {u} {from_align} {to_align} h m = record {
-  effect = λ ls s d e st g.
+  effect = λ ls s d e st g rooms.
       let all = source_does S.checks S.from64 from s S.from t from_align h.from_is h.from_aligns h.from_checked st
-      (target_does used S.checks S.to64 to d S.to u to_align h.to_is h.to_aligns h.to_checked g (m.effect ls s d e st g)) in
+      (target_does used S.checks S.to64 to d S.to u to_align h.to_is h.to_aligns h.to_checked g (m.effect ls s d e st g rooms)) in
       within (omega arith) (subst (λ c. Does S.whole S.places Onward (8 + (8 + extra)) (16 + spare) [] ls c (aligned_node (transfer S) t u s d (act s d)) (λ vs. []) (λ vs ls'. Stood ls' to vs × KeepsLocals used ls ls')) (sym (append_assoc (from_check S.checks S.from64 from_align from) (to_check S.checks S.to64 to_align to) code)) all);
   typed =
       subst (λ c. IsTyped S.whole S.locals [] c [] (OnStack [])) (sym (append_assoc (from_check S.checks S.from64 from_align from) (to_check S.checks S.to64 to_align to) code))

@@ -11,11 +11,11 @@ use Rattle.fact_moves.specs.Moves.{padded}
 use Rattle.fact_moves.specs.Sides.{LiftLowerOptions, Source, Target, Slots, Into, zeros, write_number}
 use Rattle.fact_pieces.specs.Cases.{tag_code, zero_code}
 use Rattle.fact_pieces.specs.Does.{Locals, Onward, held_types, Does}
-use Rattle.fact_pieces.specs.Places.{Setting, Slot, From, To, ToLocals, ToMemory, AreHeld, StandsAt, AreFree, MayGo, Stood, KeepsLocals, AreDistinctSlots, Moves, Number, size_of, limit_of, Writable, ToTyped, FromUsed, ToUsed, to_past, code_behind}
+use Rattle.fact_pieces.specs.Places.{Setting, Slot, From, To, ToLocals, ToMemory, AreHeld, StandsAt, AreFree, MayGo, Stood, KeepsLocals, InRooms, AreDistinctSlots, Moves, Number, size_of, limit_of, Writable, ToTyped, FromUsed, ToUsed, to_past, code_behind}
 use Rattle.fact_pieces.specs.Typed.{OnStack, IsTyped}
 use Rattle.fact_pieces.proofs.Blocks.{mapped}
-use Rattle.fact_pieces.proofs.FieldMoves.{from_part, source_part, to_spot, target_spot, target_past, with_to, IsApartAt, stands_part, goes_spot, goes_past, to_more, stood_stays, stood_both}
-use Rattle.fact_pieces.proofs.Keeping.{keeps_all, keeps_then, stands_kept, goes_kept}
+use Rattle.fact_pieces.proofs.FieldMoves.{from_part, source_part, to_spot, target_spot, target_past, with_to, IsApartAt, stands_part, goes_spot, goes_past, rooms_part, rooms_spot, rooms_past, to_more, stood_stays, stood_both}
+use Rattle.fact_pieces.proofs.Keeping.{keeps_all, keeps_then, stands_kept, goes_kept, rooms_kept}
 use Rattle.fact_pieces.proofs.Numbers.{begins, writes, below_number}
 use Rattle.fact_pieces.proofs.Rules.{within, in_turn, pushing, done}
 use Rattle.fact_pieces.proofs.Scalars.{IsNarrow}
@@ -64,7 +64,7 @@ module _ (S : Setting) (used : ℕ → Bool) (to : To) (n : Number) (k : ℕ) wh
   module _ (h : IsTag) where
     moves_tag : (from : From) → Moves S used 4 0 from (to_spot 1 0 to) (λ s d. write_number S.to (size_of n) d k) (tag_code n k to)
     moves_tag from = subst (λ c. Moves S used 4 0 from (to_spot 1 0 to) (λ s d. write_number S.to (size_of n) d k) c) (tag_spot n k to) (record {
-      effect = λ ls s d e st g.
+      effect = λ ls s d e st g rooms.
           let lt : k < limit_of n = subst (λ m. k < m) (sym h.narrow.below) h.number in
           within (omega arith) (begins S.to64 used (to_spot 1 0 to) d g (pushing (record { by = λ w vs. leaves_i32_const })
           (subst (λ v. Does S.whole S.places Onward 2 0 (v ∷ below_number S.to64 used ls (to_spot 1 0 to) d g) ls (code_behind n (to_spot 1 0 to)) (write_number S.to (size_of n) d k) (λ vs. []) (λ vs ls'. Stood ls' (to_spot 1 0 to) vs × KeepsLocals used ls ls')) (h.narrow.value k)
@@ -121,21 +121,21 @@ module _ (S : Setting) (used : ℕ → Bool) (from : From) (to : To) (n : Number
   bare_given ls ls1 (ToMemory memory base offset) (Into a) tag w g st = append-nil tag
 
   -- the number of the case is written, in front of code that goes on
-  tag_then : {code : List Instr} {spare : ℕ} {f : List CoreValue → Action (List CoreValue)} (ls : Locals) (s : Source) (d : Target) → held_types ls ≡ S.locals → StandsAt ls S.from64 from s → MayGo used ls S.to64 to d
+  tag_then : {code : List Instr} {spare : ℕ} {f : List CoreValue → Action (List CoreValue)} (ls : Locals) (s : Source) (d : Target) → held_types ls ≡ S.locals → StandsAt ls S.from64 from s → MayGo used ls S.to64 to d → InRooms S ls from to
       → ((tag : List CoreValue) (ls1 : Locals) → KeepsLocals used ls ls1 → Stood ls1 (to_spot 1 0 to) tag → MayGo tagged ls1 S.to64 (to_past 1 to) (target_past 1 d)
       → Does S.whole S.places Onward 32 spare [] ls1 code (f tag) (λ vs. []) (λ vs ls'. Stood ls' to vs × KeepsLocals used ls ls'))
       → Does S.whole S.places Onward 36 spare [] ls (tag_code n k to ++ code) (write_number S.to (size_of n) d k >>= f) (λ vs. []) (λ vs ls'. Stood ls' to vs × KeepsLocals used ls ls')
-  tag_then ls s d e st g go =
+  tag_then ls s d e st g rooms go =
       within (omega arith) (in_turn
       (subst (λ q. Does S.whole S.places Onward 4 0 [] ls (tag_code n k to) q (λ vs. []) (λ vs ls'. Stood ls' (to_spot 1 0 to) vs × KeepsLocals used ls ls')) (tag_written S.to (size_of n) k d)
-      ((moves_tag S used to n k h from).effect ls s (target_spot 1 0 d) e st (goes_spot S.to64 used ls 1 0 to d g)))
+      ((moves_tag S used to n k h from).effect ls s (target_spot 1 0 d) e st (goes_spot S.to64 used ls 1 0 to d g) (rooms_spot 1 0 from to rooms)))
       (λ tag ls1 r. go tag ls1 r.1 r.0 (goes_past S.to64 used ls1 1 0 to d apart (goes_kept r.1 S.to64 to d tu g))))
 
   -- A case that carries nothing: its number, and zeros.
   pub moves_bare_case : MayZero S.locals (to_past 1 to) → Moves S used 300 0 from to (λ s d. write_number S.to (size_of n) d k >>= (λ tag. Give (padded d tag))) (tag_code n k to ++ zero_code (to_past 1 to))
   moves_bare_case z = record {
-    effect = λ ls s d e st g.
-        within (omega arith) (tag_then ls s d e st g (λ tag ls1 keeps stood g1.
+    effect = λ ls s d e st g rooms.
+        within (omega arith) (tag_then ls s d e st g rooms (λ tag ls1 keeps stood g1.
         subst (λ us. Does S.whole S.places Onward 32 0 [] ls1 (zero_code (to_past 1 to)) (Give us) (λ vs. []) (λ vs ls'. Stood ls' to vs × KeepsLocals used ls ls')) (bare_given ls ls1 to d tag h.writable g stood)
         (mapped (λ zs. tag ++ zs) (λ zs. refl)
         (λ zs ls2 q. (stood_both ls2 1 0 to tag zs (stood_stays used (to_spot 1 0 to) tag q.1 stood) q.0, keeps_then keeps (less_kept (to_spot 1 0 to) q.1)))
@@ -167,11 +167,12 @@ module _ (S : Setting) (used : ℕ → Bool) (from : From) (to : To) (n : Number
         → Moves S tagged 0 500 (from_part count 1 bytes from) payload_to act payload
         → Moves S used 300 0 from to (λ s d. write_number S.to (size_of n) d k >>= (λ tag. act (source_part count 1 bytes s) (target_spot room_count room (target_past 1 d)) >>= (λ vs. Give (padded d (tag ++ vs))))) (tag_code n k to ++ (payload ++ zero_code rest_to))
     moves_some_case {act} {payload} fu apart' z m = record {
-      effect = λ ls s d e st g.
-          within {spare = 0} (omega arith) (tag_then {spare = 0} ls s d e st g (λ tag ls1 keeps stood g1.
+      effect = λ ls s d e st g rooms.
+          within {spare = 0} (omega arith) (tag_then {spare = 0} ls s d e st g rooms (λ tag ls1 keeps stood g1.
           let tu1 : ToUsed tagged (to_past 1 to) = spot_used used tagged 1 to (to_more used (to_spot 1 0 to)) tu in
+          let rooms1 = rooms_spot room_count room (from_part count 1 bytes from) (to_past 1 to) (rooms_part count 1 bytes from (to_past 1 to) (rooms_past 1 from to (rooms_kept keeps from to fu tu rooms))) in
           within {spare = 500} (omega arith) (in_turn {spare = 500} {spare' = 0}
-          (m.effect ls1 (source_part count 1 bytes s) (target_spot room_count room (target_past 1 d)) (keeps.types ∙ e) (stands_part S.from64 ls1 count 1 bytes from s (stands_kept keeps S.from64 from s fu st)) (goes_spot S.to64 tagged ls1 room_count room (to_past 1 to) (target_past 1 d) g1))
+          (m.effect ls1 (source_part count 1 bytes s) (target_spot room_count room (target_past 1 d)) (keeps.types ∙ e) (stands_part S.from64 ls1 count 1 bytes from s (stands_kept keeps S.from64 from s fu st)) (goes_spot S.to64 tagged ls1 room_count room (to_past 1 to) (target_past 1 d) g1) rooms1)
           (λ vs ls2 r.
           let g2 = goes_past S.to64 tagged ls2 room_count room (to_past 1 to) (target_past 1 d) apart' (goes_kept r.1 S.to64 (to_past 1 to) (target_past 1 d) tu1 g1) in
           subst (λ us. Does S.whole S.places Onward 32 0 [] ls2 (zero_code rest_to) (Give us) (λ vs. []) (λ vs ls'. Stood ls' to vs × KeepsLocals used ls ls')) (some_given ls ls1 ls2 to d tag vs h.writable g stood r.0)

@@ -10,10 +10,10 @@ use Rattle.fact_types.specs.Fields.{Field, field_of}
 use Rattle.fact_types.specs.Shapes.{Shape, Members, no_members, typed, place_of, next_of, s_node, k_record, k_tuple}
 use Rattle.fact_moves.specs.Moves.{flat_length, part, spot, past, with_field, move, move_fields}
 use Rattle.fact_pieces.specs.Does.{Locals, Onward, Does}
-use Rattle.fact_pieces.specs.Places.{Setting, transfer, Slot, From, InLocals, InMemory, To, ToLocals, ToMemory, AreHeld, StandsAt, AreFree, MayGo, Stood, KeepsLocals, Moves, AreUsed, FromUsed, ToUsed, node_check, to_past, IsNone}
-use Rattle.fact_pieces.proofs.Rules.{in_turn, done, visit}
+use Rattle.fact_pieces.specs.Places.{Setting, transfer, Slot, From, InLocals, InMemory, To, ToLocals, ToMemory, AreHeld, StandsAt, AreFree, MayGo, Stood, KeepsLocals, FromRoom, ToRoom, InRooms, Moves, AreUsed, FromUsed, ToUsed, node_check, to_past, IsNone}
+use Rattle.fact_pieces.proofs.Rules.{in_turn, done, visit, within}
 use Rattle.fact_pieces.proofs.Blocks.{mapped}
-use Rattle.fact_pieces.proofs.Keeping.{keeps_all, keeps_then, held_kept, stands_kept, goes_kept}
+use Rattle.fact_pieces.proofs.Keeping.{keeps_all, keeps_then, held_kept, stands_kept, goes_kept, rooms_kept}
 use Rattle.fact_pieces.proofs.UsedLocals.{with_local, local_here, local_more, local_other}
 use Rattle.fact_pieces.proofs.TypingLaws.{typed_done, typed_then}
 use Rattle.fact_pieces.proofs.Aligned.{Checked, moves_checked}
@@ -141,6 +141,28 @@ module _ (memory64 : Bool) where
   goes_past used ls count bytes (ToMemory memory base offset) (Slots ts) a h = absurd h
   goes_past used ls count bytes (ToMemory memory base offset) (Into x) a h = h
 
+-- parts are found by the same locals
+from_part_room : (ls : Locals) (memory64 : Bool) (count place bytes : ℕ) (from : From) (n : ℕ) → FromRoom ls memory64 from n → FromRoom ls memory64 (from_part count place bytes from) n
+from_part_room ls memory64 count place bytes (InLocals ss) n r = tt
+from_part_room ls memory64 count place bytes (InMemory memory base offset) n r = r
+
+to_spot_room : (ls : Locals) (memory64 : Bool) (count bytes : ℕ) (to : To) (n : ℕ) → ToRoom ls memory64 to n → ToRoom ls memory64 (to_spot count bytes to) n
+to_spot_room ls memory64 count bytes (ToLocals ss) n r = tt
+to_spot_room ls memory64 count bytes (ToMemory memory base offset) n r = r
+
+to_past_room : (ls : Locals) (memory64 : Bool) (count : ℕ) (to : To) (n : ℕ) → ToRoom ls memory64 to n → ToRoom ls memory64 (to_past count to) n
+to_past_room ls memory64 count (ToLocals ss) n r = tt
+to_past_room ls memory64 count (ToMemory memory base offset) n r = r
+
+pub rooms_part : {S : Setting} {ls : Locals} (count place bytes : ℕ) (from : From) (to : To) → InRooms S ls from to → InRooms S ls (from_part count place bytes from) to
+rooms_part {S} {ls} count place bytes from to r = record { source = from_part_room ls S.from64 count place bytes from S.rooms.from r.source; target = r.target }
+
+pub rooms_spot : {S : Setting} {ls : Locals} (count bytes : ℕ) (from : From) (to : To) → InRooms S ls from to → InRooms S ls from (to_spot count bytes to)
+rooms_spot {S} {ls} count bytes from to r = record { source = r.source; target = to_spot_room ls S.to64 count bytes to S.rooms.to r.target }
+
+pub rooms_past : {S : Setting} {ls : Locals} (count : ℕ) (from : From) (to : To) → InRooms S ls from to → InRooms S ls from (to_past count to)
+rooms_past {S} {ls} count from to r = record { source = r.source; target = to_past_room ls S.to64 count to S.rooms.to r.target }
+
 pub to_more : (used : ℕ → Bool) (to : To) (i : ℕ) → used i ≡ true → with_to used to i ≡ true
 to_more used (ToLocals ss) i u = slots_more used ss i u
 to_more used (ToMemory memory base offset) i u = u
@@ -162,11 +184,11 @@ pub moves_field : {S : Setting} {used : ℕ → Bool} {e1 e2 s1 s2 : ℕ} {from 
     → Moves S (with_to used (to_spot room_count room to)) e2 s2 from (to_past room_count to) move2 code2
     → Moves S used (e1 + e2) (s1 + s2) from to (λ s d. move1 (source_part count place bytes s) (target_spot room_count room d) >>= (λ vs. move2 s (target_past room_count d) >>= (λ us. Give (vs ++ us)))) (code1 ++ code2)
 moves_field {S} {used} {from = from} {to} count place bytes room_count room fu tu apart one two = record {
-  effect = λ ls s d e st g.
-      in_turn (one.effect ls (source_part count place bytes s) (target_spot room_count room d) e (stands_part S.from64 ls count place bytes from s st) (goes_spot S.to64 used ls room_count room to d g)) (λ vs ls1 r.
+  effect = λ ls s d e st g rooms.
+      in_turn (one.effect ls (source_part count place bytes s) (target_spot room_count room d) e (stands_part S.from64 ls count place bytes from s st) (goes_spot S.to64 used ls room_count room to d g) (rooms_spot room_count room (from_part count place bytes from) to (rooms_part count place bytes from to rooms))) (λ vs ls1 r.
       mapped (λ us. vs ++ us) (λ us. refl)
       (λ us ls2 q. (stood_both ls2 room_count room to vs us (stood_stays used (to_spot room_count room to) vs q.1 r.0) q.0, keeps_then r.1 (record { same = λ i u. q.1.same i (to_more used (to_spot room_count room to) i u); types = q.1.types })))
-      (two.effect ls1 s (target_past room_count d) (r.1.types ∙ e) (stands_kept r.1 S.from64 from s fu st) (goes_past S.to64 used ls1 room_count room to d apart (goes_kept r.1 S.to64 to d tu g))));
+      (two.effect ls1 s (target_past room_count d) (r.1.types ∙ e) (stands_kept r.1 S.from64 from s fu st) (goes_past S.to64 used ls1 room_count room to d apart (goes_kept r.1 S.to64 to d tu g)) (rooms_past room_count from to (rooms_kept r.1 from to fu tu rooms))));
   typed = typed_then one.typed two.typed;
 }
 
@@ -176,7 +198,7 @@ moves_field {S} {used} {from = from} {to} count place bytes room_count room fu t
 pub moves_same : {S : Setting} {used : ℕ → Bool} {extra spare : ℕ} {from : From} {to : To} {move1 move2 : Source → Target → Action (List CoreValue)} {code : List Instr}
     → ((s : Source) (d : Target) → move1 s d ≡ move2 s d) → Moves S used extra spare from to move1 code → Moves S used extra spare from to move2 code
 moves_same {S} {used} {extra} {spare} {from} {to} {move1} {move2} {code} h m = record {
-  effect = λ ls s d e st g. subst (λ q. Does S.whole S.places Onward extra spare [] ls code q (λ vs. []) (λ vs ls'. Stood ls' to vs × KeepsLocals used ls ls')) (h s d) (m.effect ls s d e st g);
+  effect = λ ls s d e st g rooms. subst (λ q. Does S.whole S.places Onward extra spare [] ls code q (λ vs. []) (λ vs ls'. Stood ls' to vs × KeepsLocals used ls ls')) (h s d) (m.effect ls s d e st g rooms);
   typed = m.typed;
 }
 
@@ -211,15 +233,23 @@ moves_member {S} ms ns x u end f h fu tu apart one two =
 -- no field is left
 pub moves_no_member : {S : Setting} {used : ℕ → Bool} {from : From} {memory base offset : ℕ} (ms : Members) (end : ℕ) → Moves S used 0 0 from (ToMemory memory base offset) (move_fields (transfer S) ms no_members end) []
 unfolding move
-moves_no_member ms end = record { effect = λ ls s d e st g. done refl (refl, keeps_all); typed = typed_done }
+moves_no_member ms end = record { effect = λ ls s d e st g rooms. done refl (refl, keeps_all); typed = typed_done }
 
 pub moves_no_local : {S : Setting} {used : ℕ → Bool} {from : From} (ms : Members) (end : ℕ) → Moves S used 0 0 from (ToLocals []) (move_fields (transfer S) ms no_members end) []
 unfolding move
-moves_no_local ms end = record { effect = λ ls s d e st g. done refl (tt, keeps_all); typed = typed_done }
+moves_no_local ms end = record { effect = λ ls s d e st g rooms. done refl (tt, keeps_all); typed = typed_done }
 
 -- a node of one, whose weight pays for what its parts do not
 pub moves_visited : {S : Setting} {used : ℕ → Bool} {from : From} {to : To} {act : Source → Target → Action (List CoreValue)} {code : List Instr} → Moves S used 0 0 from to act code → Moves S used 0 516 from to (λ s d. Visit 1 (act s d)) code
-moves_visited m = record { effect = λ ls s d e st g. visit (omega arith) (m.effect ls s d e st g); typed = m.typed }
+moves_visited m = record { effect = λ ls s d e st g rooms. visit (omega arith) (m.effect ls s d e st g rooms); typed = m.typed }
+
+-- whose weight pays for nothing but its parts, so that all of it is left
+pub moves_unpaid : {S : Setting} {used : ℕ → Bool} {from : From} {to : To} {act : Source → Target → Action (List CoreValue)} {code : List Instr} → Moves S used 0 0 from to act code → Moves S used 0 900 from to (λ s d. Visit 1 (act s d)) code
+moves_unpaid m = record { effect = λ ls s d e st g rooms. visit (omega arith) (m.effect ls s d e st g rooms); typed = m.typed }
+
+-- less of it
+pub moves_less : {S : Setting} {used : ℕ → Bool} {from : From} {to : To} {act : Source → Target → Action (List CoreValue)} {code : List Instr} → Moves S used 0 900 from to act code → Moves S used 0 516 from to act code
+moves_less m = record { effect = λ ls s d e st g rooms. within (omega arith) (m.effect ls s d e st g rooms); typed = m.typed }
 
 module _ {S : Setting} {used : ℕ → Bool} {from : From} {to : To} {code : List Instr} {ms ns : Members} {from_align to_align : ℕ} (m : Moves S used 0 0 from to (move_fields (transfer S) ms ns 0) code) where
   -- a record, by the code of its fields

@@ -1,6 +1,6 @@
 -- Tests of alignments and of byte lengths, with a trap where they fail. None stands where it cannot fail.
-use Rattle.std.proofs.Common.{◌≡◌, ℕ, ◌+◌, ◌-◌, ◌*◌, ◌%◌, ◌^◌, ◌<◌, Bool, true, false, ◌&&◌, List, [], ◌++◌, Some, refl, sym, ap, ◌∙◌, subst, arith, slice_get}
-use Rattle.std.specs.Prelude.{not, nat_eq, nat_lt, bit_and}
+use Rattle.std.proofs.Common.{◌≡◌, ℕ, ◌+◌, ◌-◌, ◌*◌, ◌%◌, ◌^◌, ◌<◌, Bool, true, false, List, [], ◌++◌, Some, refl, sym, ap, ◌∙◌, subst, arith, slice_get}
+use Rattle.std.specs.Prelude.{nat_eq, nat_lt, bit_and}
 use Rattle.std.proofs.lemmas.Bool.{ltb-true, lt-ltb, eqb-true, eq-eqb}
 use Rattle.fact_wasm.specs.declared.types.ValType.{ValType}
 use Rattle.fact_wasm.specs.declared.types.ValType.TheVariants as val
@@ -12,26 +12,17 @@ use Rattle.fact_machine.specs.declared.types.CoreValue.{CoreValue}
 use Rattle.fact_machine.specs.declared.types.CoreValue.TheVariants.{I64}
 use Rattle.fact_moves.specs.Actions.{Action, unless}
 use Rattle.fact_moves.specs.Running.{ImportPlaces}
-use Rattle.fact_pieces.specs.Code.{guard_code}
 use Rattle.fact_pieces.specs.Does.{Locals, Way, Does}
 use Rattle.fact_pieces.specs.Knows.{KnowsFunction}
 use Rattle.fact_pieces.specs.Typed.{OperandsBehind, IsTyped}
 use Rattle.fact_pieces.proofs.Rules.{within}
 use Rattle.fact_pieces.proofs.Blocks.{guard}
-use Rattle.fact_pieces.proofs.Regions.{few_code, pushes_few, pushes_aligned, typed_few, typed_aligned}
+use Rattle.fact_pieces.proofs.Regions.{pushes_few, pushes_aligned, typed_few, typed_aligned}
 use Rattle.fact_pieces.specs.Tests.{aligned_guard, HasUnaligned}
 use Rattle.fact_pieces.proofs.TypedShapes.{takes_guard}
+use Rattle.fact_pieces.specs.Lists.{is_few, few_guard}
 
 -- ---- code
-
--- a number of things of a size have fewer than 2 to the power of 32 bytes, which needs no test where they are single bytes and the
--- addresses of their side have 32 bits
-abbrev pub is_few : (memory64 : Bool) → (size : ℕ) → Bool
-is_few memory64 size = not memory64 && nat_eq size 1
-
-abbrev pub few_guard : (few : Bool) → (number size place : ℕ) → List Instr
-few_guard true number size place = []
-few_guard false number size place = guard_code (few_code number size) place
 
 -- ---- what it does
 

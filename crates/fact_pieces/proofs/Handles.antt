@@ -39,7 +39,7 @@ module _ (S : Setting) (used : ℕ → Bool) (from : From) (to : To) (h : FitsNu
   -- A handle is read, taken over and written, within the steps that one node has beside its checks.
   pub moves_handle : Moves S used 0 516 from to (λ s d. Visit 1 (move_handle (transfer S) what from_table to_table s d)) (handle_code S.checks from_table to_table place from to)
   moves_handle = record {
-    effect = λ ls s d e st g. visit (omega arith) (handle_does ls s d st g);
+    effect = λ ls s d e st g rooms. visit (omega arith) (handle_does ls s d st g);
     typed =
         typed_then (typed_before S.to64 to h.to_typed) (typed_then (typed_read S.places S.checks S.from S.from64 N32 from h.readable h.from_typed)
         (typed_next (takes_plain (o.I32Const _) (I.outs-I32Const _) refl) (typed_next (takes_plain (o.I32Const _) (I.outs-I32Const _) refl)

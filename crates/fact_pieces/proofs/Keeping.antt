@@ -1,12 +1,13 @@
 -- Places whose locals are in use stay as they were where code changes other locals.
-use Rattle.std.proofs.Common.{◌≡◌, ℕ, Bool, true, ◌<◌, List, [], ◌∷◌, refl, ap, ◌∙◌, subst, slice_get}
+use Rattle.std.proofs.Common.{◌≡◌, ℕ, ◌+◌, ◌^◌, ◌<◌, ◌≤◌, Bool, true, false, List, [], ◌∷◌, Some, refl, sym, ap, ◌∙◌, subst, slice_get}
 use Rattle.fact_wasm.specs.declared.types.ValType.{ValType}
 use Rattle.fact_wasm.specs.declared.module.WasmModule.{WasmModule}
 use Rattle.fact_machine.specs.declared.types.CoreValue.{CoreValue}
+use Rattle.fact_machine.specs.Typing.{address_bits, address_operand}
 use Rattle.fact_moves.specs.Running.{ImportPlaces}
 use Rattle.fact_moves.specs.Sides.{LiftLowerOptions, write_number, Source, Values, AtAddress, Target, Slots, Into}
 use Rattle.fact_pieces.specs.Does.{Locals, Onward, Does}
-use Rattle.fact_pieces.specs.Places.{Slot, From, InLocals, InMemory, To, ToLocals, ToMemory, AreHeld, Based, StandsAt, MayGo, AreFree, Stood, KeepsLocals, Number, Writable, stacked, limit_of, size_of, code_behind, AreUsed, FromUsed, ToUsed}
+use Rattle.fact_pieces.specs.Places.{Slot, From, InLocals, InMemory, To, ToLocals, ToMemory, AreHeld, Based, StandsAt, MayGo, AreFree, Stood, KeepsLocals, Setting, HasRoom, FromRoom, ToRoom, InRooms, Number, Writable, stacked, limit_of, size_of, code_behind, AreUsed, FromUsed, ToUsed}
 use Rattle.fact_pieces.proofs.Blocks.{weaker}
 use Rattle.fact_pieces.proofs.Numbers.{below_number, writes}
 
@@ -51,6 +52,27 @@ module _ {used : ℕ → Bool} {ls ls' : Locals} (k : KeepsLocals used ls ls') w
   below_kept memory64 (ToLocals slots) (Into a) u g = absurd g
   below_kept memory64 (ToMemory memory base offset) (Slots ts) u g = absurd g
   below_kept memory64 (ToMemory memory base offset) (Into a) u g = refl
+
+-- the room behind an address that a local holds
+pub room_at : {ls : Locals} (memory64 : Bool) (base a bytes : ℕ) → slice_get ls base ≡ Some (Some (address_operand memory64 a)) → a + bytes ≤ 2 ^ address_bits memory64 → HasRoom ls memory64 base bytes
+room_at true base a bytes h le = record { within = λ start there. let same : a ≡ start = cc in subst (λ x. x + bytes ≤ 2 ^ 64) same le }
+room_at false base a bytes h le = record { within = λ start there. let same : a ≡ start = cc in subst (λ x. x + bytes ≤ 2 ^ 32) same le }
+
+-- there is as much room behind the addresses as there was
+module _ {used : ℕ → Bool} {ls ls' : Locals} (k : KeepsLocals used ls ls') where
+  room_kept : {memory64 : Bool} {base bytes : ℕ} → used base ≡ true → HasRoom ls memory64 base bytes → HasRoom ls' memory64 base bytes
+  room_kept {base = base} u r = record { within = λ start there. r.within start (sym (k.same base u) ∙ there) }
+
+  from_room_kept : (memory64 : Bool) (from : From) (bytes : ℕ) → FromUsed used from → FromRoom ls memory64 from bytes → FromRoom ls' memory64 from bytes
+  from_room_kept memory64 (InLocals slots) bytes u r = tt
+  from_room_kept memory64 (InMemory memory base offset) bytes u r = room_kept u r
+
+  to_room_kept : (memory64 : Bool) (to : To) (bytes : ℕ) → ToUsed used to → ToRoom ls memory64 to bytes → ToRoom ls' memory64 to bytes
+  to_room_kept memory64 (ToLocals slots) bytes u r = tt
+  to_room_kept memory64 (ToMemory memory base offset) bytes u r = room_kept u r
+
+  pub rooms_kept : {S : Setting} (from : From) (to : To) → FromUsed used from → ToUsed used to → InRooms S ls from to → InRooms S ls' from to
+  rooms_kept {S} from to fu tu r = record { source = from_room_kept S.from64 from S.rooms.from fu r.source; target = to_room_kept S.to64 to S.rooms.to tu r.target }
 
 -- a number is written after code that kept what is in use
 pub writes_later : {M : WasmModule} {p : ImportPlaces} {ls ls' : Locals} {x : ℕ} (used : ℕ → Bool) (n : Number) (o : LiftLowerOptions) (memory64 : Bool) (to : To) (d : Target) → Writable M p o memory64 n to → KeepsLocals used ls ls' → ToUsed used to → (g : MayGo used ls memory64 to d)

@@ -2,7 +2,10 @@ pub mod Aligned
 pub mod Blocks
 pub mod CaseMoves
 pub mod Chars
+pub mod Countdown
 pub mod FieldMoves
+pub mod FixedLoops
+pub mod FixedMoves
 pub mod Functions
 pub mod Guards
 pub mod Handles

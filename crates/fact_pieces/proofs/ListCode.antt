@@ -6,7 +6,6 @@ use Rattle.std.proofs.lemmas.Bool.{ltb-true}
 use Rattle.std.proofs.Math.Nat.{mod-eq_of_lt}
 use Rattle.fact_wasm.specs.declared.types.ValType.{ValType}
 use Rattle.fact_wasm.specs.declared.types.ValType.TheVariants as val
-use Rattle.fact_wasm.specs.declared.instr.FuncName.TheVariants as func
 use Rattle.fact_wasm.specs.declared.instr.Instr.{Instr}
 use Rattle.fact_wasm.specs.declared.instr.Instr.TheVariants as I
 use Rattle.fact_wasm.specs.declared.module.WasmModule.{WasmModule}
@@ -26,7 +25,7 @@ use Rattle.fact_moves.specs.Running.{ImportPlaces}
 use Rattle.fact_moves.specs.Sides.{LiftLowerOptions, get_slots, set_slots, Source, AtAddress, Target, Into, first_bits, read_number, write_number, check_region}
 use Rattle.fact_pieces.specs.Does.{Locals, Way, Onward, held_types, Does, PushesValue}
 use Rattle.fact_pieces.specs.Knows.{KnowsFunction}
-use Rattle.fact_pieces.specs.Places.{To, Writable, ToUsed, MayGo, Stood, KeepsLocals, size_of, stacked, limit_of, widen, code_before, code_behind}
+use Rattle.fact_pieces.specs.Places.{To, Writable, ToUsed, MayGo, Stood, KeepsLocals, size_of, stacked, limit_of, widen}
 use Rattle.fact_machine.specs.Typing.{address_type, address_operand}
 use Rattle.fact_pieces.proofs.Rules.{IsSet, within, in_turn, pushing, local_set, done}
 use Rattle.fact_pieces.proofs.Primitives.{ask}
@@ -35,11 +34,12 @@ use Rattle.fact_pieces.proofs.Numbers.{begins, writes, value_type}
 use Rattle.fact_pieces.proofs.Keeping.{keeps_then, goes_kept}
 use Rattle.fact_pieces.proofs.Temporaries.{Temporaries, Facts, without, Standing, standing_kept}
 use Rattle.fact_pieces.proofs.Slots.{ContextSlots, HasSlotsIf, others, in_slots, save_code, restore_code, slots_do}
-use Rattle.fact_pieces.proofs.Pointers.{address_is, address_code, pushes_address, gets_address, keep_number}
+use Rattle.fact_pieces.proofs.Pointers.{address_is, pushes_address, gets_address, keep_number}
 use Rattle.fact_pieces.specs.Tests.{pointer}
 use Rattle.fact_machine.specs.Exits.{Falls}
 use Rattle.fact_machine.specs.Typed.{is_value, are_values}
 use Rattle.fact_machine.proofs.Tests.{first_of, second_of, both}
+use Rattle.fact_pieces.specs.Lists.{const_code, add_code, bump_code, count_code, left_code, ask_code, put_code}
 
 -- ---- the action
 
@@ -65,37 +65,10 @@ list_action debug concurrency w1 w2 o1 o2 realloc e1 a1 e2 a2 element pointer1 l
 
 -- ---- the code
 
-abbrev pub const_code : Bool → ℕ → Instr
-const_code true n = I.I64Const n
-const_code false n = I.I32Const n
-
-abbrev pub add_code : Bool → Instr
-add_code true = I.I64Add
-add_code false = I.I32Add
-
--- an address goes on by a size
-abbrev pub bump_code : Bool → (local size : ℕ) → List Instr
-bump_code memory64 local size = I.LocalGet local ∷ const_code memory64 size ∷ add_code memory64 ∷ I.LocalSet local ∷ []
-
--- one turn less is left
-abbrev pub count_code : ℕ → List Instr
-count_code local = I.LocalGet local ∷ I.I64Const 1 ∷ I.I64Sub ∷ I.LocalSet local ∷ []
-
-abbrev pub left_code : ℕ → List Instr
-left_code local = I.LocalGet local ∷ I.I64Eqz ∷ []
-
--- a new region is asked for
-abbrev pub ask_code : Bool → (align bytes place : ℕ) → List Instr
-ask_code memory64 align bytes place = const_code memory64 0 ∷ const_code memory64 0 ∷ const_code memory64 align ∷ (address_code memory64 bytes ++ I.Call (func.Import place) ∷ [])
-
 -- with the slots saved around it, and its address is kept
 abbrev pub realloc_code : (concurrency : Bool) → ContextSlots → Bool → (align bytes address place : ℕ) → List Instr
 realloc_code concurrency s memory64 align bytes address place =
     (save_code concurrency s ++ (ask_code memory64 align bytes place ++ restore_code concurrency s)) ++ (widen (pointer memory64) val.I64 ++ I.LocalSet address ∷ [])
-
--- a number as wide as addresses, out of a local into a place
-abbrev pub put_code : Bool → ℕ → To → List Instr
-put_code memory64 local to = code_before to ++ (address_code memory64 local ++ code_behind (pointer memory64) to)
 
 -- ---- parts
 
@@ -104,7 +77,7 @@ pushes_const true n = record { by = λ w vs. leaves_i64_const }
 pushes_const false n = record { by = λ w vs. leaves_i32_const }
 
 -- past the last element the address may wrap, and nothing is said of it
-pushes_wrapped : {M : WasmModule} {ls : Locals} (memory64 : Bool) (local a size : ℕ) → slice_get ls local ≡ Some (Some (address_operand memory64 a))
+pub pushes_wrapped : {M : WasmModule} {ls : Locals} (memory64 : Bool) (local a size : ℕ) → slice_get ls local ≡ Some (Some (address_operand memory64 a))
     → (x : ℕ) × PushesValue M 3 ls (I.LocalGet local ∷ const_code memory64 size ∷ add_code memory64 ∷ []) (address_operand memory64 x) × (a + size < limit_of (pointer memory64) → x ≡ a + size)
 pushes_wrapped true local a size h = (iadd 64 a size, record { by = λ w vs. leaves_next (leaves_local_get h) (leaves_next leaves_i64_const leaves_i64_add) }, λ lt. mod-eq_of_lt lt)
 pushes_wrapped false local a size h = (iadd 32 a size, record { by = λ w vs. leaves_next (leaves_local_get h) (leaves_next leaves_i32_const leaves_i32_add) }, λ lt. mod-eq_of_lt lt)
@@ -183,6 +156,22 @@ module _ {locals : List ValType} {used : ℕ → Bool} {count : ℕ} {temp : ℕ
       subst (λ us. Does M p way (2 + extra) spare us ls' (keep ++ c) (k rs) out Holds) stack (keep_number t e (standing_kept s r.1 outside free) memory64 j (first_bits rs) lt wide (λ l st. go rs a.1 l st))) in
       subst (λ r. Does M p way (20 + extra) spare [] ls r (region_action concurrency memory64 realloc align bytes k) out Holds) (sym (append_assoc code keep c))
       (subst (λ q. Does M p way (20 + extra) spare [] ls (code ++ (keep ++ c)) q out Holds) (slots_then concurrency memory64 realloc align bytes k) (within (omega arith) all))
+
+-- the same without slots of the context
+module _ {locals : List ValType} {used : ℕ → Bool} {count : ℕ} {temp : ℕ → ℕ} {type : ℕ → ValType} (t : Temporaries locals used count temp type) {first ls : Locals} (e : held_types first ≡ locals) {fs : Facts} (s : Standing used count temp first ls fs)
+    {A : Type 0} {M : WasmModule} {p : ImportPlaces} {way : Way} {extra spare : ℕ} {c : List Instr} {out : A → List CoreValue} {Holds : A → Locals → Type 0} where
+  pub reallocates_alone : {k : List CoreValue → Action A} (memory64 : Bool) (realloc : CoreDef) (place align b j bytes : ℕ) → j < count → type j ≡ val.I64 → bytes < limit_of (pointer memory64) → slice_get ls (temp b) ≡ Some (Some (I64 bytes))
+      → KnowsFunction M p (import.CoreDef realloc) place (address_type memory64 ∷ address_type memory64 ∷ address_type memory64 ∷ address_type memory64 ∷ []) (address_type memory64 ∷ [])
+      → ((rs : List CoreValue) → first_bits rs < limit_of (pointer memory64) → (ls' : Locals) → Standing used count temp first ls' ((j, I64 (first_bits rs)) ∷ without j fs) → Does M p way extra spare [] ls' c (k rs) out Holds)
+      → Does M p way (8 + extra) spare [] ls (ask_code memory64 align (temp b) place ++ ((widen (pointer memory64) val.I64 ++ I.LocalSet (temp j) ∷ []) ++ c)) (region_action false memory64 realloc align bytes k) out Holds
+  reallocates_alone {k} memory64 realloc place align b j bytes lt wide small hb h go =
+      let keep = widen (pointer memory64) val.I64 ++ I.LocalSet (temp j) ∷ [] in
+      let asked = asks_region {M = M} {p = p} {ls = ls} memory64 realloc place align (temp b) bytes small hb h in
+      within (omega arith) (in_turn asked (λ rs ls' r.
+      let a = answer_is memory64 rs r.0 in
+      let stack : stacked (pointer memory64) (first_bits rs) ∷ [] ≡ reverse rs = ap (λ u. u ∷ []) (address_is memory64 (first_bits rs)) ∙ ap reverse (sym a.0) in
+      subst (λ us. Does M p way (2 + extra) spare us ls' (keep ++ c) (k rs) out Holds) stack
+      (keep_number t e (subst (λ l. Standing used count temp first l fs) (sym r.1) s) memory64 j (first_bits rs) lt wide (λ l st. go rs a.1 l st))))
 
 -- a number as wide as addresses is put into a place
 pub puts : {M : WasmModule} {p : ImportPlaces} {first ls : Locals} (used : ℕ → Bool) (o : LiftLowerOptions) (memory64 : Bool) (to : To) (d : Target) (local x : ℕ) → Writable M p o memory64 (pointer memory64) to → ToUsed used to → MayGo used first memory64 to d → KeepsLocals used first ls

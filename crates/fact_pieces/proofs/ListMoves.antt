@@ -16,20 +16,21 @@ use Rattle.fact_pieces.specs.Code.{counted_code}
 use Rattle.fact_pieces.specs.Does.{Locals, Onward, held_types, Does}
 use Rattle.fact_pieces.specs.Knows.{KnowsFunction}
 use Rattle.fact_pieces.specs.Places.{is_on, Setting, From, To, Readable, Writable, FromUsed, ToUsed, SideMemory, StandsAt, MayGo, Stood, KeepsLocals, size_of, limit_of}
-use Rattle.fact_machine.specs.Typing.{address_type, address_operand}
+use Rattle.fact_machine.specs.Typing.{address_bits, address_type, address_operand}
 use Rattle.fact_pieces.proofs.Rules.{within, in_turn, pushing, local_get}
 use Rattle.fact_pieces.proofs.Blocks.{mapped}
 use Rattle.fact_pieces.proofs.Keeping.{keeps_all, keeps_then}
 use Rattle.fact_pieces.proofs.Temporaries.{Temporaries, standing, Standing, set_temp}
 use Rattle.fact_pieces.proofs.Lengths.{IsLength}
-use Rattle.fact_pieces.proofs.Regions.{bytes_code, pushes_bytes}
-use Rattle.fact_pieces.proofs.Guards.{is_few, few_guard, few_bytes, checks_few}
+use Rattle.fact_pieces.proofs.Regions.{pushes_bytes}
+use Rattle.fact_pieces.proofs.Guards.{few_bytes, checks_few}
 use Rattle.fact_pieces.specs.Tests.{HasUnaligned, pointer, read_into, region_code}
-use Rattle.fact_pieces.proofs.Pointers.{limit_wide, reads_into, region, address_code, gets_address}
+use Rattle.fact_pieces.proofs.Pointers.{limit_wide, reads_into, region, gets_address}
 use Rattle.fact_pieces.proofs.Slots.{ContextSlots, HasSlotsIf, others}
-use Rattle.fact_pieces.proofs.ListCode.{list_action, realloc_code, reallocates, put_code, puts, left_code, address_typed}
+use Rattle.fact_pieces.proofs.ListCode.{list_action, realloc_code, reallocates, puts, address_typed}
 use Rattle.fact_pieces.proofs.ListTurns.{list_type, turn_body, elements}
 use Rattle.fact_machine.proofs.Tests.{first_of, second_of}
+use Rattle.fact_pieces.specs.Lists.{bytes_code, is_few, few_guard, left_code, address_code, put_code}
 
 -- ---- what stands in a list's code
 
@@ -90,7 +91,7 @@ pub record IsListMove (S : Setting) (used inner used1 used2 : ℕ → Bool) (l :
   pub used1_used : (i : ℕ) → used i ≡ true → used1 i ≡ true
   pub used1_number : used1 (l.temp 1) ≡ true
   pub stays : (ls ls' : Locals) (vs : List CoreValue) → KeepsLocals used2 ls ls' → Stood ls l.pointer2 vs → Stood ls' l.pointer2 vs
-  pub element_does : (ls : Locals) (a b : ℕ) → held_types ls ≡ S.locals → slice_get ls (l.temp 6) ≡ Some (Some (address_operand S.from64 a)) → slice_get ls (l.temp 7) ≡ Some (Some (address_operand S.to64 b))
+  pub element_does : (ls : Locals) (a b : ℕ) → held_types ls ≡ S.locals → slice_get ls (l.temp 6) ≡ Some (Some (address_operand S.from64 a)) → slice_get ls (l.temp 7) ≡ Some (Some (address_operand S.to64 b)) → a + l.size1 ≤ 2 ^ address_bits S.from64 → b + l.size2 ≤ 2 ^ address_bits S.to64
       → Does S.whole S.places Onward 0 500 [] ls l.code (l.element (AtAddress a) (Into b)) (λ vs. []) (λ vs ls'. KeepsLocals inner ls ls')
 
 abbrev pub pair_code : Setting → ListMove → List Instr

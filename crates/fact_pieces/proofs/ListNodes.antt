@@ -1,5 +1,5 @@
 -- A list or a map as a node: what its type's move does, by what the code of its elements does.
-use Rattle.std.proofs.Common.{◌≡◌, ℕ, ◌+◌, ◌-◌, ◌*◌, ◌%◌, ◌^◌, ◌<◌, Bool, true, false, List, [], ◌∷◌, ◌++◌, Option, Some, None, refl, sym, ap, ◌∙◌, subst, arith, slice_get}
+use Rattle.std.proofs.Common.{◌≡◌, ℕ, ◌+◌, ◌-◌, ◌*◌, ◌%◌, ◌^◌, ◌<◌, ◌≤◌, Bool, true, false, List, [], ◌∷◌, ◌++◌, Option, Some, None, refl, sym, ap, ◌∙◌, subst, arith, slice_get}
 use Rattle.std.specs.Prelude.{nat_lt, nat_eq, bit_and}
 use Rattle.fact_wasm.specs.declared.instr.Instr.{Instr}
 use Rattle.fact_wasm.specs.declared.module.WasmModule.{WasmModule}
@@ -12,7 +12,7 @@ use Rattle.fact_types.specs.Shapes.{k_list, k_map, s_node, Members}
 use Rattle.fact_types.specs.Signatures.{width, address as pointer_type}
 use Rattle.fact_machine.specs.declared.types.CoreValue.{CoreValue}
 use Rattle.fact_machine.specs.declared.types.CoreValue.TheVariants.{I32}
-use Rattle.fact_machine.specs.Typing.{address_type, address_operand}
+use Rattle.fact_machine.specs.Typing.{address_bits, address_type, address_operand}
 use Rattle.fact_abi.specs.Places.{pointer_bytes}
 use Rattle.fact_moves.specs.Actions as action
 use Rattle.fact_moves.specs.Actions.{Action, Give, Visit, Ask, ◌>>=◌, unless, each}
@@ -169,7 +169,7 @@ module _ (S : Setting) (used : ℕ → Bool) (b : ListPlaces) (ms ns : Members) 
     pub to_typed1 : ToTyped S.locals S.to64 (first_to b.to)
     pub to_typed2 : ToTyped S.locals S.to64 (second_to (size_of (pointer S.to64)) b.to)
     pub apart : IsApart (b.temp 1) b.to
-    pub element_does : (ls : Locals) (x y : ℕ) → held_types ls ≡ S.locals → slice_get ls (b.temp 6) ≡ Some (Some (address_operand S.from64 x)) → slice_get ls (b.temp 7) ≡ Some (Some (address_operand S.to64 y))
+    pub element_does : (ls : Locals) (x y : ℕ) → held_types ls ≡ S.locals → slice_get ls (b.temp 6) ≡ Some (Some (address_operand S.from64 x)) → slice_get ls (b.temp 7) ≡ Some (Some (address_operand S.to64 y)) → x + (entry_extent S.from ms).size ≤ 2 ^ address_bits S.from64 → y + (entry_extent S.to ns).size ≤ 2 ^ address_bits S.to64
         → Does S.whole S.places Onward 0 500 [] ls code (element (AtAddress x) (Into y)) (λ vs. []) (λ vs ls'. KeepsLocals (with_temps used b.temp 10) ls ls')
     pub element_typed : IsTyped S.whole S.locals [] code [] (OnStack [])
 
@@ -209,7 +209,7 @@ module _ (S : Setting) (used : ℕ → Bool) (b : ListPlaces) (ms ns : Members) 
     pub moves_elements : Moves S used 0 516 (all_from b.from) (all_to b.to) (λ s d. Visit 1 (move_list (transfer S) ms ns element s d)) (list_code S listed h.side1.log2 h.side2.log2)
     unfolding is_listed
     moves_elements = record {
-      effect = λ ls s d e st g.
+      effect = λ ls s d e st g rooms.
           let is = list_is (transfer S) S.from64 S.to64 b.realloc ms ns element s d (wide_is h.side1) (wide_is h.side2) h.realloc_is ∙ by_width (transfer S) S.from64 S.to64 b.realloc (entry_extent S.from ms) (entry_extent S.to ns) element s d in
           subst (λ q. Does S.whole S.places Onward 0 516 [] ls (list_code S listed h.side1.log2 h.side2.log2) (Visit 1 q) (λ vs. []) (λ vs ls'. Stood ls' (all_to b.to) vs × KeepsLocals used ls ls')) (sym is)
           (visit (omega arith) (weaker (λ vs. refl) (λ vs ls' r. (subst (Stood ls' (all_to b.to)) (sym r.is) (both_stand used (size_of (pointer S.to64)) b.to ls' r.pointer_values r.length_values r.pointer_stands r.length_stands), r.keeps))

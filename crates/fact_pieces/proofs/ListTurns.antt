@@ -14,7 +14,7 @@ use Rattle.fact_moves.specs.Sides.{Source, AtAddress, Target, Into}
 use Rattle.fact_pieces.specs.Code.{counted_code}
 use Rattle.fact_pieces.specs.Does.{Locals, Onward, held_types, Does}
 use Rattle.fact_pieces.specs.Places.{KeepsLocals, limit_of}
-use Rattle.fact_machine.specs.Typing.{address_type, address_operand}
+use Rattle.fact_machine.specs.Typing.{address_bits, address_type, address_operand}
 use Rattle.fact_pieces.proofs.Rules.{within, in_turn, done}
 use Rattle.fact_pieces.proofs.Blocks.{same_run, alone}
 use Rattle.fact_pieces.proofs.Loops.{counted}
@@ -23,8 +23,9 @@ use Rattle.fact_pieces.proofs.Numbers.{set_keeps}
 use Rattle.fact_pieces.proofs.Keeping.{keeps_then}
 use Rattle.fact_pieces.proofs.Temporaries.{Temporaries}
 use Rattle.fact_pieces.specs.Tests.{pointer}
-use Rattle.fact_pieces.proofs.ListCode.{bump_code, count_code, left_code, bumps, counts, pushes_left}
+use Rattle.fact_pieces.proofs.ListCode.{bumps, counts, pushes_left}
 use Rattle.fact_machine.proofs.Tests.{first_of, second_of}
+use Rattle.fact_pieces.specs.Lists.{bump_code, count_code, left_code}
 
 -- The temporaries of a list: 0 its pointer, 1 its length, 2 bytes, 3 the new pointer, 4 the length of a memory, 5 the elements
 -- that are left, 6 and 7 the addresses of an element at the source and at the destination, 8 and 9 the slots of the context.
@@ -38,6 +39,14 @@ length_limit : (memory64 : Bool) (n : ℕ) → IsLength memory64 n → n ≤ lim
 length_limit true n h = let lt : n < 2 ^ 64 = h in omega arith
 length_limit false n h = h
 
+pub length_addresses : (memory64 : Bool) (n : ℕ) → IsLength memory64 n → n ≤ 2 ^ address_bits memory64
+length_addresses true n h = let lt : n < 2 ^ 64 = h in omega arith
+length_addresses false n h = h
+
+-- an element of a region within a memory has addresses
+all_within : (i m e p len : ℕ) → p + (suc i + m) * e ≤ len → p + i * e + e ≤ len
+all_within i m e p len le = omega (arith, le)
+
 -- where an element is left, the address of the next is within the region
 next_within : (i m e p len : ℕ) → 0 < e → p + (suc i + suc m) * e ≤ len → p + i * e + e < len
 next_within i m e p len some le = omega (arith, some, le)
@@ -46,7 +55,7 @@ module _ {M : WasmModule} {p : ImportPlaces} {locals : List ValType} {used inner
     (first : Locals) (e : held_types first ≡ locals) (e1 e2 : ℕ) (some1 : 0 < e1) (some2 : 0 < e2) (from to n : ℕ) (small : n < 2 ^ 64)
     {length1 length2 : ℕ} (fits1 : from + n * e1 ≤ length1) (fits2 : to + n * e2 ≤ length2) (is1 : IsLength w1 length1) (is2 : IsLength w2 length2)
     {code : List Instr} (element : Source → Target → Action (List CoreValue))
-    (element_does : (ls : Locals) (a b : ℕ) → held_types ls ≡ locals → slice_get ls (temp 6) ≡ Some (Some (address_operand w1 a)) → slice_get ls (temp 7) ≡ Some (Some (address_operand w2 b))
+    (element_does : (ls : Locals) (a b : ℕ) → held_types ls ≡ locals → slice_get ls (temp 6) ≡ Some (Some (address_operand w1 a)) → slice_get ls (temp 7) ≡ Some (Some (address_operand w2 b)) → a + e1 ≤ 2 ^ address_bits w1 → b + e2 ≤ 2 ^ address_bits w2
     → Does M p Onward 0 500 [] ls code (element (AtAddress a) (Into b)) (λ vs. []) (λ vs ls'. KeepsLocals inner ls ls')) where
   apart : (i j : ℕ) → (nat_lt i 10 && nat_lt j 10) ≡ true → nat_eq i j ≡ false → temp i ≢ temp j
   apart i j h ne same =
@@ -70,10 +79,18 @@ module _ {M : WasmModule} {p : ImportPlaces} {locals : List ValType} {used inner
       let is : x ≡ q + i * s + s = up (omega (arith, inside, wide)) in
       is ∙ omega arith
 
+  within_addresses : (w : Bool) (q s i length : ℕ) → q + n * s ≤ length → IsLength w length → i < n → q + i * s + s ≤ 2 ^ address_bits w
+  within_addresses w q s i length fits is lt =
+      let m : ℕ = n - suc i in
+      let all : n ≡ suc i + m = omega arith in
+      let inside : q + i * s + s ≤ length = all_within i m s q length (subst (λ k. q + k * s ≤ length) all fits) in
+      let wide = length_addresses w length is in
+      omega (arith, inside, wide)
+
   turned : (i : ℕ) (ls : Locals) → i < n → Turn i ls → Does M p Onward 12 500 [] ls (turn_body w1 w2 e1 e2 temp code) (element (AtAddress (from + i * e1)) (Into (to + i * e2))) (λ vs. []) (λ vs ls'. Turn (suc i) ls')
   turned i ls lt h =
       let types : held_types ls ≡ locals = h.keeps.types ∙ e in
-      let one = element_does ls (from + i * e1) (to + i * e2) types (h.source lt) (h.target lt) in
+      let one = element_does ls (from + i * e1) (to + i * e2) types (h.source lt) (h.target lt) (within_addresses w1 from e1 i length1 fits1 is1 lt) (within_addresses w2 to e2 i length2 fits2 is2 lt) in
       same_run (alone p (element (AtAddress (from + i * e1)) (Into (to + i * e2)))) (within (omega arith) (in_turn one (λ vs ls1 k.
       let types1 : held_types ls1 ≡ locals = k.types ∙ types in
       bumps w1 (temp 6) (from + i * e1) e1 (k.same (temp 6) (inner_temp 6 (omega arith)) ∙ h.source lt) (ap (λ l. slice_get l (temp 6)) types1 ∙ t.typed 6 (omega arith)) (λ x up ls2 s2.

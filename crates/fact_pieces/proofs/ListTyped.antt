@@ -20,24 +20,25 @@ use Rattle.fact_pieces.proofs.TypedRows.{takes_plain, takes_local_get, takes_loc
 use Rattle.fact_pieces.proofs.TypedShapes.{takes_guard, typed_counted, typed_length}
 use Rattle.fact_pieces.proofs.TypedPlaces.{typed_narrow, typed_widen, typed_read, typed_before, typed_behind}
 use Rattle.fact_pieces.proofs.Regions.{typed_bytes, typed_bounds}
-use Rattle.fact_pieces.proofs.Guards.{is_few, takes_aligned, takes_few}
+use Rattle.fact_pieces.proofs.Guards.{takes_aligned, takes_few}
 use Rattle.fact_pieces.specs.Tests.{HasUnaligned, pointer, read_into, region_code}
-use Rattle.fact_pieces.proofs.Pointers.{may_hold, address_code}
-use Rattle.fact_pieces.proofs.ListCode.{const_code, add_code, bump_code, count_code, left_code, ask_code, realloc_code, put_code}
+use Rattle.fact_pieces.proofs.Pointers.{may_hold}
+use Rattle.fact_pieces.proofs.ListCode.{realloc_code}
 use Rattle.fact_pieces.proofs.Slots.{ContextSlots, HasSlotsIf, typed_slots}
 use Rattle.fact_pieces.proofs.ListTurns.{list_type}
 use Rattle.fact_pieces.proofs.ListMoves.{slots_of, ListMove, IsListMove, list_code}
+use Rattle.fact_pieces.specs.Lists.{is_few, const_code, add_code, bump_code, count_code, left_code, address_code, ask_code, put_code}
 
 stack_address : (memory64 : Bool) → stack_type (pointer memory64) ≡ address_type memory64
 stack_address true = refl
 stack_address false = refl
 
 module _ {M : WasmModule} {locals : List ValType} {labels : List (List ValType)} {ins : List ValType} where
-  takes_const : (memory64 : Bool) (n : ℕ) → Takes M locals labels (const_code memory64 n) ins (OnStack (address_type memory64 ∷ ins))
+  pub takes_const : (memory64 : Bool) (n : ℕ) → Takes M locals labels (const_code memory64 n) ins (OnStack (address_type memory64 ∷ ins))
   takes_const true n = takes_plain (o.I64Const n) (I.outs-I64Const n) refl
   takes_const false n = takes_plain (o.I32Const n) (I.outs-I32Const n) refl
 
-  takes_add : (memory64 : Bool) → Takes M locals labels (add_code memory64) (address_type memory64 ∷ address_type memory64 ∷ ins) (OnStack (address_type memory64 ∷ ins))
+  pub takes_add : (memory64 : Bool) → Takes M locals labels (add_code memory64) (address_type memory64 ∷ address_type memory64 ∷ ins) (OnStack (address_type memory64 ∷ ins))
   takes_add true = takes_plain o.I64Add I.outs-I64Add refl
   takes_add false = takes_plain o.I32Add I.outs-I32Add refl
 
@@ -46,10 +47,10 @@ module _ {M : WasmModule} {locals : List ValType} {labels : List (List ValType)}
   typed_address memory64 i h = typed_next (takes_local_get h) (typed_narrow (pointer memory64) val.I64 (may_hold memory64))
 
   -- as an address
-  typed_as_address : (memory64 : Bool) (i : ℕ) → slice_get locals i ≡ Some val.I64 → IsTyped M locals labels (address_code memory64 i) ins (OnStack (address_type memory64 ∷ ins))
+  pub typed_as_address : (memory64 : Bool) (i : ℕ) → slice_get locals i ≡ Some val.I64 → IsTyped M locals labels (address_code memory64 i) ins (OnStack (address_type memory64 ∷ ins))
   typed_as_address memory64 i h = subst (λ t. IsTyped M locals labels (address_code memory64 i) ins (OnStack (t ∷ ins))) (stack_address memory64) (typed_address memory64 i h)
 
-  typed_bump : (memory64 : Bool) (local size : ℕ) → slice_get locals local ≡ Some (address_type memory64) → IsTyped M locals labels (bump_code memory64 local size) ins (OnStack ins)
+  pub typed_bump : (memory64 : Bool) (local size : ℕ) → slice_get locals local ≡ Some (address_type memory64) → IsTyped M locals labels (bump_code memory64 local size) ins (OnStack ins)
   typed_bump memory64 local size h = typed_next (takes_local_get h) (typed_next (takes_const memory64 size) (typed_next (takes_add memory64) (typed_one (takes_local_set h))))
 
   typed_count : (local : ℕ) → slice_get locals local ≡ Some val.I64 → IsTyped M locals labels (count_code local) ins (OnStack ins)
@@ -60,6 +61,16 @@ module _ {M : WasmModule} {locals : List ValType} {labels : List (List ValType)}
 
   typed_keep : (memory64 : Bool) (i : ℕ) → slice_get locals i ≡ Some val.I64 → IsTyped M locals labels (widen (pointer memory64) val.I64 ++ I.LocalSet i ∷ []) (stack_type (pointer memory64) ∷ ins) (OnStack ins)
   typed_keep memory64 i h = typed_then (typed_widen (pointer memory64) val.I64 (may_hold memory64)) (typed_one (takes_local_set h))
+
+  -- an address into an i64
+  pub typed_keep_address : (memory64 : Bool) (i : ℕ) → slice_get locals i ≡ Some val.I64 → IsTyped M locals labels (widen (pointer memory64) val.I64 ++ I.LocalSet i ∷ []) (address_type memory64 ∷ ins) (OnStack ins)
+  typed_keep_address memory64 i h = subst (λ t. IsTyped M locals labels (widen (pointer memory64) val.I64 ++ I.LocalSet i ∷ []) (t ∷ ins) (OnStack ins)) (stack_address memory64) (typed_keep memory64 i h)
+
+module _ {M : WasmModule} {locals : List ValType} {labels : List (List ValType)} {ins : List ValType} where
+  pub typed_ask : (p : ImportPlaces) (memory64 : Bool) (align bytes place : ℕ) (realloc : CoreDef) → slice_get locals bytes ≡ Some val.I64
+      → KnowsFunction M p (import.CoreDef realloc) place (address_type memory64 ∷ address_type memory64 ∷ address_type memory64 ∷ address_type memory64 ∷ []) (address_type memory64 ∷ []) → IsTyped M locals labels (ask_code memory64 align bytes place) ins (OnStack (address_type memory64 ∷ ins))
+  typed_ask p memory64 align bytes place realloc hb h =
+      typed_next (takes_const memory64 0) (typed_next (takes_const memory64 0) (typed_next (takes_const memory64 align) (typed_then (typed_as_address memory64 bytes hb) (typed_one (takes_import ins h)))))
 
 module _ (S : Setting) {labels : List (List ValType)} {ins : List ValType} where
   typed_read_into : (p : ImportPlaces) (side : LiftLowerOptions) (memory64 : Bool) (from : From) (i : ℕ) → Readable S.whole p S.checks side memory64 (pointer memory64) from → FromTyped S.locals memory64 from → slice_get S.locals i ≡ Some val.I64 → IsTyped S.whole S.locals labels (read_into S.checks memory64 from i) ins (OnStack ins)
@@ -76,9 +87,7 @@ module _ (S : Setting) {labels : List (List ValType)} {ins : List ValType} where
       → KnowsFunction S.whole p (import.CoreDef realloc) place (address_type memory64 ∷ address_type memory64 ∷ address_type memory64 ∷ address_type memory64 ∷ []) (address_type memory64 ∷ [])
       → IsTyped S.whole S.locals labels (realloc_code concurrency slots memory64 align bytes address place) ins (OnStack ins)
   typed_realloc p concurrency slots memory64 align bytes address place realloc hs t0 t1 hb ha h =
-      let asked : IsTyped S.whole S.locals labels (ask_code memory64 align bytes place) ins (OnStack (address_type memory64 ∷ ins)) =
-      typed_next (takes_const memory64 0) (typed_next (takes_const memory64 0) (typed_next (takes_const memory64 align) (typed_then (typed_as_address memory64 bytes hb) (typed_one (takes_import ins h))))) in
-      typed_then (typed_slots p concurrency slots hs t0 t1 asked) (subst (λ t. IsTyped S.whole S.locals labels (widen (pointer memory64) val.I64 ++ I.LocalSet address ∷ []) (t ∷ ins) (OnStack ins)) (stack_address memory64) (typed_keep memory64 address ha))
+      typed_then (typed_slots p concurrency slots hs t0 t1 (typed_ask p memory64 align bytes place realloc hb h)) (typed_keep_address memory64 address ha)
 
 typed_put : (S : Setting) {labels : List (List ValType)} {ins : List ValType} (p : ImportPlaces) (side : LiftLowerOptions) (memory64 : Bool) (local : ℕ) (to : To) → Writable S.whole p side memory64 (pointer memory64) to → ToTyped S.locals memory64 to → slice_get S.locals local ≡ Some val.I64
     → IsTyped S.whole S.locals labels (put_code memory64 local to) ins (OnStack ins)

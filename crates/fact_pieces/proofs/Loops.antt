@@ -30,10 +30,10 @@ loop_is : (M : WasmModule) (w : World) (vs : List CoreValue) (ls : Locals) (body
     → act M (out-Instr (I.Loop Empty body)) w vs ls rest k ≡ Goes (At w [] ls body (Label 0 vs (I.Loop Empty body ∷ rest) rest [] k))
 loop_is M w vs ls body rest k = ap (λ o. act M o w vs ls rest k) (I.outs-Loop Empty body)
 
-into_loop : {M : WasmModule} {w : World} {vs : List CoreValue} {ls : Locals} {body : List Instr} → Into M (I.Loop Empty body) w vs ls [] ls body
+pub into_loop : {M : WasmModule} {w : World} {vs : List CoreValue} {ls : Locals} {body : List Instr} → Into M (I.Loop Empty body) w vs ls [] ls body
 into_loop {M} {w} {vs} {ls} {body} = record { around = λ rest k. Label 0 vs (I.Loop Empty body ∷ rest) rest [] k; is = loop_is M w vs ls body }
 
-stopped_loop : {M : WasmModule} {t : ℕ} {w : World} {vs : List CoreValue} {ls : Locals} {body : List Instr} (s : Stop) (w' : World) (ls' : Locals) → Leaves M t body w [] ls (stop_exit s w' ls') → Leaves M (suc t) (I.Loop Empty body ∷ []) w vs ls (stop_exit s w' ls')
+pub stopped_loop : {M : WasmModule} {t : ℕ} {w : World} {vs : List CoreValue} {ls : Locals} {body : List Instr} (s : Stop) (w' : World) (ls' : Locals) → Leaves M t body w [] ls (stop_exit s w' ls') → Leaves M (suc t) (I.Loop Empty body ∷ []) w vs ls (stop_exit s w' ls')
 stopped_loop stopped.Trap w' ls' l = leaves_loop enters_empty tt l
 stopped_loop stopped.Throw w' ls' l = leaves_loop enters_empty tt l
 stopped_loop stopped.Lack w' ls' l = leaves_loop enters_empty tt l

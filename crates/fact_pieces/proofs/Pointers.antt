@@ -32,6 +32,7 @@ use Rattle.fact_pieces.proofs.Temporaries.{Temporaries, Facts, without, Standing
 use Rattle.fact_pieces.proofs.Regions.{pushes_bounds}
 use Rattle.fact_pieces.specs.Tests.{bounds_code, aligned_guard, HasUnaligned, pointer, read_into, region_code}
 use Rattle.fact_pieces.proofs.Guards.{checks_aligned}
+use Rattle.fact_pieces.specs.Lists.{address_code}
 
 pub address_is : (memory64 : Bool) (x : ℕ) → stacked (pointer memory64) x ≡ address_operand memory64 x
 address_is true x = refl
@@ -40,10 +41,6 @@ address_is false x = refl
 pub limit_wide : (memory64 : Bool) → limit_of (pointer memory64) ≤ 2 ^ 64
 limit_wide true = omega arith
 limit_wide false = omega arith
-
--- an address out of an i64
-abbrev pub address_code : Bool → ℕ → List Instr
-address_code memory64 i = I.LocalGet i ∷ narrow (pointer memory64) val.I64
 
 pub pushes_address : {M : WasmModule} {ls : Locals} (memory64 : Bool) (i x : ℕ) → x < limit_of (pointer memory64) → slice_get ls i ≡ Some (Some (I64 x)) → Gets M ls i (narrow (pointer memory64) val.I64) (stacked (pointer memory64) x)
 pushes_address true i x lt h = out_of_local N64 val.I64 (I64 x) tt (lt-ltb x (2 ^ 64) lt) h

@@ -1,12 +1,11 @@
 -- Sizes and regions of lists, computed in 64 bits: products, alignment, and bounds.
-use Rattle.std.proofs.Common.{◌≡◌, ℕ, ◌+◌, ◌-◌, ◌*◌, ◌/◌, ◌%◌, ◌^◌, ◌<◌, ◌≤◌, ◌⊎◌, inl, inr, Bool, true, false, ◌&&◌, List, [], ◌∷◌, Some, refl, sym, ap, ◌∙◌, arith, slice_get}
+use Rattle.std.proofs.Common.{◌≡◌, ℕ, ◌+◌, ◌-◌, ◌*◌, ◌/◌, ◌%◌, ◌^◌, ◌<◌, ◌≤◌, ◌⊎◌, inl, inr, Bool, true, false, ◌&&◌, List, ◌∷◌, Some, refl, sym, ap, ◌∙◌, arith, slice_get}
 use Rattle.std.specs.Prelude.{nat_lt, nat_le, nat_eq, bit_and}
 use Rattle.std.specs.Cmp.{both_ways}
 use Rattle.std.proofs.lemmas.Bool.{ltb-true, lt-ltb, leb-true, le-leb, lt-leb, cases_lt}
 use Rattle.std.proofs.Math.Nat.{mod-eq_of_lt, le-div_iff_mul-le}
 use Rattle.fact_wasm.specs.declared.types.ValType.{ValType}
 use Rattle.fact_wasm.specs.declared.types.ValType.TheVariants as val
-use Rattle.fact_wasm.specs.declared.instr.Instr.{Instr}
 use Rattle.fact_wasm.specs.declared.instr.Instr.TheVariants as I
 use Rattle.fact_wasm.specs.declared.instr.Instr.TheOpen as o
 use Rattle.fact_wasm.specs.declared.module.WasmModule.{WasmModule}
@@ -21,16 +20,9 @@ use Rattle.fact_pieces.proofs.TypingLaws.{typed_next, typed_one}
 use Rattle.fact_pieces.proofs.TypedRows.{takes_plain, takes_local_get}
 use Rattle.fact_machine.specs.Exits.{Falls}
 use Rattle.fact_pieces.specs.Tests.{aligned_code, bounds_code}
+use Rattle.fact_pieces.specs.Lists.{few_code, bytes_code}
 
 -- ---- code
-
--- whether a number of things of a size have fewer than 2 to the power of 32 bytes
-abbrev pub few_code : (number size : ℕ) → List Instr
-few_code number size = I.LocalGet number ∷ I.I64Const ((2 ^ 32 - 1) / size + 1) ∷ I.I64LtU ∷ []
-
--- their bytes
-abbrev pub bytes_code : (number size : ℕ) → List Instr
-bytes_code number size = I.LocalGet number ∷ I.I64Const size ∷ I.I64Mul ∷ []
 
 -- ---- what it computes
 

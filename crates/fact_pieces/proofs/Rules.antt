@@ -12,7 +12,7 @@ use Rattle.fact_machine.specs.World.{World, Stop, Trap, Throw, Lack}
 use Rattle.fact_machine.specs.Machine.{At, has_type, type_of, may_follow}
 use Rattle.fact_machine.specs.Trace.{Reached, world_at}
 use Rattle.fact_machine.proofs.Laws.{leaves_then, leaves_none, leaves_early, leaves_as}
-use Rattle.fact_machine.proofs.RowLaws.{leaves_local_get, leaves_local_set, leaves_br_if_zero, leaves_br, leaves_unreachable}
+use Rattle.fact_machine.proofs.RowLaws.{leaves_local_get, leaves_local_set, leaves_local_tee, leaves_br_if_zero, leaves_br_if_taken, leaves_br, leaves_unreachable}
 use Rattle.fact_moves.specs.Actions.{Action, Give, Visit, ◌>>=◌}
 use Rattle.fact_moves.specs.Actions as action
 use Rattle.fact_moves.specs.Running.{ImportPlaces, Call, Ended, Gave, Halted, Strayed, heavier, later, then_ended, run}
@@ -240,6 +240,24 @@ module _ {A : Type 0} {M : WasmModule} {p : ImportPlaces} {ins : List CoreValue}
     };
   }
 
+  -- one that is taken where a number is not 0
+  pub branch_if : {c : List Instr} {l k : ℕ} → out a ≡ ins → Holds a ls → Does M p (Outward l) 1 0 (I32 (suc k) ∷ ins) ls (I.BrIf l ∷ c) (Give a) out Holds
+  branch_if {c} {l} {k} e h = record {
+    by = λ w. record {
+      by = λ ty below. record {
+        by = record {
+          steps = 1;
+          locals = ls;
+          under = below;
+          holds = h;
+          typed = ty;
+          bound = omega arith;
+          leaves = leaves_early c tt (leaves_as (ap (λ vs. Branches w l (vs ++ below) ls) (sym e)) (leaves_br_if_taken (suc k) (λ z. absurd (omega arith))));
+        };
+      };
+    };
+  }
+
 -- unreachable is a trap
 pub stop : {A : Type 0} {M : WasmModule} {p : ImportPlaces} {way : Way} {extra spare : ℕ} {ins : List CoreValue} {ls : Locals} {c : List Instr} {out : A → List CoreValue} {Holds : A → Locals → Type 0}
     → Does M p way extra spare ins ls (I.Unreachable ∷ c) action.Unreachable out Holds
@@ -288,3 +306,8 @@ module _ {A : Type 0} {M : WasmModule} {p : ImportPlaces} {way : Way} {extra spa
   pub local_set : {i : ℕ} {v : CoreValue} (t : ValType) → slice_get (held_types ls) i ≡ Some t → has_type v t ≡ true → ((ls' : Locals) → IsSet i v ls ls' → Does M p way extra spare ins ls' c q out Holds)
       → Does M p way (suc extra) spare (v ∷ ins) ls (I.LocalSet i ∷ c) q out Holds
   local_set {i} {v} t h e d = let x = follows ls i t v h e in step (λ w below. leaves_local_set x.1 x.2) (d (slice_set ls i (Some v)) (is_set ls i t v h e))
+
+  -- the value stays on the stack too
+  pub local_tee : {i : ℕ} {v : CoreValue} (t : ValType) → slice_get (held_types ls) i ≡ Some t → has_type v t ≡ true → ((ls' : Locals) → IsSet i v ls ls' → Does M p way extra spare (v ∷ ins) ls' c q out Holds)
+      → Does M p way (suc extra) spare (v ∷ ins) ls (I.LocalTee i ∷ c) q out Holds
+  local_tee {i} {v} t h e d = let x = follows ls i t v h e in step (λ w below. leaves_local_tee x.1 x.2) (d (slice_set ls i (Some v)) (is_set ls i t v h e))

@@ -154,7 +154,7 @@ module _ (S : Setting) (used : ℕ → Bool) (from : From) (to : To) where
   pub moves_number : {f : ℕ → ℕ} {code : List Instr} (n : Number) → FitsNumber S n from to → Converts n f code
       → Moves S used 0 516 from to (λ s d. Visit 1 (move_number (transfer S) (size_of n) (size_of n) f s d)) (number_code S.checks n from code to)
   moves_number n h c = record {
-    effect = λ ls s d e st g. visit (omega arith) (number_does n h c ls s d st g);
+    effect = λ ls s d e st g rooms. visit (omega arith) (number_does n h c ls s d st g);
     typed =
         typed_then (typed_before S.to64 to h.to_typed) (typed_then (typed_read S.places S.checks S.from S.from64 n from h.readable h.from_typed)
         (typed_then c.typed (typed_behind S.places S.to S.to64 n to h.writable h.to_typed)));

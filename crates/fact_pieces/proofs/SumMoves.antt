@@ -18,12 +18,12 @@ use Rattle.fact_moves.specs.Sides.{Source, Target, read_number}
 use Rattle.fact_pieces.specs.Code.{sum_code}
 use Rattle.fact_pieces.specs.Does.{Locals, Onward, held_types, Does}
 use Rattle.fact_pieces.specs.Knows.{KnowsFunction}
-use Rattle.fact_pieces.specs.Places.{Setting, transfer, is_on, DebugChecks, From, To, StandsAt, MayGo, Stood, KeepsLocals, FromUsed, ToUsed, FromTyped, Moves, Number, size_of, Readable, read_code, node_check}
+use Rattle.fact_pieces.specs.Places.{Setting, transfer, is_on, DebugChecks, From, To, StandsAt, MayGo, Stood, KeepsLocals, InRooms, FromUsed, ToUsed, FromTyped, Moves, Number, size_of, Readable, read_code, node_check}
 use Rattle.fact_pieces.specs.Typed.{OnStack, IsTyped}
 use Rattle.fact_pieces.proofs.Rules.{within, visit, local_set}
 use Rattle.fact_pieces.proofs.Blocks.{weaker}
 use Rattle.fact_pieces.proofs.Numbers.{reads, set_keeps}
-use Rattle.fact_pieces.proofs.Keeping.{keeps_then, stands_kept, goes_kept}
+use Rattle.fact_pieces.proofs.Keeping.{keeps_then, stands_kept, goes_kept, rooms_kept}
 use Rattle.fact_pieces.proofs.Scalars.{IsNarrow}
 use Rattle.fact_pieces.proofs.Tested.{Temporary}
 use Rattle.fact_pieces.proofs.Aligned.{Checked, moves_checked}
@@ -63,9 +63,9 @@ module _ (S : Setting) (used : ℕ → Bool) (from : From) (to : To) (ms : Membe
     abbrev chosen : Source → Target → ℕ → Action (List CoreValue)
     chosen s d x = elim (case_type ms x) as (λ (o : Option CaseType). Action (List CoreValue)) [ None ↦ trap InvalidDiscriminant | Some c ↦ case c s d ]
 
-    sum_moves_so : (ls : Locals) (s : Source) (d : Target) → held_types ls ≡ S.locals → StandsAt ls S.from64 from s → MayGo used ls S.to64 to d
+    sum_moves_so : (ls : Locals) (s : Source) (d : Target) → held_types ls ≡ S.locals → StandsAt ls S.from64 from s → MayGo used ls S.to64 to d → InRooms S ls from to
         → Does S.whole S.places Onward (315 + count_of_members ms) 0 [] ls (tagged_code S.checks n temp trap_at from codes) (read_number (is_on S.checks) S.from (size_of n) s (chosen s d)) (λ vs. []) (λ vs ls'. Stood ls' to vs × KeepsLocals used ls ls')
-    sum_moves_so ls s d e st g =
+    sum_moves_so ls s d e st g rooms =
         within (omega arith) (reads S.checks n S.from S.from64 from s h.readable st (λ x lt.
         subst (λ v. Does S.whole S.places Onward (307 + count_of_members ms) 0 (v ∷ []) ls (I.LocalSet temp ∷ sum_code (I.LocalGet temp ∷ []) trap_at codes) (chosen s d x) (λ vs. []) (λ vs ls'. Stood ls' to vs × KeepsLocals used ls ls')) (sym (h.narrow.value x))
         (within (omega (arith, h.all)) (local_set val.I32 (ap (λ l. slice_get l temp) e ∙ h.temporary.local) refl (λ ls1 set.
@@ -73,12 +73,12 @@ module _ (S : Setting) (used : ℕ → Bool) (from : From) (to : To) (ms : Membe
         weaker (λ vs. refl) (λ vs ls' r. (r.0, keeps_then k r.1))
         (sum_does ms codes trap_at x (λ c. case c s d) h.all h.traps (record { by = λ w vs. leaves_next (leaves_local_get set.here) leaves_none }) (λ i c is.
         let m = h.cases i c is in
-        (m.code, m.there, m.moves.effect ls1 s d (set.types ∙ e) (stands_kept k S.from64 from s h.from_used st) (goes_kept k S.to64 to d h.to_used g)))))))))
+        (m.code, m.there, m.moves.effect ls1 s d (set.types ∙ e) (stands_kept k S.from64 from s h.from_used st) (goes_kept k S.to64 to d h.to_used g) (rooms_kept k from to h.from_used h.to_used rooms)))))))))
 
     -- A discriminant is read and the code of its case run, within the steps that the node has beside its checks.
     pub moves_sum : Moves S used 0 516 from to (λ s d. Visit (1 + count_of_members ms) (read_number (is_on S.checks) S.from (case_bytes ms) s (chosen s d))) (tagged_code S.checks n temp trap_at from codes)
     moves_sum = moves_same (λ s d. ap (λ z. Visit (1 + count_of_members ms) (read_number (is_on S.checks) S.from z s (chosen s d))) (sym h.size)) (record {
-      effect = λ ls s d e st g. visit (omega arith) (sum_moves_so ls s d e st g);
+      effect = λ ls s d e st g rooms. visit (omega arith) (sum_moves_so ls s d e st g rooms);
       typed =
           typed_then (typed_read S.places S.checks S.from S.from64 n from h.readable h.from_typed)
           (subst (λ t. IsTyped S.whole S.locals [] (I.LocalSet temp ∷ sum_code (I.LocalGet temp ∷ []) trap_at codes) (t ∷ []) (OnStack [])) (sym h.narrow.type)

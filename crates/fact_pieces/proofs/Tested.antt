@@ -61,7 +61,7 @@ module _ (S : Setting) (used : ℕ → Bool) (from : From) (to : To) (temp trap_
   -- A number is read, tested and written, within the steps that one node has beside its checks.
   pub moves_tested : Moves S used 0 516 from to (λ s d. Visit 1 (tested s d)) (tested_code S.checks n test temp trap_at from to)
   moves_tested = record {
-    effect = λ ls s d e st g. visit (omega arith) (tested_does ls s d e st g);
+    effect = λ ls s d e st g rooms. visit (omega arith) (tested_does ls s d e st g);
     typed =
         typed_then (typed_before S.to64 to h.to_typed) (typed_then (typed_read S.places S.checks S.from S.from64 n from h.readable h.from_typed)
         (subst (λ v. IsTyped S.whole S.locals [] (I.LocalSet temp ∷ (guard_code (test temp) trap_at ++ (I.LocalGet temp ∷ code_behind n to))) (v ∷ (below_type S.to64 to ++ [])) (OnStack [])) (sym narrow.type)

@@ -64,6 +64,9 @@ module _ {M : WasmModule} {locals : List ValType} {labels : List (List ValType)}
     pub takes_local_set : Takes M locals labels (I.LocalSet n) (t ∷ ins) (OnStack ins)
     takes_local_set = by_row (o.LocalSet n) (I.outs-LocalSet n) (λ outer below. ap (λ x. option_and_then (λ u. change (u ∷ []) [] (Known (t ∷ (ins ++ below)))) x) h ∙ changed (t ∷ []) [] (ins ++ below))
 
+    pub takes_local_tee : Takes M locals labels (I.LocalTee n) (t ∷ ins) (OnStack (t ∷ ins))
+    takes_local_tee = by_row (o.LocalTee n) (I.outs-LocalTee n) (λ outer below. ap (λ x. option_and_then (λ u. change (u ∷ []) (u ∷ []) (Known (t ∷ (ins ++ below)))) x) h ∙ changed (t ∷ []) (t ∷ []) (ins ++ below))
+
   -- ---- what is imported
 
   module _ {p : ImportPlaces} where

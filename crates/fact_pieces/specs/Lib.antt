@@ -1,7 +1,9 @@
 pub mod Cases
 pub mod Code
 pub mod Does
+pub mod FixedLists
 pub mod Knows
+pub mod Lists
 pub mod PieceLaws
 pub mod Places
 pub mod Rows

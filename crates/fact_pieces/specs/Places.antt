@@ -1,5 +1,5 @@
 -- Where code finds the values that it moves and where it puts them, and what is said of code that moves values of two types.
-use Rattle.std.specs.Prelude.{◌≡◌, ℕ, ◌+◌, ◌-◌, ◌^◌, ◌<◌, nat_eq, Bool, true, false, List, [], ◌∷◌, ◌++◌, Option, Some, drop, slice_get}
+use Rattle.std.specs.Prelude.{◌≡◌, ℕ, ◌+◌, ◌-◌, ◌^◌, ◌<◌, ◌≤◌, nat_eq, Bool, true, false, List, [], ◌∷◌, ◌++◌, Option, Some, drop, slice_get}
 use Rattle.fact_wasm.specs.declared.types.ValType.{ValType}
 use Rattle.fact_wasm.specs.declared.types.ValType.TheVariants as val
 use Rattle.fact_wasm.specs.declared.instr.MemArg.{MemArg}
@@ -97,8 +97,14 @@ abbrev pub is_on : DebugChecks → Bool
 is_on Off = false
 is_on (On upper aligned) = true
 
+-- How many bytes from the address in a local on lie within the addresses of its memory: of the local that a source in memory is
+-- found by, and of that of a target in memory.
+pub record Rooms : Type 0 where
+  pub from : ℕ
+  pub to : ℕ
+
 -- What code of moves stands in: a module, the places of its imports, the two sides with the widths of their memories'
--- addresses, debug checks, and the types of the locals.
+-- addresses, what room there is behind the addresses of places, debug checks, and the types of the locals.
 pub record Setting : Type 0 where
   pub whole : WasmModule
   pub places : ImportPlaces
@@ -106,6 +112,7 @@ pub record Setting : Type 0 where
   pub to : LiftLowerOptions
   pub from64 : Bool
   pub to64 : Bool
+  pub rooms : Rooms
   pub concurrency : Bool
   pub checks : DebugChecks
   pub locals : List ValType
@@ -113,10 +120,27 @@ pub record Setting : Type 0 where
 abbrev pub transfer : Setting → Transfer
 transfer S = record { from = S.from; to = S.to; concurrency = S.concurrency; debug = is_on S.checks }
 
--- Code that moves a value from one place to another: where the value stands there and the other place is free, it does the
--- move, leaves the locals in use as they were, and its operands have their types.
+-- so many bytes from the address in a local on have addresses
+pub record HasRoom (ls : Locals) (memory64 : Bool) (base bytes : ℕ) : Type 0 where
+  pub within : (start : ℕ) → slice_get ls base ≡ Some (Some (address_operand memory64 start)) → start + bytes ≤ 2 ^ address_bits memory64
+
+abbrev pub FromRoom : Locals → Bool → From → ℕ → Type 0
+FromRoom ls memory64 (InLocals slots) bytes = Unit {0}
+FromRoom ls memory64 (InMemory memory base offset) bytes = HasRoom ls memory64 base bytes
+
+abbrev pub ToRoom : Locals → Bool → To → ℕ → Type 0
+ToRoom ls memory64 (ToLocals slots) bytes = Unit {0}
+ToRoom ls memory64 (ToMemory memory base offset) bytes = HasRoom ls memory64 base bytes
+
+-- behind the addresses of the places there is the room of the setting
+pub record InRooms (S : Setting) (ls : Locals) (from : From) (to : To) : Type 0 where
+  pub source : FromRoom ls S.from64 from S.rooms.from
+  pub target : ToRoom ls S.to64 to S.rooms.to
+
+-- Code that moves a value from one place to another: where the value stands there, the other place is free and there is room behind
+-- their addresses, it does the move, leaves the locals in use as they were, and its operands have their types.
 pub record Moves (S : Setting) (used : ℕ → Bool) (extra spare : ℕ) (from : From) (to : To) (move : Source → Target → Action (List CoreValue)) (code : List Instr) : Type 0 where
-  pub effect : (ls : Locals) (s : Source) (d : Target) → held_types ls ≡ S.locals → StandsAt ls S.from64 from s → MayGo used ls S.to64 to d
+  pub effect : (ls : Locals) (s : Source) (d : Target) → held_types ls ≡ S.locals → StandsAt ls S.from64 from s → MayGo used ls S.to64 to d → InRooms S ls from to
       → Does S.whole S.places Onward extra spare [] ls code (move s d) (λ vs. []) (λ vs ls'. Stood ls' to vs × KeepsLocals used ls ls')
   pub typed : IsTyped S.whole S.locals [] code [] (OnStack [])
 
