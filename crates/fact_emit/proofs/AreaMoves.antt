@@ -1,5 +1,5 @@
 -- The check of the area that results are passed through.
-use Rattle.std.proofs.Common.{◌≡◌, ◌≢◌, ℕ, zero, suc, ◌+◌, ◌-◌, ◌%◌, ◌^◌, ◌<◌, Bool, true, false, List, [], ◌∷◌, ◌++◌, Option, Some, refl, sym, ap, ◌∙◌, subst, arith, append_assoc, append-nil, slice_get}
+use Rattle.std.proofs.Common.{◌≡◌, ◌≢◌, ℕ, zero, suc, ◌+◌, ◌-◌, ◌%◌, ◌^◌, ◌<◌, ◌≤◌, Bool, true, false, List, [], ◌∷◌, ◌++◌, Option, Some, refl, sym, ap, ◌∙◌, subst, arith, append_assoc, append-nil, slice_get}
 use Rattle.std.specs.Prelude.{nat_eq, bit_and}
 use Rattle.std.specs.Int.{IsPowerOfTwo}
 use lib.Bits.{and_mask}
@@ -20,6 +20,7 @@ use Rattle.fact_pieces.specs.Does.{Locals, Way, Onward, held_types, Does}
 use Rattle.fact_pieces.specs.Places.{KeepsLocals, stack_type, limit_of, widen}
 use Rattle.fact_pieces.specs.Typed.{OnStack, IsTyped}
 use Rattle.fact_pieces.proofs.Guards.{takes_aligned}
+use Rattle.fact_pieces.proofs.ListTurns.{length_addresses}
 use Rattle.fact_pieces.proofs.Pointers.{address_is, may_hold, keep_number, region}
 use Rattle.fact_pieces.specs.Tests.{pointer, region_code}
 use Rattle.fact_pieces.proofs.Regions.{typed_bounds}
@@ -56,13 +57,13 @@ area_emits {m = m} {address} {size} {wide} {align} t same x y z v =
 
 -- ---- three locals
 
-abbrev three : (x y z : ℕ) → ℕ → ℕ
+abbrev pub three : (x y z : ℕ) → ℕ → ℕ
 three x y z zero = x
 three x y z (suc zero) = y
 three x y z (suc (suc i)) = z
 
 module _ (x y z : ℕ) (xy : x ≢ y) (xz : x ≢ z) (yz : y ≢ z) where
-  apart : (i j : ℕ) → i < 3 → j < 3 → three x y z i ≡ three x y z j → i ≡ j
+  pub apart : (i j : ℕ) → i < 3 → j < 3 → three x y z i ≡ three x y z j → i ≡ j
   apart zero zero li lj e = refl
   apart zero (suc zero) li lj e = absurd (xy e)
   apart zero (suc (suc j)) li lj e = absurd (xz e)
@@ -73,26 +74,26 @@ module _ (x y z : ℕ) (xy : x ≢ y) (xz : x ≢ z) (yz : y ≢ z) where
   apart (suc (suc i)) (suc zero) li lj e = absurd (yz (sym e))
   apart (suc (suc i)) (suc (suc j)) li lj e = omega (arith, li, lj)
 
-each_of : (P : ℕ → Type 0) (x y z : ℕ) → P x → P y → P z → (i : ℕ) → i < 3 → P (three x y z i)
+pub each_of : (P : ℕ → Type 0) (x y z : ℕ) → P x → P y → P z → (i : ℕ) → i < 3 → P (three x y z i)
 each_of P x y z a b c zero lt = a
 each_of P x y z a b c (suc zero) lt = b
 each_of P x y z a b c (suc (suc i)) lt = c
 
 -- ---- what it does
 
-limit_is : (memory64 : Bool) → limit_of (pointer memory64) ≡ 2 ^ address_bits memory64
+pub limit_is : (memory64 : Bool) → limit_of (pointer memory64) ≡ 2 ^ address_bits memory64
 limit_is true = refl
 limit_is false = refl
 
-below_wide : (memory64 : Bool) (n : ℕ) → n < 2 ^ address_bits memory64 → n < 2 ^ 64
+pub below_wide : (memory64 : Bool) (n : ℕ) → n < 2 ^ address_bits memory64 → n < 2 ^ 64
 below_wide true n h = h
 below_wide false n h = omega (arith, h)
 
-stack_address : (memory64 : Bool) → stack_type (pointer memory64) ≡ address_type memory64
+pub stack_address : (memory64 : Bool) → stack_type (pointer memory64) ≡ address_type memory64
 stack_address true = refl
 stack_address false = refl
 
-masks_of : (align : ℕ) → IsPowerOfTwo align → (n : ℕ) → bit_and n (align - 1) ≡ n % align
+pub masks_of : (align : ℕ) → IsPowerOfTwo align → (n : ℕ) → bit_and n (align - 1) ≡ n % align
 masks_of align (k, is) n = ap (λ a. bit_and n (a - 1)) is ∙ and_mask n k ∙ ap (λ a. n % a) (sym is)
 
 -- Its locals are distinct, of type i64, and not kept.
@@ -101,8 +102,8 @@ pub area_checks : (m : LinearMemory) (taken : ℕ → Bool) (address size align 
     → IsLocal t.pointer val.I64 locals → IsLocal t.bytes val.I64 locals → IsLocal t.length val.I64 locals → AreaCode m address size align t M p locals code → ChecksArea m taken address size align M p locals code
 area_checks m taken address size align t M p locals code xy xz yz fx fy fz tx ty tz k = record {
   does = λ o used ls at side within_taken power size_wide at_wide e there.
-      subst (λ x. Does M p Onward 40 0 [] ls x (check_region o MemoryOutOfBounds at size align (Give [])) (λ (vs : List CoreValue). []) (λ vs ls'. KeepsLocals used ls ls')) (append-nil code)
-      (does {way = Onward} {extra = 0} {spare = 0} {ins = []} {c = []} {q = Give []} {out = λ vs. []} {Holds = λ vs ls'. KeepsLocals used ls ls'} o used ls at side within_taken (masks_of align power) size_wide at_wide e there (λ ls' k. done refl k));
+      subst (λ x. Does M p Onward 40 0 [] ls x (check_region o MemoryOutOfBounds at size align (Give [])) (λ (vs : List CoreValue). []) (λ vs ls'. KeepsLocals used ls ls' × (at + size ≤ 2 ^ address_bits m.memory64))) (append-nil code)
+      (does {way = Onward} {extra = 0} {spare = 0} {ins = []} {c = []} {q = Give []} {out = λ vs. []} {Holds = λ vs ls'. KeepsLocals used ls ls' × (at + size ≤ 2 ^ address_bits m.memory64)} o used ls at side within_taken (masks_of align power) size_wide at_wide e there (λ ls' k room. done refl (k, room)));
   typed = typed;
 }
   where
@@ -119,7 +120,7 @@ area_checks m taken address size align t M p locals code xy xz yz fx fy fz tx ty
     does : {way : Way} {extra spare : ℕ} {ins : List CoreValue} {c : List Instr} {q : Action (List CoreValue)} {out : List CoreValue → List CoreValue} {Holds : List CoreValue → Locals → Type 0}
         (o : LiftLowerOptions) (used : ℕ → Bool) (ls : Locals) (at : ℕ) → IsLinearMemoryOf M p o m → ((i : ℕ) → used i ≡ true → taken i ≡ true) → ((n : ℕ) → bit_and n (align - 1) ≡ n % align) → size < 2 ^ 64 → at < 2 ^ address_bits m.memory64
         → held_types ls ≡ locals → slice_get ls address ≡ Some (Some (address_operand m.memory64 at))
-        → ((ls' : Locals) → KeepsLocals used ls ls' → Does M p way extra spare ins ls' c q out Holds)
+        → ((ls' : Locals) → KeepsLocals used ls ls' → at + size ≤ 2 ^ address_bits m.memory64 → Does M p way extra spare ins ls' c q out Holds)
         → Does M p way (40 + extra) spare ins ls (code ++ c) (check_region o MemoryOutOfBounds at size align q) out Holds
     does {way} {extra} {spare} {ins} {c} {q} {out} {Holds} o used ls at side within_taken masks size_wide at_wide e there go =
         let temps : Temporaries locals used 3 (three t.pointer t.bytes t.length) (λ i. val.I64) = record {
@@ -138,7 +139,7 @@ area_checks m taken address size align t M p locals code xy xz yz fx fy fz tx ty
         (set_temp temps e 1 (omega arith) refl s1 (λ ls2 s2.
         subst (λ log2. Does M p way (22 + extra) spare ins ls2 (region_at log2 ++ c) r out Holds) side.log2
         (region temps e s2 o m.memory64 m.memory align side.side MemoryOutOfBounds 0 1 2 k.unaligned k.outside at size (omega arith) (omega arith) (omega arith) (λ z. cc) (λ z. cc) refl
-        masks (below_wide m.memory64 at at_wide) size_wide s2.holds.1.0 s2.holds.0 k.has_unaligned k.has_outside (λ length fits inside ls3 s3. go ls3 s3.keeps)))))))))
+        masks (below_wide m.memory64 at at_wide) size_wide s2.holds.1.0 s2.holds.0 k.has_unaligned k.has_outside (λ length fits inside ls3 s3. go ls3 s3.keeps (omega (arith, inside, length_addresses m.memory64 length fits)))))))))))
 
     typed : (o : LiftLowerOptions) → IsLinearMemoryOf M p o m → slice_get locals address ≡ Some (address_type m.memory64) → IsTyped M locals [] code [] (OnStack [])
     typed o side h =
@@ -156,19 +157,19 @@ differs : (w : Writer) (i j : ℕ) → taken_in w i ≡ true → taken_in w j �
 differs w i j a b e = let no : true ≡ false = sym a ∙ ap (taken_in w) e ∙ b in absurd (cc)
 
 module _ {a b c d : Writer} {x y z : ℕ} (tx : Took a b val.I64 x) (ty : Took b c val.I64 y) (tz : Took c d val.I64 z) where
-  pointer_bytes : x ≢ y
+  pub pointer_bytes : x ≢ y
   pointer_bytes = differs b x y tx.taken ty.was_free
 
-  pointer_length : x ≢ z
+  pub pointer_length : x ≢ z
   pointer_length = differs c x z (ty.others x pointer_bytes ∙ tx.taken) tz.was_free
 
-  bytes_length : y ≢ z
+  pub bytes_length : y ≢ z
   bytes_length = differs c y z ty.taken tz.was_free
 
-  free_bytes : taken_in a y ≡ false
+  pub free_bytes : taken_in a y ≡ false
   free_bytes = sym (tx.others y (λ q. pointer_bytes (sym q))) ∙ ty.was_free
 
-  free_length : taken_in a z ≡ false
+  pub free_length : taken_in a z ≡ false
   free_length = sym (tx.others z (λ q. pointer_length (sym q))) ∙ sym (ty.others z (λ q. bytes_length (sym q))) ∙ tz.was_free
 
 pub area_around : {a b c d e f g h : Writer} {m : LinearMemory} {address size align : ℕ} (t : AreaLocals) → Took a b val.I64 t.pointer → Took b c val.I64 t.bytes → Took c d val.I64 t.length → Emits d e (AreaCode m address size align t)

@@ -48,10 +48,10 @@ guarded_then {test = test} ranged x y = emits_then (λ M p locals x y g is. reco
 
 -- The place of a trap that is known is the one that the places of imports have.
 module _ {M : WasmModule} {p : ImportPlaces} {t : Trap} {test : List Instr} {locals : List ValType} {code : List Instr} (g : Guarded test t [] M p locals code) where
-  guard_is : code ≡ guard_code test (p.function (import.Trap t))
+  pub guard_is : code ≡ guard_code test (p.function (import.Trap t))
   guard_is = g.is ∙ ap (λ n. guard_code test n) (sym g.has.placed)
 
-  trap_is : KnowsFunction M p (import.Trap t) (p.function (import.Trap t)) [] []
+  pub trap_is : KnowsFunction M p (import.Trap t) (p.function (import.Trap t)) [] []
   trap_is = subst (λ n. KnowsFunction M p (import.Trap t) n [] []) (sym g.has.placed) g.has
 
 -- ---- debug checks

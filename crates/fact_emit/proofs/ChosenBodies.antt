@@ -12,14 +12,16 @@ use Rattle.fact_types.specs.declared.outside.Trap.TheVariants.{InvalidDiscrimina
 use Rattle.fact_machine.specs.Exits.{nest}
 use Rattle.fact_moves.specs.Running.{ImportPlaces}
 use Rattle.fact_pieces.specs.Code.{arms, labels_from, trap_code, sum_code}
+use Rattle.fact_emit.specs.declared.places.LinearMemory.{LinearMemory}
 use Rattle.fact_emit.specs.declared.writer.Writer.{Writer}
 use Rattle.fact_emit.specs.Bodies.{ChoosesCase, WroteChoice, code_of_bodies}
 use Rattle.fact_emit.specs.Brought.{Brought}
 use Rattle.fact_emit.specs.Emits.{Grew, GrewAside, Emits, Later, Piece}
 use Rattle.fact_emit.specs.Imports.{AreOnce}
 use Rattle.fact_emit.specs.NamedFunctions.{imported_named}
+use Rattle.fact_emit.specs.Requests.{IsReallocImported}
 use Rattle.fact_emit.specs.Writers.{Wrote, TookTrap, Began, Ended}
-use Rattle.fact_emit.proofs.BroughtLaws.{brought_as, brought_before, brought_between, brought_on, brought_trap}
+use Rattle.fact_emit.proofs.BroughtLaws.{brought_as, brought_before, brought_between, brought_on, brought_trap, traps_count}
 use Rattle.fact_emit.proofs.Emitting.{same_locals, same_still, same_types, serves_imported, sooner, still_numbers}
 use Rattle.fact_emit.proofs.ImportLaws.{extended_none, extended_on, grows_none, grows_on}
 use Rattle.fact_emit.proofs.NamedLaws.{named_append, named_block, names_none, ranged_append, ranged_block, ranged_more, ranged_none}
@@ -100,6 +102,10 @@ aside_nothing a = record {
   numbers = λ n. n;
   still = λ i. refl;
 }
+
+-- a realloc is imported still behind bodies that were written aside
+pub realloc_aside : {m : LinearMemory} {a b : Writer} {bodies : List Instr} → IsReallocImported m a.imports → GrewAside a b bodies → IsReallocImported m b.imports
+realloc_aside {m} {a} {b} h x = record { below = λ place e. omega (arith, h.below place e, traps_count x.brought.traps a.imports b.imports x.brought.imported) }
 
 pub aside_on : {a b c : Writer} {xs ys : List Instr} → GrewAside a b xs → GrewAside b c ys → GrewAside a c (xs ++ ys)
 aside_on x y = record {

@@ -18,7 +18,7 @@ use Rattle.fact_pieces.specs.Places.{SideMemory}
 use Rattle.fact_pieces.proofs.KnowsLaws.{has_flags, has_function, has_memory}
 use Rattle.fact_emit.specs.declared.writer.Local.{Local}
 use Rattle.fact_emit.specs.declared.writer.Writer.{Writer}
-use Rattle.fact_emit.specs.Emits.{Later, Grew, Piece, Is, Emits}
+use Rattle.fact_emit.specs.Emits.{Later, Grew, Piece, Is, Emits, Both}
 use Rattle.fact_emit.specs.Brought.{Brought}
 use Rattle.fact_emit.specs.Imports.{HasImport, HasMemory, Extended, AreOnce, Serves}
 use Rattle.fact_emit.specs.NamedFunctions.{imported_named}
@@ -72,6 +72,10 @@ module _ {P Q R : Piece} where
     grew = grew_on x.grew y.grew;
     does = λ M p locals l. join M p locals x.grew.added y.grew.added (x.does M p locals (sooner y.grew.imports y.grew.locals l)) (y.does M p locals l);
   }
+
+-- both, of which no more is said yet
+pub emits_both : {P Q : Piece} {a b c : Writer} → Emits a b P → Emits b c Q → Emits a c (Both P Q)
+emits_both x y = emits_then (λ M p locals c k h g. record { first = c; second = k; first_holds = h; second_holds = g; is = refl }) x y
 
 -- more is known of it
 pub emits_as : {P Q : Piece} {a b : Writer} → ((M : WasmModule) (p : ImportPlaces) (locals : List ValType) (x : List Instr) → P M p locals x → Q M p locals x) → Emits a b P → Emits a b Q
@@ -155,7 +159,7 @@ module _ {a b c : Writer} {t : Trap} {place : ℕ} {xs : List Instr} (names : im
 -- ---- a body that is written aside
 
 -- the code is what was written where there was none
-body_is : {b c : Writer} → b.code.items ≡ [] → (x : Grew b c) → c.code.items ≡ x.added
+pub body_is : {b c : Writer} → b.code.items ≡ [] → (x : Grew b c) → c.code.items ≡ x.added
 body_is empty x = x.code ∙ ap (λ l. l ++ x.added) empty
 
 -- The code was set aside (a, b), a body was written (b, c), and one instruction with this body was put behind the code from

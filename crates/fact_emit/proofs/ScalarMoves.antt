@@ -22,11 +22,10 @@ use Rattle.fact_emit.specs.declared.scalars.NumberTest.TheVariants.{ScalarValue}
 use Rattle.fact_emit.specs.declared.writer.Writer.{Writer}
 use Rattle.fact_emit.specs.Emits.{Emits}
 use Rattle.fact_emit.specs.Fitting.{number_for_flat, IsSlotFor, bytes_of_shape, CanRead, CanWrite, FitsShapes, node_moves, MovesNode}
-use Rattle.fact_emit.specs.Movable.{is_scalar}
 use Rattle.fact_emit.specs.MovesValue.{Act, MovesValue}
 use Rattle.fact_emit.specs.Numbers.{FitsUnchecked}
 use Rattle.fact_emit.specs.Places.{setting_of}
-use Rattle.fact_emit.specs.Scalars.{canonical_of, number_moves, tested_moves, size_of_type, canonical_for}
+use Rattle.fact_emit.specs.Scalars.{canonical_of, number_moves, tested_moves, size_of_type, canonical_for, is_scalar}
 use Rattle.fact_emit.specs.Writers.{taken_in}
 use Rattle.fact_emit.proofs.Emitting.{emits_as}
 
@@ -61,9 +60,9 @@ module _ (M : WasmModule) (p : ImportPlaces) (locals : List ValType) (o : LiftLo
   writes_one (ToMemory memory base offset) c = (c.side, record { local = c.local; reached = reached memory64 offset bytes c.reach })
 
 -- Places that fit shapes of one flat type fit a number that its slots may hold.
-pub fits_one : (S : Setting) {t u : Shape} {src : From} {dst : To} (f : FlatType) (n : Number) → ((v : ValType) → MayHold (number_for_flat f) v → MayHold n v) → ((w : MemoryWidth) → flat w t ≡ f ∷ []) → ((w : MemoryWidth) → flat w u ≡ f ∷ [])
-    → FitsShapes S t u src dst → FitsUnchecked n src dst S
-fits_one S {t} {u} {src} {dst} f n holds one_t one_u fit =
+pub fits_one : (sides : Sides) (S : Setting) {t u : Shape} {src : From} {dst : To} (f : FlatType) (n : Number) → ((v : ValType) → MayHold (number_for_flat f) v → MayHold n v) → ((w : MemoryWidth) → flat w t ≡ f ∷ []) → ((w : MemoryWidth) → flat w u ≡ f ∷ [])
+    → FitsShapes sides S t u src dst → FitsUnchecked n src dst S
+fits_one sides S {t} {u} {src} {dst} f n holds one_t one_u fit =
     let r = reads_one S.whole S.places S.locals S.from S.from64 f n holds (bytes_of_shape (width_of_side S.from) t) src (subst (λ ts. CanRead S.whole S.places S.locals S.from S.from64 src ts (bytes_of_shape (width_of_side S.from) t)) (one_t (width_of_side S.from)) fit.reads) in
     let w = writes_one S.whole S.places S.locals S.to S.to64 f n holds (bytes_of_shape (width_of_side S.to) u) dst (subst (λ ts. CanWrite S.whole S.places S.locals S.to S.to64 dst ts (bytes_of_shape (width_of_side S.to) u)) (one_u (width_of_side S.to)) fit.writes) in
     record { readable = r.0; from_typed = r.1; writable = w.0; to_typed = w.1 }
@@ -73,7 +72,7 @@ fits_one S {t} {u} {src} {dst} f n holds one_t one_u fit =
 pub moves_as : {sides : Sides} {src : From} {dst : To} {taken : ℕ → Bool} {spare : ℕ} {Fit Fit' : Setting → Type 0} {act act' : Act} {M : WasmModule} {p : ImportPlaces} {locals : List ValType} {code : List Instr}
     → ((S : Setting) → Fit' S → Fit S) → ((S : Setting) (s : Source) (d : Target) → act (transfer S) s d ≡ act' (transfer S) s d) → MovesValue sides src dst taken spare Fit act M p locals code → MovesValue sides src dst taken spare Fit' act' M p locals code
 moves_as {sides} {M = M} {p} {locals} fits is m = record {
-  moves = λ a b concurrency used u fit. let S = setting_of sides a b concurrency M p locals in moves_same (is S) (m.moves a b concurrency used u (fits S fit));
+  moves = λ a b concurrency rooms used u fit. let S = setting_of sides a b concurrency rooms M p locals in moves_same (is S) (m.moves a b concurrency rooms used u (fits S fit));
 }
 
 -- ---- scalars
@@ -116,8 +115,8 @@ may_hold ty.Float64 h u m = m
 may_hold ty.Char h u m = m
 may_hold _ h u m = cc
 
-fits_scalar : (S : Setting) (t : InterfaceType) (src : From) (dst : To) → is_scalar t ≡ true → FitsShapes S (s_plain t) (s_plain t) src dst → FitsUnchecked (size_of_type t) src dst S
-fits_scalar S t src dst h f = fits_one S (flat_scalar t) (size_of_type t) (may_hold t h) (one_flat t h) (one_flat t h) f
+fits_scalar : (sides : Sides) (S : Setting) (t : InterfaceType) (src : From) (dst : To) → is_scalar t ≡ true → FitsShapes sides S (s_plain t) (s_plain t) src dst → FitsUnchecked (size_of_type t) src dst S
+fits_scalar sides S t src dst h f = fits_one sides S (flat_scalar t) (size_of_type t) (may_hold t h) (one_flat t h) (one_flat t h) f
 
 number_is : (S : Setting) (t : InterfaceType) (s : Source) (d : Target) → is_scalar t ≡ true → t ≢ ty.Char → number_moves (size_of_type t) (canonical_of (canonical_for t)) (transfer S) s d ≡ node_moves (s_plain t) (s_plain t) (transfer S) s d
 number_is S ty.Bool s d h ne = refl
@@ -138,12 +137,12 @@ pub char_node : {a b : Writer} {sides : Sides} {src : From} {dst : To} {t : Inte
     → Emits a b (MovesValue sides src dst (taken_in a) 516 (FitsUnchecked N32 src dst) (tested_moves N32 ScalarValue)) → Emits a b (MovesNode sides src dst (taken_in a) (s_plain t) (s_plain t))
 char_node {a} {b} {sides} {src} {dst} is x =
     subst (λ t. Emits a b (MovesNode sides src dst (taken_in a) (s_plain t) (s_plain t))) (sym is)
-    (emits_as (λ M p locals code m. moves_as (λ S f. fits_scalar S ty.Char src dst refl f) (λ S s d. refl) m) x)
+    (emits_as (λ M p locals code m. moves_as (λ S f. fits_scalar _ S ty.Char src dst refl f) (λ S s d. refl) m) x)
 
 pub number_node : {a b : Writer} {sides : Sides} {src : From} {dst : To} {n : Number} (t : InterfaceType) (k : Canonical) → is_scalar t ≡ true → t ≢ ty.Char → n ≡ size_of_type t → k ≡ canonical_for t
     → Emits a b (MovesValue sides src dst (taken_in a) 516 (FitsUnchecked n src dst) (number_moves n (canonical_of k))) → Emits a b (MovesNode sides src dst (taken_in a) (s_plain t) (s_plain t))
 number_node {src = src} {dst} {n} t k h ne n_is k_is x =
     emits_as (λ M p locals code m. moves_as
-    (λ S f. subst (λ n. FitsUnchecked n src dst S) (sym n_is) (fits_scalar S t src dst h f))
+    (λ S f. subst (λ n. FitsUnchecked n src dst S) (sym n_is) (fits_scalar _ S t src dst h f))
     (λ S s d. ap (λ n. number_moves n (canonical_of k) (transfer S) s d) n_is ∙ ap (λ k. number_moves (size_of_type t) (canonical_of k) (transfer S) s d) k_is ∙ number_is S t s d h ne)
     m) x

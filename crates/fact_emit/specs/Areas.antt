@@ -1,5 +1,5 @@
 -- The area that results are passed through: the code that checks it, and what that code does.
-use Rattle.std.specs.Prelude.{◌≡◌, ℕ, ◌^◌, ◌<◌, nat_eq, Bool, true, List, [], ◌∷◌, ◌++◌, Some, slice_get}
+use Rattle.std.specs.Prelude.{◌≡◌, ℕ, ◌≤◌, ◌+◌, ◌^◌, ◌<◌, nat_eq, Bool, true, List, [], ◌∷◌, ◌++◌, Some, slice_get}
 use Rattle.std.specs.Int.{IsPowerOfTwo}
 use Rattle.fact_wasm.specs.declared.types.ValType.{ValType}
 use Rattle.fact_wasm.specs.declared.types.ValType.TheVariants as val
@@ -39,9 +39,9 @@ pub record IsLinearMemoryOf (M : WasmModule) (p : ImportPlaces) (o : LiftLowerOp
   pub log2 : side.log2 ≡ m.page_size_log2
 
 -- Code that checks the area of so many bytes at an address in a local: it is aligned, and lies within its side's memory, with a
--- trap where not. It keeps all locals in use.
+-- trap where not. It keeps all locals in use. Behind it, all bytes of the area have addresses.
 pub record ChecksArea (m : LinearMemory) (taken : ℕ → Bool) (address size align : ℕ) (M : WasmModule) (p : ImportPlaces) (locals : List ValType) (code : List Instr) : Type 0 where
   pub does : (o : LiftLowerOptions) (used : ℕ → Bool) (ls : Locals) (at : ℕ) → IsLinearMemoryOf M p o m → ((i : ℕ) → used i ≡ true → taken i ≡ true) → IsPowerOfTwo align → size < 2 ^ 64 → at < 2 ^ address_bits m.memory64
       → held_types ls ≡ locals → slice_get ls address ≡ Some (Some (address_operand m.memory64 at))
-      → Does M p Onward 40 0 [] ls code (check_region_of o MemoryOutOfBounds at size align (Give [])) (λ (vs : List CoreValue). []) (λ vs ls'. KeepsLocals used ls ls')
+      → Does M p Onward 40 0 [] ls code (check_region_of o MemoryOutOfBounds at size align (Give [])) (λ (vs : List CoreValue). []) (λ vs ls'. KeepsLocals used ls ls' × (at + size ≤ 2 ^ address_bits m.memory64))
   pub typed : (o : LiftLowerOptions) → IsLinearMemoryOf M p o m → slice_get locals address ≡ Some (address_type m.memory64) → IsTyped M locals [] code [] (OnStack [])

@@ -50,6 +50,14 @@ Piece = WasmModule → ImportPlaces → List ValType → List Instr → Type 0
 abbrev pub Is : List Instr → Piece
 Is xs M p locals code = code ≡ xs
 
+-- one piece of code behind another one
+pub record Both (P Q : Piece) (M : WasmModule) (p : ImportPlaces) (locals : List ValType) (code : List Instr) : Type 0 where
+  pub first : List Instr
+  pub second : List Instr
+  pub first_holds : P M p locals first
+  pub second_holds : Q M p locals second
+  pub is : code ≡ first ++ second
+
 -- Code was added of which this holds in every later module and function.
 pub record Emits (old new : Writer) (P : Piece) : Type 0 where
   pub grew : Grew old new

@@ -1,5 +1,5 @@
 -- Places that have room for values of shapes.
-use Rattle.std.specs.Prelude.{◌≡◌, ℕ, ◌+◌, ◌≤◌, Bool, List, [], ◌∷◌, length, Some, slice_get}
+use Rattle.std.specs.Prelude.{◌≡◌, ℕ, ◌+◌, ◌≤◌, Bool, true, List, [], ◌∷◌, length, Some, slice_get}
 use Rattle.fact_wasm.specs.declared.types.ValType.{ValType}
 use Rattle.fact_wasm.specs.declared.types.ValType.TheVariants as val
 use Rattle.fact_wasm.specs.declared.module.WasmModule.{WasmModule}
@@ -10,15 +10,17 @@ use Rattle.fact_types.specs.declared.widths.MemoryWidth.{MemoryWidth}
 use Rattle.fact_types.specs.Adapters.{is_wide}
 use Rattle.fact_types.specs.FlatShapes.{flat, flat_members}
 use Rattle.fact_types.specs.Layout.{extent}
+use Rattle.fact_types.specs.PointerPairs.{has_pointer_pair, have_pointer_pair}
 use Rattle.fact_types.specs.Shapes.{Shape, s_plain, s_node, Members, layout_of, ends_of}
 use Rattle.fact_moves.specs.Actions.{Visit}
 use Rattle.fact_moves.specs.Moves.{move, move_fields, move_case, move_to_plain, move_to_node}
 use Rattle.fact_moves.specs.Running.{ImportPlaces}
 use Rattle.fact_moves.specs.Sides.{LiftLowerOptions, width_of_side}
-use Rattle.fact_pieces.specs.Places.{Slot, From, InLocals, InMemory, To, ToLocals, ToMemory, Number, N32, N64, SideMemory, AreLocals, Setting}
+use Rattle.fact_pieces.specs.Places.{Slot, From, InLocals, InMemory, To, ToLocals, ToMemory, Number, N32, N64, SideMemory, AreLocals, Rooms, Setting}
 use Rattle.fact_emit.specs.declared.places.Sides.{Sides}
 use Rattle.fact_emit.specs.Emits.{Piece}
 use Rattle.fact_emit.specs.MovesValue.{Act, MovesValue}
+use Rattle.fact_emit.specs.Requests.{ServesLists}
 
 -- ---- room
 
@@ -69,22 +71,40 @@ abbrev pub CanWrite : WasmModule → ImportPlaces → List ValType → LiftLower
 CanWrite M p locals o memory64 (ToLocals slots) types bytes = SlotsFit locals slots types
 CanWrite M p locals o memory64 (ToMemory memory base offset) types bytes = AddressFits M p locals o memory64 memory base offset bytes
 
+-- so many bytes of a place in memory are within the room behind the address that it is found by
+abbrev pub FromWithin : (room : ℕ) → From → (bytes : ℕ) → Type 0
+FromWithin room (InLocals slots) bytes = Unit {0}
+FromWithin room (InMemory memory base offset) bytes = offset + bytes ≤ room
+
+abbrev pub ToWithin : (room : ℕ) → To → (bytes : ℕ) → Type 0
+ToWithin room (ToLocals slots) bytes = Unit {0}
+ToWithin room (ToMemory memory base offset) bytes = offset + bytes ≤ room
+
+pub record AreWithin (rooms : Rooms) (src : From) (dst : To) (from_bytes to_bytes : ℕ) : Type 0 where
+  pub source : FromWithin rooms.from src from_bytes
+  pub target : ToWithin rooms.to dst to_bytes
+
 abbrev pub bytes_of_shape : MemoryWidth → Shape → ℕ
 bytes_of_shape w t = (extent w (layout_of t)).size
 
--- A value of a source type can be read, and one of a destination type written, in this setting.
-pub record FitsShapes (S : Setting) (t u : Shape) (src : From) (dst : To) : Type 0 where
+-- A value of a source type can be read, and one of a destination type written, in this setting; and lists, where the source may hold
+-- some. A destination may have more cases, whose lists never come.
+pub record FitsShapes (sides : Sides) (S : Setting) (t u : Shape) (src : From) (dst : To) : Type 0 where
   pub from_wide : is_wide S.from.memory ≡ S.from64
   pub to_wide : is_wide S.to.memory ≡ S.to64
   pub reads : CanRead S.whole S.places S.locals S.from S.from64 src (flat (width_of_side S.from) t) (bytes_of_shape (width_of_side S.from) t)
   pub writes : CanWrite S.whole S.places S.locals S.to S.to64 dst (flat (width_of_side S.to) u) (bytes_of_shape (width_of_side S.to) u)
+  pub within : AreWithin S.rooms src dst (bytes_of_shape (width_of_side S.from) t) (bytes_of_shape (width_of_side S.to) u)
+  pub lists : has_pointer_pair t ≡ true → ServesLists sides.from sides.to S.whole S.places S.from S.to S.concurrency
 
 -- The same of the fields of a record, where its last fields are still to be written, behind so many bytes.
-pub record FitsFields (S : Setting) (ms ns : Members) (end : ℕ) (src : From) (dst : To) : Type 0 where
+pub record FitsFields (sides : Sides) (S : Setting) (ms ns : Members) (end : ℕ) (src : From) (dst : To) : Type 0 where
   pub from_wide : is_wide S.from.memory ≡ S.from64
   pub to_wide : is_wide S.to.memory ≡ S.to64
   pub reads : CanRead S.whole S.places S.locals S.from S.from64 src (flat_members (width_of_side S.from) ms) (ends_of (width_of_side S.from) ms 0)
   pub writes : CanWrite S.whole S.places S.locals S.to S.to64 dst (flat_members (width_of_side S.to) ns) (ends_of (width_of_side S.to) ns end)
+  pub within : AreWithin S.rooms src dst (ends_of (width_of_side S.from) ms 0) (ends_of (width_of_side S.to) ns end)
+  pub lists : have_pointer_pair ms ≡ true → ServesLists sides.from sides.to S.whole S.places S.from S.to S.concurrency
 
 -- ---- what the code does
 
@@ -101,12 +121,20 @@ field_moves ms ns end tr s d = move_fields tr ms ns end s d
 
 -- Code that moves a value of a source type to a place of a destination type, and leaves 500 of the steps of its weight.
 abbrev pub MovesShape : Sides → From → To → (ℕ → Bool) → Shape → Shape → Piece
-MovesShape sides src dst taken t u = MovesValue sides src dst taken 500 (λ S. FitsShapes S t u src dst) (shape_moves t u)
+MovesShape sides src dst taken t u = MovesValue sides src dst taken 500 (λ S. FitsShapes sides S t u src dst) (shape_moves t u)
 
 -- The same behind the debug checks of its places, which take 16 steps.
 abbrev pub MovesNode : Sides → From → To → (ℕ → Bool) → Shape → Shape → Piece
-MovesNode sides src dst taken t u = MovesValue sides src dst taken 516 (λ S. FitsShapes S t u src dst) (node_moves t u)
+MovesNode sides src dst taken t u = MovesValue sides src dst taken 516 (λ S. FitsShapes sides S t u src dst) (node_moves t u)
+
+-- The same of a tuple, whose own weight takes no steps.
+abbrev pub MovesTuple : Sides → From → To → (ℕ → Bool) → Shape → Shape → Piece
+MovesTuple sides src dst taken t u = MovesValue sides src dst taken 900 (λ S. FitsShapes sides S t u src dst) (node_moves t u)
 
 -- Code that moves the fields of a record that are left.
 abbrev pub MovesFields : Sides → From → To → (ℕ → Bool) → Members → Members → ℕ → Piece
-MovesFields sides src dst taken ms ns end = MovesValue sides src dst taken 0 (λ S. FitsFields S ms ns end src dst) (field_moves ms ns end)
+MovesFields sides src dst taken ms ns end = MovesValue sides src dst taken 0 (λ S. FitsFields sides S ms ns end src dst) (field_moves ms ns end)
+
+-- The same of fields of which at least one is left, so that 500 of the steps of its weight are left too.
+abbrev pub MovesPaidFields : Sides → From → To → (ℕ → Bool) → Members → Members → ℕ → Piece
+MovesPaidFields sides src dst taken ms ns end = MovesValue sides src dst taken 500 (λ S. FitsFields sides S ms ns end src dst) (field_moves ms ns end)

@@ -7,7 +7,7 @@ use Rattle.fact_machine.specs.declared.types.CoreValue.{CoreValue}
 use Rattle.fact_moves.specs.Actions.{Action}
 use Rattle.fact_moves.specs.Running.{ImportPlaces}
 use Rattle.fact_moves.specs.Sides.{LiftLowerOptions, Transfer, Source, Target}
-use Rattle.fact_pieces.specs.Places.{From, To, Setting, transfer, Moves}
+use Rattle.fact_pieces.specs.Places.{From, To, Rooms, Setting, transfer, Moves}
 use Rattle.fact_emit.specs.declared.places.Sides.{Sides}
 use Rattle.fact_emit.specs.Places.{setting_of, Using}
 
@@ -15,10 +15,11 @@ use Rattle.fact_emit.specs.Places.{setting_of, Using}
 abbrev pub Act : Type 0
 Act = Transfer → Source → Target → Action (List CoreValue)
 
--- In a module and a function, whatever the options of the sides are: where the places fit, the code moves the value.
+-- In a module and a function, whatever the options of the sides are and what room there is behind addresses: where the places fit, the
+-- code moves the value.
 pub record MovesValue (sides : Sides) (src : From) (dst : To) (taken : ℕ → Bool) (spare : ℕ) (Fit : Setting → Type 0) (act : Act) (M : WasmModule) (p : ImportPlaces) (locals : List ValType) (code : List Instr) : Type 0 where
-  pub moves : (a b : LiftLowerOptions) (concurrency : Bool) (used : ℕ → Bool) → Using taken used src dst → Fit (setting_of sides a b concurrency M p locals)
-      → Moves (setting_of sides a b concurrency M p locals) used 0 spare src dst (act (transfer (setting_of sides a b concurrency M p locals))) code
+  pub moves : (a b : LiftLowerOptions) (concurrency : Bool) (rooms : Rooms) (used : ℕ → Bool) → Using taken used src dst → Fit (setting_of sides a b concurrency rooms M p locals)
+      → Moves (setting_of sides a b concurrency rooms M p locals) used 0 spare src dst (act (transfer (setting_of sides a b concurrency rooms M p locals))) code
 
 -- all locals in use but one
 abbrev pub except : ℕ → (ℕ → Bool) → ℕ → Bool

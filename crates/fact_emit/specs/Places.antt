@@ -7,7 +7,7 @@ use Rattle.fact_types.specs.declared.import.Import.TheVariants as import
 use Rattle.fact_types.specs.declared.outside.Trap.TheVariants.{DebugAssertPointerAligned, DebugAssertUpperBitsUnset}
 use Rattle.fact_moves.specs.Running.{ImportPlaces}
 use Rattle.fact_moves.specs.Sides.{LiftLowerOptions}
-use Rattle.fact_pieces.specs.Places.{Slot, From, InLocals, InMemory, To, ToLocals, ToMemory, DebugChecks, Off, On, Setting, AreUsed, FromUsed, ToUsed}
+use Rattle.fact_pieces.specs.Places.{Slot, From, InLocals, InMemory, To, ToLocals, ToMemory, DebugChecks, Off, On, Rooms, Setting, AreUsed, FromUsed, ToUsed}
 use Rattle.fact_emit.specs.declared.places.TypedLocal.{TypedLocal}
 use Rattle.fact_emit.specs.declared.places.SourcePlace.{SourcePlace}
 use Rattle.fact_emit.specs.declared.places.SourcePlace.TheVariants as source
@@ -33,14 +33,15 @@ checks_at false p = Off
 checks_at true p = On (p.function (import.Trap DebugAssertUpperBitsUnset)) (p.function (import.Trap DebugAssertPointerAligned))
 
 -- what code of moves between two sides stands in
-abbrev pub setting_of : Sides → (from to : LiftLowerOptions) → (concurrency : Bool) → WasmModule → ImportPlaces → List ValType → Setting
-setting_of sides a b concurrency M p locals = record {
+abbrev pub setting_of : Sides → (from to : LiftLowerOptions) → (concurrency : Bool) → Rooms → WasmModule → ImportPlaces → List ValType → Setting
+setting_of sides a b concurrency rooms M p locals = record {
   whole = M;
   places = p;
   from = a;
   to = b;
   from64 = sides.from.memory64;
   to64 = sides.to.memory64;
+  rooms = rooms;
   concurrency = concurrency;
   checks = checks_at sides.debug p;
   locals = locals;

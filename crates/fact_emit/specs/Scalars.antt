@@ -1,22 +1,28 @@
--- Numbers that are made canonical, and numbers that are tested.
-use Rattle.std.specs.Prelude.{◌≡◌, ◌≢◌, ℕ, ◌-◌, ◌%◌, ◌^◌, ◌≤◌, nat_lt, Bool, List, [], ◌∷◌}
+-- Numbers that are made canonical, and numbers that are tested; moves of scalars.
+use Rattle.std.specs.Prelude.{◌≡◌, ◌≢◌, ℕ, ◌-◌, ◌%◌, ◌^◌, ◌≤◌, nat_lt, Bool, List, [], ◌∷◌, true, false}
 use Rattle.fact_wasm.specs.declared.instr.Instr.{Instr}
 use Rattle.fact_wasm.specs.declared.instr.Instr.TheVariants as I
 use Rattle.fact_types.specs.declared.interface.InterfaceType.{InterfaceType}
 use Rattle.fact_types.specs.declared.interface.InterfaceType.TheVariants as ty
 use Rattle.fact_types.specs.declared.outside.Trap.{Trap}
 use Rattle.fact_types.specs.declared.outside.Trap.TheVariants.{InvalidChar, InvalidDiscriminant}
+use Rattle.fact_types.specs.Shapes.{s_plain}
 use Rattle.fact_abi.specs.Numbers.{is_scalar_value}
 use Rattle.fact_moves.specs.Actions.{Visit, unless}
 use Rattle.fact_moves.specs.Moves.{canonical_number, move_number}
 use Rattle.fact_moves.specs.Sides.{read_number, write_number}
-use Rattle.fact_pieces.specs.Places.{Number, N8, N16, N32, N64, size_of}
+use Rattle.fact_pieces.specs.Places.{Number, N8, N16, N32, N64, size_of, From, To}
 use Rattle.fact_pieces.specs.Tests.{scalar_test, case_test}
+use Rattle.fact_emit.specs.declared.places.Sides.{Sides}
 use Rattle.fact_emit.specs.declared.scalars.Canonical.{Canonical}
 use Rattle.fact_emit.specs.declared.scalars.Canonical.TheVariants.{AsIs, Truth, Signed8, Signed16, Low}
 use Rattle.fact_emit.specs.declared.scalars.NumberTest.{NumberTest}
 use Rattle.fact_emit.specs.declared.scalars.NumberTest.TheVariants.{ScalarValue, CaseBelow}
+use Rattle.fact_emit.specs.declared.writer.Writer.{Writer}
+use Rattle.fact_emit.specs.Emits.{Grew, Emits}
+use Rattle.fact_emit.specs.Fitting.{MovesNode}
 use Rattle.fact_emit.specs.MovesValue.{Act}
+use Rattle.fact_emit.specs.Writers.{taken_in}
 
 -- ---- canonical numbers
 
@@ -84,3 +90,24 @@ canonical_for ty.U8 = Low 8
 canonical_for ty.S16 = Signed16
 canonical_for ty.U16 = Low 16
 canonical_for _ = AsIs
+
+-- a type of one number
+abbrev pub is_scalar : InterfaceType → Bool
+is_scalar ty.Bool = true
+is_scalar ty.S8 = true
+is_scalar ty.U8 = true
+is_scalar ty.S16 = true
+is_scalar ty.U16 = true
+is_scalar ty.S32 = true
+is_scalar ty.U32 = true
+is_scalar ty.S64 = true
+is_scalar ty.U64 = true
+is_scalar ty.Float32 = true
+is_scalar ty.Float64 = true
+is_scalar ty.Char = true
+is_scalar _ = false
+
+-- Code was written that moves values of a type behind the checks of their places, where it is a scalar.
+pub record MovedScalar (a : InterfaceType) (sides : Sides) (src : From) (dst : To) (old new : Writer) : Type 0 where
+  pub grew : Grew old new
+  pub emits : is_scalar a ≡ true → Emits old new (MovesNode sides src dst (taken_in old) (s_plain a) (s_plain a))

@@ -1,15 +1,17 @@
 -- What the functions of a writer do to it.
-use Rattle.std.specs.Prelude.{◌≡◌, ◌≢◌, ℕ, Bool, true, false, List, [], ◌∷◌, ◌++◌, length, map, Option, Some, None, slice_get}
-use Rattle.std.specs.List.{list_all}
+use Rattle.std.specs.Prelude.{◌≡◌, ◌≢◌, ℕ, nat_eq, Bool, true, false, List, [], ◌∷◌, ◌++◌, length, map, Option, Some, None, slice_get}
+use Rattle.std.specs.List.{AllByRecursion, list_all}
 use Rattle.fact_wasm.specs.declared.types.ValType.{ValType}
 use Rattle.fact_wasm.specs.declared.instr.Instr.{Instr}
 use Rattle.fact_types.specs.declared.outside.Trap.{Trap}
 use Rattle.fact_machine.specs.Trace.{Grows}
 use Rattle.fact_machine.specs.Typing.{is_number}
 use Rattle.fact_types.specs.declared.import.Import.TheVariants as import
+use Rattle.fact_pieces.specs.Places.{Slot, AreLocals, IsNone}
 use Rattle.fact_emit.specs.declared.writer.Local.{Local}
 use Rattle.fact_emit.specs.declared.writer.Writer.{Writer}
 use Rattle.fact_emit.specs.Imports.{HasImport, Extended, AreOnce}
+use Rattle.fact_emit.specs.Places.{AreDistinctSlots}
 use Rattle.fact_emit.specs.States.{IsTrapImported}
 
 abbrev pub types_of_locals : Writer → List ValType
@@ -84,6 +86,30 @@ pub record Freed (old new : Writer) (local : ℕ) : Type 0 where
   pub imports : new.imports ≡ old.imports
   pub free : taken_in new local ≡ false
   pub others : (i : ℕ) → i ≢ local → taken_in new i ≡ taken_in old i
+  pub types : types_of_locals new ≡ types_of_locals old
+
+-- locals of these types were taken: they are distinct, were not in use, and now are
+pub record TookAll (old new : Writer) (slots : List Slot) : Type 0 where
+  pub code : new.code.items ≡ old.code.items
+  pub imports : new.imports ≡ old.imports
+  pub were_free : AllByRecursion (λ s. taken_in old s.0 ≡ false) slots
+  pub taken : AllByRecursion (λ s. taken_in new s.0 ≡ true) slots
+  pub others : (i : ℕ) → IsNone i slots → taken_in new i ≡ taken_in old i
+  pub grows : Grows (types_of_locals old) (types_of_locals new)
+  pub typed : AreLocals (types_of_locals new) slots
+  pub numbers : AreNumberTypes (types_of_locals old) → AreNumberTypes (types_of_locals new)
+  pub distinct : AreDistinctSlots slots
+
+-- a number is none of these
+abbrev pub IsNoneOf : ℕ → List ℕ → Type 0
+IsNoneOf i ns = AllByRecursion (λ n. nat_eq i n ≡ false) ns
+
+-- locals are in use no more
+pub record FreedAll (old new : Writer) (locals : List ℕ) : Type 0 where
+  pub code : new.code.items ≡ old.code.items
+  pub imports : new.imports ≡ old.imports
+  pub free : AllByRecursion (λ i. taken_in new i ≡ false) locals
+  pub others : (i : ℕ) → IsNoneOf i locals → taken_in new i ≡ taken_in old i
   pub types : types_of_locals new ≡ types_of_locals old
 
 -- a trap has a place among the imported functions

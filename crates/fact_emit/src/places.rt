@@ -36,13 +36,15 @@ pub enum TargetPlace<'a> {
     Memory(Address),
 }
 
-/// A side's memory: its place among the imported memories, whether its addresses have 64 bits, and the exponent of its page
-/// size where that is a custom one. A side without a memory has addresses of 32 bits.
+/// A side's memory: its place among the imported memories, whether its addresses have 64 bits, the exponent of its page size
+/// where that is a custom one, and the place of its realloc among the imported functions where it has one. A side without a
+/// memory has addresses of 32 bits.
 #[derive(Clone, Copy)]
 pub struct LinearMemory {
     pub memory: u32,
     pub memory64: bool,
     pub page_size_log2: Option<u32>,
+    pub realloc: Option<u32>,
 }
 
 /// Values go from the one side to the other, with debug checks or without them.

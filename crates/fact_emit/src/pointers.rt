@@ -18,16 +18,16 @@ use crate::writer::Writer;
 use fact_types::Trap;
 use fact_wasm::{Instr, OutOfMemory, ValType};
 
-/// Three locals of type i64 for the check of an area: its address, its bytes, and the length of the memory.
+/// Three locals of type i64 for the check of an area, or the request of one: its address, its bytes, and the length of the memory.
 #[derive(Clone, Copy)]
-struct AreaLocals {
+pub struct AreaLocals {
     pub pointer: u32,
     pub bytes: u32,
     pub length: u32,
 }
 
 /// A number as wide as addresses.
-fn pointer_number(memory64: bool) -> NumberSize
+pub fn pointer_number(memory64: bool) -> NumberSize
     ensures { number_sized result ≡ pointer memory64 }
 {
     if memory64 {

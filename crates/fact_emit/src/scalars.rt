@@ -7,11 +7,10 @@ ghost use Rattle.fact_pieces.specs.Places.{N64};
 ghost use Rattle.fact_pieces.specs.Tests.{scalar_test, case_test};
 ghost use Rattle.fact_emit.specs.Checks.{Guarded};
 ghost use Rattle.fact_emit.specs.Emits.{Emits};
-ghost use Rattle.fact_emit.specs.Moved.{MovedScalar};
 ghost use Rattle.fact_emit.specs.MovesValue.{MovesValue, except, HasLocal};
 ghost use Rattle.fact_emit.specs.Numbers.{number_sized, FitsUnchecked};
 ghost use Rattle.fact_emit.specs.Places.{from_of, to_of};
-ghost use Rattle.fact_emit.specs.Scalars.{canonical_code, canonical_of, IsCanonicalFor, number_moves, tested_moves, code_of_test, trap_of_test, size_of_type, canonical_for};
+ghost use Rattle.fact_emit.specs.Scalars.{canonical_code, canonical_of, IsCanonicalFor, number_moves, tested_moves, code_of_test, trap_of_test, size_of_type, canonical_for, MovedScalar};
 ghost use Rattle.fact_emit.specs.Writers.{Wrote, taken_in};
 
 use crate::checks::put_guard;

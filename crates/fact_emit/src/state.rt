@@ -220,6 +220,13 @@ impl ModuleSections {
         self.functions.len()
     }
 
+    /// Whether a function of this place is imported.
+    pub fn has_function(&self, place: u32) -> bool
+        ensures { IsTrue result → place < length (functions_of self.now) }
+    {
+        (place as usize) < self.functions.len()
+    }
+
     /// The core function types so far.
     pub fn core_types(&self) -> &CoreTypes
         ensures { result.now ≡ self.now.types }

@@ -1,0 +1,56 @@
+-- Regions that are asked for.
+use Rattle.std.specs.Prelude.{◌≡◌, ℕ, ◌<◌, nat_eq, Bool, false, List, [], ◌∷◌, ◌++◌, length, Option, Some, None}
+use Rattle.fact_wasm.specs.declared.types.ValType.{ValType}
+use Rattle.fact_wasm.specs.declared.types.ValType.TheVariants as val
+use Rattle.fact_wasm.specs.declared.instr.Instr.{Instr}
+use Rattle.fact_wasm.specs.declared.instr.Instr.TheVariants as I
+use Rattle.fact_wasm.specs.declared.module.WasmModule.{WasmModule}
+use Rattle.fact_machine.specs.Typing.{address_type}
+use Rattle.fact_types.specs.declared.outside.CoreDef.{CoreDef}
+use Rattle.fact_types.specs.declared.outside.Trap.{Trap}
+use Rattle.fact_types.specs.declared.outside.Trap.TheVariants.{UnalignedPointer}
+use Rattle.fact_types.specs.declared.import.Import.TheVariants as import
+use Rattle.fact_moves.specs.Running.{ImportPlaces}
+use Rattle.fact_moves.specs.Sides.{LiftLowerOptions}
+use Rattle.fact_pieces.specs.Knows.{KnowsFunction}
+use Rattle.fact_pieces.specs.Lists.{ask_code}
+use Rattle.fact_pieces.specs.Places.{widen}
+use Rattle.fact_pieces.specs.Tests.{HasUnaligned, pointer, region_code}
+use Rattle.fact_emit.specs.declared.places.LinearMemory.{LinearMemory}
+use Rattle.fact_emit.specs.declared.requests.NewRegion.{NewRegion}
+use Rattle.fact_emit.specs.Areas.{IsLinearMemoryOf}
+use Rattle.fact_emit.specs.States.{ModuleSoFar, functions_of}
+
+-- A side's realloc, where it has one, is among the functions that were imported.
+pub record IsReallocImported (m : LinearMemory) (s : ModuleSoFar) : Type 0 where
+  pub below : (place : ℕ) → m.realloc ≡ Some place → place < length (functions_of s)
+
+-- realloc is called for a new region, where there is one
+abbrev pub request_code : Option ℕ → Bool → (align bytes : ℕ) → List Instr
+request_code (Some place) memory64 align bytes = ask_code memory64 align bytes place
+request_code None memory64 align bytes = I.Unreachable ∷ []
+
+-- A region is asked for, its address is kept, and the region is checked. The traps' functions are there.
+pub record AsksRegion (m : LinearMemory) (r : NewRegion) (t : Trap) (M : WasmModule) (p : ImportPlaces) (locals : List ValType) (code : List Instr) : Type 0 where
+  pub unaligned : HasUnaligned (nat_eq r.align 1) M p (p.function (import.Trap UnalignedPointer))
+  pub outside : KnowsFunction M p (import.Trap t) (p.function (import.Trap t)) [] []
+  pub is : code ≡ request_code m.realloc m.memory64 r.align r.bytes ++ ((widen (pointer m.memory64) val.I64 ++ I.LocalSet r.address ∷ [])
+      ++ region_code m.memory m.memory64 m.page_size_log2 r.align r.address r.bytes r.length (p.function (import.Trap UnalignedPointer)) (p.function (import.Trap t)))
+
+-- ---- what requests ask for
+
+-- The realloc of a side is the function of this place.
+pub record IsReallocOf (M : WasmModule) (p : ImportPlaces) (o : LiftLowerOptions) (m : LinearMemory) : Type 0 where
+  pub place : ℕ
+  pub is : m.realloc ≡ Some place
+  pub def : CoreDef
+  pub given : o.realloc ≡ Some def
+  pub knows : KnowsFunction M p (import.CoreDef def) place (address_type m.memory64 ∷ address_type m.memory64 ∷ address_type m.memory64 ∷ address_type m.memory64 ∷ []) (address_type m.memory64 ∷ [])
+
+-- Values of lists, maps and strings can be moved between two sides: both memories and the destination's realloc are there, and the
+-- slots of the context need not be saved around its calls.
+pub record ServesLists (from to : LinearMemory) (M : WasmModule) (p : ImportPlaces) (a b : LiftLowerOptions) (concurrency : Bool) : Type 0 where
+  pub from_memory : IsLinearMemoryOf M p a from
+  pub to_memory : IsLinearMemoryOf M p b to
+  pub realloc : IsReallocOf M p b to
+  pub alone : concurrency ≡ false

@@ -1,0 +1,69 @@
+-- Shapes between which these functions move values: a scalar and the same one, flags of at most 32 names and enums with as many
+-- names, tuples member by member, records whose members can be moved by name, variants, options and results of which each case can
+-- be moved to the case of its name, and lists and maps whose elements can be moved.
+use Rattle.std.specs.Prelude.{◌≡◌, ◌<◌, ◌≤◌, ℕ, true, Some, None}
+use Rattle.std.specs.Str.{bytes_eq}
+use Rattle.fact_types.specs.declared.interface.InterfaceType.{InterfaceType}
+use Rattle.fact_types.specs.Agrees.{chosen}
+use Rattle.fact_types.specs.Fields.{field_of}
+use Rattle.fact_types.specs.Layout.{payloads, record_layout}
+use Rattle.fact_types.specs.Shapes.{Kind, k_record, k_variant, k_list, k_tuple, k_map, k_flags, k_enum, k_fixed, k_option, k_result, Shape, s_plain, s_node, Members, no_members, bare, typed, layouts_of}
+use Rattle.fact_types.specs.Sound.{TakesBytes}
+use Rattle.fact_abi.specs.Canonical.{ThereIs}
+use Rattle.fact_abi.specs.Limits.{CaseType, case_type}
+use Rattle.fact_abi.specs.Places.{count_of_members}
+use Rattle.fact_emit.specs.Scalars.{is_scalar}
+
+abbrev pub CanMovePlain : Shape → InterfaceType → Type 0
+CanMovePlain (s_plain a) b = (a ≡ b) × (is_scalar a ≡ true)
+CanMovePlain (s_node k ms) b = ⊥
+
+-- flags of as many names, at least one and at most 32
+pub record CanMoveFlags (ms ns : Members) : Type 0 where
+  pub same : count_of_members ns ≡ count_of_members ms
+  pub some : 0 < count_of_members ms
+  pub few : count_of_members ms ≤ 32
+
+-- Elements of lists, and entries of maps, are moved member by member. They take at least one byte, as values of valid types do.
+pub record CanMoveElements (ms ns : Members) (Fields : Type 0) : Type 0 where
+  pub fields : Fields
+  pub from_bytes : TakesBytes (record_layout (payloads (layouts_of ms)))
+  pub to_bytes : TakesBytes (record_layout (payloads (layouts_of ns)))
+
+-- each case of a source
+abbrev pub EachCaseOf : Members → (CaseType → Type 0) → Type 0
+EachCaseOf ms Case = (n : ℕ) (c : CaseType) → case_type ms n ≡ Some c → Case c
+
+abbrev pub CanMoveNode : Shape → Kind → Members → (Members → Type 0) → (CaseType → Type 0) → Type 0
+CanMoveNode (s_node k_record ms) k_record ns Fields Case = Fields ms
+CanMoveNode (s_node k_tuple ms) k_tuple ns Fields Case = Fields ms
+CanMoveNode (s_node k_list ms) k_list ns Fields Case = CanMoveElements ms ns (Fields ms)
+CanMoveNode (s_node k_map ms) k_map ns Fields Case = CanMoveElements ms ns (Fields ms)
+CanMoveNode (s_node (k_fixed m) ms) (k_fixed n) ns Fields Case = (m ≡ n) × CanMoveElements ms ns (Fields ms)
+CanMoveNode (s_node k_flags ms) k_flags ns Fields Case = CanMoveFlags ms ns
+CanMoveNode (s_node k_enum ms) k_enum ns Fields Case = count_of_members ns ≡ count_of_members ms
+CanMoveNode (s_node k_variant ms) k_variant ns Fields Case = EachCaseOf ms Case
+CanMoveNode (s_node k_option ms) k_option ns Fields Case = EachCaseOf ms Case
+CanMoveNode (s_node k_result ms) k_result ns Fields Case = EachCaseOf ms Case
+CanMoveNode _ _ ns Fields Case = ⊥
+
+abbrev mutual
+  pub CanMove : Shape → Shape → Type 0
+  CanMove t (s_plain u) = CanMovePlain t u
+  CanMove t (s_node k ns) = CanMoveNode t k ns (λ ms. CanMoveFields ms ns) (λ c. CanMoveCase c ns)
+
+  -- each member of the destination that has a type can be moved from the source member of its name
+  pub CanMoveFields : Members → Members → Type 0
+  CanMoveFields ms no_members = Unit {0}
+  CanMoveFields ms (bare x ns) = CanMoveFields ms ns
+  CanMoveFields ms (typed x u ns) = ThereIs (field_of x ms) (λ f. CanMove f.shape u) × CanMoveFields ms ns
+
+  -- a case can be moved to the first case of its name: both have a payload that can be moved, or neither has one
+  pub CanMoveCase : CaseType → Members → Type 0
+  CanMoveCase c no_members = ⊥
+  CanMoveCase c (bare x ns) = chosen (bytes_eq x c.name) (c.payload ≡ None) (CanMoveCase c ns)
+  CanMoveCase c (typed x u ns) = chosen (bytes_eq x c.name) (ThereIs c.payload (λ p. CanMove p u)) (CanMoveCase c ns)
+
+-- each case of the source can be moved
+abbrev pub CanMoveCases : Members → Members → Type 0
+CanMoveCases ms ns = EachCaseOf ms (λ c. CanMoveCase c ns)

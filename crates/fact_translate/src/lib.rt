@@ -1,0 +1,10 @@
+//! The moves of values of types: of records, tuples and other nodes with their members, and of variants by the code of their
+//! cases, from the pieces of code that the crate below writes. What each function ensures is what the code does that it has written.
+#![tactic(auto)]
+
+pub mod fixed;
+pub mod lists;
+pub mod maps;
+pub mod members;
+pub mod products;
+pub mod sums;

@@ -1,0 +1,832 @@
+//! Records, tuples, variants, options, results, lists and maps, lists of fixed length, and values of any type that these functions move.
+
+ghost use Rattle.std.specs.Prelude.{IfOk, OnOk, ◌≡◌, ◌<◌, ◌≤◌, ◌+◌, length, unwrap_or};
+ghost use Rattle.fact_types.specs.declared.interface.InterfaceType.TheVariants as ty;
+ghost use Rattle.fact_types.specs.Fits.{FieldFits};
+ghost use Rattle.fact_types.specs.Layout.{extent, aligned};
+ghost use Rattle.fact_types.specs.Shapes.{Shape, layout_of};
+ghost use Rattle.fact_types.specs.Signatures.{width};
+ghost use Rattle.fact_types.specs.Tables.{IsLive, IsLiveMember, HasShape};
+ghost use Rattle.fact_pieces.specs.Places.{InMemory, ToMemory};
+ghost use Rattle.fact_emit.specs.Numbers.{number_sized};
+ghost use Rattle.fact_emit.specs.Parts.{bytes_by};
+ghost use Rattle.fact_emit.specs.Places.{from_of, to_of};
+ghost use Rattle.fact_emit.specs.Requests.{IsReallocImported};
+ghost use Rattle.fact_translate.specs.Moved.{MovedFrom, MovedNode, MovedTuple, MovedValue, MovedMember, CheckedPlaces, IsLiveFound};
+ghost use Rattle.fact_translate.specs.MovedFixed.{MovedElements};
+ghost use Rattle.fact_translate.specs.MovedSums.{IsLiveNumbered, MovedSome, MovedPayload, MovedCase, WroteBodies, MovedSumBy, MovedSum};
+ghost use Rattle.fact_translate.specs.Kinds.{flags_number_of, discriminant_number_of};
+ghost use Rattle.fact_translate.specs.MemberPairs.{ArePairs, MovedPairs};
+ghost use Rattle.fact_translate.specs.Sums.{IsSumOf};
+
+use crate::fixed::{
+    FixedElements, close_fixed, free_fixed_locals, nth_source, nth_target, open_fixed,
+    take_fixed_locals,
+};
+use crate::lists::{Elements, close_list, free_list_locals, open_list, take_list_locals};
+use crate::maps::{entries, value_place};
+use crate::members::{MemberPair, pair_fields, pair_members};
+use crate::sums::{
+    PairedCase, Sum, option_sum, payload_place, put_left_over, put_tag, result_sum, variant_sum,
+};
+use fact_emit::bodies::put_cases;
+use fact_emit::checks::{check_source, check_target};
+use fact_emit::numbers::{NumberSize, read_number};
+use fact_emit::places::{Address, Sides, SourcePlace, TargetPlace};
+use fact_emit::scalars::{Canonical, NumberTest, move_number, move_scalar, move_tested};
+use fact_emit::writer::Writer;
+use fact_entity::{
+    TypeEnumIndex, TypeFixedLengthListIndex, TypeFlagsIndex, TypeListIndex, TypeMapIndex,
+    TypeOptionIndex, TypeRecordIndex, TypeResultIndex, TypeTupleIndex, TypeVariantIndex,
+};
+use fact_types::{
+    CanonicalAbiInfo, ComponentTypes, DiscriminantSize, FieldPlace, InterfaceType, VariantInfo,
+};
+use fact_wasm::{Instr, OutOfMemory, Seq, ValType};
+use std::alloc::AllocError;
+
+/// The number of flat types of a live type that has at most 16.
+fn flat_length(types: &ComponentTypes, ty: &InterfaceType) -> usize
+    requires { IsLive types.now ty.now }
+    ensures { (s : Shape) → HasShape types.now ty.now s → result ≡ unwrap_or (layout_of s).flat_count 0 }
+{
+    usize::from(types.canonical_abi(ty).flat_count.unwrap_or(0))
+}
+
+/// Takes the place of a field behind others in a width of memory.
+fn next_place(abi: &CanonicalAbiInfo, memory64: bool, end: &mut u32) -> u32
+    requires { FieldFits (extent (width memory64) abi.now) end.old }
+    ensures place { result ≡ aligned end.old (extent (width memory64) abi.now).align }
+    ensures moved { end.new ≡ aligned end.old (extent (width memory64) abi.now).align + (extent (width memory64) abi.now).size }
+{
+    if memory64 {
+        abi.next_field64(end)
+    } else {
+        abi.next_field32(end)
+    }
+}
+
+/// The place of a field in a width of memory.
+fn byte_place(found: FieldPlace, memory64: bool) -> u32
+    ensures { result ≡ bytes_by (width memory64) found.place32 found.place64 }
+{
+    if memory64 {
+        found.place64
+    } else {
+        found.place32
+    }
+}
+
+/// The alignment of a live type in a width of memory.
+fn alignment(types: &ComponentTypes, ty: &InterfaceType, memory64: bool) -> u32
+    requires { IsLive types.now ty.now }
+    ensures some { 0 < result }
+    ensures is { (s : Shape) → HasShape types.now ty.now s → result ≡ (extent (width memory64) (layout_of s)).align }
+{
+    let abi = types.canonical_abi(ty);
+    if memory64 { abi.align64 } else { abi.align32 }
+}
+
+/// The bytes of a live type's values in a width of memory, or 1 where there are none: values of a valid type take as many.
+fn byte_count(types: &ComponentTypes, ty: &InterfaceType, memory64: bool) -> u32
+    requires { IsLive types.now ty.now }
+    ensures some { 0 < result }
+    ensures is { (s : Shape) → HasShape types.now ty.now s → 0 < (extent (width memory64) (layout_of s)).size → result ≡ (extent (width memory64) (layout_of s)).size }
+    ensures small { (s : Shape) → HasShape types.now ty.now s → (extent (width memory64) (layout_of s)).size ≤ 4294967295 }
+{
+    let abi = types.canonical_abi(ty);
+    let size = if memory64 { abi.size64 } else { abi.size32 };
+    size.max(1)
+}
+
+/// The number that holds flags of so many names, at most 32.
+fn flags_number(names: usize) -> NumberSize
+    ensures { number_sized result ≡ flags_number_of names }
+{
+    if names <= 8 {
+        NumberSize::Bits8
+    } else if names <= 16 {
+        NumberSize::Bits16
+    } else {
+        NumberSize::Bits32
+    }
+}
+
+/// The number of a discriminant.
+fn discriminant_number(size: DiscriminantSize) -> NumberSize
+    ensures { number_sized result ≡ discriminant_number_of size }
+{
+    match size {
+        DiscriminantSize::Size1 => NumberSize::Bits8,
+        DiscriminantSize::Size2 => NumberSize::Bits16,
+        DiscriminantSize::Size4 => NumberSize::Bits32,
+    }
+}
+
+/// Moves flags, of which those that have names: at most 32.
+fn move_flags(
+    types: &ComponentTypes,
+    w: &mut Writer,
+    sides: Sides,
+    from: TypeFlagsIndex,
+    source: SourcePlace<'_>,
+    target: TargetPlace<'_>,
+) -> Result<(), OutOfMemory>
+    requires { IsLive types.now (ty.Flags from) }
+    ensures { OnOk result (MovedFrom types.now (ty.Flags from) sides (from_of sides.from source.entry) (to_of sides.to target.entry) w.old w.new) }
+{
+    types.reveal();
+    let names = types[from].names.len();
+    let canonical = Canonical::Low(names.min(32) as u32);
+    move_number(w, sides, flags_number(names), canonical, source, target)?;
+    Ok(())
+}
+
+/// Moves a case without a payload, with a trap past the last one.
+fn move_enum(
+    types: &ComponentTypes,
+    w: &mut Writer,
+    sides: Sides,
+    from: TypeEnumIndex,
+    source: SourcePlace<'_>,
+    target: TargetPlace<'_>,
+) -> Result<(), OutOfMemory>
+    requires { IsLive types.now (ty.Enum from) }
+    ensures { OnOk result (MovedFrom types.now (ty.Enum from) sides (from_of sides.from source.entry) (to_of sides.to target.entry) w.old w.new) }
+{
+    types.reveal();
+    let cases = types[from].names.len();
+    let Some(size) = DiscriminantSize::from_count(cases) else {
+        return Err(AllocError);
+    };
+    let test = NumberTest::CaseBelow(cases as u32);
+    move_tested(w, sides, discriminant_number(size), test, source, target)?;
+    Ok(())
+}
+
+/// With debug checks on, traps where a place in memory is not aligned for its type.
+fn check_places(
+    types: &ComponentTypes,
+    w: &mut Writer,
+    sides: Sides,
+    from: InterfaceType,
+    to: InterfaceType,
+    source: SourcePlace<'_>,
+    target: TargetPlace<'_>,
+) -> Result<(), OutOfMemory>
+    requires from_live { IsLive types.now from }
+    requires to_live { IsLive types.now to }
+    ensures { OnOk result (CheckedPlaces types.now from to sides (from_of sides.from source.entry) (to_of sides.to target.entry) w.old w.new) }
+{
+    let align = alignment(types, &from, sides.from.memory64);
+    check_source(w, sides.debug, sides.from, align, source)?;
+    let align = alignment(types, &to, sides.to.memory64);
+    check_target(w, sides.debug, sides.to, align, target)?;
+    Ok(())
+}
+
+/// Moves a value of a live type to a place of a type that it can be moved to.
+#[cycle(moving)]
+pub fn translate(
+    types: &ComponentTypes,
+    w: &mut Writer,
+    sides: Sides,
+    from: InterfaceType,
+    to: InterfaceType,
+    source: SourcePlace<'_>,
+    target: TargetPlace<'_>,
+) -> Result<(), OutOfMemory>
+    requires from_live { IsLive types.now from }
+    requires to_live { IsLive types.now to }
+    requires realloc { IsReallocImported sides.to w.old.imports }
+    ensures { OnOk result (MovedValue types.now from to sides (from_of sides.from source.entry) (to_of sides.to target.entry) w.old w.new) }
+{
+    check_places(types, w, sides, from, to, source, target)?;
+    move_node(types, w, sides, from, to, source, target)?;
+    Ok(())
+}
+
+/// Moves a value, behind the checks of its places.
+#[cycle(moving)]
+fn move_node(
+    types: &ComponentTypes,
+    w: &mut Writer,
+    sides: Sides,
+    from: InterfaceType,
+    to: InterfaceType,
+    source: SourcePlace<'_>,
+    target: TargetPlace<'_>,
+) -> Result<(), OutOfMemory>
+    requires from_live { IsLive types.now from }
+    requires to_live { IsLive types.now to }
+    requires realloc { IsReallocImported sides.to w.old.imports }
+    ensures { OnOk result (MovedNode types.now from to sides (from_of sides.from source.entry) (to_of sides.to target.entry) w.old w.new) }
+{
+    match from {
+        InterfaceType::Record(i) => match to {
+            InterfaceType::Record(j) => move_record(types, w, sides, i, j, source, target)?,
+            _ => w.put(Instr::Unreachable)?,
+        },
+        InterfaceType::Tuple(i) => match to {
+            InterfaceType::Tuple(j) => move_tuple(types, w, sides, i, j, source, target)?,
+            _ => w.put(Instr::Unreachable)?,
+        },
+        InterfaceType::Variant(i) => match to {
+            InterfaceType::Variant(j) => move_variant(types, w, sides, i, j, source, target)?,
+            _ => w.put(Instr::Unreachable)?,
+        },
+        InterfaceType::Option(i) => match to {
+            InterfaceType::Option(j) => move_option(types, w, sides, i, j, source, target)?,
+            _ => w.put(Instr::Unreachable)?,
+        },
+        InterfaceType::Result(i) => match to {
+            InterfaceType::Result(j) => move_result(types, w, sides, i, j, source, target)?,
+            _ => w.put(Instr::Unreachable)?,
+        },
+        InterfaceType::List(i) => match to {
+            InterfaceType::List(j) => move_list(types, w, sides, i, j, source, target)?,
+            _ => w.put(Instr::Unreachable)?,
+        },
+        InterfaceType::Map(i) => match to {
+            InterfaceType::Map(j) => move_map(types, w, sides, i, j, source, target)?,
+            _ => w.put(Instr::Unreachable)?,
+        },
+        InterfaceType::FixedLengthList(i) => match to {
+            InterfaceType::FixedLengthList(j) => {
+                move_fixed_list(types, w, sides, i, j, source, target)?
+            }
+            _ => w.put(Instr::Unreachable)?,
+        },
+        InterfaceType::Flags(i) => move_flags(types, w, sides, i, source, target)?,
+        InterfaceType::Enum(i) => move_enum(types, w, sides, i, source, target)?,
+        _ => move_scalar(w, sides, from, source, target)?,
+    }
+    Ok(())
+}
+
+/// Moves the fields of a record in the order of its destination, each from the source field of its name.
+#[cycle(moving)]
+fn move_record(
+    types: &ComponentTypes,
+    w: &mut Writer,
+    sides: Sides,
+    from: TypeRecordIndex,
+    to: TypeRecordIndex,
+    source: SourcePlace<'_>,
+    target: TargetPlace<'_>,
+) -> Result<(), OutOfMemory>
+    requires from_live { IsLive types.now (ty.Record from) }
+    requires to_live { IsLive types.now (ty.Record to) }
+    requires realloc { IsReallocImported sides.to w.old.imports }
+    ensures { OnOk result (MovedNode types.now (ty.Record from) (ty.Record to) sides (from_of sides.from source.entry) (to_of sides.to target.entry) w.old w.new) }
+{
+    let pairs = pair_fields(w.alloc, types, from, to)?;
+    let whole = InterfaceType::Record(to);
+    let moved = move_pairs(types, w, sides, whole, pairs.as_slice(), source, target);
+    drop(pairs);
+    moved
+}
+
+/// Moves the members of a tuple, each from the source member of its place, without a check of the tuple's own places.
+#[cycle(moving)]
+pub fn move_tuple(
+    types: &ComponentTypes,
+    w: &mut Writer,
+    sides: Sides,
+    from: TypeTupleIndex,
+    to: TypeTupleIndex,
+    source: SourcePlace<'_>,
+    target: TargetPlace<'_>,
+) -> Result<(), OutOfMemory>
+    requires from_live { IsLive types.now (ty.Tuple from) }
+    requires to_live { IsLive types.now (ty.Tuple to) }
+    requires realloc { IsReallocImported sides.to w.old.imports }
+    ensures { OnOk result (MovedTuple types.now (ty.Tuple from) (ty.Tuple to) sides (from_of sides.from source.entry) (to_of sides.to target.entry) w.old w.new) }
+{
+    let pairs = pair_members(w.alloc, types, from, to)?;
+    let whole = InterfaceType::Tuple(to);
+    let moved = move_pairs(types, w, sides, whole, pairs.as_slice(), source, target);
+    drop(pairs);
+    moved
+}
+
+/// Moves the members of a record or a tuple in the order of its destination, each from the source member that was found for it.
+#[cycle(moving)]
+fn move_pairs(
+    types: &ComponentTypes,
+    w: &mut Writer,
+    sides: Sides,
+    whole: InterfaceType,
+    pairs: &[MemberPair],
+    source: SourcePlace<'_>,
+    target: TargetPlace<'_>,
+) -> Result<(), OutOfMemory>
+    requires pairs { ArePairs types.now whole pairs.now }
+    requires realloc { IsReallocImported sides.to w.old.imports }
+    ensures { OnOk result (MovedPairs types.now whole pairs.now sides (from_of sides.from source.entry) (to_of sides.to target.entry) w.old w.new) }
+{
+    let mut rest = target;
+    let mut end: u32 = 0;
+    for pair in pairs {
+        let place = next_place(types.canonical_abi(&pair.ty), sides.to.memory64, &mut end);
+        let count = flat_length(types, &pair.ty);
+        let spot = rest.part(0, count, place);
+        move_member(types, w, sides, pair.found, pair.ty, source, spot)?;
+        rest = rest.past(count);
+    }
+    Ok(())
+}
+
+/// Moves the elements of a list to a new region.
+#[cycle(moving)]
+fn move_list(
+    types: &ComponentTypes,
+    w: &mut Writer,
+    sides: Sides,
+    from: TypeListIndex,
+    to: TypeListIndex,
+    source: SourcePlace<'_>,
+    target: TargetPlace<'_>,
+) -> Result<(), OutOfMemory>
+    requires from_live { IsLive types.now (ty.List from) }
+    requires to_live { IsLive types.now (ty.List to) }
+    requires realloc { IsReallocImported sides.to w.old.imports }
+    ensures { OnOk result (MovedNode types.now (ty.List from) (ty.List to) sides (from_of sides.from source.entry) (to_of sides.to target.entry) w.old w.new) }
+{
+    types.reveal();
+    let from_element = types[from].element;
+    let to_element = types[to].element;
+    let elements = Elements {
+        from_size: byte_count(types, &from_element, sides.from.memory64),
+        from_align: alignment(types, &from_element, sides.from.memory64),
+        to_size: byte_count(types, &to_element, sides.to.memory64),
+        to_align: alignment(types, &to_element, sides.to.memory64),
+    };
+    let locals = take_list_locals(w, sides)?;
+    open_list(w, sides, elements, locals, source)?;
+    let outer = w.begin();
+    let part = SourcePlace::Memory(Address {
+        local: locals.source,
+        offset: 0,
+    });
+    let spot = TargetPlace::Memory(Address {
+        local: locals.target,
+        offset: 0,
+    });
+    translate(types, w, sides, from_element, to_element, part, spot)?;
+    close_list(w, sides, elements, locals, outer, target)?;
+    free_list_locals(w, locals)?;
+    Ok(())
+}
+
+/// Moves the entries of a map to a new region, each by its key and its value.
+#[cycle(moving)]
+fn move_map(
+    types: &ComponentTypes,
+    w: &mut Writer,
+    sides: Sides,
+    from: TypeMapIndex,
+    to: TypeMapIndex,
+    source: SourcePlace<'_>,
+    target: TargetPlace<'_>,
+) -> Result<(), OutOfMemory>
+    requires from_live { IsLive types.now (ty.Map from) }
+    requires to_live { IsLive types.now (ty.Map to) }
+    requires realloc { IsReallocImported sides.to w.old.imports }
+    ensures { OnOk result (MovedNode types.now (ty.Map from) (ty.Map to) sides (from_of sides.from source.entry) (to_of sides.to target.entry) w.old w.new) }
+{
+    types.reveal();
+    let from_map = &types[from];
+    let to_map = &types[to];
+    let elements = entries(sides, from_map, to_map);
+    let locals = take_list_locals(w, sides)?;
+    open_list(w, sides, elements, locals, source)?;
+    let outer = w.begin();
+    let entry = SourcePlace::Memory(Address {
+        local: locals.source,
+        offset: 0,
+    });
+    let spot = TargetPlace::Memory(Address {
+        local: locals.target,
+        offset: 0,
+    });
+    translate(types, w, sides, from_map.key, to_map.key, entry, spot)?;
+    let value = entry.part(0, 0, value_place(from_map, sides.from.memory64));
+    let value_spot = spot.part(0, 0, value_place(to_map, sides.to.memory64));
+    translate(
+        types,
+        w,
+        sides,
+        from_map.value,
+        to_map.value,
+        value,
+        value_spot,
+    )?;
+    close_list(w, sides, elements, locals, outer, target)?;
+    free_list_locals(w, locals)?;
+    Ok(())
+}
+
+/// Moves the elements of a list of fixed length: from memory to memory by a loop, and else one by one.
+#[cycle(moving)]
+fn move_fixed_list(
+    types: &ComponentTypes,
+    w: &mut Writer,
+    sides: Sides,
+    from: TypeFixedLengthListIndex,
+    to: TypeFixedLengthListIndex,
+    source: SourcePlace<'_>,
+    target: TargetPlace<'_>,
+) -> Result<(), OutOfMemory>
+    requires from_live { IsLive types.now (ty.FixedLengthList from) }
+    requires to_live { IsLive types.now (ty.FixedLengthList to) }
+    requires realloc { IsReallocImported sides.to w.old.imports }
+    ensures { OnOk result (MovedNode types.now (ty.FixedLengthList from) (ty.FixedLengthList to) sides (from_of sides.from source.entry) (to_of sides.to target.entry) w.old w.new) }
+{
+    types.reveal();
+    let from_element = types[from].element;
+    let to_element = types[to].element;
+    let e = FixedElements {
+        count: types[to].size,
+        from_size: byte_count(types, &from_element, sides.from.memory64),
+        to_size: byte_count(types, &to_element, sides.to.memory64),
+    };
+    match source {
+        SourcePlace::Memory(begin) => match target {
+            TargetPlace::Memory(spot) => {
+                move_by_loop(types, w, sides, from_element, to_element, e, begin, spot)?
+            }
+            TargetPlace::Locals(_) => {
+                move_one_by_one(types, w, sides, from_element, to_element, e, source, target)?
+            }
+        },
+        SourcePlace::Locals(_) => {
+            move_one_by_one(types, w, sides, from_element, to_element, e, source, target)?
+        }
+    }
+    Ok(())
+}
+
+/// Moves elements from memory to memory, by a loop.
+#[cycle(moving)]
+fn move_by_loop(
+    types: &ComponentTypes,
+    w: &mut Writer,
+    sides: Sides,
+    from: InterfaceType,
+    to: InterfaceType,
+    e: FixedElements,
+    source: Address,
+    target: Address,
+) -> Result<(), OutOfMemory>
+    requires from_live { IsLive types.now from }
+    requires to_live { IsLive types.now to }
+    requires realloc { IsReallocImported sides.to w.old.imports }
+    ensures { OnOk result (MovedElements types.now from to e sides (InMemory sides.from.memory source.local source.offset) (ToMemory sides.to.memory target.local target.offset) w.old w.new) }
+{
+    let locals = take_fixed_locals(w, sides)?;
+    open_fixed(w, sides, e, locals, source, target)?;
+    let outer = w.begin();
+    let part = SourcePlace::Memory(Address {
+        local: locals.source,
+        offset: 0,
+    });
+    let spot = TargetPlace::Memory(Address {
+        local: locals.target,
+        offset: 0,
+    });
+    translate(types, w, sides, from, to, part, spot)?;
+    close_fixed(w, sides, e, locals, outer)?;
+    free_fixed_locals(w, locals)?;
+    Ok(())
+}
+
+/// Moves elements one by one, of which at least one place is in locals.
+#[cycle(moving)]
+fn move_one_by_one(
+    types: &ComponentTypes,
+    w: &mut Writer,
+    sides: Sides,
+    from: InterfaceType,
+    to: InterfaceType,
+    e: FixedElements,
+    source: SourcePlace<'_>,
+    target: TargetPlace<'_>,
+) -> Result<(), OutOfMemory>
+    requires from_live { IsLive types.now from }
+    requires to_live { IsLive types.now to }
+    requires realloc { IsReallocImported sides.to w.old.imports }
+    ensures { OnOk result (MovedElements types.now from to e sides (from_of sides.from source.entry) (to_of sides.to target.entry) w.old w.new) }
+{
+    let from_flats = flat_length(types, &from);
+    let to_flats = flat_length(types, &to);
+    let mut rest = target;
+    for n in 0..e.count {
+        let part = nth_source(source, from_flats, e.from_size, n);
+        let spot = nth_target(rest, to_flats, e.to_size, n);
+        translate(types, w, sides, from, to, part, spot)?;
+        rest = rest.past(to_flats);
+    }
+    Ok(())
+}
+
+/// Moves a member to its spot, from the source member that was found for it.
+#[cycle(moving)]
+fn move_member(
+    types: &ComponentTypes,
+    w: &mut Writer,
+    sides: Sides,
+    found: Option<FieldPlace>,
+    to: InterfaceType,
+    source: SourcePlace<'_>,
+    spot: TargetPlace<'_>,
+) -> Result<(), OutOfMemory>
+    requires from_live { IsLiveFound types.now found }
+    requires to_live { IsLive types.now to }
+    requires realloc { IsReallocImported sides.to w.old.imports }
+    ensures { OnOk result (MovedMember types.now found to sides (from_of sides.from source.entry) (to_of sides.to spot.entry) w.old w.new) }
+{
+    match found {
+        Some(found) => {
+            let skip = usize::from(found.flat_place.unwrap_or(0));
+            let count = flat_length(types, &found.ty);
+            let bytes = byte_place(found, sides.from.memory64);
+            let part = source.part(skip, count, bytes);
+            translate(types, w, sides, found.ty, to, part, spot)?;
+        }
+        None => w.put(Instr::Unreachable)?,
+    }
+    Ok(())
+}
+
+/// Moves a variant, by its case.
+#[cycle(moving)]
+fn move_variant(
+    types: &ComponentTypes,
+    w: &mut Writer,
+    sides: Sides,
+    from: TypeVariantIndex,
+    to: TypeVariantIndex,
+    source: SourcePlace<'_>,
+    target: TargetPlace<'_>,
+) -> Result<(), OutOfMemory>
+    requires from_live { IsLive types.now (ty.Variant from) }
+    requires to_live { IsLive types.now (ty.Variant to) }
+    requires realloc { IsReallocImported sides.to w.old.imports }
+    ensures { OnOk result (MovedNode types.now (ty.Variant from) (ty.Variant to) sides (from_of sides.from source.entry) (to_of sides.to target.entry) w.old w.new) }
+{
+    let sum = variant_sum(w.alloc, types, from, to)?;
+    let source_type = InterfaceType::Variant(from);
+    let target_type = InterfaceType::Variant(to);
+    move_sum(
+        types,
+        w,
+        sides,
+        source_type,
+        target_type,
+        &sum,
+        source,
+        target,
+    )?;
+    Ok(())
+}
+
+/// Moves an option, by its case.
+#[cycle(moving)]
+fn move_option(
+    types: &ComponentTypes,
+    w: &mut Writer,
+    sides: Sides,
+    from: TypeOptionIndex,
+    to: TypeOptionIndex,
+    source: SourcePlace<'_>,
+    target: TargetPlace<'_>,
+) -> Result<(), OutOfMemory>
+    requires from_live { IsLive types.now (ty.Option from) }
+    requires to_live { IsLive types.now (ty.Option to) }
+    requires realloc { IsReallocImported sides.to w.old.imports }
+    ensures { OnOk result (MovedNode types.now (ty.Option from) (ty.Option to) sides (from_of sides.from source.entry) (to_of sides.to target.entry) w.old w.new) }
+{
+    let sum = option_sum(w.alloc, types, from, to)?;
+    let source_type = InterfaceType::Option(from);
+    let target_type = InterfaceType::Option(to);
+    move_sum(
+        types,
+        w,
+        sides,
+        source_type,
+        target_type,
+        &sum,
+        source,
+        target,
+    )?;
+    Ok(())
+}
+
+/// Moves a result, by its case.
+#[cycle(moving)]
+fn move_result(
+    types: &ComponentTypes,
+    w: &mut Writer,
+    sides: Sides,
+    from: TypeResultIndex,
+    to: TypeResultIndex,
+    source: SourcePlace<'_>,
+    target: TargetPlace<'_>,
+) -> Result<(), OutOfMemory>
+    requires from_live { IsLive types.now (ty.Result from) }
+    requires to_live { IsLive types.now (ty.Result to) }
+    requires realloc { IsReallocImported sides.to w.old.imports }
+    ensures { OnOk result (MovedNode types.now (ty.Result from) (ty.Result to) sides (from_of sides.from source.entry) (to_of sides.to target.entry) w.old w.new) }
+{
+    let sum = result_sum(w.alloc, types, from, to)?;
+    let source_type = InterfaceType::Result(from);
+    let target_type = InterfaceType::Result(to);
+    move_sum(
+        types,
+        w,
+        sides,
+        source_type,
+        target_type,
+        &sum,
+        source,
+        target,
+    )?;
+    Ok(())
+}
+
+/// Moves a value of cases, by a local that holds its discriminant.
+#[cycle(moving)]
+fn move_sum(
+    types: &ComponentTypes,
+    w: &mut Writer,
+    sides: Sides,
+    from: InterfaceType,
+    to: InterfaceType,
+    sum: &Sum,
+    source: SourcePlace<'_>,
+    target: TargetPlace<'_>,
+) -> Result<(), OutOfMemory>
+    requires from_live { IsLive types.now from }
+    requires to_live { IsLive types.now to }
+    requires cases { IsSumOf types.now from to sum.now }
+    requires realloc { IsReallocImported sides.to w.old.imports }
+    ensures { OnOk result (MovedSum types.now from to sides (from_of sides.from source.entry) (to_of sides.to target.entry) w.old w.new) }
+{
+    let local = w.take_local(ValType::I32)?;
+    move_sum_by(types, w, sides, from, to, sum, local, source, target)?;
+    w.free_local(local)?;
+    Ok(())
+}
+
+/// Moves a value of cases: reads its discriminant to a local, and runs the code of its case, with a trap past the last one.
+#[cycle(moving)]
+fn move_sum_by(
+    types: &ComponentTypes,
+    w: &mut Writer,
+    sides: Sides,
+    from: InterfaceType,
+    to: InterfaceType,
+    sum: &Sum,
+    local: u32,
+    source: SourcePlace<'_>,
+    target: TargetPlace<'_>,
+) -> Result<(), OutOfMemory>
+    requires from_live { IsLive types.now from }
+    requires to_live { IsLive types.now to }
+    requires cases { IsSumOf types.now from to sum.now }
+    requires realloc { IsReallocImported sides.to w.old.imports }
+    ensures { OnOk result (MovedSumBy types.now from to local sides (from_of sides.from source.entry) (to_of sides.to target.entry) w.old w.new) }
+{
+    types.reveal();
+    read_number(
+        w,
+        sides.debug,
+        sides.from,
+        discriminant_number(sum.from.size),
+        source,
+    )?;
+    w.put(Instr::LocalSet(local))?;
+    let bodies = case_bodies(types, w, sides, from, to, sum, source, target)?;
+    put_cases(w, local, bodies)?;
+    Ok(())
+}
+
+/// The code of each case, which stands aside.
+#[cycle(moving)]
+fn case_bodies(
+    types: &ComponentTypes,
+    w: &mut Writer,
+    sides: Sides,
+    from: InterfaceType,
+    to: InterfaceType,
+    sum: &Sum,
+    source: SourcePlace<'_>,
+    target: TargetPlace<'_>,
+) -> Result<Vec<Seq<Instr>>, OutOfMemory>
+    requires from_live { IsLive types.now from }
+    requires to_live { IsLive types.now to }
+    requires cases { IsSumOf types.now from to sum.now }
+    requires realloc { IsReallocImported sides.to w.old.imports }
+    ensures { IfOk result (λ bodies. WroteBodies types.now from to sides (from_of sides.from source.entry) (to_of sides.to target.entry) (length sum.now.cases.items) bodies.items w.old w.new) }
+{
+    types.reveal();
+    let mut bodies = Vec::new(w.alloc);
+    for case in sum.cases.as_slice() {
+        let outer = w.begin();
+        move_case(types, w, sides, (sum.from, sum.to), *case, source, target)?;
+        let body = w.end(outer);
+        bodies.push(body)?;
+    }
+    Ok(bodies)
+}
+
+/// Moves a case: writes the number of the case of its name, moves its payload, and puts zeros into the slots that are left over.
+#[cycle(moving)]
+fn move_case(
+    types: &ComponentTypes,
+    w: &mut Writer,
+    sides: Sides,
+    infos: (VariantInfo, VariantInfo),
+    case: PairedCase,
+    source: SourcePlace<'_>,
+    target: TargetPlace<'_>,
+) -> Result<(), OutOfMemory>
+    requires from_live { IsLiveMember types.now case.payload }
+    requires to_live { IsLiveNumbered types.now case.found }
+    requires realloc { IsReallocImported sides.to w.old.imports }
+    ensures { OnOk result (MovedCase types.now infos.0 infos.1 case sides (from_of sides.from source.entry) (to_of sides.to target.entry) w.old w.new) }
+{
+    match case.found {
+        Some(found) => {
+            let size = discriminant_number(infos.1.size);
+            put_tag(w, sides.to, size, found.number, target)?;
+            move_payload(
+                types,
+                w,
+                sides,
+                infos,
+                case.payload,
+                found.payload,
+                source,
+                target,
+            )?;
+        }
+        None => w.put(Instr::Unreachable)?,
+    }
+    Ok(())
+}
+
+/// Moves the payload of a case, behind its discriminant, and puts zeros into the slots that are left over.
+#[cycle(moving)]
+fn move_payload(
+    types: &ComponentTypes,
+    w: &mut Writer,
+    sides: Sides,
+    infos: (VariantInfo, VariantInfo),
+    from: Option<InterfaceType>,
+    to: Option<InterfaceType>,
+    source: SourcePlace<'_>,
+    target: TargetPlace<'_>,
+) -> Result<(), OutOfMemory>
+    requires from_live { IsLiveMember types.now from }
+    requires to_live { IsLiveMember types.now to }
+    requires realloc { IsReallocImported sides.to w.old.imports }
+    ensures { OnOk result (MovedPayload types.now infos.0 infos.1 from to sides (from_of sides.from source.entry) (to_of sides.to target.entry) w.old w.new) }
+{
+    match from {
+        Some(from) => match to {
+            Some(to) => move_some(types, w, sides, infos, from, to, source, target)?,
+            None => w.put(Instr::Unreachable)?,
+        },
+        None => put_left_over(w, sides.to, target.past(1))?,
+    }
+    Ok(())
+}
+
+/// Moves a payload that is there.
+#[cycle(moving)]
+fn move_some(
+    types: &ComponentTypes,
+    w: &mut Writer,
+    sides: Sides,
+    infos: (VariantInfo, VariantInfo),
+    from: InterfaceType,
+    to: InterfaceType,
+    source: SourcePlace<'_>,
+    target: TargetPlace<'_>,
+) -> Result<(), OutOfMemory>
+    requires from_live { IsLive types.now from }
+    requires to_live { IsLive types.now to }
+    requires realloc { IsReallocImported sides.to w.old.imports }
+    ensures { OnOk result (MovedSome types.now infos.0 infos.1 from to sides (from_of sides.from source.entry) (to_of sides.to target.entry) w.old w.new) }
+{
+    let bytes = payload_place(infos.0, sides.from.memory64);
+    let part = source.part(1, flat_length(types, &from), bytes);
+    let rest = target.past(1);
+    let count = flat_length(types, &to);
+    let spot = rest.part(0, count, payload_place(infos.1, sides.to.memory64));
+    translate(types, w, sides, from, to, part, spot)?;
+    put_left_over(w, sides.to, rest.past(count))?;
+    Ok(())
+}
