@@ -1,53 +1,76 @@
 -- An adapter's parts have the places that its data say, in every module that knows what was imported for it.
-use Rattle.std.proofs.Common.{◌≡◌, List, Option, Some, None, refl, sym, ◌∙◌, subst}
+use Rattle.std.proofs.Common.{◌≡◌, Bool, true, false, List, [], ◌∷◌, Option, Some, None, refl, sym, ap, ◌∙◌, subst}
 use Rattle.fact_wasm.specs.declared.module.WasmModule.{WasmModule}
 use Rattle.fact_wasm.specs.declared.types.FuncType.{FuncType}
 use Rattle.fact_wasm.specs.declared.types.ValType.{ValType}
 use Rattle.fact_types.specs.Adapters.{Side, LinkedAdapter, is_wide}
-use Rattle.fact_types.specs.Signatures.{flat_values}
+use Rattle.fact_types.specs.Signatures.{address, flat_values}
+use Rattle.fact_machine.specs.Typing.{address_type}
+use Rattle.fact_moves.specs.Sides.{options_of}
 use Rattle.fact_types.specs.declared.import.Import.TheVariants as import
-use Rattle.fact_types.specs.declared.outside.MemoryOption.{MemoryOption}
 use Rattle.fact_moves.specs.Adapters.{lift_signature_of}
 use Rattle.fact_moves.specs.Running.{ImportPlaces}
 use Rattle.fact_pieces.specs.Knows.{KnowsFlags, KnowsFunction, KnowsMemory}
+use Rattle.fact_emit.specs.Areas.{IsLinearMemoryOf}
+use Rattle.fact_emit.specs.Requests.{IsReallocOf}
 use Rattle.fact_emit.specs.AdapterLinks.{AdapterLinks, SideLinks}
 use Rattle.fact_emit.specs.ImportSection.{custom_page_size}
 use Rattle.fact_emit.specs.KnownAdapters.{KnowsAdapter, KnowsSide}
 use Rattle.fact_emit.proofs.LinkLaws.{linear_memory_of}
-use Rattle.fact_compound.specs.Described.{HasResultMemory, KnowsAdapterData, KnowsSideData, linear_of}
-use Rattle.fact_compound.specs.Placed.{AreOptionsOf, IsDataOf}
+use Rattle.fact_compound.specs.Described.{HasNewTupleMemory, HasTupleMemory, KnowsAdapterData, KnowsSideData, linear_of}
+use Rattle.fact_compound.specs.Placed.{AreOptionsOf, HasMemoriesFor, HasMemoryOption, HasReallocOption, IsDataOf}
 use Rattle.fact_compound.specs.declared.adapters.AdapterOptions.{AdapterOptions}
 use Rattle.fact_compound.specs.declared.adapters.AdapterData.{AdapterData}
 
+wide_address : (m : Bool) → address m ≡ address_type m
+wide_address true = refl
+wide_address false = refl
+
 module _ (M : WasmModule) (p : ImportPlaces) where
-  -- A side whose results are not flat has a memory.
-  module _ (s : Side) (at : SideLinks) (o : AdapterOptions) (knows : KnowsSide M p s at) (options : AreOptionsOf s at o)
-      (needs : flat_values (is_wide s.memory) 1 s.results ≡ None → (m : MemoryOption) × (s.memory ≡ Some m)) where
-    result_memory : (f : Option (List ValType)) → flat_values (is_wide s.memory) 1 s.results ≡ f → HasResultMemory M p o s f
-    result_memory (Some flats) e = tt
-    result_memory None e =
-        let (m, is) = needs e in
+  module _ (s : Side) (at : SideLinks) (o : AdapterOptions) (knows : KnowsSide M p s at) (options : AreOptionsOf s at o) where
+    -- the memory of a side that has one
+    side_memory : HasMemoryOption s → IsLinearMemoryOf M p (options_of s) (linear_of o)
+    side_memory (m, is) =
         let here = knows.memory m is in
         let placed : Some here.number ≡ Some (linear_of o).memory = sym here.place_is ∙ options.memory m is in
         let same : here.number ≡ (linear_of o).memory = cc in
         linear_memory_of s m (linear_of o) is options.wide (options.page_size m is) (subst (λ n. KnowsMemory M p m.def n m.memory64 (custom_page_size m.page_size_log2)) same here.knows)
 
-    links_side : KnowsSideData M p o s
-    links_side = record {
+    -- the realloc of a side that has one
+    side_realloc : HasReallocOption s → IsReallocOf M p (options_of s) (linear_of o)
+    side_realloc (f, is) =
+        let here = knows.realloc f is in
+        let typed : address (is_wide s.memory) ≡ address_type (linear_of o).memory64 = ap address options.wide ∙ wide_address (linear_of o).memory64 in
+        record { place = here.number; is = options.realloc ∙ here.place_is; def = f; given = is; knows = subst (λ t. KnowsFunction M p (import.CoreDef f) here.number (t ∷ t ∷ t ∷ t ∷ []) (t ∷ [])) typed here.knows }
+
+    tuple_memory : (f : Option (List ValType)) → (f ≡ None → HasMemoryOption s) → HasTupleMemory M p o s f
+    tuple_memory (Some flats) needs = tt
+    tuple_memory None needs = side_memory (needs refl)
+
+    new_tuple_memory : (f : Option (List ValType)) → (f ≡ None → HasMemoryOption s × HasReallocOption s) → HasNewTupleMemory M p o s f
+    new_tuple_memory (Some flats) needs = tt
+    new_tuple_memory None needs = (side_memory (needs refl).0, side_realloc (needs refl).1)
+
+    links_side : (flat_values (is_wide s.memory) 1 s.results ≡ None → HasMemoryOption s) → KnowsSideData M p o s
+    links_side needs = record {
       flags = subst (λ n. KnowsFlags M p s.instance n) (sym options.flags) knows.flags;
-      memory = result_memory (flat_values (is_wide s.memory) 1 s.results) refl;
+      memory = tuple_memory (flat_values (is_wide s.memory) 1 s.results) needs;
     }
 
   -- The callee's core type is that of the lift side's signature.
   pub links_adapter : (a : LinkedAdapter) (at : AdapterLinks) (d : AdapterData) → KnowsAdapter M p a at → IsDataOf a at d
-      → a.lift.core_type ≡ record { params = (lift_signature_of a).params; results = (lift_signature_of a).results }
-      → (flat_values (is_wide a.lift.memory) 1 a.lift.results ≡ None → (m : MemoryOption) × (a.lift.memory ≡ Some m))
-      → (flat_values (is_wide a.lower.memory) 1 a.lower.results ≡ None → (m : MemoryOption) × (a.lower.memory ≡ Some m))
-      → KnowsAdapterData M p d a
-  links_adapter a at d knows is signature lift_needs lower_needs = record {
-    lift = links_side a.lift at.lift d.lift knows.lift is.lift lift_needs;
-    lower = links_side a.lower at.lower d.lower knows.lower is.lower lower_needs;
-    callee =
-        let typed = subst (λ (ty : FuncType). KnowsFunction M p (import.CoreDef a.callee) at.callee ty.params ty.results) signature knows.callee in
-        subst (λ n. KnowsFunction M p (import.CoreDef a.callee) n (lift_signature_of a).params (lift_signature_of a).results) (sym is.callee) typed;
-  }
+      → a.lift.core_type ≡ record { params = (lift_signature_of a).params; results = (lift_signature_of a).results } → HasMemoriesFor a → KnowsAdapterData M p d a
+  links_adapter a at d knows is signature needs =
+      let lift_memory = side_memory a.lift at.lift d.lift knows.lift is.lift in
+      let lower_memory = side_memory a.lower at.lower d.lower knows.lower is.lower in
+      record {
+        lift = links_side a.lift at.lift d.lift knows.lift is.lift needs.lift_results;
+        lower = links_side a.lower at.lower d.lower knows.lower is.lower needs.lower_results;
+        params_memory = tuple_memory a.lower at.lower d.lower knows.lower is.lower (flat_values (is_wide a.lower.memory) 16 a.lower.params) needs.lower_params;
+        params_area = new_tuple_memory a.lift at.lift d.lift knows.lift is.lift (flat_values (is_wide a.lift.memory) 16 a.lift.params) needs.lift_params;
+        params_lists = λ some. let n = needs.params_lists some in record { from_memory = lower_memory n.0; to_memory = lift_memory n.1; realloc = side_realloc a.lift at.lift d.lift knows.lift is.lift n.2; alone = refl };
+        results_lists = λ some. let n = needs.results_lists some in record { from_memory = lift_memory n.0; to_memory = lower_memory n.1; realloc = side_realloc a.lower at.lower d.lower knows.lower is.lower n.2; alone = refl };
+        callee =
+            let typed = subst (λ (ty : FuncType). KnowsFunction M p (import.CoreDef a.callee) at.callee ty.params ty.results) signature knows.callee in
+            subst (λ n. KnowsFunction M p (import.CoreDef a.callee) n (lift_signature_of a).params (lift_signature_of a).results) (sym is.callee) typed;
+      }

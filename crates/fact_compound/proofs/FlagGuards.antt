@@ -1,40 +1,28 @@
 -- A test of an instance's flags, which keeps them in a local, with a trap where they are 0.
-use Rattle.std.proofs.Common.{◌≡◌, ℕ, suc, ◌+◌, ◌*◌, ◌%◌, ◌^◌, ◌<◌, Bool, true, false, List, [], ◌∷◌, ◌++◌, Option, Some, None, refl, sym, ap, ◌∙◌, subst, arith, append_assoc, length, reverse, slice_get, slice_set}
-use Rattle.std.specs.Prelude.{nat_eq, nat_le, not}
+use Rattle.std.proofs.Common.{◌≡◌, ℕ, ◌+◌, ◌^◌, ◌<◌, Bool, true, false, List, [], ◌∷◌, ◌++◌, Some, refl, sym, ap, ◌∙◌, subst, arith, slice_get, slice_set}
+use Rattle.std.specs.Prelude.{nat_eq, not}
 use Rattle.std.proofs.lemmas.Bool.{eqb-true, eqb-false}
-use Rattle.std.proofs.lemmas.List.{reverse-append}
 use Rattle.fact_wasm.specs.declared.instr.Instr.{Instr}
 use Rattle.fact_wasm.specs.declared.instr.Instr.TheVariants as I
 use Rattle.fact_wasm.specs.declared.module.WasmModule.{WasmModule}
 use Rattle.fact_wasm.specs.declared.types.ValType.{ValType}
 use Rattle.fact_types.specs.declared.import.Import.TheVariants as import
-use Rattle.fact_types.specs.declared.outside.MemoryOption.{MemoryOption}
 use Rattle.fact_types.specs.declared.outside.Trap.{Trap}
-use Rattle.fact_types.specs.declared.outside.Trap.TheVariants.{UnalignedPointer}
 use Rattle.fact_machine.specs.declared.types.CoreValue.{CoreValue}
 use Rattle.fact_machine.specs.declared.types.CoreValue.TheVariants.{I32}
-use Rattle.fact_machine.specs.Typed.{is_value}
 use Rattle.fact_machine.specs.Exits.{Falls, Branches, Leaves}
 use Rattle.fact_machine.specs.World.{World}
 use Rattle.fact_machine.proofs.Laws.{leaves_then, leaves_early, leaves_steps}
 use Rattle.fact_wasm.specs.declared.types.ValType.TheVariants as val
-use Rattle.fact_machine.proofs.RowLaws.{leaves_br_if_taken, leaves_i32_const, leaves_local_get}
+use Rattle.fact_machine.proofs.RowLaws.{leaves_br_if_taken}
 use Rattle.fact_machine.proofs.Structure.{enters_empty, leaves_block}
-use Rattle.fact_moves.specs.Actions.{Action, Give, Visit, SetFlags, MemoryLength, ◌>>=◌, trap, unless}
-use Rattle.fact_moves.specs.Actions as action
-use Rattle.fact_moves.specs.Adapters.{cleared}
-use Rattle.fact_moves.specs.Running.{ImportPlaces, Ended, Gave, Halted, Strayed, heavier, run}
-use Rattle.fact_moves.specs.Sides.{LiftLowerOptions, check_region, with_memory}
-use Rattle.fact_pieces.specs.Code.{guard_code, trap_code}
-use Rattle.fact_pieces.specs.Does.{Locals, Way, Onward, Outward, held_types, EndsOn, Does}
+use Rattle.fact_moves.specs.Actions.{Action, trap, unless}
+use Rattle.fact_moves.specs.Running.{ImportPlaces, Ended, Gave, Halted, Strayed, run}
+use Rattle.fact_pieces.specs.Code.{trap_code}
+use Rattle.fact_pieces.specs.Does.{Locals, Way, Outward, held_types, EndsOn, Does}
 use Rattle.fact_pieces.specs.Knows.{KnowsFunction, KnowsFlags}
-use Rattle.fact_pieces.specs.Places.{Slot, AreHeld, KeepsLocals, IsNone}
-use Rattle.fact_pieces.proofs.Blocks.{never, out_of_block}
-use Rattle.fact_pieces.proofs.Keeping.{keeps_all, keeps_then}
-use Rattle.fact_pieces.proofs.Numbers.{value_type, set_keeps}
-use Rattle.fact_pieces.proofs.Primitives.{set_flags, calls_trap}
-use Rattle.fact_pieces.proofs.Rules.{within, in_turn, framed, stretch, pushing, br_if_zero, local_get, local_set, done, IsSet}
-use Rattle.fact_compound.specs.Code.{pushed_code, popped_code, cleared_code}
+use Rattle.fact_pieces.proofs.Primitives.{calls_trap}
+use Rattle.fact_pieces.proofs.Rules.{IsSet}
 use Rattle.fact_machine.proofs.RowLaws.{leaves_global_get, leaves_local_tee, leaves_br_if_zero}
 use Rattle.std.specs.Prelude.{option_and_then}
 use Rattle.fact_wasm.specs.declared.instr.Instr.TheOpen as op

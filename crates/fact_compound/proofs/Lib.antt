@@ -11,6 +11,7 @@ pub mod ParamMoves
 pub mod PassedOnCode
 pub mod PassedOnMoves
 pub mod RangedSteps
+pub mod ReallocsKept
 pub mod ResultMoves
 pub mod Runs
 pub mod SameNumbers
@@ -22,6 +23,7 @@ pub mod SyncBodies
 pub mod SyncSteps
 pub mod SyncTyping
 pub mod SyncWritten
+pub mod TupleRooms
 pub mod TuplesWritten
 pub mod WholeBodies
 pub mod WholeFunctions

@@ -1,5 +1,5 @@
 -- Parameters that are handed on as they are need no code.
-use Rattle.std.proofs.Common.{◌≡◌, ℕ, zero, suc, Bool, true, false, List, [], ◌∷◌, ◌++◌, Some, refl, sym, ap, ◌∙◌, subst, arith, length, map}
+use Rattle.std.proofs.Common.{◌≡◌, ℕ, zero, suc, ◌≤◌, Bool, true, false, List, [], ◌∷◌, ◌++◌, Some, refl, sym, ap, ◌∙◌, subst, arith, length, map}
 use Rattle.std.specs.List.{list_all}
 use Rattle.fact_wasm.specs.declared.types.ValType.{ValType}
 use Rattle.fact_wasm.specs.declared.instr.Instr.{Instr}
@@ -7,22 +7,24 @@ use Rattle.fact_wasm.specs.declared.module.WasmModule.{WasmModule}
 use Rattle.fact_types.specs.Adapters.{LinkedAdapter, is_wide}
 use Rattle.fact_types.specs.FlatShapes.{flat_members}
 use Rattle.fact_types.specs.Flat.{value_type}
+use Rattle.fact_types.specs.Shapes.{Shape, s_plain}
+use Rattle.fact_types.specs.declared.interface.InterfaceType.{InterfaceType}
 use Rattle.fact_types.specs.Signatures.{width, flat_values}
 use Rattle.fact_types.specs.Tuples.{tuple_members}
 use Rattle.fact_machine.specs.Typed.{are_values}
 use Rattle.fact_machine.specs.declared.types.CoreValue.{CoreValue}
 use Rattle.fact_machine.proofs.Tests.{both}
-use Rattle.fact_moves.specs.Actions.{Action, Give, Visit}
+use Rattle.fact_moves.specs.Actions.{Action}
 use Rattle.fact_moves.specs.Adapters.{AdapterTunables, move_params}
 use Rattle.fact_moves.specs.Running.{ImportPlaces}
 use Rattle.fact_pieces.specs.Does.{Locals, Onward, Does}
 use Rattle.fact_pieces.specs.Places.{Slot, AreHeld, KeepsLocals}
 use Rattle.fact_pieces.proofs.Keeping.{keeps_all}
-use Rattle.fact_pieces.proofs.Rules.{within, done, visit}
-use Rattle.fact_compound.specs.PassedOn.{ArePassedOn, visits, core_type_of}
-use Rattle.fact_compound.proofs.Flats.{are_flat}
+use Rattle.fact_pieces.proofs.Rules.{done, visit}
+use Rattle.fact_compound.specs.PassedOn.{ArePassedOn, visits, core_type_of, is_passed_on}
+use Rattle.fact_compound.proofs.Flats.{are_flat, flat_values_some}
 use Rattle.fact_compound.proofs.PassedOnMoves.{flats_are, passed_on}
-use Rattle.fact_compound.proofs.Slots.{held_parts}
+use Rattle.fact_compound.proofs.Slots.{held_parts, values_long}
 use Rattle.fact_compound.proofs.SyncSteps.{slot_types}
 
 -- what is held in slots has their types
@@ -41,6 +43,17 @@ pub same_flats : (a : LinkedAdapter) {fs gs : List ValType} → ArePassedOn a.lo
 same_flats a {fs} {gs} x e f =
     (are_flat (is_wide a.lower.memory) 16 a.lower.params fs e).are ∙ ap (λ ss. map value_type (flat_members (width (is_wide a.lower.memory)) (tuple_members ss))) x.from_are ∙ flats_are (width (is_wide a.lower.memory)) 0 x.types x.all
     ∙ sym ((are_flat (is_wide a.lift.memory) 16 a.lift.params gs f).are ∙ ap (λ ss. map value_type (flat_members (width (is_wide a.lift.memory)) (tuple_members ss))) x.to_are ∙ flats_are (width (is_wide a.lift.memory)) 0 x.types x.all)
+
+-- they are flat
+types_long : (ts : List InterfaceType) → length (map core_type_of ts) ≡ length ts
+types_long [] = refl
+types_long (t ∷ ts) = ap suc (types_long ts)
+
+pub passed_flat : (m : Bool) (ts : List InterfaceType) → list_all is_passed_on ts ≡ true → length ts ≤ 16 → (ss : List Shape) → ss ≡ map (λ t. s_plain t) ts → (fs : List ValType) × (flat_values m 16 ss ≡ Some fs)
+passed_flat m ts all few ss is =
+    let fs = flat_members (width m) (tuple_members ss) in
+    let are : map value_type fs ≡ map core_type_of ts = ap (λ ss. map value_type (flat_members (width m) (tuple_members ss))) is ∙ flats_are (width m) 0 ts all in
+    (map value_type fs, flat_values_some m 16 ss (omega (arith, sym (values_long fs) ∙ ap length are, types_long ts, few)) (omega arith))
 
 -- The slots of the parameters hold what the move gives, and nothing is done.
 pub passes_on : (u : AdapterTunables) (a : LinkedAdapter) {M : WasmModule} {p : ImportPlaces} (kept : ℕ → Bool) (ps rs : List Slot) (ls : Locals) (args : List CoreValue) {fs gs : List ValType} → a.lower.async_side ≡ false → ArePassedOn a.lower.params a.lift.params

@@ -1,8 +1,7 @@
 -- Parameters that are handed on as they are: their move gives just the arguments.
-use Rattle.std.proofs.Common.{◌≡◌, ◌≢◌, ℕ, zero, suc, ◌+◌, ◌%◌, ◌^◌, ◌<◌, Bool, true, false, List, [], ◌∷◌, ◌++◌, Option, Some, None, refl, sym, ap, ◌∙◌, subst, arith, append_assoc, length, map, take, drop}
+use Rattle.std.proofs.Common.{◌≡◌, ◌≢◌, ℕ, zero, suc, ◌+◌, ◌%◌, ◌^◌, Bool, true, false, List, [], ◌∷◌, ◌++◌, Option, Some, refl, sym, ap, ◌∙◌, subst, arith, append_assoc, length, map, take, drop}
 use Rattle.std.specs.Prelude.{nat_lt, if◌then◌else◌}
 use Rattle.std.specs.List.{list_all}
-use Rattle.std.specs.Str.{bytes_eq}
 use Rattle.std.proofs.lemmas.Bool.{ltb-true}
 use Rattle.std.proofs.Math.Nat.{mod-eq_of_lt}
 use Rattle.std.proofs.lemmas.List.{length-append, map-append}
@@ -16,19 +15,18 @@ use Rattle.fact_types.specs.Adapters.{LinkedAdapter, is_wide}
 use Rattle.fact_types.specs.Fields.{Field, find}
 use Rattle.fact_types.specs.Flat.{value_type}
 use Rattle.fact_types.specs.FlatShapes.{flat, flat_members}
-use Rattle.fact_types.specs.Shapes.{Shape, s_plain, Members, next_of, place_of}
+use Rattle.fact_types.specs.Shapes.{Shape, s_plain, next_of, place_of}
 use Rattle.fact_types.specs.Signatures.{width, flat_values}
 use Rattle.fact_types.specs.Tuples.{members_from, tuple_members}
 use Rattle.fact_machine.specs.declared.types.CoreValue.{CoreValue}
 use Rattle.fact_machine.specs.declared.types.CoreValue.TheVariants as value
-use Rattle.fact_machine.specs.Typed.{is_value, is_bits, are_values}
-use Rattle.fact_machine.specs.Machine.{has_type}
+use Rattle.fact_machine.specs.Typed.{is_value, are_values}
 use Rattle.fact_machine.proofs.Tests.{first_of, second_of, both}
 use Rattle.fact_moves.specs.Actions.{Action, Give, Visit, ◌>>=◌}
 use Rattle.fact_moves.specs.Adapters.{AdapterTunables, params_transfer, move_params}
-use Rattle.fact_moves.specs.Moves.{aligned_source, aligned_target, flat_length, part, spot, past, with_field, move, move_fields}
-use Rattle.fact_moves.specs.Sides.{LiftLowerOptions, Transfer, Source, Values, Target, Slots, low_half, width_of_side}
-use Rattle.fact_emit.proofs.SourceMembers.{same_place, other_place}
+use Rattle.fact_moves.specs.Moves.{aligned_source, aligned_target, part, spot, past, with_field, move, move_fields}
+use Rattle.fact_moves.specs.Sides.{LiftLowerOptions, Transfer, Values, Slots, low_half, width_of_side}
+use Rattle.fact_translate.proofs.SourceMembers.{same_place, other_place}
 use Rattle.fact_compound.specs.PassedOn.{is_passed_on, core_type_of, ArePassedOn, visits}
 use Rattle.fact_compound.proofs.Flats.{are_flat}
 use Rattle.fact_compound.proofs.ParamMoves.{params_are}

@@ -1,5 +1,5 @@
 -- Results are moved behind the checks of the areas that they are passed through.
-use Rattle.std.proofs.Common.{◌≡◌, ℕ, ◌^◌, ◌<◌, ◌≤◌, Bool, true, false, List, [], ◌∷◌, ◌++◌, Option, Some, None, refl, sym, ap, ◌∙◌, subst, arith, slice_get}
+use Rattle.std.proofs.Common.{◌≡◌, ℕ, ◌+◌, ◌^◌, ◌<◌, ◌≤◌, Bool, true, false, List, [], ◌∷◌, ◌++◌, Option, Some, None, refl, sym, ap, ◌∙◌, subst, arith, slice_get}
 use Rattle.std.specs.Prelude.{is_some}
 use Rattle.fact_wasm.specs.declared.types.ValType.{ValType}
 use Rattle.fact_wasm.specs.declared.instr.Instr.{Instr}
@@ -19,30 +19,36 @@ use Rattle.fact_moves.specs.Moves.{move_fields}
 use Rattle.fact_moves.specs.Running.{ImportPlaces}
 use Rattle.fact_moves.specs.Sides.{LiftLowerOptions, Source, Values, Slots, AtAddress, Into, Target, options_of, first_bits, check_region}
 use Rattle.fact_pieces.specs.Does.{Locals, Onward, held_types, Does}
-use Rattle.fact_pieces.specs.Places.{Slot, AreHeld, AreLocals, AreUsed, KeepsLocals, Setting, transfer, StandsAt, MayGo, Stood}
+use Rattle.fact_pieces.specs.Places.{Slot, AreHeld, AreLocals, AreUsed, KeepsLocals, InRooms, Rooms, Setting, transfer, is_on, StandsAt, MayGo, Stood}
 use Rattle.fact_pieces.proofs.Keeping.{keeps_all, keeps_then, held_kept}
 use Rattle.fact_pieces.specs.Typed.{OnStack, IsTyped}
 use Rattle.fact_pieces.proofs.TypingLaws.{typed_done, typed_then}
 use Rattle.fact_pieces.proofs.Blocks.{weaker}
 use Rattle.fact_pieces.proofs.Rules.{within, in_turn, done}
 use Rattle.fact_emit.specs.Areas.{IsLinearMemoryOf}
-use Rattle.fact_emit.specs.Fitting.{CanRead, CanWrite, MovesNode, FitsShapes, AddressFits}
-use Rattle.fact_emit.specs.Places.{setting_of, Using}
+use Rattle.fact_emit.specs.Fitting.{CanRead, CanWrite, MovesTuple, FitsShapes, AddressFits}
+use Rattle.fact_emit.specs.Places.{checks_at, setting_of, Using}
 use Rattle.fact_emit.specs.declared.places.LinearMemory.{LinearMemory}
 use Rattle.fact_types.proofs.PlaceLaws.{sound_in}
-use Rattle.fact_compound.specs.Described.{DescribesAdapter, linear_of}
+use Rattle.fact_emit.specs.Requests.{ServesLists}
+use Rattle.fact_compound.specs.Described.{DescribesAdapter, HasListsOf, linear_of}
 use Rattle.fact_compound.specs.Passed.{results_sides}
-use Rattle.fact_compound.specs.Passing.{last_local, results_from, results_to, tuple_size, tuple_align, ChecksResults}
+use Rattle.fact_compound.specs.Passing.{last_local, tuple_from, tuple_to, tuple_size, tuple_align, ChecksTuple}
 use Rattle.fact_compound.specs.declared.adapters.AdapterData.{AdapterData}
 use Rattle.fact_compound.proofs.Flats.{are_flat}
-use Rattle.fact_compound.proofs.ParamMoves.{checks_on}
 use Rattle.fact_compound.proofs.Slots.{slots_free, flats_fit}
 use Rattle.fact_compound.proofs.StepRules.{unvisited, region_binds}
 use Rattle.fact_compound.proofs.SyncSteps.{slot_types, AreUnused}
+use Rattle.fact_compound.proofs.TupleRooms.{AddressBy, HasArea, from_room, from_within, to_room, to_within, tuple_rooms}
+
+-- debug checks are on where they are said to be
+pub checks_on : (debug : Bool) (p : ImportPlaces) → is_on (checks_at debug p) ≡ debug
+checks_on false p = refl
+checks_on true p = refl
 
 -- ---- the action
 
--- the check of results that are not flat
+-- the check of values that are not flat
 abbrev pub passed : {A : Type 0} → Option (List ValType) → LiftLowerOptions → List Shape → (pointer : ℕ) → Action A → Action A
 passed (Some flats) o ts pointer q = q
 passed None o ts pointer q = check_tuple o ts pointer q
@@ -55,7 +61,7 @@ abbrev pub passed_to : Option (List ValType) → (pointer : ℕ) → Target
 passed_to (Some flats) pointer = Slots flats
 passed_to None pointer = Into pointer
 
-passed_binds : {A B : Type 0} (flats : Option (List ValType)) (o : LiftLowerOptions) (ts : List Shape) (pointer : ℕ) (q : Action A) (f : A → Action B) → (passed flats o ts pointer q >>= f) ≡ passed flats o ts pointer (q >>= f)
+pub passed_binds : {A B : Type 0} (flats : Option (List ValType)) (o : LiftLowerOptions) (ts : List Shape) (pointer : ℕ) (q : Action A) (f : A → Action B) → (passed flats o ts pointer q >>= f) ≡ passed flats o ts pointer (q >>= f)
 passed_binds (Some flats) o ts pointer q f = refl
 passed_binds None o ts pointer q f = region_binds o MemoryOutOfBounds pointer _ _ q f
 
@@ -63,7 +69,7 @@ module _ (u : AdapterTunables) (a : LinkedAdapter) where
   abbrev fields : Source → Target → Action (List CoreValue)
   fields s d = move_fields (results_transfer u a) (tuple_members a.lift.results) (tuple_members a.lower.results) 0 s d
 
-  from_is : (o : LiftLowerOptions) (limit : ℕ) (ts : List Shape) (vs : List CoreValue) (k : Source → Action (List CoreValue)) (flats : Option (List ValType)) → flat_values (is_wide o.memory) limit ts ≡ flats
+  pub from_is : (o : LiftLowerOptions) (limit : ℕ) (ts : List Shape) (vs : List CoreValue) (k : Source → Action (List CoreValue)) (flats : Option (List ValType)) → flat_values (is_wide o.memory) limit ts ≡ flats
       → from_values o limit ts vs k ≡ passed flats o ts (first_bits vs) (k (passed_from flats vs))
   from_is o limit ts vs k flats e = ap by_flats e ∙ go flats
     where
@@ -127,31 +133,37 @@ ReachedBy None M p o m locals address = IsLinearMemoryOf M p o m × (slice_get l
 pub record IsReached (flats : Option (List ValType)) (M : WasmModule) (p : ImportPlaces) (o : LiftLowerOptions) (m : LinearMemory) (locals : List ValType) (address : ℕ) : Type 0 where
   pub by : ReachedBy flats M p o m locals address
 
-passed_reached : (flats : Option (List ValType)) {M : WasmModule} {p : ImportPlaces} {o : LiftLowerOptions} {m : LinearMemory} {locals : List ValType} {kept : ℕ → Bool} {ls : Locals} {address at : ℕ} → IsPassed flats M p o m locals kept ls address at → IsReached flats M p o m locals address
+pub passed_reached : (flats : Option (List ValType)) {M : WasmModule} {p : ImportPlaces} {o : LiftLowerOptions} {m : LinearMemory} {locals : List ValType} {kept : ℕ → Bool} {ls : Locals} {address at : ℕ} → IsPassed flats M p o m locals kept ls address at → IsReached flats M p o m locals address
 passed_reached (Some flats) x = record { by = tt }
 passed_reached None x = record { by = (x.by.0, x.by.1.local) }
 
-passed_kept : (flats : Option (List ValType)) {M : WasmModule} {p : ImportPlaces} {o : LiftLowerOptions} {m : LinearMemory} {locals : List ValType} {kept : ℕ → Bool} {ls ls' : Locals} {address at : ℕ} → KeepsLocals kept ls ls'
+pub passed_kept : (flats : Option (List ValType)) {M : WasmModule} {p : ImportPlaces} {o : LiftLowerOptions} {m : LinearMemory} {locals : List ValType} {kept : ℕ → Bool} {ls ls' : Locals} {address at : ℕ} → KeepsLocals kept ls ls'
     → IsPassed flats M p o m locals kept ls address at → IsPassed flats M p o m locals kept ls' address at
 passed_kept (Some flats) k x = record { by = tt }
 passed_kept None k x = record { by = (x.by.0, pointed_kept k x.by.1) }
 
--- the code of the check does it
-passes : (flats : Option (List ValType)) (flat : Bool) {M : WasmModule} {p : ImportPlaces} {locals : List ValType} {taken kept : ℕ → Bool} {code : List Instr} {ls : Locals} (o : LiftLowerOptions) (m : LinearMemory) (ts : List Shape) (address at : ℕ)
+-- its address is in its local
+pub passed_address : (flats : Option (List ValType)) {M : WasmModule} {p : ImportPlaces} {o : LiftLowerOptions} {m : LinearMemory} {locals : List ValType} {kept : ℕ → Bool} {ls : Locals} {address at : ℕ} → IsPassed flats M p o m locals kept ls address at → AddressBy flats ls m.memory64 address at
+passed_address (Some flats) x = tt
+passed_address None x = x.by.1.there
+
+-- the code of the check does it, and behind it the area has addresses
+pub passes : (flats : Option (List ValType)) (flat : Bool) {M : WasmModule} {p : ImportPlaces} {locals : List ValType} {taken kept : ℕ → Bool} {code : List Instr} {ls : Locals} (o : LiftLowerOptions) (m : LinearMemory) (ts : List Shape) (address at : ℕ)
     → flat ≡ is_some flats → is_wide o.memory ≡ m.memory64 → tuple_size m.memory64 ts ≤ 4294967295 → ((i : ℕ) → kept i ≡ true → taken i ≡ true) → held_types ls ≡ locals → IsPassed flats M p o m locals kept ls address at
-    → ChecksResults m taken flat address (tuple_size m.memory64 ts) (tuple_align m.memory64 ts) M p locals code
-    → Does M p Onward 40 0 [] ls code (passed flats o ts at (Give [])) (λ (vs : List CoreValue). []) (λ vs ls'. KeepsLocals kept ls ls')
+    → ChecksTuple m taken flat address (tuple_size m.memory64 ts) (tuple_align m.memory64 ts) M p locals code
+    → Does M p Onward 40 0 [] ls code (passed flats o ts at (Give [])) (λ (vs : List CoreValue). []) (λ vs ls'. KeepsLocals kept ls ls' × HasArea flats m.memory64 at (tuple_size m.memory64 ts))
 passes (Some flats) false o m ts address at f wide few inside held h c = absurd (let no : false ≡ true = f in cc)
 passes None true o m ts address at f wide few inside held h c = absurd (let no : true ≡ false = f in cc)
 passes (Some flats) true {M} {p} {kept = kept} {ls = ls} o m ts address at f wide few inside held h c =
-    subst (λ x. Does M p Onward 40 0 [] ls x (Give []) (λ (vs : List CoreValue). []) (λ vs ls'. KeepsLocals kept ls ls')) (sym c) (within (omega arith) (done refl keeps_all))
+    subst (λ x. Does M p Onward 40 0 [] ls x (Give []) (λ (vs : List CoreValue). []) (λ vs ls'. KeepsLocals kept ls ls' × HasArea (Some flats) m.memory64 at (tuple_size m.memory64 ts))) (sym c) (within (omega arith) (done refl (keeps_all, record { by = tt })))
 passes None false {M} {p} {kept = kept} {code} {ls} o m ts address at f wide few inside held h c =
     let checked = c.does o kept ls at h.by.0 inside (sound_in (width m.memory64) (tuple_of ts)).power (omega (arith, few)) h.by.1.below held h.by.1.there in
-    subst (λ (b : Bool). Does M p Onward 40 0 [] ls code (check_region o MemoryOutOfBounds at (tuple_size b ts) (tuple_align b ts) (Give [])) (λ (vs : List CoreValue). []) (λ vs ls'. KeepsLocals kept ls ls')) (sym wide) checked
+    weaker (λ vs. refl) (λ vs ls' x. (x.0, record { by = x.1 }))
+    (subst (λ (b : Bool). Does M p Onward 40 0 [] ls code (check_region o MemoryOutOfBounds at (tuple_size b ts) (tuple_align b ts) (Give [])) (λ (vs : List CoreValue). []) (λ vs ls'. KeepsLocals kept ls ls' × (at + tuple_size m.memory64 ts ≤ 2 ^ address_bits m.memory64))) (sym wide) checked)
 
 -- the code of the check is typed
-passes_typed : (flats : Option (List ValType)) (flat : Bool) {M : WasmModule} {p : ImportPlaces} {locals : List ValType} {code : List Instr} (taken : ℕ → Bool) (o : LiftLowerOptions) (m : LinearMemory) (address size align : ℕ)
-    → flat ≡ is_some flats → IsReached flats M p o m locals address → ChecksResults m taken flat address size align M p locals code → IsTyped M locals [] code [] (OnStack [])
+pub passes_typed : (flats : Option (List ValType)) (flat : Bool) {M : WasmModule} {p : ImportPlaces} {locals : List ValType} {code : List Instr} (taken : ℕ → Bool) (o : LiftLowerOptions) (m : LinearMemory) (address size align : ℕ)
+    → flat ≡ is_some flats → IsReached flats M p o m locals address → ChecksTuple m taken flat address size align M p locals code → IsTyped M locals [] code [] (OnStack [])
 passes_typed (Some flats) false taken o m address size align f h c = absurd (let no : false ≡ true = f in cc)
 passes_typed None true taken o m address size align f h c = absurd (let no : true ≡ false = f in cc)
 passes_typed (Some flats) true {M} {locals = locals} taken o m address size align f h c = subst (λ x. IsTyped M locals [] x [] (OnStack [])) (sym c) typed_done
@@ -159,47 +171,47 @@ passes_typed None false taken o m address size align f h c = c.typed o h.by.0 h.
 
 -- ---- the places
 
-module _ (M : WasmModule) (p : ImportPlaces) (locals : List ValType) (kept : ℕ → Bool) (o : LiftLowerOptions) (m : LinearMemory) (ts : List Shape) (wide : is_wide o.memory ≡ m.memory64) (few : tuple_size m.memory64 ts ≤ 4294967295) where
+module _ (M : WasmModule) (p : ImportPlaces) (locals : List ValType) (kept : ℕ → Bool) (o : LiftLowerOptions) (m : LinearMemory) (ts : List Shape) (wide : is_wide o.memory ≡ m.memory64) (few : tuple_size m.memory64 ts ≤ 4294967295) (limit : ℕ) (least : limit ≤ 16) where
   -- the area has offsets
   reached : (address : ℕ) → IsLinearMemoryOf M p o m × (slice_get locals address ≡ Some (address_type m.memory64)) → AddressFits M p locals o m.memory64 m.memory address 0 (tuple_size (is_wide o.memory) ts)
   reached address h =
       let same : tuple_size (is_wide o.memory) ts ≡ tuple_size m.memory64 ts = ap (λ b. tuple_size b ts) wide in
       record { side = h.0.side; local = h.1; reach = omega (arith, same, few) }
 
-  reads_passed : (flats : Option (List ValType)) (flat : Bool) (given : List Slot) → flat ≡ is_some flats → flat_values (is_wide o.memory) 1 ts ≡ flats → ((fs : List ValType) → flats ≡ Some fs → slot_types given ≡ fs) → AreLocals locals given
-      → IsReached flats M p o m locals (last_local given) → CanRead M p locals o m.memory64 (results_from m flat given) (flat_members (width (is_wide o.memory)) (tuple_members ts)) (tuple_size (is_wide o.memory) ts)
+  pub reads_passed : (flats : Option (List ValType)) (flat : Bool) (given : List Slot) → flat ≡ is_some flats → flat_values (is_wide o.memory) limit ts ≡ flats → ((fs : List ValType) → flats ≡ Some fs → slot_types given ≡ fs) → AreLocals locals given
+      → IsReached flats M p o m locals (last_local given) → CanRead M p locals o m.memory64 (tuple_from m flat given) (flat_members (width (is_wide o.memory)) (tuple_members ts)) (tuple_size (is_wide o.memory) ts)
   reads_passed (Some fs) false given f e types l h = absurd (let no : false ≡ true = f in cc)
   reads_passed None true given f e types l h = absurd (let no : true ≡ false = f in cc)
   reads_passed (Some fs) true given f e types l h =
-      let one = are_flat (is_wide o.memory) 1 ts fs e in
-      flats_fit locals given (flat_members (width (is_wide o.memory)) (tuple_members ts)) (types fs refl ∙ one.are) l (omega (arith, one.few))
+      let one = are_flat (is_wide o.memory) limit ts fs e in
+      flats_fit locals given (flat_members (width (is_wide o.memory)) (tuple_members ts)) (types fs refl ∙ one.are) l (omega (arith, one.few, least))
   reads_passed None false given f e types l h = reached (last_local given) h.by
 
-  writes_passed : (flats : Option (List ValType)) (flat : Bool) (results args : List Slot) → flat ≡ is_some flats → flat_values (is_wide o.memory) 1 ts ≡ flats → ((fs : List ValType) → flats ≡ Some fs → slot_types results ≡ fs) → AreLocals locals results
-      → IsReached flats M p o m locals (last_local args) → CanWrite M p locals o m.memory64 (results_to m flat results args) (flat_members (width (is_wide o.memory)) (tuple_members ts)) (tuple_size (is_wide o.memory) ts)
+  pub writes_passed : (flats : Option (List ValType)) (flat : Bool) (results args : List Slot) → flat ≡ is_some flats → flat_values (is_wide o.memory) limit ts ≡ flats → ((fs : List ValType) → flats ≡ Some fs → slot_types results ≡ fs) → AreLocals locals results
+      → IsReached flats M p o m locals (last_local args) → CanWrite M p locals o m.memory64 (tuple_to m flat results args) (flat_members (width (is_wide o.memory)) (tuple_members ts)) (tuple_size (is_wide o.memory) ts)
   writes_passed (Some fs) false results args f e types l h = absurd (let no : false ≡ true = f in cc)
   writes_passed None true results args f e types l h = absurd (let no : true ≡ false = f in cc)
   writes_passed (Some fs) true results args f e types l h =
-      let one = are_flat (is_wide o.memory) 1 ts fs e in
-      flats_fit locals results (flat_members (width (is_wide o.memory)) (tuple_members ts)) (types fs refl ∙ one.are) l (omega (arith, one.few))
+      let one = are_flat (is_wide o.memory) limit ts fs e in
+      flats_fit locals results (flat_members (width (is_wide o.memory)) (tuple_members ts)) (types fs refl ∙ one.are) l (omega (arith, one.few, least))
   writes_passed None false results args f e types l h = reached (last_local args) h.by
 
-  stands_passed : (flats : Option (List ValType)) (flat : Bool) (given : List Slot) (vs : List CoreValue) {ls : Locals} → flat ≡ is_some flats → AreHeld ls given vs → IsPassed flats M p o m locals kept ls (last_local given) (first_bits vs)
-      → StandsAt ls m.memory64 (results_from m flat given) (passed_from flats vs)
+  pub stands_passed : (flats : Option (List ValType)) (flat : Bool) (given : List Slot) (vs : List CoreValue) {ls : Locals} → flat ≡ is_some flats → AreHeld ls given vs → IsPassed flats M p o m locals kept ls (last_local given) (first_bits vs)
+      → StandsAt ls m.memory64 (tuple_from m flat given) (passed_from flats vs)
   stands_passed (Some fs) false given vs f g h = absurd (let no : false ≡ true = f in cc)
   stands_passed None true given vs f g h = absurd (let no : true ≡ false = f in cc)
   stands_passed (Some fs) true given vs f g h = g
   stands_passed None false given vs f g h = record { start = first_bits vs; there = h.by.1.there; is = omega arith }
 
-  goes_passed : (flats : Option (List ValType)) (flat : Bool) (results args : List Slot) (at : ℕ) {ls : Locals} → flat ≡ is_some flats → held_types ls ≡ locals → ((fs : List ValType) → flats ≡ Some fs → slot_types results ≡ fs) → AreLocals locals results → AreUnused kept results
-      → IsPassed flats M p o m locals kept ls (last_local args) at → MayGo kept ls m.memory64 (results_to m flat results args) (passed_to flats at)
+  pub goes_passed : (flats : Option (List ValType)) (flat : Bool) (results args : List Slot) (at : ℕ) {ls : Locals} → flat ≡ is_some flats → held_types ls ≡ locals → ((fs : List ValType) → flats ≡ Some fs → slot_types results ≡ fs) → AreLocals locals results → AreUnused kept results
+      → IsPassed flats M p o m locals kept ls (last_local args) at → MayGo kept ls m.memory64 (tuple_to m flat results args) (passed_to flats at)
   goes_passed (Some fs) false results args at f e types l un h = absurd (let no : false ≡ true = f in cc)
   goes_passed None true results args at f e types l un h = absurd (let no : true ≡ false = f in cc)
   goes_passed (Some fs) true results args at {ls} f e types l un h = slots_free kept ls results fs (types fs refl) (subst (λ ts. AreLocals ts results) (sym e) l) un
   goes_passed None false results args at f e types l un h = record { start = at; there = h.by.1.there; is = omega arith }
 
 -- what the results are, in their locals
-stood_passed : (flats : Option (List ValType)) (flat : Bool) (m : LinearMemory) (results args : List Slot) (vs : List CoreValue) (ls : Locals) → flat ≡ is_some flats → (flats ≡ None → results ≡ []) → Stood ls (results_to m flat results args) vs → AreHeld ls results vs
+pub stood_passed : (flats : Option (List ValType)) (flat : Bool) (m : LinearMemory) (results args : List Slot) (vs : List CoreValue) (ls : Locals) → flat ≡ is_some flats → (flats ≡ None → results ≡ []) → Stood ls (tuple_to m flat results args) vs → AreHeld ls results vs
 stood_passed (Some fs) false m results args vs ls f none h = absurd (let no : false ≡ true = f in cc)
 stood_passed None true m results args vs ls f none h = absurd (let no : true ≡ false = f in cc)
 stood_passed (Some fs) true m results args vs ls f none h = h
@@ -220,61 +232,79 @@ pub record ResultLocals (a : LinkedAdapter) (fs gs : Option (List ValType)) (giv
   pub results_unused : AreUnused kept results
 
 module _ {t : Tables} {d : AdapterData} {debug : Bool} {u : AdapterTunables} {a : LinkedAdapter} (h : DescribesAdapter t d debug u a) where
-  results_transfer_is : (M : WasmModule) (p : ImportPlaces) (locals : List ValType) → transfer (setting_of (results_sides d debug) (options_of a.lift) (options_of a.lower) u.concurrency M p locals) ≡ results_transfer u a
+  abbrev rooms : Rooms
+  rooms = tuple_rooms (linear_of d.lift) (linear_of d.lower) a.lift.results a.lower.results
+
+  abbrev setting : WasmModule → ImportPlaces → List ValType → Setting
+  setting M p locals = setting_of (results_sides d debug) (options_of a.lift) (options_of a.lower) u.concurrency rooms M p locals
+
+  results_transfer_is : (M : WasmModule) (p : ImportPlaces) (locals : List ValType) → transfer (setting M p locals) ≡ results_transfer u a
   results_transfer_is M p locals = ap (λ b. record { from = options_of a.lift; to = options_of a.lower; concurrency = u.concurrency; debug = b }) (checks_on debug p ∙ sym h.same_debug)
 
   -- the places fit
   results_fit : {M : WasmModule} {p : ImportPlaces} {locals : List ValType} (kept : ℕ → Bool) (fs gs : Option (List ValType)) (lift_flat lower_flat : Bool) (given results args : List Slot)
       → lift_flat ≡ is_some fs → lower_flat ≡ is_some gs → ResultLocals a fs gs given results locals kept → tuple_size (linear_of d.lift).memory64 a.lift.results ≤ 4294967295 → tuple_size (linear_of d.lower).memory64 a.lower.results ≤ 4294967295
       → IsReached fs M p (options_of a.lift) (linear_of d.lift) locals (last_local given) → IsReached gs M p (options_of a.lower) (linear_of d.lower) locals (last_local args)
-      → FitsShapes (setting_of (results_sides d debug) (options_of a.lift) (options_of a.lower) u.concurrency M p locals) (tuple_of a.lift.results) (tuple_of a.lower.results) (results_from (linear_of d.lift) lift_flat given) (results_to (linear_of d.lower) lower_flat results args)
-  results_fit {M} {p} {locals} kept fs gs lift_flat lower_flat given results args lf wf r few few' from to = record {
+      → HasListsOf M p (linear_of d.lift) (linear_of d.lower) (options_of a.lift) (options_of a.lower) a.lift.results
+      → FitsShapes (results_sides d debug) (setting M p locals) (tuple_of a.lift.results) (tuple_of a.lower.results) (tuple_from (linear_of d.lift) lift_flat given) (tuple_to (linear_of d.lower) lower_flat results args)
+  results_fit {M} {p} {locals} kept fs gs lift_flat lower_flat given results args lf wf r few few' from to lists = record {
     from_wide = h.lift.wide;
     to_wide = h.lower.wide;
-    reads = reads_passed M p locals kept (options_of a.lift) (linear_of d.lift) a.lift.results h.lift.wide few fs lift_flat given lf r.lift_is r.given_types r.given_typed from;
-    writes = writes_passed M p locals kept (options_of a.lower) (linear_of d.lower) a.lower.results h.lower.wide few' gs lower_flat results args wf r.lower_is r.results_types r.results_typed to;
+    reads = reads_passed M p locals kept (options_of a.lift) (linear_of d.lift) a.lift.results h.lift.wide few 1 (omega arith) fs lift_flat given lf r.lift_is r.given_types r.given_typed from;
+    writes = writes_passed M p locals kept (options_of a.lower) (linear_of d.lower) a.lower.results h.lower.wide few' 1 (omega arith) gs lower_flat results args wf r.lower_is r.results_types r.results_typed to;
+    within = record {
+      source = from_within (linear_of d.lift) (is_wide a.lift.memory) a.lift.results lift_flat given h.lift.wide;
+      target = to_within (linear_of d.lower) (is_wide a.lower.memory) a.lower.results lower_flat results args h.lower.wide;
+    };
+    lists = λ some. subst (λ q. ServesLists (linear_of d.lift) (linear_of d.lower) M p (options_of a.lift) (options_of a.lower) q) (sym h.alone) (lists some);
   }
 
   -- The code of the checks and of the move is typed.
   pub results_typed : {M : WasmModule} {p : ImportPlaces} {locals : List ValType} {taken kept : ℕ → Bool} (c1 c2 c3 : List Instr) (fs gs : Option (List ValType)) (lift_flat lower_flat : Bool) (given results args : List Slot)
       → lift_flat ≡ is_some fs → lower_flat ≡ is_some gs → ResultLocals a fs gs given results locals kept → tuple_size (linear_of d.lift).memory64 a.lift.results ≤ 4294967295 → tuple_size (linear_of d.lower).memory64 a.lower.results ≤ 4294967295
-      → ChecksResults (linear_of d.lift) taken lift_flat (last_local given) (tuple_size (linear_of d.lift).memory64 a.lift.results) (tuple_align (linear_of d.lift).memory64 a.lift.results) M p locals c1
-      → ChecksResults (linear_of d.lower) taken lower_flat (last_local args) (tuple_size (linear_of d.lower).memory64 a.lower.results) (tuple_align (linear_of d.lower).memory64 a.lower.results) M p locals c2
-      → MovesNode (results_sides d debug) (results_from (linear_of d.lift) lift_flat given) (results_to (linear_of d.lower) lower_flat results args) taken (tuple_of a.lift.results) (tuple_of a.lower.results) M p locals c3
-      → Using taken kept (results_from (linear_of d.lift) lift_flat given) (results_to (linear_of d.lower) lower_flat results args)
-      → IsReached fs M p (options_of a.lift) (linear_of d.lift) locals (last_local given) → IsReached gs M p (options_of a.lower) (linear_of d.lower) locals (last_local args) → IsTyped M locals [] (c1 ++ (c2 ++ c3)) [] (OnStack [])
-  results_typed {M} {p} {locals} {taken} {kept} c1 c2 c3 fs gs lift_flat lower_flat given results args lf wf r few few' x y z using from to =
+      → ChecksTuple (linear_of d.lift) taken lift_flat (last_local given) (tuple_size (linear_of d.lift).memory64 a.lift.results) (tuple_align (linear_of d.lift).memory64 a.lift.results) M p locals c1
+      → ChecksTuple (linear_of d.lower) taken lower_flat (last_local args) (tuple_size (linear_of d.lower).memory64 a.lower.results) (tuple_align (linear_of d.lower).memory64 a.lower.results) M p locals c2
+      → MovesTuple (results_sides d debug) (tuple_from (linear_of d.lift) lift_flat given) (tuple_to (linear_of d.lower) lower_flat results args) taken (tuple_of a.lift.results) (tuple_of a.lower.results) M p locals c3
+      → Using taken kept (tuple_from (linear_of d.lift) lift_flat given) (tuple_to (linear_of d.lower) lower_flat results args)
+      → IsReached fs M p (options_of a.lift) (linear_of d.lift) locals (last_local given) → IsReached gs M p (options_of a.lower) (linear_of d.lower) locals (last_local args)
+      → HasListsOf M p (linear_of d.lift) (linear_of d.lower) (options_of a.lift) (options_of a.lower) a.lift.results → IsTyped M locals [] (c1 ++ (c2 ++ c3)) [] (OnStack [])
+  results_typed {M} {p} {locals} {taken} {kept} c1 c2 c3 fs gs lift_flat lower_flat given results args lf wf r few few' x y z using from to lists =
       typed_then (passes_typed fs lift_flat taken (options_of a.lift) (linear_of d.lift) (last_local given) (tuple_size (linear_of d.lift).memory64 a.lift.results) (tuple_align (linear_of d.lift).memory64 a.lift.results) lf from x)
       (typed_then (passes_typed gs lower_flat taken (options_of a.lower) (linear_of d.lower) (last_local args) (tuple_size (linear_of d.lower).memory64 a.lower.results) (tuple_align (linear_of d.lower).memory64 a.lower.results) wf to y)
-      (z.moves (options_of a.lift) (options_of a.lower) u.concurrency kept using (results_fit {M = M} {p = p} {locals = locals} kept fs gs lift_flat lower_flat given results args lf wf r few few' from to)).typed)
+      (z.moves (options_of a.lift) (options_of a.lower) u.concurrency rooms kept using (results_fit {M = M} {p = p} {locals = locals} kept fs gs lift_flat lower_flat given results args lf wf r few few' from to lists)).typed)
 
   -- Both areas are checked, the callee's first, and then the members are moved.
   pub results_moved : {M : WasmModule} {p : ImportPlaces} {locals : List ValType} {taken kept : ℕ → Bool} (c1 c2 c3 : List Instr) (fs gs : Option (List ValType)) (lift_flat lower_flat : Bool) (given results args : List Slot)
       → lift_flat ≡ is_some fs → lower_flat ≡ is_some gs → ResultLocals a fs gs given results locals kept → tuple_size (linear_of d.lift).memory64 a.lift.results ≤ 4294967295 → tuple_size (linear_of d.lower).memory64 a.lower.results ≤ 4294967295
-      → ChecksResults (linear_of d.lift) taken lift_flat (last_local given) (tuple_size (linear_of d.lift).memory64 a.lift.results) (tuple_align (linear_of d.lift).memory64 a.lift.results) M p locals c1
-      → ChecksResults (linear_of d.lower) taken lower_flat (last_local args) (tuple_size (linear_of d.lower).memory64 a.lower.results) (tuple_align (linear_of d.lower).memory64 a.lower.results) M p locals c2
-      → MovesNode (results_sides d debug) (results_from (linear_of d.lift) lift_flat given) (results_to (linear_of d.lower) lower_flat results args) taken (tuple_of a.lift.results) (tuple_of a.lower.results) M p locals c3
-      → Using taken kept (results_from (linear_of d.lift) lift_flat given) (results_to (linear_of d.lower) lower_flat results args)
+      → ChecksTuple (linear_of d.lift) taken lift_flat (last_local given) (tuple_size (linear_of d.lift).memory64 a.lift.results) (tuple_align (linear_of d.lift).memory64 a.lift.results) M p locals c1
+      → ChecksTuple (linear_of d.lower) taken lower_flat (last_local args) (tuple_size (linear_of d.lower).memory64 a.lower.results) (tuple_align (linear_of d.lower).memory64 a.lower.results) M p locals c2
+      → MovesTuple (results_sides d debug) (tuple_from (linear_of d.lift) lift_flat given) (tuple_to (linear_of d.lower) lower_flat results args) taken (tuple_of a.lift.results) (tuple_of a.lower.results) M p locals c3
+      → Using taken kept (tuple_from (linear_of d.lift) lift_flat given) (tuple_to (linear_of d.lower) lower_flat results args) → HasListsOf M p (linear_of d.lift) (linear_of d.lower) (options_of a.lift) (options_of a.lower) a.lift.results
       → (ls : Locals) (vs : List CoreValue) (pointer : ℕ) → held_types ls ≡ locals → AreUsed kept given → AreHeld ls given vs
       → IsPassed fs M p (options_of a.lift) (linear_of d.lift) locals kept ls (last_local given) (first_bits vs) → IsPassed gs M p (options_of a.lower) (linear_of d.lower) locals kept ls (last_local args) pointer
       → Does M p Onward 464 0 [] ls (c1 ++ (c2 ++ c3)) (move_results u a vs pointer) (λ vs. []) (λ vs ls'. AreHeld ls' results vs × KeepsLocals kept ls ls')
-  results_moved {M} {p} {locals} {taken} {kept} c1 c2 c3 fs gs lift_flat lower_flat given results args lf wf r few few' x y z using ls vs pointer held used g from to =
-      let S : Setting = setting_of (results_sides d debug) (options_of a.lift) (options_of a.lower) u.concurrency M p locals in
+  results_moved {M} {p} {locals} {taken} {kept} c1 c2 c3 fs gs lift_flat lower_flat given results args lf wf r few few' x y z using lists ls vs pointer held used g from to =
       let inside = using.within in
-      let last : (ls2 : Locals) → KeepsLocals kept ls ls2
-      → Does M p Onward 384 0 [] ls2 c3 (move_fields (results_transfer u a) (tuple_members a.lift.results) (tuple_members a.lower.results) 0 (passed_from fs vs) (passed_to gs pointer)) (λ vs. []) (λ vs ls'. AreHeld ls' results vs × KeepsLocals kept ls ls') = λ ls2 k.
+      let lift64 : Bool = (linear_of d.lift).memory64 in
+      let lower64 : Bool = (linear_of d.lower).memory64 in
+      let last : (ls2 : Locals) → KeepsLocals kept ls ls2 → HasArea fs lift64 (first_bits vs) rooms.from → HasArea gs lower64 pointer rooms.to
+      → Does M p Onward 384 0 [] ls2 c3 (move_fields (results_transfer u a) (tuple_members a.lift.results) (tuple_members a.lower.results) 0 (passed_from fs vs) (passed_to gs pointer)) (λ vs. []) (λ vs ls'. AreHeld ls' results vs × KeepsLocals kept ls ls') = λ ls2 k source target.
       let from2 = passed_kept fs k from in
       let to2 = passed_kept gs k to in
-      let fits = results_fit {M = M} {p = p} {locals = locals} kept fs gs lift_flat lower_flat given results args lf wf r few few' (passed_reached fs from2) (passed_reached gs to2) in
-      let moved = (z.moves (options_of a.lift) (options_of a.lower) u.concurrency kept using fits).effect ls2 (passed_from fs vs) (passed_to gs pointer) (k.types ∙ held)
-      (stands_passed M p locals kept (options_of a.lift) (linear_of d.lift) a.lift.results h.lift.wide few fs lift_flat given vs lf (held_kept k given vs used g) from2)
-      (goes_passed M p locals kept (options_of a.lower) (linear_of d.lower) a.lower.results h.lower.wide few' gs lower_flat results args pointer wf (k.types ∙ held) r.results_types r.results_typed r.results_unused to2) in
+      let fits = results_fit {M = M} {p = p} {locals = locals} kept fs gs lift_flat lower_flat given results args lf wf r few few' (passed_reached fs from2) (passed_reached gs to2) lists in
+      let roomy : InRooms (setting M p locals) ls2 (tuple_from (linear_of d.lift) lift_flat given) (tuple_to (linear_of d.lower) lower_flat results args) = record {
+        source = from_room fs lift_flat (linear_of d.lift) given ls2 (first_bits vs) rooms.from lf (passed_address fs from2) source;
+        target = to_room gs lower_flat (linear_of d.lower) results args ls2 pointer rooms.to wf (passed_address gs to2) target;
+      } in
+      let moved = (z.moves (options_of a.lift) (options_of a.lower) u.concurrency rooms kept using fits).effect ls2 (passed_from fs vs) (passed_to gs pointer) (k.types ∙ held)
+      (stands_passed M p locals kept (options_of a.lift) (linear_of d.lift) a.lift.results h.lift.wide few 1 (omega arith) fs lift_flat given vs lf (held_kept k given vs used g) from2)
+      (goes_passed M p locals kept (options_of a.lower) (linear_of d.lower) a.lower.results h.lower.wide few' 1 (omega arith) gs lower_flat results args pointer wf (k.types ∙ held) r.results_types r.results_typed r.results_unused to2) roomy in
       weaker (λ vs. refl) (λ us ls' s. (stood_passed gs lower_flat (linear_of d.lower) results args us ls' wf r.no_results s.0, keeps_then k s.1))
       (subst (λ tr. Does M p Onward 384 0 [] ls2 c3 (move_fields tr (tuple_members a.lift.results) (tuple_members a.lower.results) 0 (passed_from fs vs) (passed_to gs pointer)) (λ vs. [])
-      (λ us ls'. Stood ls' (results_to (linear_of d.lower) lower_flat results args) us × KeepsLocals kept ls2 ls')) (results_transfer_is M p locals) (within (omega arith) (unvisited {n = 1} moved))) in
+      (λ us ls'. Stood ls' (tuple_to (linear_of d.lower) lower_flat results args) us × KeepsLocals kept ls2 ls')) (results_transfer_is M p locals) (within (omega arith) (unvisited {n = 1} moved))) in
       let q = fields u a (passed_from fs vs) (passed_to gs pointer) in
-      let all = in_turn (passes fs lift_flat (options_of a.lift) (linear_of d.lift) a.lift.results (last_local given) (first_bits vs) lf h.lift.wide few inside held from x) (λ no ls1 k1.
-      in_turn (passes gs lower_flat (options_of a.lower) (linear_of d.lower) a.lower.results (last_local args) pointer wf h.lower.wide few' inside (k1.types ∙ held) (passed_kept gs k1 to) y) (λ no ls2 k2. last ls2 (keeps_then k1 k2))) in
+      let all = in_turn (passes fs lift_flat (options_of a.lift) (linear_of d.lift) a.lift.results (last_local given) (first_bits vs) lf h.lift.wide few inside held from x) (λ (no : List CoreValue) ls1 one.
+      in_turn (passes gs lower_flat (options_of a.lower) (linear_of d.lower) a.lower.results (last_local args) pointer wf h.lower.wide few' inside (one.0.types ∙ held) (passed_kept gs one.0 to) y) (λ (no : List CoreValue) ls2 two. last ls2 (keeps_then one.0 two.0) one.1 two.1)) in
       let is : (passed fs (options_of a.lift) a.lift.results (first_bits vs) (Give []) >>= (λ no. passed gs (options_of a.lower) a.lower.results pointer (Give []) >>= (λ no. q))) ≡ move_results u a vs pointer =
       passed_binds fs (options_of a.lift) a.lift.results (first_bits vs) (Give []) (λ no. passed gs (options_of a.lower) a.lower.results pointer (Give []) >>= (λ no. q))
       ∙ ap (λ q. passed fs (options_of a.lift) a.lift.results (first_bits vs) q) (passed_binds gs (options_of a.lower) a.lower.results pointer (Give []) (λ no. q))

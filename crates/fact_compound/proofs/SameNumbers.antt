@@ -1,5 +1,5 @@
 -- Lists of the same numbers, and the shapes of such types.
-use Rattle.std.proofs.Common.{◌≡◌, Bool, true, false, IsTrue, List, [], ◌∷◌, Some, refl, sym, ap, ◌∙◌, subst, map, slice_get}
+use Rattle.std.proofs.Common.{◌≡◌, ◌<◌, ◌≤◌, Bool, true, false, IsTrue, List, [], ◌∷◌, Some, refl, sym, ap, ◌∙◌, subst, arith, length, map, slice_get}
 use Rattle.std.specs.Prelude.{◌↔◌}
 use Rattle.std.specs.Bool.{Decides}
 use Rattle.std.specs.Cmp.Lexicographic.{pointwise}
@@ -71,8 +71,8 @@ plain_types t (x ∷ xs) [] h = absurd h
 plain_types t (x ∷ xs) (y ∷ ys) h = λ i. h.0.0 i ∷ plain_types t xs ys h.1 i
 
 pub are_passed : {t : Tables} {i j : Id TypeFuncs} {f g : TypeFunc} {d e : TypeTuple} → slice_get t.functions i.number ≡ Some f → slice_get t.tuples f.params.number ≡ Some d → slice_get t.functions j.number ≡ Some g → slice_get t.tuples g.params.number ≡ Some e
-    → (found : Bool) → (IsTrue found ↔ ((d.types ≡ e.types) × (list_all is_passed_on d.types ≡ true))) → (ps rs qs ss : List Shape) → HasSignature t i ps rs → HasSignature t j qs ss → (IsTrue found ↔ ArePassedOn ps qs)
-are_passed {t} {d = d} {e} fi di fj ej found exact ps rs qs ss h k =
+    → length d.types ≤ 16 → (found : Bool) → (IsTrue found ↔ ((d.types ≡ e.types) × (list_all is_passed_on d.types ≡ true))) → (ps rs qs ss : List Shape) → HasSignature t i ps rs → HasSignature t j qs ss → (IsTrue found ↔ ArePassedOn ps qs)
+are_passed {t} {d = d} {e} fi di fj ej few found exact ps rs qs ss h k =
     let from = params_have fi di ps rs h in
     let to = params_have fj ej qs ss k in (
       λ is_so.
@@ -80,6 +80,7 @@ are_passed {t} {d = d} {e} fi di fj ej found exact ps rs qs ss h k =
           record {
             types = d.types;
             all = all;
+            few = few;
             from_are = number_shapes t d.types ps all from;
             to_are = number_shapes t e.types qs (ap (list_all is_passed_on) (sym same) ∙ all) to ∙ ap (map (λ t. s_plain t)) (sym same);
           },
@@ -88,3 +89,13 @@ are_passed {t} {d = d} {e} fi di fj ej found exact ps rs qs ss h k =
           let e_are = plain_types t e.types p.types (subst (HaveShapes t e.types) p.to_are to) in
           exact.1 (d_are ∙ sym e_are, ap (list_all is_passed_on) d_are ∙ p.all),
     )
+
+-- more than 16 are handed on never
+pub too_many : {t : Tables} {i j : Id TypeFuncs} {f : TypeFunc} {d : TypeTuple} → slice_get t.functions i.number ≡ Some f → slice_get t.tuples f.params.number ≡ Some d → 16 < length d.types
+    → (ps rs qs ss : List Shape) → HasSignature t i ps rs → HasSignature t j qs ss → (IsTrue false ↔ ArePassedOn ps qs)
+too_many {t} {d = d} fi di many ps rs qs ss h k = (
+  λ e. absurd (false≢true e),
+  λ p.
+      let same = plain_types t d.types p.types (subst (HaveShapes t d.types) p.from_are (params_have fi di ps rs h)) in
+      absurd (omega (arith, many, ap length same, p.few)),
+)

@@ -1,11 +1,11 @@
 -- Slots whose locals have the numbers from one on: their types, that they are in use and distinct, and what they hold.
-use Rattle.std.proofs.Common.{◌≡◌, ℕ, zero, suc, ◌+◌, ◌-◌, ◌<◌, Bool, true, false, List, [], ◌∷◌, ◌++◌, Option, Some, None, refl, sym, ap, ◌∙◌, subst, arith, append-nil, length, map, take, slice_get}
+use Rattle.std.proofs.Common.{◌≡◌, ℕ, zero, suc, ◌+◌, ◌-◌, ◌<◌, Bool, true, List, [], ◌∷◌, ◌++◌, Option, Some, None, refl, sym, ap, ◌∙◌, arith, append-nil, length, map, take, slice_get}
 use Rattle.std.specs.Prelude.{is_some, replicate}
 use Rattle.std.proofs.lemmas.Bool.{ne_eqb}
 use Rattle.std.proofs.lemmas.List.{length-append, map-append}
 use Rattle.fact_wasm.specs.declared.types.ValType.{ValType}
 use Rattle.fact_wasm.specs.declared.types.ValType.TheVariants as val
-use Rattle.fact_types.specs.Signatures.{address, unless_flat}
+use Rattle.fact_types.specs.Signatures.{unless_flat}
 use Rattle.fact_machine.specs.Machine.{has_type, type_of, some_of, several, zero_of, locals_of}
 use Rattle.fact_machine.specs.Typed.{is_value, are_values}
 use Rattle.fact_machine.specs.Typing.{local_types}

@@ -20,12 +20,12 @@ use Rattle.fact_pieces.specs.Knows.{KnowsFunction}
 use Rattle.fact_pieces.specs.PieceLaws.{HaveResultTypes}
 use Rattle.fact_pieces.specs.Typed.{OnStack, IsTyped}
 use Rattle.fact_machine.specs.Typing.{address_type}
-use Rattle.fact_pieces.specs.Places.{Slot, InLocals, ToLocals, FromUsed, ToUsed, AreHeld, AreLocals, AreUsed, KeepsLocals}
+use Rattle.fact_pieces.specs.Places.{Slot, FromUsed, ToUsed, AreHeld, AreLocals, AreUsed, KeepsLocals}
 use Rattle.fact_pieces.proofs.Blocks.{weaker}
 use Rattle.fact_pieces.proofs.Rules.{within}
 use Rattle.fact_emit.specs.Places.{AreDistinctSlots, TargetTaken, HasDistinctSlots, Using}
-use Rattle.fact_compound.specs.Described.{DescribesAdapter, KnowsAdapterData, HasResultMemory, linear_of}
-use Rattle.fact_compound.specs.Passing.{last_local, results_from, results_to, tuple_size}
+use Rattle.fact_compound.specs.Described.{DescribesAdapter, KnowsAdapterData, HasTupleMemory, linear_of}
+use Rattle.fact_compound.specs.Passing.{last_local, tuple_from, tuple_to, tuple_size}
 use Rattle.fact_compound.specs.Syncs.{lower_type_of, EmitsSync}
 use Rattle.fact_emit.specs.declared.writer.Writer.{Writer}
 use Rattle.fact_emit.proofs.Emitting.{emits_as}
@@ -36,8 +36,8 @@ use Rattle.fact_compound.proofs.Flats.{AreFlat, are_flat}
 use Rattle.fact_compound.proofs.KeptLocals.{equal_back, among_front, among_self, among_used, used_front, used_behind, used_by, locals_front, locals_behind, distinct_front, distinct_behind, unused_behind, unused_front, unused_rest, unused_both, used_both, none_of}
 use Rattle.fact_compound.specs.Passed.{ParamsCode}
 use Rattle.fact_pieces.proofs.TypingLaws.{typed_done}
-use Rattle.fact_compound.proofs.PassedOnCode.{same_flats, passes_on}
-use Rattle.fact_compound.proofs.ParamMoves.{params_moved, params_typed}
+use Rattle.fact_compound.proofs.PassedOnCode.{same_flats, passed_flat, passes_on}
+use Rattle.fact_compound.proofs.ParamMoves.{ParamLocals, params_moved, params_typed}
 use Rattle.fact_compound.proofs.ResultMoves.{IsPassed, IsReached, Pointed, ResultLocals, results_moved, results_typed}
 use Rattle.fact_compound.proofs.Slots.{held_parts, slots_long, values_long, keeps_less}
 use Rattle.fact_compound.proofs.SyncTyping.{typed_sync}
@@ -45,13 +45,8 @@ use Rattle.fact_compound.proofs.SyncSteps.{among, slot_types, AreUnused, SyncLoc
 
 -- ---- signatures
 
-some_of : {X : Type 0} (o : Option X) → is_some o ≡ true → (x : X) × (o ≡ Some x)
-some_of None h = let no : false ≡ true = h in absurd (cc)
-some_of (Some x) h = (x, refl)
-
-lift_params_are : (a : LinkedAdapter) {gs : List ValType} → a.lift.async_side ≡ false → flat_values (is_wide a.lift.memory) 16 a.lift.params ≡ Some gs → (lift_signature_of a).params ≡ gs
-lift_params_are a sync e =
-    ap (λ b. (lift_by b (is_some a.lift.callback) (is_wide a.lift.memory) a.lift.params a.lift.results).params) sync ∙ ap (flat_or (address (is_wide a.lift.memory) ∷ [])) e
+lift_params_or : (a : LinkedAdapter) → a.lift.async_side ≡ false → (lift_signature_of a).params ≡ flat_or (address (is_wide a.lift.memory) ∷ []) (flat_values (is_wide a.lift.memory) 16 a.lift.params)
+lift_params_or a sync = ap (λ b. (lift_by b (is_some a.lift.callback) (is_wide a.lift.memory) a.lift.params a.lift.results).params) sync
 
 lift_results_are : (a : LinkedAdapter) → a.lift.async_side ≡ false → (lift_signature_of a).results ≡ flat_or (address (is_wide a.lift.memory) ∷ []) (flat_values (is_wide a.lift.memory) 1 a.lift.results)
 lift_results_are a sync = ap (λ b. (lift_by b (is_some a.lift.callback) (is_wide a.lift.memory) a.lift.params a.lift.results).results) sync
@@ -70,10 +65,10 @@ one_held ls (s ∷ []) [] t e h = absurd h
 one_held ls (s ∷ []) (v ∷ []) t e h = (v, refl)
 one_held ls (s ∷ []) (v ∷ w ∷ vs) t e h = absurd h.1
 
--- at most one where they are flat or an address
-few_results : (m : Bool) (o : Option (List ValType)) (ts : List ValType) (ss : List Slot) → length ts ≤ 1 → ((fs : List ValType) → o ≡ Some fs → length fs ≤ 1) → slot_types ss ≡ flat_or ts o → length ss ≤ 1
-few_results m None ts ss few h e = omega (arith, sym (slots_long ss) ∙ ap length e, few)
-few_results m (Some fs) ts ss few h e = omega (arith, sym (slots_long ss) ∙ ap length e, h fs refl)
+-- at most so many where they are flat or an address
+few_slots : (limit : ℕ) (o : Option (List ValType)) (ts : List ValType) (ss : List Slot) → length ts ≤ limit → ((fs : List ValType) → o ≡ Some fs → length fs ≤ limit) → slot_types ss ≡ flat_or ts o → length ss ≤ limit
+few_slots limit None ts ss few h e = omega (arith, sym (slots_long ss) ∙ ap length e, few)
+few_slots limit (Some fs) ts ss few h e = omega (arith, sym (slots_long ss) ∙ ap length e, h fs refl)
 
 flat_few : (m : Bool) (limit : ℕ) {ss : List Shape} (fs : List ValType) → AreFlat m limit ss fs → length fs ≤ limit
 flat_few m limit fs f = omega (arith, ap length f.are ∙ values_long _, f.few)
@@ -173,33 +168,37 @@ module _ {t : Tables} {d : AdapterData} {debug : Bool} {u : AdapterTunables} {a 
   params_part : (b : Bool) → CoreLocals b a l → AreLocals locals (written_slots b l) → AreUnused kept (written_slots b l) → AreUsed taken (written_slots b l) → AreDistinctSlots (written_slots b l)
       → ParamsCode b d debug l.params l.core taken a.lower.params a.lift.params M p locals k.params → ParamsPart
   params_part false core typed unused used distinct moves =
-      let (fs, e) = some_of (flat_values (is_wide a.lower.memory) 16 a.lower.params) h.lower_flat in
-      let (gs, f) = some_of (flat_values (is_wide a.lift.memory) 16 a.lift.params) h.lift_flat in
+      let fs = flat_values (is_wide a.lower.memory) 16 a.lower.params in
+      let gs = flat_values (is_wide a.lift.memory) 16 a.lift.params in
       let core_local : AreLocals locals l.core = locals_front locals l.core (l.given ++ l.results) typed in
-      let using : Using taken kept (InLocals l.params) (ToLocals l.core) = record {
-        within = among_used taken (kept_slots l) all_used;
-        from = used_front kept l.params room.rest (subst (λ ss. AreUsed kept ss) room.args args_kept);
-        to = tt;
-        target = used_front taken l.core (l.given ++ l.results) used;
-        distinct = distinct_front l.core (l.given ++ l.results) distinct;
-      } in
-      let types : slot_types l.params ≡ fs = room.params_types ∙ ap (flat_or (address (is_wide a.lower.memory) ∷ [])) e in
-      let core_flat : slot_types l.core ≡ gs = core ∙ lift_params_are a h.lift.sync f in (
-        λ ls args held there. params_moved h l.params room.rest l.core moves e f types core_flat params_local core_local (unused_front kept l.core (l.given ++ l.results) unused) using ls args held (subst (λ ss. AreHeld ls ss args) room.args there),
-        params_typed h l.params l.core moves e f types core_flat params_local core_local using,
+      let of_params : ParamLocals a fs gs l.params l.core locals kept taken = record {
+        lower_is = refl;
+        lift_is = refl;
+        params_types = room.params_types;
+        core_types = core ∙ lift_params_or a h.lift.sync;
+        params_typed = params_local;
+        core_typed = core_local;
+        params_kept = used_front kept l.params room.rest (subst (λ ss. AreUsed kept ss) room.args args_kept);
+        core_unused = unused_front kept l.core (l.given ++ l.results) unused;
+        core_taken = used_front taken l.core (l.given ++ l.results) used;
+        core_distinct = distinct_front l.core (l.given ++ l.results) distinct;
+        inside = among_used taken (kept_slots l) all_used;
+      } in (
+        λ ls args held there. params_moved h l.params l.core moves fs gs of_params links.params_lists links.params_memory links.params_area room.rest ls args held (subst (λ ss. AreHeld ls ss args) room.args there),
+        params_typed h l.params l.core moves fs gs of_params links.params_lists links.params_memory links.params_area,
         core,
         core_local,
       )
   params_part true core typed unused used distinct none =
-      let (fs, e) = some_of (flat_values (is_wide a.lower.memory) 16 a.lower.params) h.lower_flat in
-      let (gs, f) = some_of (flat_values (is_wide a.lift.memory) 16 a.lift.params) h.lift_flat in
+      let (fs, e) = passed_flat (is_wide a.lower.memory) core.1.types core.1.all core.1.few a.lower.params core.1.from_are in
+      let (gs, f) = passed_flat (is_wide a.lift.memory) core.1.types core.1.all core.1.few a.lift.params core.1.to_are in
       let types : slot_types l.params ≡ fs = room.params_types ∙ ap (flat_or (address (is_wide a.lower.memory) ∷ [])) e in (
         λ ls args held there.
             subst (λ ss. Does M p Onward 384 0 [] ls k.params (move_params u a args) (λ vs. []) (λ vs ls'. AreHeld ls' ss vs × KeepsLocals kept ls ls')) (sym core.0)
             (subst (λ c. Does M p Onward 384 0 [] ls c (move_params u a args) (λ vs. []) (λ vs ls'. AreHeld ls' l.params vs × KeepsLocals kept ls ls')) (sym none)
             (within (omega arith) (passes_on u a kept l.params room.rest ls args h.lower.sync core.1 e f types (subst (λ ss. AreHeld ls ss args) room.args there)))),
         subst (λ c. IsTyped M locals [] c [] (OnStack [])) (sym none) typed_done,
-        ap slot_types core.0 ∙ types ∙ same_flats a core.1 e f ∙ sym (lift_params_are a h.lift.sync f),
+        ap slot_types core.0 ∙ types ∙ same_flats a core.1 e f ∙ sym (lift_params_or a h.lift.sync ∙ ap (flat_or (address (is_wide a.lift.memory) ∷ [])) f),
         subst (λ ss. AreLocals locals ss) (sym core.0) params_local,
       )
 
@@ -241,14 +240,14 @@ module _ {t : Tables} {d : AdapterData} {debug : Bool} {u : AdapterTunables} {a 
   rest_typed : AreLocals locals room.rest
   rest_typed = locals_behind locals l.params room.rest (subst (λ ss. AreLocals locals ss) room.args args_typed)
 
-  lift_passed : (flats : Option (List ValType)) → HasResultMemory M p d.lift a.lift flats → slot_types l.given ≡ flat_or (address (is_wide a.lift.memory) ∷ []) flats → (ls : Locals) (rs : List CoreValue) → AreHeld ls l.given rs
+  lift_passed : (flats : Option (List ValType)) → HasTupleMemory M p d.lift a.lift flats → slot_types l.given ≡ flat_or (address (is_wide a.lift.memory) ∷ []) flats → (ls : Locals) (rs : List CoreValue) → AreHeld ls l.given rs
       → IsPassed flats M p (options_of a.lift) (linear_of d.lift) locals kept_given ls (last_local l.given) (first_bits rs)
   lift_passed (Some fs) m e ls rs g = record { by = tt }
   lift_passed None m e ls rs g = record {
     by = (m, subst (λ b. Pointed b locals kept_given ls (last_local l.given) (first_bits rs)) h.lift.wide (pointed (is_wide a.lift.memory) locals kept_given ls l.given rs e given_typed given_kept g));
   }
 
-  lower_passed : (flats : Option (List ValType)) → HasResultMemory M p d.lower a.lower flats → slot_types room.rest ≡ unless_flat (address (is_wide a.lower.memory) ∷ []) flats → (ls : Locals) (args : List CoreValue) → AreHeld ls l.args args
+  lower_passed : (flats : Option (List ValType)) → HasTupleMemory M p d.lower a.lower flats → slot_types room.rest ≡ unless_flat (address (is_wide a.lower.memory) ∷ []) flats → (ls : Locals) (args : List CoreValue) → AreHeld ls l.args args
       → IsPassed flats M p (options_of a.lower) (linear_of d.lower) locals kept_given ls (last_local l.args) (last_bits args)
   lower_passed (Some fs) m e ls args g = record { by = tt }
   lower_passed None m e ls args g =
@@ -270,22 +269,22 @@ module _ {t : Tables} {d : AdapterData} {debug : Bool} {u : AdapterTunables} {a 
   last_used u (s ∷ []) t e h = h.0
   last_used u (s ∷ r ∷ ss) t e h = cc
 
-  from_kept : (flats : Option (List ValType)) (flat : Bool) → flat ≡ is_some flats → slot_types l.given ≡ flat_or (address (is_wide a.lift.memory) ∷ []) flats → FromUsed kept_given (results_from (linear_of d.lift) flat l.given)
+  from_kept : (flats : Option (List ValType)) (flat : Bool) → flat ≡ is_some flats → slot_types l.given ≡ flat_or (address (is_wide a.lift.memory) ∷ []) flats → FromUsed kept_given (tuple_from (linear_of d.lift) flat l.given)
   from_kept flats true f e = given_kept
   from_kept (Some fs) false f e = absurd (let no : false ≡ true = f in cc)
   from_kept None false f e = last_used kept_given l.given (address (is_wide a.lift.memory)) e given_kept
 
-  to_kept : (flats : Option (List ValType)) (flat : Bool) → flat ≡ is_some flats → slot_types room.rest ≡ unless_flat (address (is_wide a.lower.memory) ∷ []) flats → ToUsed kept_given (results_to (linear_of d.lower) flat l.results l.args)
+  to_kept : (flats : Option (List ValType)) (flat : Bool) → flat ≡ is_some flats → slot_types room.rest ≡ unless_flat (address (is_wide a.lower.memory) ∷ []) flats → ToUsed kept_given (tuple_to (linear_of d.lower) flat l.results l.args)
   to_kept flats true f e = tt
   to_kept (Some fs) false f e = absurd (let no : false ≡ true = f in cc)
   to_kept None false f e =
       ap kept_given (ap last_local room.args ∙ last_slot l.params room.rest (address (is_wide a.lower.memory)) e) ∙ last_used kept_given room.rest (address (is_wide a.lower.memory)) e rest_kept
 
-  to_taken : (flat : Bool) → TargetTaken taken (results_to (linear_of d.lower) flat l.results l.args)
+  to_taken : (flat : Bool) → TargetTaken taken (tuple_to (linear_of d.lower) flat l.results l.args)
   to_taken true = used_behind taken l.given l.results outs_used
   to_taken false = tt
 
-  to_distinct : (flat : Bool) → HasDistinctSlots (results_to (linear_of d.lower) flat l.results l.args)
+  to_distinct : (flat : Bool) → HasDistinctSlots (tuple_to (linear_of d.lower) flat l.results l.args)
   to_distinct true = distinct_behind l.given l.results outs_distinct
   to_distinct false = tt
 
@@ -310,7 +309,7 @@ module _ {t : Tables} {d : AdapterData} {debug : Bool} {u : AdapterTunables} {a 
   results_local : AreLocals locals l.results
   results_local = locals_behind locals l.given l.results outs_typed
 
-  results_using : Using taken kept_given (results_from (linear_of d.lift) (is_some (flat_values (linear_of d.lift).memory64 1 a.lift.results)) l.given) (results_to (linear_of d.lower) (is_some (flat_values (linear_of d.lower).memory64 1 a.lower.results)) l.results l.args)
+  results_using : Using taken kept_given (tuple_from (linear_of d.lift) (is_some (flat_values (linear_of d.lift).memory64 1 a.lift.results)) l.given) (tuple_to (linear_of d.lower) (is_some (flat_values (linear_of d.lower).memory64 1 a.lower.results)) l.results l.args)
   results_using = record {
     within = among_used taken (kept_slots l ++ l.given) (used_both taken (kept_slots l) l.given all_used (used_front taken l.given l.results outs_used));
     from = from_kept lift_flats (is_some (flat_values (linear_of d.lift).memory64 1 a.lift.results)) lift_flat_is given_are;
@@ -326,13 +325,13 @@ module _ {t : Tables} {d : AdapterData} {debug : Bool} {u : AdapterTunables} {a 
       weaker (λ vs. refl) (λ vs ls' x. (x.0, keeps_less (among_front (kept_slots l) l.given) x.1))
       (subst (λ c. Does M p Onward 464 0 [] ls c (move_results u a rs (last_bits args)) (λ vs. []) (λ vs ls'. AreHeld ls' l.results vs × KeepsLocals kept_given ls ls')) (sym r.is)
       (results_moved h r.lift_check r.lower_check r.move lift_flats lower_flats (is_some (flat_values (linear_of d.lift).memory64 1 a.lift.results)) (is_some (flat_values (linear_of d.lower).memory64 1 a.lower.results)) l.given l.results l.args lift_flat_is lower_flat_is result_locals lift_size lower_size r.checks_lift r.checks_lower r.moves
-      results_using ls rs (last_bits args) held given_kept g (lift_passed lift_flats links.lift.memory given_are ls rs g) (lower_passed lower_flats links.lower.memory room.rest_types ls args there)))
+      results_using links.results_lists ls rs (last_bits args) held given_kept g (lift_passed lift_flats links.lift.memory given_are ls rs g) (lower_passed lower_flats links.lower.memory room.rest_types ls args there)))
 
-  lift_reached : (flats : Option (List ValType)) → HasResultMemory M p d.lift a.lift flats → slot_types l.given ≡ flat_or (address (is_wide a.lift.memory) ∷ []) flats → IsReached flats M p (options_of a.lift) (linear_of d.lift) locals (last_local l.given)
+  lift_reached : (flats : Option (List ValType)) → HasTupleMemory M p d.lift a.lift flats → slot_types l.given ≡ flat_or (address (is_wide a.lift.memory) ∷ []) flats → IsReached flats M p (options_of a.lift) (linear_of d.lift) locals (last_local l.given)
   lift_reached (Some fs) m e = record { by = tt }
   lift_reached None m e = record { by = (m, subst (λ b. slice_get locals (last_local l.given) ≡ Some (address_type b)) h.lift.wide (pointed_local (is_wide a.lift.memory) locals l.given e given_typed)) }
 
-  lower_reached : (flats : Option (List ValType)) → HasResultMemory M p d.lower a.lower flats → slot_types room.rest ≡ unless_flat (address (is_wide a.lower.memory) ∷ []) flats → IsReached flats M p (options_of a.lower) (linear_of d.lower) locals (last_local l.args)
+  lower_reached : (flats : Option (List ValType)) → HasTupleMemory M p d.lower a.lower flats → slot_types room.rest ≡ unless_flat (address (is_wide a.lower.memory) ∷ []) flats → IsReached flats M p (options_of a.lower) (linear_of d.lower) locals (last_local l.args)
   lower_reached (Some fs) m e = record { by = tt }
   lower_reached None m e =
       let there : last_local l.args ≡ last_local room.rest = ap last_local room.args ∙ last_slot l.params room.rest (address (is_wide a.lower.memory)) e in
@@ -343,7 +342,7 @@ module _ {t : Tables} {d : AdapterData} {debug : Bool} {u : AdapterTunables} {a 
       let r = k.moves_results in
       subst (λ c. IsTyped M locals [] c [] (OnStack [])) (sym r.is)
       (results_typed h r.lift_check r.lower_check r.move lift_flats lower_flats (is_some (flat_values (linear_of d.lift).memory64 1 a.lift.results)) (is_some (flat_values (linear_of d.lower).memory64 1 a.lower.results)) l.given l.results l.args lift_flat_is lower_flat_is result_locals lift_size lower_size r.checks_lift r.checks_lower r.moves
-      results_using (lift_reached lift_flats links.lift.memory given_are) (lower_reached lower_flats links.lower.memory room.rest_types))
+      results_using (lift_reached lift_flats links.lift.memory given_are) (lower_reached lower_flats links.lower.memory room.rest_types) links.results_lists)
 
   -- ---- the whole
 
@@ -351,10 +350,9 @@ module _ {t : Tables} {d : AdapterData} {debug : Bool} {u : AdapterTunables} {a 
   pub sync_does : (args : List CoreValue) (ls : Locals) → held_types ls ≡ locals → AreHeld ls l.args args → Does M p Onward 900 0 [] ls code (sync u a args) reverse (HaveResultTypes (lower_type_of a))
   sync_does args ls held there =
       let s = parts_of d l k.may_leave in
-      let (gs, f) = some_of (flat_values (is_wide a.lift.memory) 16 a.lift.params) h.lift_flat in
-      let core : length l.core ≤ 16 = omega (arith, sym (slots_long l.core) ∙ ap length (parts.2 ∙ lift_params_are a h.lift.sync f), flat_few (is_wide a.lift.memory) 16 gs (are_flat (is_wide a.lift.memory) 16 a.lift.params gs f)) in
-      let given : length l.given ≤ 1 = few_results (is_wide a.lift.memory) lift_flats (address (is_wide a.lift.memory) ∷ []) l.given (omega arith) (λ fs e. flat_few (is_wide a.lift.memory) 1 fs (are_flat (is_wide a.lift.memory) 1 a.lift.results fs e)) given_are in
-      let results : length l.results ≤ 1 = few_results (is_wide a.lower.memory) lower_flats [] l.results (omega arith) (λ fs e. flat_few (is_wide a.lower.memory) 1 fs (are_flat (is_wide a.lower.memory) 1 a.lower.results fs e)) results_are_flat in
+      let core : length l.core ≤ 16 = few_slots 16 (flat_values (is_wide a.lift.memory) 16 a.lift.params) (address (is_wide a.lift.memory) ∷ []) l.core (omega arith) (λ gs f. flat_few (is_wide a.lift.memory) 16 gs (are_flat (is_wide a.lift.memory) 16 a.lift.params gs f)) (parts.2 ∙ lift_params_or a h.lift.sync) in
+      let given : length l.given ≤ 1 = few_slots 1 lift_flats (address (is_wide a.lift.memory) ∷ []) l.given (omega arith) (λ fs e. flat_few (is_wide a.lift.memory) 1 fs (are_flat (is_wide a.lift.memory) 1 a.lift.results fs e)) given_are in
+      let results : length l.results ≤ 1 = few_slots 1 lower_flats [] l.results (omega arith) (λ fs e. flat_few (is_wide a.lower.memory) 1 fs (are_flat (is_wide a.lower.memory) 1 a.lower.results fs e)) results_are_flat in
       weaker (λ vs. refl) (λ vs ls' x. ap (have_types vs) (sym room.results_types) ∙ held_have_types ls' l.results vs x)
       (subst (λ c. Does M p Onward 900 0 [] ls c (sync u a args) reverse (λ vs ls'. AreHeld ls' l.results vs)) (sym k.is)
       (within (omega (arith, core, given, results)) (syncs u a s args all_imports all_locals (λ ls e g. parts.0 ls args e g) (λ ls rs e g g'. results_do args ls rs e g g') ls h.untold h.alone h.no_post_return held there)))

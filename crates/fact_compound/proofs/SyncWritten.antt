@@ -10,11 +10,8 @@ use Rattle.fact_wasm.specs.declared.module.WasmModule.{WasmModule}
 use Rattle.fact_wasm.specs.declared.types.ValType.{ValType}
 use Rattle.fact_types.specs.Shapes.{Shape}
 use Rattle.fact_types.specs.Tables.{Tables}
-use Rattle.fact_types.specs.Tuples.{tuple_of}
 use Rattle.fact_moves.specs.Running.{ImportPlaces}
-use Rattle.fact_pieces.specs.Places.{InLocals, ToLocals}
 use Rattle.fact_emit.specs.Emits.{Grew, Is, Emits}
-use Rattle.fact_emit.specs.Fitting.{MovesNode}
 use Rattle.fact_emit.specs.States.{functions_of}
 use Rattle.fact_emit.specs.Writers.{Wrote, taken_in}
 use Rattle.fact_emit.specs.declared.writer.Writer.{Writer}

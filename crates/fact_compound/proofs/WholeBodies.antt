@@ -1,7 +1,5 @@
 -- The body of a sync adapter over locals that were added for it.
-use Rattle.std.proofs.Common.{◌≡◌, ℕ, ◌+◌, Bool, true, false, List, [], ◌∷◌, ◌++◌, Option, Some, None, refl, sym, ap, ◌∙◌, subst, arith, append_assoc, length, map, slice_get, reverse}
-use Rattle.std.specs.Prelude.{is_some}
-use Rattle.fact_wasm.specs.declared.instr.Instr.{Instr}
+use Rattle.std.proofs.Common.{◌≡◌, Bool, true, false, List, [], ◌∷◌, ◌++◌, refl, sym, ap, ◌∙◌, subst, length, map, slice_get, reverse}
 use Rattle.fact_wasm.specs.declared.types.ValType.{ValType}
 use Rattle.fact_wasm.specs.declared.types.ValType.TheVariants as val
 use Rattle.fact_wasm.specs.declared.module.WasmModule.{WasmModule}
@@ -11,10 +9,9 @@ use Rattle.fact_types.specs.Signatures.{address, flat_values, flat_params, unles
 use Rattle.fact_types.specs.Tables.{Tables}
 use Rattle.fact_types.specs.declared.signature.Signature.{Signature}
 use Rattle.fact_machine.specs.Trace.{Grows}
-use Rattle.fact_machine.specs.declared.types.CoreValue.{CoreValue}
 use Rattle.fact_moves.specs.Adapters.{AdapterTunables, sync, lower_signature_of, lift_signature_of}
 use Rattle.fact_moves.specs.Running.{ImportPlaces}
-use Rattle.fact_pieces.specs.Does.{Locals, Onward, held_types, Does}
+use Rattle.fact_pieces.specs.Does.{Onward, Does}
 use Rattle.fact_pieces.specs.PieceLaws.{HaveResultTypes}
 use Rattle.fact_pieces.specs.Places.{Slot, AreHeld, AreLocals, AreUsed}
 use Rattle.fact_pieces.specs.Typed.{OnStack, IsTyped}
@@ -22,7 +19,6 @@ use Rattle.fact_emit.specs.Brought.{Brought}
 use Rattle.fact_emit.specs.Emits.{Later}
 use Rattle.fact_emit.specs.Imports.{Extended, AreOnce, Serves}
 use Rattle.fact_emit.specs.Places.{AreDistinctSlots, slots_of_locals}
-use Rattle.fact_emit.specs.States.{ModuleSoFar}
 use Rattle.fact_emit.specs.Writers.{AreNumberTypes, types_of_locals, used_local_of, is_local_in_use, taken_in}
 use Rattle.fact_emit.specs.declared.writer.Local.{Local}
 use Rattle.fact_emit.specs.declared.writer.Writer.{Writer}
@@ -30,8 +26,8 @@ use Rattle.fact_emit.proofs.BroughtLaws.{brought_between}
 use Rattle.fact_emit.proofs.ImportLaws.{grown_get, grows_none, grows_on}
 use Rattle.fact_emit.proofs.Locals.{get_map}
 use Rattle.fact_compound.specs.Described.{DescribesAdapter, KnowsAdapterData}
-use Rattle.fact_compound.specs.Functions.{slots_from, AddedSyncLocals, PutBody, DoesBody, WroteBody, places_with, sync_types, params_among, added_slots, unless_passed}
-use Rattle.fact_compound.specs.Syncs.{DoesSync, EmitsSync, lower_type_of}
+use Rattle.fact_compound.specs.Functions.{slots_from, AddedSyncLocals, PutBody, DoesBody, WroteBody, places_with, sync_types, added_slots, unless_passed}
+use Rattle.fact_compound.specs.Syncs.{lower_type_of}
 use Rattle.fact_compound.specs.Code.{slot_types}
 use Rattle.fact_compound.specs.PassedOn.{ArePassedOn}
 use Rattle.fact_compound.specs.Written.{CoreLocals, HasLocals, all_slots, kept_slots}

@@ -9,7 +9,7 @@ use Rattle.fact_wasm.specs.declared.types.ValType.{ValType}
 use Rattle.fact_wasm.specs.declared.types.ValType.TheVariants as val
 use Rattle.fact_entity.specs.declared.id.Id.{Id}
 use Rattle.fact_entity.specs.declared.table.TypeFuncs.{TypeFuncs}
-use Rattle.fact_types.specs.Adapters.{LinkedAdapter, Side, is_wide}
+use Rattle.fact_types.specs.Adapters.{LinkedAdapter, is_wide}
 use Rattle.fact_types.specs.Flat.{value_type}
 use Rattle.fact_types.specs.FlatShapes.{flat_members}
 use Rattle.fact_types.specs.Functions.{HasSignature}
@@ -24,9 +24,7 @@ use Rattle.fact_types.specs.declared.signature.Signature.{Signature}
 use Rattle.std.specs.Prelude.{is_some}
 use Rattle.fact_machine.specs.Exits.{entry_locals}
 use Rattle.fact_machine.specs.Machine.{locals_of}
-use Rattle.fact_machine.specs.Typed.{are_values}
-use Rattle.fact_machine.specs.Typing.{is_number, is_typed_function, local_types}
-use Rattle.fact_machine.specs.declared.types.CoreValue.{CoreValue}
+use Rattle.fact_machine.specs.Typing.{is_number, local_types}
 use Rattle.fact_machine.proofs.Tests.{both}
 use Rattle.fact_moves.specs.Adapters.{AdapterTunables, sync, lower_signature_of, lift_signature_of}
 use Rattle.fact_moves.specs.Running.{ImportPlaces}

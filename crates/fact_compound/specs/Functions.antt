@@ -32,7 +32,7 @@ use Rattle.fact_emit.specs.declared.writer.Writer.{Writer}
 use Rattle.fact_compound.specs.Code.{slot_types}
 use Rattle.fact_compound.specs.Described.{DescribesAdapter, KnowsAdapterData}
 use Rattle.fact_compound.specs.Syncs.{IsSyncFunction, EmitsSync, WritesSync, lower_type_of}
-use Rattle.fact_compound.specs.Written.{SyncPlaces, all_slots}
+use Rattle.fact_compound.specs.Written.{SyncPlaces}
 use Rattle.fact_compound.specs.declared.adapters.AdapterData.{AdapterData}
 use Rattle.fact_compound.specs.declared.functions.AdapterLocals.{AdapterLocals}
 

@@ -1,5 +1,5 @@
 -- Parameters that are handed on as they are: each has one core value, which is carried as it stands.
-use Rattle.std.specs.Prelude.{◌≡◌, ℕ, zero, suc, Bool, true, false, List, map}
+use Rattle.std.specs.Prelude.{◌≡◌, ℕ, zero, suc, ◌≤◌, Bool, true, false, List, length, map}
 use Rattle.std.specs.List.{list_all}
 use Rattle.fact_wasm.specs.declared.types.ValType.{ValType}
 use Rattle.fact_wasm.specs.declared.types.ValType.TheVariants as val
@@ -28,10 +28,11 @@ core_type_of ty.Float32 = val.F32
 core_type_of ty.Float64 = val.F64
 core_type_of _ = val.FuncRef
 
--- parameters that are the same such types on both sides
+-- parameters that are the same such types on both sides, at most 16
 pub record ArePassedOn (from to : List Shape) : Type 0 where
   pub types : List InterfaceType
   pub all : list_all is_passed_on types ≡ true
+  pub few : length types ≤ 16
   pub from_are : from ≡ map (λ t. s_plain t) types
   pub to_are : to ≡ map (λ t. s_plain t) types
 

@@ -1,4 +1,5 @@
--- How results are passed: in locals, or through an area of a side's memory, which is checked before anything is read or written.
+-- How parameters and results are passed: in locals, or through an area of a side's memory, which is checked before anything is read
+-- or written.
 use Rattle.std.specs.Prelude.{◌≡◌, ℕ, Bool, true, false, List, [], ◌∷◌}
 use Rattle.fact_wasm.specs.declared.types.ValType.{ValType}
 use Rattle.fact_wasm.specs.declared.instr.Instr.{Instr}
@@ -14,6 +15,7 @@ use Rattle.fact_pieces.specs.Knows.{KnowsFunction}
 use Rattle.fact_compound.specs.Code.{may_leave_code}
 use Rattle.fact_pieces.specs.Places.{Slot, From, InLocals, InMemory, To, ToLocals, ToMemory}
 use Rattle.fact_emit.specs.Areas.{ChecksArea}
+use Rattle.fact_emit.specs.NewAreas.{AsksArea}
 use Rattle.fact_emit.specs.declared.places.LinearMemory.{LinearMemory}
 
 -- the last local, or 0 where there is none
@@ -22,15 +24,15 @@ last_local [] = 0
 last_local (s ∷ []) = s.0
 last_local (s ∷ t ∷ ss) = last_local (t ∷ ss)
 
--- results in these locals, or through the area whose address the last of them holds
-abbrev pub results_from : LinearMemory → (flat : Bool) → List Slot → From
-results_from m true slots = InLocals slots
-results_from m false slots = InMemory m.memory (last_local slots) 0
+-- values in these locals, or through the area whose address the last of them holds
+abbrev pub tuple_from : LinearMemory → (flat : Bool) → List Slot → From
+tuple_from m true slots = InLocals slots
+tuple_from m false slots = InMemory m.memory (last_local slots) 0
 
--- results to locals, or through the area whose address the last of the arguments holds
-abbrev pub results_to : LinearMemory → (flat : Bool) → (results args : List Slot) → To
-results_to m true results args = ToLocals results
-results_to m false results args = ToMemory m.memory (last_local args) 0
+-- values to locals, or through the area whose address the last of other locals holds
+abbrev pub tuple_to : LinearMemory → (flat : Bool) → (results args : List Slot) → To
+tuple_to m true results args = ToLocals results
+tuple_to m false results args = ToMemory m.memory (last_local args) 0
 
 -- the bytes of a tuple and its alignment, in a width of memory
 abbrev pub tuple_size : (memory64 : Bool) → List Shape → ℕ
@@ -39,10 +41,15 @@ tuple_size memory64 ts = (extent (width memory64) (layout_of (tuple_of ts))).siz
 abbrev pub tuple_align : (memory64 : Bool) → List Shape → ℕ
 tuple_align memory64 ts = (extent (width memory64) (layout_of (tuple_of ts))).align
 
--- no code where results are flat, and else code that checks their area
-abbrev pub ChecksResults : LinearMemory → (ℕ → Bool) → (flat : Bool) → (address size align : ℕ) → WasmModule → ImportPlaces → List ValType → List Instr → Type 0
-ChecksResults m taken true address size align M p locals code = code ≡ []
-ChecksResults m taken false address size align M p locals code = ChecksArea m taken address size align M p locals code
+-- no code where values are flat, and else code that checks their area
+abbrev pub ChecksTuple : LinearMemory → (ℕ → Bool) → (flat : Bool) → (address size align : ℕ) → WasmModule → ImportPlaces → List ValType → List Instr → Type 0
+ChecksTuple m taken true address size align M p locals code = code ≡ []
+ChecksTuple m taken false address size align M p locals code = ChecksArea m taken address size align M p locals code
+
+-- no code where values are flat, and else code that asks for a new area for them
+abbrev pub AsksTuple : LinearMemory → (ℕ → Bool) → (flat : Bool) → (address size align : ℕ) → WasmModule → ImportPlaces → List ValType → List Instr → Type 0
+AsksTuple m taken true address size align M p locals code = code ≡ []
+AsksTuple m taken false address size align M p locals code = AsksArea m taken address size align M p locals code
 
 -- the flags of an instance are kept in a local, with a trap where they are 0
 pub record ChecksMayLeave (flags saved : ℕ) (M : WasmModule) (p : ImportPlaces) (locals : List ValType) (code : List Instr) : Type 0 where

@@ -11,14 +11,12 @@ use Rattle.fact_emit.specs.Places.{AreDistinctSlots}
 use Rattle.fact_types.specs.Functions.{HasSignature}
 use Rattle.fact_types.specs.Shapes.{Shape}
 use Rattle.fact_types.specs.Tables.{Tables}
-use Rattle.fact_types.specs.Tuples.{tuple_of}
 use Rattle.fact_types.specs.declared.import.Import.TheVariants as import
 use Rattle.fact_types.specs.declared.outside.Trap.TheVariants.{CannotLeaveComponent}
 use Rattle.fact_moves.specs.Running.{ImportPlaces}
 use Rattle.fact_pieces.specs.Knows.{KnowsFunction}
-use Rattle.fact_pieces.specs.Places.{Slot, InLocals, ToLocals, AreLocals, AreUsed}
+use Rattle.fact_pieces.specs.Places.{Slot, AreLocals, AreUsed}
 use Rattle.fact_emit.specs.Emits.{Grew, Emits}
-use Rattle.fact_emit.specs.Fitting.{MovesNode}
 use Rattle.fact_emit.specs.Places.{slots_of_locals}
 use Rattle.fact_emit.specs.Writers.{taken_in}
 use Rattle.fact_emit.specs.declared.writer.Writer.{Writer}

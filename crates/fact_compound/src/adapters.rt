@@ -2,7 +2,7 @@
 
 ghost use Rattle.std.specs.Prelude.{◌≡◌};
 ghost use Rattle.fact_compound.specs.Passed.{params_sides as sides_of_params, results_sides as sides_of_results};
-ghost use Rattle.fact_compound.specs.Described.{linear_of as linear_of_side, memory_place as place_of_memory};
+ghost use Rattle.fact_compound.specs.Described.{linear_of as linear_of_side, memory_place as place_of_memory, number_if_any as number_of};
 
 use fact_emit::linking::custom_page_size;
 use fact_emit::places::{LinearMemory, Sides};
@@ -66,6 +66,16 @@ fn memory_place(memory: Option<MemoryIndex>) -> u32
     }
 }
 
+/// The place of a realloc, where there is one.
+fn realloc_place(realloc: Option<FuncIndex>) -> Option<u32>
+    ensures { result ≡ number_of realloc }
+{
+    match realloc {
+        Some(realloc) => Some(realloc.number),
+        None => None,
+    }
+}
+
 impl AdapterOptions {
     /// The side's memory as code uses it.
     pub fn linear(&self) -> LinearMemory
@@ -76,6 +86,7 @@ impl AdapterOptions {
             memory: memory_place(linear.memory),
             memory64: linear.memory64,
             page_size_log2: custom_page_size(linear.page_size_log2),
+            realloc: realloc_place(linear.realloc),
         }
     }
 }

@@ -6,12 +6,13 @@ ghost use Rattle.fact_emit.specs.Places.{slots_of_locals};
 ghost use Rattle.fact_emit.specs.Settings.{OnlySectionsChanged};
 ghost use Rattle.fact_emit.specs.States.{functions_of};
 ghost use Rattle.fact_emit.specs.declared.writer.Local as local_is;
+ghost use Rattle.fact_compound.specs.Described.{AreReallocsImported};
 ghost use Rattle.fact_compound.specs.Functions.{AddedLocals, AddedSyncLocals, core_slots, unless_passed, PutBody, WroteBody, WroteFunction, CompiledSync, params_among};
 
 use crate::adapters::{AdapterData, AdapterOptions};
 use crate::passing::are_passed_on;
 use crate::syncs::{SyncLocals, put_sync};
-use crate::tuples::{are_flat_results, tuples_of};
+use crate::tuples::{are_flat_values, tuples_of};
 use fact_builder::ComponentTypesBuilder;
 use fact_emit::places::TypedLocal;
 use fact_emit::state::{ModuleSections, ModuleState};
@@ -109,10 +110,11 @@ fn put_body(
     requires lower_live { adapter.now.lower.ty.number < length types.now.functions }
     requires lift_live { adapter.now.lift.ty.number < length types.now.functions }
     requires callee { adapter.now.callee.number < length (functions_of w.old.imports) }
+    requires reallocs { AreReallocsImported adapter.now w.old.imports }
     ensures { OnOk result (PutBody types.now adapter.now debug passed locals.now w.old w.new) }
 {
     let (_, results) = tuples_of(types, adapter.lower.ty);
-    let flat = are_flat_results(types, results);
+    let flat = are_flat_values(types, results, 1);
     let params = params_of(locals.args.as_slice(), flat);
     let places = SyncLocals {
         passed,
@@ -140,6 +142,7 @@ fn write_body(
     requires lower_live { adapter.now.lower.ty.number < length types.now.functions }
     requires lift_live { adapter.now.lift.ty.number < length types.now.functions }
     requires callee { adapter.now.callee.number < length (functions_of w.old.imports) }
+    requires reallocs { AreReallocsImported adapter.now w.old.imports }
     requires no_code { w.old.code.items ≡ [] }
     requires no_locals { w.old.locals.items ≡ [] }
     ensures { OnOk result (WroteBody types.now adapter.now debug lower.now lift.now w.old w.new) }
@@ -225,6 +228,7 @@ fn write_function(
     requires lower_live { adapter.now.lower.ty.number < length types.now.functions }
     requires lift_live { adapter.now.lift.ty.number < length types.now.functions }
     requires callee { adapter.now.callee.number < length (functions_of sections.old) }
+    requires reallocs { AreReallocsImported adapter.now sections.old }
     ensures { IfOk result (λ f. WroteFunction types.now adapter.now debug lower.now lift.now ty sections.old sections.new f) }
 {
     let alloc = sections.alloc();
@@ -269,6 +273,7 @@ fn compile_sync(
     requires lower_live { adapter.now.lower.ty.number < length types.now.tables.functions }
     requires lift_live { adapter.now.lift.ty.number < length types.now.tables.functions }
     requires callee { adapter.now.callee.number < length (functions_of sections.old) }
+    requires reallocs { AreReallocsImported adapter.now sections.old }
     ensures { OnOk result (CompiledSync types.now.tables adapter.now debug sections.old sections.new) }
 {
     let lower = types.lower_signature(&sync_side(&adapter.lower))?;
@@ -289,6 +294,7 @@ pub fn compile(state: &mut ModuleState<'_>, adapter: &AdapterData) -> Result<(),
     requires lower_live { adapter.now.lower.ty.number < length state.old.builder.now.tables.functions }
     requires lift_live { adapter.now.lift.ty.number < length state.old.builder.now.tables.functions }
     requires callee { adapter.now.callee.number < length (functions_of state.old.sections) }
+    requires reallocs { AreReallocsImported adapter.now state.old.sections }
     ensures compiled { OnOk result (CompiledSync state.old.builder.now.tables adapter.now state.old.tunables.now.debug_adapter_modules state.old.sections state.new.sections) }
     ensures keeps { OnlySectionsChanged state.old state.new }
 {

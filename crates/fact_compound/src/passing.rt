@@ -38,7 +38,7 @@ fn are_same_numbers(from: &[InterfaceType], to: &[InterfaceType]) -> bool
     from == to && are_numbers(from)
 }
 
-/// Whether the parameters of two live functions are the same types, each of which is handed on as it is.
+/// Whether the parameters of two live functions are the same types, at most 16, each of which is handed on as it is.
 pub fn are_passed_on(types: &ComponentTypes, lower: TypeFuncIndex, lift: TypeFuncIndex) -> bool
     requires lower_live { lower.number < length types.now.functions }
     requires lift_live { lift.number < length types.now.functions }
@@ -47,5 +47,8 @@ pub fn are_passed_on(types: &ComponentTypes, lower: TypeFuncIndex, lift: TypeFun
     types.reveal();
     let from = &types[types[lower].params];
     let to = &types[types[lift].params];
+    if from.types.len() > 16 {
+        return false;
+    }
     are_same_numbers(from.types.as_slice(), to.types.as_slice())
 }

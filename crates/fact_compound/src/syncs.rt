@@ -2,6 +2,7 @@
 
 ghost use Rattle.std.specs.Prelude.{OnOk, ◌<◌, length};
 ghost use Rattle.fact_emit.specs.States.{functions_of};
+ghost use Rattle.fact_compound.specs.Described.{AreReallocsImported};
 ghost use Rattle.fact_compound.specs.Syncs.{EmitsSync};
 ghost use Rattle.fact_compound.specs.Written.{sync_places};
 
@@ -41,6 +42,7 @@ pub fn put_sync(
     requires lower_live { adapter.now.lower.ty.number < length types.now.functions }
     requires lift_live { adapter.now.lift.ty.number < length types.now.functions }
     requires callee { adapter.now.callee.number < length (functions_of w.old.imports) }
+    requires reallocs { AreReallocsImported adapter.now w.old.imports }
     ensures { OnOk result (EmitsSync types.now adapter.now debug (sync_places locals.entry) w.old w.new) }
 {
     check_may_leave(w, adapter.lower.flags.number, locals.saved)?;

@@ -1,6 +1,6 @@
 //! The tuples of parameters and of results, from one side to the other.
 
-ghost use Rattle.std.specs.Prelude.{OnOk, ◌≡◌, ◌<◌, Bool, List, is_some, length};
+ghost use Rattle.std.specs.Prelude.{OnOk, ◌≡◌, ◌<◌, ◌≤◌, Bool, List, is_some, length};
 ghost use Rattle.fact_types.specs.FlatShapes.{AreCounted};
 ghost use Rattle.fact_types.specs.Functions.{HasSignature};
 ghost use Rattle.fact_types.specs.Shapes.{Shape};
@@ -10,15 +10,18 @@ ghost use Rattle.fact_types.specs.Tuples.{tuple_of, tuple_members};
 ghost use Rattle.fact_types.specs.declared.interface.InterfaceType.TheVariants as ty;
 ghost use Rattle.fact_emit.specs.Places.{slots_of_locals, from_of, to_of};
 ghost use Rattle.fact_emit.specs.declared.places.LinearMemory as linear;
-ghost use Rattle.fact_compound.specs.Passing.{last_local, results_from, results_to};
-ghost use Rattle.fact_compound.specs.Passed.{MovedParams, PassedParams, CheckedResults, MovedResults};
+ghost use Rattle.fact_compound.specs.Described.{linear_of};
+ghost use Rattle.fact_emit.specs.Requests.{IsReallocImported};
+ghost use Rattle.fact_compound.specs.Passing.{last_local, tuple_from, tuple_to};
+ghost use Rattle.fact_compound.specs.Passed.{MovedParams, PassedParams, AskedTuple, CheckedTuple, MovedResults};
 
 use crate::adapters::AdapterData;
 use fact_emit::places::{Address, LinearMemory, SourcePlace, TargetPlace, TypedLocal};
 use fact_emit::pointers::check_area;
-use fact_emit::products::move_tuple;
+use fact_emit::requests::ask_area;
 use fact_emit::writer::Writer;
 use fact_entity::{TypeFuncIndex, TypeTupleIndex};
+use fact_translate::products::move_tuple;
 use fact_types::{ComponentTypes, InterfaceType};
 use fact_wasm::OutOfMemory;
 
@@ -38,13 +41,14 @@ pub(crate) fn tuples_of(
     (entry.params, entry.results)
 }
 
-/// Whether the results of a live tuple are flat: there is at most one core value of them.
-pub(crate) fn are_flat_results(types: &ComponentTypes, tuple: TypeTupleIndex) -> bool
-    requires { IsLive types.now (ty.Tuple tuple) }
-    ensures { (memory64 : Bool) (ss : List Shape) → HasShape types.now (ty.Tuple tuple) (tuple_of ss) → AreCounted (tuple_members ss) → result ≡ is_some (flat_values memory64 1 ss) }
+/// Whether the values of a live tuple are flat: there are at most so many core values of them, of at most 16.
+pub(crate) fn are_flat_values(types: &ComponentTypes, tuple: TypeTupleIndex, limit: u8) -> bool
+    requires live { IsLive types.now (ty.Tuple tuple) }
+    requires small { limit ≤ 16 }
+    ensures { (memory64 : Bool) (ss : List Shape) → HasShape types.now (ty.Tuple tuple) (tuple_of ss) → AreCounted (tuple_members ss) → result ≡ is_some (flat_values memory64 limit ss) }
 {
     match types.canonical_abi(&InterfaceType::Tuple(tuple)).flat_count {
-        Some(count) => count <= 1,
+        Some(count) => count <= limit,
         None => false,
     }
 }
@@ -61,7 +65,8 @@ fn last_of(locals: &[TypedLocal]) -> u32
     }
 }
 
-/// Moves parameters that are flat on both sides.
+/// Moves parameters, behind the check of the area of the lower side and the request of one of the lift side, where they are not flat
+/// there.
 pub fn move_params(
     types: &ComponentTypes,
     w: &mut Writer,
@@ -72,13 +77,16 @@ pub fn move_params(
 ) -> Result<(), OutOfMemory>
     requires lower_live { adapter.now.lower.ty.number < length types.now.functions }
     requires lift_live { adapter.now.lift.ty.number < length types.now.functions }
+    requires realloc { IsReallocImported (linear_of adapter.now.lift) w.old.imports }
     ensures { OnOk result (MovedParams types.now adapter.now debug (slots_of_locals params.now) (slots_of_locals core.now) w.old w.new) }
 {
     let sides = adapter.params_sides(debug);
     let (from, _) = tuples_of(types, adapter.lower.ty);
     let (to, _) = tuples_of(types, adapter.lift.ty);
-    let source = SourcePlace::Locals(params);
-    let target = TargetPlace::Locals(core);
+    let source = tuple_source(are_flat_values(types, from, 16), params);
+    let target = tuple_target(are_flat_values(types, to, 16), core, core);
+    check_tuple_area(types, w, sides.from, from, 16, last_of(params))?;
+    ask_tuple_area(types, w, sides.to, to, last_of(core))?;
     move_tuple(types, w, sides, from, to, source, target)?;
     Ok(())
 }
@@ -95,6 +103,7 @@ pub fn pass_params(
 ) -> Result<(), OutOfMemory>
     requires lower_live { adapter.now.lower.ty.number < length types.now.functions }
     requires lift_live { adapter.now.lift.ty.number < length types.now.functions }
+    requires realloc { IsReallocImported (linear_of adapter.now.lift) w.old.imports }
     ensures { OnOk result (PassedParams types.now adapter.now debug passed (slots_of_locals params.now) (slots_of_locals core.now) w.old w.new) }
 {
     if !passed {
@@ -103,19 +112,21 @@ pub fn pass_params(
     Ok(())
 }
 
-/// Checks the area that results are passed through, where they are not flat.
-fn check_results(
+/// Checks the area that values are passed through, where they are more than so many core values, of at most 16.
+fn check_tuple_area(
     types: &ComponentTypes,
     w: &mut Writer,
     linear: LinearMemory,
     tuple: TypeTupleIndex,
+    limit: u8,
     address: u32,
 ) -> Result<(), OutOfMemory>
-    requires { IsLive types.now (ty.Tuple tuple) }
-    ensures { OnOk result (CheckedResults types.now tuple linear address w.old w.new) }
+    requires live { IsLive types.now (ty.Tuple tuple) }
+    requires small { limit ≤ 16 }
+    ensures { OnOk result (CheckedTuple types.now tuple linear limit address w.old w.new) }
 {
     let abi = types.canonical_abi(&InterfaceType::Tuple(tuple));
-    if !are_flat_results(types, tuple) {
+    if !are_flat_values(types, tuple, limit) {
         if linear.memory64 {
             check_area(w, linear, address, abi.size64, abi.align64)?;
         } else {
@@ -125,9 +136,32 @@ fn check_results(
     Ok(())
 }
 
-/// Where the callee's results stand.
-fn results_source<'a>(flat: bool, given: &'a [TypedLocal]) -> SourcePlace<'a>
-    ensures { (m : linear.LinearMemory) → from_of m result ≡ results_from m flat (slots_of_locals given.now) }
+/// Asks for an area that values are passed through, where they are more than 16 core values, and puts its address into a local.
+fn ask_tuple_area(
+    types: &ComponentTypes,
+    w: &mut Writer,
+    linear: LinearMemory,
+    tuple: TypeTupleIndex,
+    address: u32,
+) -> Result<(), OutOfMemory>
+    requires live { IsLive types.now (ty.Tuple tuple) }
+    requires realloc { IsReallocImported linear w.old.imports }
+    ensures { OnOk result (AskedTuple types.now tuple linear address w.old w.new) }
+{
+    let abi = types.canonical_abi(&InterfaceType::Tuple(tuple));
+    if !are_flat_values(types, tuple, 16) {
+        if linear.memory64 {
+            ask_area(w, linear, address, abi.size64, abi.align64)?;
+        } else {
+            ask_area(w, linear, address, abi.size32, abi.align32)?;
+        }
+    }
+    Ok(())
+}
+
+/// Where the values of a tuple stand.
+fn tuple_source<'a>(flat: bool, given: &'a [TypedLocal]) -> SourcePlace<'a>
+    ensures { (m : linear.LinearMemory) → from_of m result ≡ tuple_from m flat (slots_of_locals given.now) }
 {
     if flat {
         SourcePlace::Locals(given)
@@ -139,9 +173,9 @@ fn results_source<'a>(flat: bool, given: &'a [TypedLocal]) -> SourcePlace<'a>
     }
 }
 
-/// Where results go.
-fn results_target<'a>(flat: bool, results: &'a [TypedLocal], args: &[TypedLocal]) -> TargetPlace<'a>
-    ensures { (m : linear.LinearMemory) → to_of m result ≡ results_to m flat (slots_of_locals results.now) (slots_of_locals args.now) }
+/// Where the values of a tuple go.
+fn tuple_target<'a>(flat: bool, results: &'a [TypedLocal], args: &[TypedLocal]) -> TargetPlace<'a>
+    ensures { (m : linear.LinearMemory) → to_of m result ≡ tuple_to m flat (slots_of_locals results.now) (slots_of_locals args.now) }
 {
     if flat {
         TargetPlace::Locals(results)
@@ -165,15 +199,16 @@ pub fn move_results(
 ) -> Result<(), OutOfMemory>
     requires lower_live { adapter.now.lower.ty.number < length types.now.functions }
     requires lift_live { adapter.now.lift.ty.number < length types.now.functions }
+    requires realloc { IsReallocImported (linear_of adapter.now.lower) w.old.imports }
     ensures { OnOk result (MovedResults types.now adapter.now debug (slots_of_locals given.now) (slots_of_locals results.now) (slots_of_locals args.now) w.old w.new) }
 {
     let sides = adapter.results_sides(debug);
     let (_, from) = tuples_of(types, adapter.lift.ty);
     let (_, to) = tuples_of(types, adapter.lower.ty);
-    let source = results_source(are_flat_results(types, from), given);
-    let target = results_target(are_flat_results(types, to), results, args);
-    check_results(types, w, sides.from, from, last_of(given))?;
-    check_results(types, w, sides.to, to, last_of(args))?;
+    let source = tuple_source(are_flat_values(types, from, 1), given);
+    let target = tuple_target(are_flat_values(types, to, 1), results, args);
+    check_tuple_area(types, w, sides.from, from, 1, last_of(given))?;
+    check_tuple_area(types, w, sides.to, to, 1, last_of(args))?;
     move_tuple(types, w, sides, from, to, source, target)?;
     Ok(())
 }

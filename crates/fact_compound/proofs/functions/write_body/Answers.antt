@@ -1,5 +1,9 @@
 use Rattle.fact_compound.proofs.WholeBodies.{wrote_body}
+use Rattle.fact_compound.proofs.ReallocsKept.{reallocs_same}
 use Rattle.fact_compound.proofs.functions.write_body.Goals as goal
+
+pub put_body-requires-clause-reallocs : goal.put_body-requires-clause-reallocs
+put_body-requires-clause-reallocs c = reallocs_same c.in_ok-locals.ensures.added.imports c.requires.reallocs
 
 pub returns : goal.returns
 returns c =

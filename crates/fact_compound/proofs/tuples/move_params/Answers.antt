@@ -1,5 +1,23 @@
+use Rattle.std.proofs.Common.{subst, sym}
+use Rattle.fact_emit.specs.declared.places.Sides.{Sides}
+use Rattle.fact_emit.specs.Requests.{IsReallocImported}
 use Rattle.fact_compound.proofs.TuplesWritten.{moved_params}
 use Rattle.fact_compound.proofs.tuples.move_params.Goals as goal
+use Rattle.fact_emit.proofs.RequestRanged.{realloc_on}
+
+pub ask_tuple_area-requires : goal.ask_tuple_area-requires
+ask_tuple_area-requires c = record {
+  live = c.tuples_of-2.ensures.params_live;
+  realloc = realloc_on (subst (λ (s : Sides). IsReallocImported s.to c.args.w.now.imports) (sym c.params_sides-sides.ensures) c.requires.realloc) c.in_ok-check_tuple_area.ensures.grew;
+}
+
+pub move_tuple-requires : goal.move_tuple-requires
+move_tuple-requires c = record {
+  from_live = c.tuples_of.ensures.params_live;
+  to_live = c.tuples_of-2.ensures.params_live;
+  realloc = realloc_on (realloc_on (subst (λ (s : Sides). IsReallocImported s.to c.args.w.now.imports) (sym c.params_sides-sides.ensures) c.requires.realloc) c.in_ok-check_tuple_area.ensures.grew) c.in_ok-ask_tuple_area.ensures.grew;
+}
 
 pub returns : goal.returns
-returns c = moved_params c.args.adapter.now c.args.debug c.params_sides-sides.ensures _ _ _ _ c.tuples_of.ensures.params c.tuples_of-2.ensures.params c.in_ok-move_tuple.ensures
+returns c = moved_params c.args.adapter.now c.args.debug c.params_sides-sides.ensures _ _ _ _ _ _ c.last_of.ensures c.last_of-2.ensures (c.tuple_source-source.ensures c.params_sides-sides.result.from) (c.tuple_target-target.ensures c.params_sides-sides.result.to)
+    c.are_flat_values.ensures c.are_flat_values-2.ensures c.tuples_of.ensures.params c.tuples_of-2.ensures.params c.in_ok-check_tuple_area.ensures c.in_ok-ask_tuple_area.ensures c.in_ok-move_tuple.ensures

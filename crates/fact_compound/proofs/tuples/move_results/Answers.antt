@@ -1,6 +1,17 @@
+use Rattle.std.proofs.Common.{subst, sym}
+use Rattle.fact_emit.specs.declared.places.Sides.{Sides}
+use Rattle.fact_emit.specs.Requests.{IsReallocImported}
 use Rattle.fact_compound.proofs.TuplesWritten.{moved_results}
 use Rattle.fact_compound.proofs.tuples.move_results.Goals as goal
+use Rattle.fact_emit.proofs.RequestRanged.{realloc_on}
+
+pub move_tuple-requires : goal.move_tuple-requires
+move_tuple-requires c = record {
+  from_live = c.tuples_of.ensures.results_live;
+  to_live = c.tuples_of-2.ensures.results_live;
+  realloc = realloc_on (realloc_on (subst (λ (s : Sides). IsReallocImported s.to c.args.w.now.imports) (sym c.results_sides-sides.ensures) c.requires.realloc) c.in_ok-check_tuple_area.ensures.grew) c.in_ok-check_tuple_area-2.ensures.grew;
+}
 
 pub returns : goal.returns
-returns c = moved_results c.args.adapter.now c.args.debug c.results_sides-sides.ensures _ _ _ _ _ _ _ c.last_of.ensures c.last_of-2.ensures (c.results_source-source.ensures c.results_sides-sides.result.from) (c.results_target-target.ensures c.results_sides-sides.result.to)
-    c.are_flat_results.ensures c.are_flat_results-2.ensures c.tuples_of.ensures.results c.tuples_of-2.ensures.results c.in_ok-check_results.ensures c.in_ok-check_results-2.ensures c.in_ok-move_tuple.ensures
+returns c = moved_results c.args.adapter.now c.args.debug c.results_sides-sides.ensures _ _ _ _ _ _ _ c.last_of.ensures c.last_of-2.ensures (c.tuple_source-source.ensures c.results_sides-sides.result.from) (c.tuple_target-target.ensures c.results_sides-sides.result.to)
+    c.are_flat_values.ensures c.are_flat_values-2.ensures c.tuples_of.ensures.results c.tuples_of-2.ensures.results c.in_ok-check_tuple_area.ensures c.in_ok-check_tuple_area-2.ensures c.in_ok-move_tuple.ensures
