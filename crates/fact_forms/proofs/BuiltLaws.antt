@@ -1,12 +1,11 @@
 -- The parts that make an adapter one that is built.
-use Rattle.std.proofs.Common.{◌≡◌, Bool, true, false, List, [], ◌∷◌, inl, inr, refl, sym, ◌∙◌, IsTrue}
-use Rattle.std.specs.Prelude.{◌↔◌, ◌&&◌, not, is_some}
+use Rattle.std.proofs.Common.{Bool, true, false, List, [], ◌∷◌, inl, inr, refl, sym, ◌∙◌, IsTrue}
+use Rattle.std.specs.Prelude.{◌↔◌, ◌&&◌, not}
 use Rattle.std.specs.List.{Any, AllByRecursion}
 use Rattle.std.proofs.lemmas.Bool.{true≢false}
 use Rattle.fact_builder.specs.Builder.{Builder}
-use Rattle.fact_types.specs.Adapters.{LinkedAdapter, Side, is_wide}
+use Rattle.fact_types.specs.Adapters.{LinkedAdapter, Side}
 use Rattle.fact_types.specs.Shapes.{Shape}
-use Rattle.fact_types.specs.Signatures.{flat_values}
 use Rattle.fact_type_rules.specs.Forms.{HasUnbuiltTypes, IsBuiltShape, IsUnbuiltShape}
 use Rattle.fact_type_rules.specs.TypeFaults.{AnyIn}
 use Rattle.fact_type_rules.proofs.ListLaws.{any-none, any-here, any-there, any-cases}
@@ -28,21 +27,18 @@ each_built (s ∷ ss) h = (λ x. h (any-here (AnyIn IsUnbuiltShape) s ss x), eac
 
 -- ---- a side
 
--- three tests make a side one that is built
-pub built_side : (plain flat unbuilt : Bool) (s : Side) → (IsTrue plain ↔ IsPlainSide s) → flat ≡ is_some (flat_values (is_wide s.memory) 16 s.params) → (IsTrue unbuilt ↔ HasUnbuiltTypes s.params s.results)
-    → (IsTrue (plain && (flat && not unbuilt)) ↔ IsBuiltSide s)
-built_side false flat unbuilt s p f u = (λ e. absurd (true≢false (sym e)), λ x. absurd (true≢false (sym (p.1 (plain_of x)))))
+-- two tests make a side one that is built
+pub built_side : (plain unbuilt : Bool) (s : Side) → (IsTrue plain ↔ IsPlainSide s) → (IsTrue unbuilt ↔ HasUnbuiltTypes s.params s.results) → (IsTrue (plain && not unbuilt) ↔ IsBuiltSide s)
+built_side false unbuilt s p u = (λ e. absurd (true≢false (sym e)), λ x. absurd (true≢false (sym (p.1 (plain_of x)))))
   where
     plain_of : IsBuiltSide s → IsPlainSide s
     plain_of x = record { sync_type = x.sync_type; sync_side = x.sync_side; callback = x.callback; post_return = x.post_return }
-built_side true false unbuilt s p f u = (λ e. absurd (true≢false (sym e)), λ x. absurd (true≢false (sym x.flat_params ∙ sym f)))
-built_side true true true s p f u =
+built_side true true s p u =
     (λ e. absurd (true≢false (sym e)), λ x. absurd (elim (u.0 refl) [ inl q ↦ none_unbuilt s.params x.params q | inr q ↦ none_unbuilt s.results x.results q ]))
-built_side true true false s p f u = (
+built_side true false s p u = (
   λ e. record {
     params = each_built s.params (λ q. true≢false (sym (u.1 (inl q))));
     results = each_built s.results (λ q. true≢false (sym (u.1 (inr q))));
-    flat_params = sym f;
     sync_type = (p.0 refl).sync_type;
     sync_side = (p.0 refl).sync_side;
     callback = (p.0 refl).callback;

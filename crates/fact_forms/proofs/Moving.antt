@@ -9,26 +9,32 @@ use Rattle.fact_types.specs.Agrees.{Agrees, AgreesPlain, AgreesBy, AgreesFields,
 use Rattle.fact_types.specs.Fields.{field_of}
 use Rattle.fact_types.specs.FlatShapes.{AreCounted}
 use Rattle.fact_types.specs.Handles.{is_borrow, has_borrow, have_borrow, borrow_by}
-use Rattle.fact_types.specs.Shapes.{Kind, k_record, k_variant, k_list, k_tuple, k_map, k_flags, k_enum, k_option, k_result, k_fixed, k_future, k_stream, Shape, s_plain, s_node, Members, no_members, bare, typed}
+use Rattle.fact_types.specs.Shapes.{Kind, k_record, k_variant, k_list, k_tuple, k_map, k_flags, k_enum, k_option, k_result, k_fixed, k_future, k_stream, Shape, s_plain, s_node, Members, no_members, bare, typed, layouts_of}
+use Rattle.fact_types.specs.Layout.{extent, payloads, record_layout}
+use Rattle.fact_types.specs.Sound.{TakesBytes}
+use Rattle.fact_types.specs.declared.widths.MemoryWidth.{MemoryWidth}
+use Rattle.fact_types.specs.declared.widths.MemoryWidth.TheVariants.{Memory32, Memory64}
 use Rattle.fact_types.specs.Tuples.{members_from, tuple_members}
-use Rattle.fact_types.specs.Valid.{AreDistinct, FollowsRules, IsRuled, IsValid, AreRuled}
+use Rattle.fact_types.specs.Valid.{AreDistinct, FollowsRules, IsValid}
+use Rattle.fact_types.proofs.PlaceLaws.{ends_within}
 use Rattle.fact_types.proofs.ValidLaws.{valid_counted}
 use Rattle.fact_abi.specs.Canonical.{ThereIs}
 use Rattle.fact_abi.specs.Limits.{CaseType, case_type}
 use Rattle.fact_abi.specs.Numbers.{plain_of}
 use Rattle.fact_abi.specs.Places.{count_of_members}
 use Rattle.fact_carry.specs.FaithfulLaws.{AreWellFormedTypes}
-use Rattle.fact_carry.specs.Law.{HasValues, IsWellFormed, IsWellFormedBy, AreWellFormed}
+use Rattle.fact_carry.specs.Law.{AreTyped, HasValues, IsWellFormed, IsWellFormedBy, AreWellFormed}
 use Rattle.fact_carry.proofs.Distinct.{each_agrees, places_agree}
+use Rattle.fact_carry.proofs.Elements.{takes_some}
 use Rattle.fact_carry.proofs.Fields.{found_named, formed_found}
-use Rattle.fact_carry.proofs.Grounding.{members_ruled}
-use Rattle.fact_carry.proofs.Membered.{fields_agree, members_formed}
-use Rattle.fact_carry.proofs.Theorem.{places_names}
+use Rattle.fact_carry.proofs.Membered.{fields_agree, members_formed, members_valid as tuple_valid}
+use Rattle.fact_carry.proofs.Theorem.{AreValid, case_valid, members_valid, places_names, valid_found}
 use Rattle.fact_carry.proofs.Tuples.{places_fields}
 use Rattle.fact_carry.proofs.Variants.{case_formed}
 use Rattle.fact_type_rules.specs.Forms.{IsBuiltShape, IsUnbuiltKind, IsUnbuiltShape, IsUnbuiltType}
 use Rattle.fact_type_rules.specs.TypeFaults.{AnyAmong}
-use Rattle.fact_emit.specs.Movable.{is_scalar, CanMove, CanMovePlain, CanMoveFields, CanMoveCase, CanMoveCases, CanMoveFlags}
+use Rattle.fact_emit.specs.Scalars.{is_scalar}
+use Rattle.fact_translate.specs.Movable.{CanMove, CanMovePlain, CanMoveFields, CanMoveCase, CanMoveCases, CanMoveElements, CanMoveFlags}
 use Rattle.fact_compound.specs.Described.{CanMoveTuple}
 
 -- ---- one type
@@ -49,7 +55,10 @@ scalar_built ty.Float64 b g = refl
 scalar_built ty.Char b g = refl
 scalar_built (ty.Record i) b g = absurd g
 scalar_built (ty.Variant i) b g = absurd g
+scalar_built (ty.List i) b g = absurd g
+scalar_built (ty.FixedLengthList i) b g = absurd g
 scalar_built (ty.Tuple i) b g = absurd g
+scalar_built (ty.Map i) b g = absurd g
 scalar_built (ty.Flags i) b g = absurd g
 scalar_built (ty.Enum i) b g = absurd g
 scalar_built (ty.Option i) b g = absurd g
@@ -63,6 +72,10 @@ scalar_moves (ty.ErrorContext j) s h a = absurd (false≢true h)
 scalar_moves q (s_plain p) h a = (a, ap is_scalar a ∙ h)
 scalar_moves q (s_node k ms) h a = absurd a
 
+-- the payload of a case, where it has one, is of a valid type
+abbrev IsSoundPayload : CaseType → Type 0
+IsSoundPayload c = (p : Shape) → c.payload ≡ Some p → IsValid p × IsWellFormed p
+
 count_names : (ms : Members) → count_of_members ms ≡ length (names_of ms)
 count_names no_members = refl
 count_names (bare n ms) = ap suc (count_names ms)
@@ -73,69 +86,84 @@ flags_move ms ns e enough =
     let same : count_of_members ns ≡ count_of_members ms = count_names ns ∙ ap length (sym e) ∙ sym (count_names ms) in
     record { same = same; some = omega (arith, same, enough.0); few = omega (arith, same, enough.1) }
 
+-- elements and entries of valid types take bytes
+element_bytes : (x : List ℕ) (xs : List (List ℕ)) (ms : Members) → names_of ms ≡ x ∷ xs → AreTyped ms → AreValid ms → TakesBytes (record_layout (payloads (layouts_of ms)))
+element_bytes x xs no_members e t v = cc
+element_bytes x xs (bare y ms) e t v = absurd t
+element_bytes x xs (typed y s ms) e t v =
+    let least : (w : MemoryWidth) → 1 ≤ (extent w (record_layout (payloads (layouts_of (typed y s ms))))).size = λ w. omega (arith, takes_some w y s ms v.0, ends_within w (typed y s ms)) in
+    record { memory32 = least Memory32; memory64 = least Memory64 }
+
+elements_move : (x : List ℕ) (xs : List (List ℕ)) (ms ns : Members) → (names_of ms ≡ x ∷ xs) × AreTyped ms → (names_of ns ≡ x ∷ xs) × AreTyped ns → AreValid ms → AreValid ns → CanMoveFields ms ns → CanMoveElements ms ns (CanMoveFields ms ns)
+elements_move x xs ms ns f g v w fields = record { fields = fields; from_bytes = element_bytes x xs ms f.0 f.1 v; to_bytes = element_bytes x xs ns g.0 g.1 w }
+
 -- what each case of a source has, where the cases agree
-module _ (ms ns : Members) (f : AreWellFormed ms) (go : (c : CaseType) → AgreesCase c.name c.payload ns → ((p : Shape) → c.payload ≡ Some p → IsWellFormed p) → CanMoveCase c ns) where
+module _ (ms ns : Members) (v : AreValid ms) (f : AreWellFormed ms) (go : (c : CaseType) → AgreesCase c.name c.payload ns → IsSoundPayload c → CanMoveCase c ns) where
   each_moves : ((n : ℕ) (c : CaseType) → case_type ms n ≡ Some c → AgreesCase c.name c.payload ns) → CanMoveCases ms ns
-  each_moves agree = λ n c h. go c (agree n c h) (λ p e. case_formed ms n c p f h e)
+  each_moves agree = λ n c h. go c (agree n c h) (λ p e. (case_valid ms n c p v h e, case_formed ms n c p f h e))
 
   -- those of options and results pair up by place, and have the names of their kind
   paired_moves : AgreesPlaces ms ns → names_of ms ≡ names_of ns → AreDistinct (names_of ns) → CanMoveCases ms ns
   paired_moves a e d = each_moves (λ n c h. places_agree ms ns n c a e d h)
 
 node_moves : (k : Kind) (t : Shape) (ns : Members) → AgreesBy k t ns (λ ms. AgreesFields ms ns) (λ x p. AgreesCase x p ns) (λ ms. AgreesPlaces ms ns)
-    → (IsUnbuiltKind k → ⊥) → FollowsRules k ns → IsWellFormed t → IsWellFormedBy k ns
-    → ((ms : Members) → AgreesFields ms ns → AreWellFormed ms → CanMoveFields ms ns)
-    → ((c : CaseType) → AgreesCase c.name c.payload ns → ((p : Shape) → c.payload ≡ Some p → IsWellFormed p) → CanMoveCase c ns) → CanMove t (s_node k ns)
-node_moves k_record (s_node k_record ms) ns a b r f g go case = go ms a.fields f.1
-node_moves k_tuple (s_node k_tuple ms) ns a b r f g go case = go ms (places_fields ms ns a (places_names 0 ms ns a f.0.0 g.0) r.distinct f.0.1) f.1
-node_moves k_flags (s_node k_flags ms) ns a b r f g go case = flags_move ms ns a r.enough
-node_moves k_variant (s_node k_variant ms) ns a b r f g go case = each_moves ms ns f.1 case (λ n c h. each_agrees ms ns n c a h)
-node_moves k_enum (s_node k_enum ms) ns a b r f g go case = count_names ns ∙ ap length (sym a) ∙ sym (count_names ms)
-node_moves k_option (s_node k_option ms) ns a b r f g go case = paired_moves ms ns f.1 case a (f.0 ∙ sym g) r.distinct
-node_moves k_result (s_node k_result ms) ns a b r f g go case = paired_moves ms ns f.1 case a (f.0 ∙ sym g) r.distinct
-node_moves k_list t ns a b r f g go case = absurd (b tt)
-node_moves k_map t ns a b r f g go case = absurd (b tt)
-node_moves (k_fixed n) t ns a b r f g go case = absurd (b tt)
-node_moves (k_future u i) t ns a b r f g go case = absurd (b tt)
-node_moves (k_stream u i) t ns a b r f g go case = absurd (b tt)
-node_moves k t ns a b r f g go case = absurd a
+    → (IsUnbuiltKind k → ⊥) → FollowsRules k ns → IsValid t → AreValid ns → IsWellFormed t → IsWellFormedBy k ns
+    → ((ms : Members) → AgreesFields ms ns → AreValid ms → AreWellFormed ms → CanMoveFields ms ns)
+    → ((c : CaseType) → AgreesCase c.name c.payload ns → IsSoundPayload c → CanMoveCase c ns) → CanMove t (s_node k ns)
+node_moves k_record (s_node k_record ms) ns a b r v w f g go case = go ms a.fields (members_valid k_record ms v) f.1
+node_moves k_tuple (s_node k_tuple ms) ns a b r v w f g go case = go ms (places_fields ms ns a (places_names 0 ms ns a f.0.0 g.0) r.distinct f.0.1) (members_valid k_tuple ms v) f.1
+node_moves k_list (s_node k_list ms) ns a b r v w f g go case =
+    elements_move [] [] ms ns f.0 g (members_valid k_list ms v) w (go ms (places_fields ms ns a (f.0.0 ∙ sym g.0) r.distinct f.0.1) (members_valid k_list ms v) f.1)
+node_moves k_map (s_node k_map ms) ns a b r v w f g go case =
+    elements_move (0 ∷ []) ((1 ∷ []) ∷ []) ms ns f.0 g (members_valid k_map ms v) w (go ms (places_fields ms ns a (f.0.0 ∙ sym g.0) r.distinct f.0.1) (members_valid k_map ms v) f.1)
+node_moves (k_fixed n) (s_node (k_fixed m) ms) ns a b r v w f g go case =
+    (a.0, elements_move [] [] ms ns f.0 g (members_valid (k_fixed m) ms v) w (go ms (places_fields ms ns a.1 (f.0.0 ∙ sym g.0) r.distinct f.0.1) (members_valid (k_fixed m) ms v) f.1))
+node_moves k_flags (s_node k_flags ms) ns a b r v w f g go case = flags_move ms ns a r.enough
+node_moves k_variant (s_node k_variant ms) ns a b r v w f g go case = each_moves ms ns (members_valid k_variant ms v) f.1 case (λ n c h. each_agrees ms ns n c a h)
+node_moves k_enum (s_node k_enum ms) ns a b r v w f g go case = count_names ns ∙ ap length (sym a) ∙ sym (count_names ms)
+node_moves k_option (s_node k_option ms) ns a b r v w f g go case = paired_moves ms ns (members_valid k_option ms v) f.1 case a (f.0 ∙ sym g) r.distinct
+node_moves k_result (s_node k_result ms) ns a b r v w f g go case = paired_moves ms ns (members_valid k_result ms v) f.1 case a (f.0 ∙ sym g) r.distinct
+node_moves (k_future u i) t ns a b r v w f g go case = absurd (b tt)
+node_moves (k_stream u i) t ns a b r v w f g go case = absurd (b tt)
+node_moves k t ns a b r v w f g go case = absurd a
 
 -- the source member that a destination member is moved from
-field_there : (x : List ℕ) (ms : Members) (u : Shape) (q : Option Shape) → named x ms ≡ q → BothThere q (λ s. Agrees s u) → AreWellFormed ms
-    → ((s : Shape) → Agrees s u → IsWellFormed s → CanMove s u) → ThereIs (field_of x ms) (λ f. CanMove f.shape u)
-field_there x ms u None e a f go = absurd a
-field_there x ms u (Some s) e a f go =
+field_there : (x : List ℕ) (ms : Members) (u : Shape) (q : Option Shape) → named x ms ≡ q → BothThere q (λ s. Agrees s u) → AreValid ms → AreWellFormed ms
+    → ((s : Shape) → Agrees s u → IsValid s → IsWellFormed s → CanMove s u) → ThereIs (field_of x ms) (λ f. CanMove f.shape u)
+field_there x ms u None e a v f go = absurd a
+field_there x ms u (Some s) e a v f go =
     let found = found_named x ms 0 0 0 s e in
     subst (λ o. ThereIs o (λ f. CanMove f.shape u)) (sym found.is)
-    (go found.field.shape (subst (λ s. Agrees s u) (sym found.shape) a) (formed_found x ms 0 0 0 found.field f found.is))
+    (go found.field.shape (subst (λ s. Agrees s u) (sym found.shape) a) (valid_found x ms 0 0 0 found.field v found.is) (formed_found x ms 0 0 0 found.field f found.is))
 
 -- the payload of a source's case that one of a destination is moved from
-payload_there : (o : Option Shape) (u : Shape) → BothThere o (λ s. Agrees s u) → ((p : Shape) → o ≡ Some p → IsWellFormed p) → ((s : Shape) → Agrees s u → IsWellFormed s → CanMove s u) → ThereIs o (λ p. CanMove p u)
+payload_there : (o : Option Shape) (u : Shape) → BothThere o (λ s. Agrees s u) → ((p : Shape) → o ≡ Some p → IsValid p × IsWellFormed p) → ((s : Shape) → Agrees s u → IsValid s → IsWellFormed s → CanMove s u) → ThereIs o (λ p. CanMove p u)
 payload_there None u a f go = absurd a
-payload_there (Some p) u a f go = go p a (f p refl)
+payload_there (Some p) u a f go = go p a (f p refl).0 (f p refl).1
 
 chosen_as : (b : Bool) (A B C D : Type 0) → (A → C) → (B → D) → chosen b A B → chosen b C D
 chosen_as true A B C D f g x = f x
 chosen_as false A B C D f g x = g x
 
 mutual
-  pub moves : (u t : Shape) → IsBuiltShape u → Agrees t u → IsRuled u → IsWellFormed t → IsWellFormed u → CanMove t u
-  moves (s_plain q) t b a r f g = scalar_moves q t (scalar_built q b g) a
-  moves (s_node k ns) t b a r f g =
-      node_moves k t ns a (λ x. b (inl x)) r.0 f g.0 (λ ms agree formed. fields_move ns ms (λ x. b (inr x)) agree r.1 formed g.1) (λ c agree formed. case_moves ns c (λ x. b (inr x)) agree r.1 formed g.1)
+  pub moves : (u t : Shape) → IsBuiltShape u → Agrees t u → IsValid t → IsValid u → IsWellFormed t → IsWellFormed u → CanMove t u
+  moves (s_plain q) t b a v w f g = scalar_moves q t (scalar_built q b g) a
+  moves (s_node k ns) t b a v w f g =
+      let valid = members_valid k ns w in
+      node_moves k t ns a (λ x. b (inl x)) w.ruled.0 v valid f g.0 (λ ms agree v formed. fields_move ns ms (λ x. b (inr x)) agree v valid formed g.1) (λ c agree sound. case_moves ns c (λ x. b (inr x)) agree sound valid g.1)
 
-  fields_move : (ns ms : Members) → (AnyAmong IsUnbuiltShape ns → ⊥) → AgreesFields ms ns → AreRuled ns → AreWellFormed ms → AreWellFormed ns → CanMoveFields ms ns
-  fields_move no_members ms b a r f g = tt
-  fields_move (bare x ns) ms b a r f g = fields_move ns ms b a r f g
-  fields_move (typed x u ns) ms b a r f g =
-      (field_there x ms u (named x ms) refl a.0 f (λ s agree formed. moves u s (λ y. b (inl y)) agree r.0 formed g.0), fields_move ns ms (λ y. b (inr y)) a.1 r.1 f g.1)
+  fields_move : (ns ms : Members) → (AnyAmong IsUnbuiltShape ns → ⊥) → AgreesFields ms ns → AreValid ms → AreValid ns → AreWellFormed ms → AreWellFormed ns → CanMoveFields ms ns
+  fields_move no_members ms b a v w f g = tt
+  fields_move (bare x ns) ms b a v w f g = fields_move ns ms b a v w f g
+  fields_move (typed x u ns) ms b a v w f g =
+      (field_there x ms u (named x ms) refl a.0 v f (λ s agree valid formed. moves u s (λ y. b (inl y)) agree valid w.0 formed g.0), fields_move ns ms (λ y. b (inr y)) a.1 v w.1 f g.1)
 
-  case_moves : (ns : Members) (c : CaseType) → (AnyAmong IsUnbuiltShape ns → ⊥) → AgreesCase c.name c.payload ns → AreRuled ns → ((p : Shape) → c.payload ≡ Some p → IsWellFormed p) → AreWellFormed ns → CanMoveCase c ns
-  case_moves no_members c b a r f g = absurd a
-  case_moves (bare x ns) c b a r f g = chosen_as (bytes_eq x c.name) (c.payload ≡ None) (AgreesCase c.name c.payload ns) (c.payload ≡ None) (CanMoveCase c ns) (λ e. e) (λ later. case_moves ns c b later r f g) a
-  case_moves (typed x u ns) c b a r f g =
+  case_moves : (ns : Members) (c : CaseType) → (AnyAmong IsUnbuiltShape ns → ⊥) → AgreesCase c.name c.payload ns → IsSoundPayload c → AreValid ns → AreWellFormed ns → CanMoveCase c ns
+  case_moves no_members c b a f w g = absurd a
+  case_moves (bare x ns) c b a f w g = chosen_as (bytes_eq x c.name) (c.payload ≡ None) (AgreesCase c.name c.payload ns) (c.payload ≡ None) (CanMoveCase c ns) (λ e. e) (λ later. case_moves ns c b later f w g) a
+  case_moves (typed x u ns) c b a f w g =
       chosen_as (bytes_eq x c.name) (BothThere c.payload (λ s. Agrees s u)) (AgreesCase c.name c.payload ns) (ThereIs c.payload (λ p. CanMove p u)) (CanMoveCase c ns)
-      (λ here. payload_there c.payload u here f (λ s agree formed. moves u s (λ y. b (inl y)) agree r.0 formed g.0)) (λ later. case_moves ns c (λ y. b (inr y)) later r.1 f g.1) a
+      (λ here. payload_there c.payload u here f (λ s agree valid formed. moves u s (λ y. b (inl y)) agree valid w.0 formed g.0)) (λ later. case_moves ns c (λ y. b (inr y)) later f w.1 g.1) a
 
 -- ---- tuples
 
@@ -152,7 +180,7 @@ pub tuple_moves : (ss ds : List Shape) → AllByRecursion IsBuiltShape ds → Ag
 tuple_moves ss ds built agree s d = record {
   from_counted = counted_from 0 ss s.valid;
   to_counted = counted_from 0 ds d.valid;
-  members = fields_move (tuple_members ds) (tuple_members ss) (built_from 0 ds built) (fields_agree ss ds agree) (members_ruled 0 ds d.valid) (members_formed 0 ss s.formed) (members_formed 0 ds d.formed);
+  members = fields_move (tuple_members ds) (tuple_members ss) (built_from 0 ds built) (fields_agree ss ds agree) (tuple_valid 0 ss s.valid) (tuple_valid 0 ds d.valid) (members_formed 0 ss s.formed) (members_formed 0 ds d.formed);
 }
 
 -- ---- borrows

@@ -1,18 +1,15 @@
 -- The adapters that are built so far.
-use Rattle.std.specs.Prelude.{◌≡◌, ◌≢◌, Bool, true, false, All, None, is_some}
+use Rattle.std.specs.Prelude.{◌≡◌, ◌≢◌, Bool, false, All, None}
 use Rattle.std.specs.List.{AllByRecursion}
 use Rattle.fact_plan.specs.declared.plan.FusePlan.{FusePlan}
-use Rattle.fact_types.specs.Adapters.{LinkedAdapter, Side, is_wide}
-use Rattle.fact_types.specs.Signatures.{flat_values}
+use Rattle.fact_types.specs.Adapters.{LinkedAdapter, Side}
 use Rattle.fact_type_rules.specs.Forms.{IsBuiltShape}
 use Rattle.fact_checks.specs.Adapters.{adapters_of}
 
--- A sync side of a function of types that are built, whose parameters are flat. It may name a memory and a realloc, but no callback
--- and no post-return.
+-- A sync side of a function of types that are built. It may name a memory and a realloc, but no callback and no post-return.
 pub record IsBuiltSide (s : Side) : Type 0 where
   pub params : AllByRecursion IsBuiltShape s.params
   pub results : AllByRecursion IsBuiltShape s.results
-  pub flat_params : is_some (flat_values (is_wide s.memory) 16 s.params) ≡ true
   pub sync_type : s.async_type ≡ false
   pub sync_side : s.async_side ≡ false
   pub callback : s.callback ≡ None

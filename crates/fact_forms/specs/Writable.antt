@@ -1,16 +1,16 @@
 -- What adapters that are built have for the code that is written for them.
-use Rattle.std.specs.Prelude.{◌≡◌, Bool, true, false, None, is_some}
-use Rattle.fact_types.specs.Adapters.{LinkedAdapter, is_async, is_crossing, is_wide}
-use Rattle.fact_types.specs.Signatures.{flat_values}
+use Rattle.std.specs.Prelude.{◌≡◌, Bool, true, false, None}
+use Rattle.fact_types.specs.Adapters.{LinkedAdapter, is_async, is_crossing}
 use Rattle.fact_moves.specs.AdapterLaws.{HasCountedTypes}
 use Rattle.fact_moves.specs.Adapters.{AdapterTunables, enters}
 use Rattle.fact_carry.specs.FaithfulLaws.{HasSyncSides}
 use Rattle.fact_compound.specs.Described.{CanMoveTuple}
+use Rattle.fact_compound.specs.Placed.{HasMemoriesFor}
 use Rattle.fact_forms.specs.Built.{IsBuiltAdapter}
 use Rattle.fact_forms.specs.Sound.{IsSoundAdapter}
 
--- Code can be written that moves the parameters and the results and calls the callee: the sides are sync, the parameters are flat,
--- the runtime is not told of calls without concurrency, and there is no post-return.
+-- Code can be written that moves the parameters and the results and calls the callee: the sides are sync, the runtime is not told of
+-- calls without concurrency, there is no post-return, and each side has the memories and the realloc that values are moved through.
 pub record IsWritable (a : LinkedAdapter) : Type 0 where
   pub sync : HasSyncSides a
   pub counted : HasCountedTypes a
@@ -18,8 +18,7 @@ pub record IsWritable (a : LinkedAdapter) : Type 0 where
   pub no_post_return : a.lift.post_return ≡ None
   pub params : CanMoveTuple a.lower.params a.lift.params
   pub results : CanMoveTuple a.lift.results a.lower.results
-  pub lower_flat : is_some (flat_values (is_wide a.lower.memory) 16 a.lower.params) ≡ true
-  pub lift_flat : is_some (flat_values (is_wide a.lift.memory) 16 a.lift.params) ≡ true
+  pub memories : HasMemoriesFor a
 
 abbrev pub BuiltAreWritable : Type 0
 BuiltAreWritable = (concurrency exceptions : Bool) (a : LinkedAdapter) → IsBuiltAdapter concurrency exceptions a → IsSoundAdapter a → IsWritable a

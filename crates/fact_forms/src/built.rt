@@ -1,10 +1,7 @@
 //! The adapters that are built so far.
 
-ghost use Rattle.std.specs.Prelude.{◌≡◌, ◌↔◌, ◌&&◌, ◌<◌, ◌≤◌, IfErr, IfOk, IsTrue, List, Some, is_some, length, slice_get};
-ghost use Rattle.fact_types.specs.Adapters.{LinkedAdapter, Side, is_wide as is_wide_memory};
-ghost use Rattle.fact_types.specs.Functions.{HasSignature};
-ghost use Rattle.fact_types.specs.Shapes.{Shape};
-ghost use Rattle.fact_types.specs.Signatures.{flat_values};
+ghost use Rattle.std.specs.Prelude.{◌≡◌, ◌↔◌, ◌&&◌, ◌<◌, ◌≤◌, IfErr, IfOk, IsTrue, Some, length, slice_get};
+ghost use Rattle.fact_types.specs.Adapters.{LinkedAdapter, Side};
 ghost use Rattle.fact_plan_types.specs.PlanTypes.{AreTypesOf};
 ghost use Rattle.fact_plan_types.specs.TypeRules.{most_entries};
 ghost use Rattle.fact_checks.specs.FirstFault.{IsFaultlessPlan};
@@ -17,12 +14,9 @@ use fact_checks::{Adapter, AdapterOptionsDfg, Candidate, FuseError, candidate_of
 use fact_plan::{FusePlan, PlanAdapter};
 use fact_plan_types::PlanTypes;
 use fact_type_rules::FunctionTypes;
-use fact_types::{MemoryOption, TypeFuncIndex};
+use fact_types::TypeFuncIndex;
 use fact_wasm::OutOfMemory;
 use std::alloc::Global;
-
-/// The most core values that parameters are passed as.
-const MOST_PARAMS: usize = 16;
 
 /// Whether both hold.
 fn both(first: bool, second: bool) -> bool
@@ -47,31 +41,6 @@ fn is_plain_side(
         && options.post_return.is_none()
 }
 
-/// Whether the addresses of a side's memory have 64 bits.
-fn is_wide(memory: &Option<MemoryOption>) -> bool
-    ensures { result ≡ is_wide_memory memory.now }
-{
-    match memory {
-        Some(memory) => memory.memory64,
-        None => false,
-    }
-}
-
-/// Whether the parameters of a live function are flat.
-fn has_flat_params(
-    builder: &ComponentTypesBuilder,
-    memory64: bool,
-    ty: TypeFuncIndex,
-) -> Result<bool, OutOfMemory>
-    requires { ty.number < length builder.now.tables.functions }
-    ensures { IfOk result (λ flat. (params results : List Shape) → HasSignature builder.now.tables ty params results → flat ≡ is_some (flat_values memory64 16 params)) }
-{
-    let flat = builder.flatten_types(memory64, MOST_PARAMS, builder.params_of(ty))?;
-    let is_flat = flat.is_some();
-    drop(flat);
-    Ok(is_flat)
-}
-
 /// Whether a side is built, whose types are in the builder.
 fn is_built_side(
     types: &mut FunctionTypes<'_>,
@@ -85,9 +54,8 @@ fn is_built_side(
     ensures exact { IfOk result (λ built. (s : Side) → IsSideOf builder.now ty options.now s → (IsTrue built ↔ IsBuiltSide s)) }
 {
     let plain = is_plain_side(builder, ty, options);
-    let flat = has_flat_params(builder, is_wide(&options.memory), ty)?;
     let unbuilt = types.has_unbuilt(ty)?;
-    Ok(both(plain, both(flat, !unbuilt)))
+    Ok(both(plain, !unbuilt))
 }
 
 /// Whether both sides of an adapter are built, whose types are in the builder.

@@ -1,7 +1,8 @@
 -- What is linked for an adapter, by what is linked for the options of its sides, and the data that say where.
-use Rattle.std.proofs.Common.{◌≡◌, ◌<◌, ℕ, Bool, List, Some, sym, ap, ◌∙◌, subst, length, slice_get}
+use Rattle.std.proofs.Common.{◌≡◌, ◌<◌, ℕ, Bool, List, Some, sym, ap, ◌∙◌, subst, arith, length, slice_get}
 use Rattle.std.proofs.lemmas.Option.{slice_get_within}
 use Rattle.fact_entity.specs.declared.id.Id.{Id}
+use Rattle.fact_entity.specs.declared.table.Funcs.{Funcs}
 use Rattle.fact_entity.specs.declared.table.TypeFuncs.{TypeFuncs}
 use Rattle.fact_wasm.specs.declared.types.FuncType.{FuncType}
 use Rattle.fact_builder.specs.Builder.{Builder}
@@ -13,12 +14,13 @@ use Rattle.fact_checks.specs.declared.adapter.AdapterOptionsDfg.{AdapterOptionsD
 use Rattle.fact_checks.specs.declared.sides.Candidate.{Candidate}
 use Rattle.fact_checks.specs.Linked.{IsLinked, IsSideOf}
 use Rattle.fact_emit.specs.AdapterLinks.{AdapterLinks, IsAdapterLinked, IsLinkedIfAny, IsSideLinked}
-use Rattle.fact_emit.specs.ImportSection.{Callee, PostReturn}
+use Rattle.fact_emit.specs.ImportSection.{Callee, PostReturn, Realloc}
 use Rattle.fact_emit.specs.Imports.{Extended}
 use Rattle.fact_emit.specs.Linked.{IsDefLinked}
 use Rattle.fact_emit.specs.States.{ModuleSoFar, functions_of}
 use Rattle.fact_emit.proofs.ImportLaws.{grown_get}
 use Rattle.fact_emit.proofs.KnownLaws.{linked_at}
+use Rattle.fact_compound.specs.Described.{number_if_any}
 use Rattle.fact_compound.specs.Functions.{CompiledSync}
 use Rattle.fact_compound.specs.declared.adapters.AdapterData.{AdapterData}
 use Rattle.fact_compound.specs.declared.adapters.AdapterOptions.{AdapterOptions}
@@ -43,6 +45,13 @@ side-data {b} {s = s} h fits = record {
 pub function-below : {old new last : ModuleSoFar} {d : CoreDef} {place : ℕ} (name : List ℕ) (ty : FuncType) → IsDefLinked old new (Callee name ty) d place → Extended new last → place < length (functions_of last)
 function-below {last = last} {d} {place} name ty linked later =
     slice_get_within (functions_of last) place (known.CoreDef d) (grown_get later.functions place (known.CoreDef d) (linked_at (Callee name ty) linked))
+
+-- So is a realloc.
+pub realloc-below : {old new : ModuleSoFar} {d : CoreDef} {i : Id Funcs} {place n : ℕ} (memory64 : Bool) → IsDefLinked old new (Realloc memory64) d place → i.number ≡ place → number_if_any (Some i) ≡ Some n → n < length (functions_of new)
+realloc-below {new = new} {d} {place = place} {n} memory64 linked there is =
+    let same : place ≡ n = cc in
+    let below = slice_get_within (functions_of new) place (known.CoreDef d) (linked_at (Realloc memory64) linked) in
+    omega (arith, below, same)
 
 module _ {b : Builder} {c : Candidate} {a : LinkedAdapter} (is : IsLinked b c a) where
   -- What an adapter names is linked where what its options name is.

@@ -117,8 +117,6 @@ describes t tunables features a d built sound lift lower =
       no_post_return = w.no_post_return;
       params = w.params;
       results = w.results;
-      lower_flat = w.lower_flat;
-      lift_flat = w.lift_flat;
     }
 
 -- ---- the exports of the module

@@ -6,20 +6,16 @@ use Rattle.std.proofs.lemmas.Option.{get_or_from_slice_get, slice_get_within}
 use Rattle.fact_wasm.specs.declared.module.WasmImport.{WasmImport}
 use Rattle.fact_wasm.specs.declared.module.WasmFunc.{WasmFunc}
 use Rattle.fact_wasm.specs.declared.module.WasmModule.{WasmModule}
-use Rattle.fact_types.specs.Adapters.{LinkedAdapter, Side, is_wide}
-use Rattle.fact_types.specs.Signatures.{flat_values, lift_results_limit}
+use Rattle.fact_types.specs.Adapters.{LinkedAdapter, Side}
 use Rattle.fact_types.specs.Tables.{Tables}
 use Rattle.fact_types.specs.declared.import.Import.{Import}
-use Rattle.fact_types.specs.declared.outside.MemoryOption.{MemoryOption}
 use Rattle.fact_entity.specs.declared.id.Id.{Id}
 use Rattle.fact_entity.specs.declared.table.Memories.{Memories}
 use Rattle.fact_uses.specs.Bindings.{AreConsistent}
 use Rattle.fact_plan_types.proofs.HandleLaws.{there as get-within}
 use Rattle.fact_checks.specs.AdapterRules.{uses_of}
-use Rattle.fact_moves.specs.Adapters.{AdapterTunables, flat_results}
+use Rattle.fact_moves.specs.Adapters.{AdapterTunables}
 use Rattle.fact_moves.specs.Running.{ImportPlaces}
-use Rattle.fact_moves.specs.Sides.{LiftLowerOptions, options_of}
-use Rattle.fact_carry.specs.Places.{HasSideMemory}
 use Rattle.fact_emit.specs.ImportSection.{Mention, Sort, a_function, a_global, a_memory, adapter_mentions, imports_of, is_of, custom_page_size, mentions}
 use Rattle.fact_emit.specs.Imports.{AreOnce, Extended, Serves, StandsOnce}
 use Rattle.fact_emit.specs.Known.{AreKnown, AreUsedAlike}
@@ -33,7 +29,7 @@ use Rattle.fact_emit.proofs.ListedLaws.{listed_even}
 use Rattle.fact_emit.proofs.Mentions.{in-mentions, of-a-kind}
 use Rattle.fact_emit.proofs.PlacesOfLaws.{are_import_places}
 use Rattle.fact_emit.proofs.ServingLaws.{serves_all, serves_sooner}
-use Rattle.fact_compound.specs.Described.{DescribesAdapter, KnowsAdapterData, memory_place}
+use Rattle.fact_compound.specs.Described.{DescribesAdapter, KnowsAdapterData, memory_place, number_if_any}
 use Rattle.fact_compound.specs.Placed.{AreOptionsOf, IsDataOf}
 use Rattle.fact_compound.specs.Syncs.{IsSyncFunction}
 use Rattle.fact_compound.specs.declared.adapters.AdapterOptions.{AdapterOptions}
@@ -51,7 +47,7 @@ use Rattle.fact_promises.proofs.Behaviour.{functions_behave}
 use Rattle.fact_module.specs.Adding.{HasSideData}
 use Rattle.fact_module.specs.Faithful.{adapter_tunables}
 use Rattle.fact_module.specs.Holding.{AreBuilt, HasAdded, Holds}
-use Rattle.fact_module.specs.Links.{links_of, number_if_any, page_size_log2_of, side_links_of}
+use Rattle.fact_module.specs.Links.{links_of, page_size_log2_of, side_links_of}
 use Rattle.fact_emit.specs.declared.tunables.Tunables.{Tunables}
 use Rattle.fact_emit.specs.declared.tunables.WasmFeatures.{WasmFeatures}
 use Rattle.fact_module.proofs.PartLaws.{names_imports}
@@ -88,10 +84,6 @@ once_of_kind sort (w ∷ ws) (i ∷ is) h = step (is_of sort w) (once_of_kind so
 
 -- ---- the data of an adapter
 
-side_memory_is : (o : LiftLowerOptions) (m : Option MemoryOption) → HasSideMemory (record o { memory = m }) → (n : MemoryOption) × (m ≡ Some n)
-side_memory_is o None h = absurd h
-side_memory_is o (Some n) h = (n, refl)
-
 place_there : (o : Option (Id Memories)) (n : ℕ) → number_if_any o ≡ Some n → number_if_any o ≡ Some (memory_place o)
 place_there None n e = cc
 place_there (Some m) n e = refl
@@ -101,6 +93,7 @@ options_placed M p t s d h knows = record {
   flags = refl;
   wide = sym h.memory64;
   memory = λ m is. let here = knows.memory m is in place_there d.options.linear.memory here.number here.place_is;
+  realloc = refl;
   page_size = λ m is. ap custom_page_size (h.page_size_log2 ∙ ap page_size_log2_of is);
 }
 
@@ -159,15 +152,6 @@ module _ (t : Tables) (tunables : Tunables) (features : WasmFeatures) (s : Modul
     knows = knows_adapter serves known_all alike placed.old placed.adds.linked (mentions placed.before) a (links_of placed.adds.«data») (record { named = placed.lists.named }) placed.adds.links linked_later
         (λ m c. in-flat adapter_mentions adapters j a m at c)
 
-    lift_needs : flat_values (is_wide a.lift.memory) 1 a.lift.results ≡ None → (m : MemoryOption) × (a.lift.memory ≡ Some m)
-    lift_needs none = side_memory_is (options_of a.lift) a.lift.memory (is_sound.results_behind (ap (λ b. flat_values (is_wide a.lift.memory) (lift_results_limit b) a.lift.results) writable.sync.lift ∙ none))
-
-    lower_flat_results : (s : Side) → s.async_side ≡ false → flat_results s ≡ flat_values (is_wide s.memory) 1 s.results
-    lower_flat_results s e = rw e refl
-
-    lower_needs : flat_values (is_wide a.lower.memory) 1 a.lower.results ≡ None → (m : MemoryOption) × (a.lower.memory ≡ Some m)
-    lower_needs none = side_memory_is (options_of a.lower) a.lower.memory (is_sound.results_into (lower_flat_results a.lower writable.sync.lower ∙ none))
-
     links : KnowsAdapterData here places placed.adds.«data» a
     links =
         let data_is : IsDataOf a (links_of placed.adds.«data») placed.adds.«data» = record {
@@ -175,7 +159,7 @@ module _ (t : Tables) (tunables : Tunables) (features : WasmFeatures) (s : Modul
           lower = options_placed here places t a.lower placed.adds.«data».lower placed.adds.lower knows.lower;
           callee = refl;
         } in
-        links_adapter here places a (links_of placed.adds.«data») placed.adds.«data» knows data_is is_sound.lift_core_type lift_needs lower_needs
+        links_adapter here places a (links_of placed.adds.«data») placed.adds.«data» knows data_is is_sound.lift_core_type writable.memories
 
     sync_function : IsSyncFunction settings a here places placed.adds.compiled.function
     sync_function = placed.adds.compiled.writes.is settings a described here places (serves_sooner placed.later serves) links

@@ -1,18 +1,16 @@
 -- Cited by private clauses alone.
 -- The data that an adapter's code is written by, and the places in them.
-use Rattle.std.specs.Prelude.{◌≡◌, ℕ, Option, None, Some, option_map}
+use Rattle.std.specs.Prelude.{◌≡◌, ℕ, Option, None, Some}
 use Rattle.fact_entity.specs.declared.id.Id.{Id}
 use Rattle.fact_entity.specs.declared.table.TypeFuncs.{TypeFuncs}
 use Rattle.fact_types.specs.Adapters.{Side, is_wide}
 use Rattle.fact_types.specs.declared.outside.MemoryOption.{MemoryOption}
 use Rattle.fact_checks.specs.declared.adapter.AdapterOptionsDfg.{AdapterOptionsDfg}
 use Rattle.fact_checks.specs.declared.sides.Candidate.{Candidate}
+use Rattle.fact_compound.specs.Described.{number_if_any}
 use Rattle.fact_compound.specs.declared.adapters.AdapterData.{AdapterData}
 use Rattle.fact_compound.specs.declared.adapters.AdapterOptions.{AdapterOptions}
 use Rattle.fact_emit.specs.AdapterLinks.{AdapterLinks, SideLinks}
-
-abbrev pub number_if_any : {T : Type 0} → Option (Id T) → Option ℕ
-number_if_any place = option_map (λ i. i.number) place
 
 -- where the module has what a side names
 abbrev pub side_links_of : AdapterOptions → SideLinks

@@ -1,13 +1,15 @@
 //! The imports of what an adapter names, and the data that its code is written by.
 
-ghost use Rattle.std.specs.Prelude.{◌≡◌, ◌<◌, IfOk, length};
+ghost use Rattle.std.specs.Prelude.{◌≡◌, ◌<◌, ℕ, IfOk, Some, length};
 ghost use Rattle.fact_types.specs.Adapters.{LinkedAdapter, Side, is_wide};
 ghost use Rattle.fact_emit.specs.AdapterLinks.{IsAdapterLinked, IsLinkedIfAny, IsMemoryLinked, IsSideLinked};
 ghost use Rattle.fact_emit.specs.ImportSection.{Callback, PostReturn, Realloc};
 ghost use Rattle.fact_emit.specs.Imports.{Extended};
+ghost use Rattle.fact_emit.specs.Requests.{IsReallocImported};
 ghost use Rattle.fact_emit.specs.States.{functions_of};
 ghost use Rattle.fact_checks.specs.Linked.{IsLinked};
-ghost use Rattle.fact_module.specs.Links.{IsDataOfCandidate, IsDataOfSide, NamesOf, links_of, number_if_any, page_size_log2_of, side_links_of};
+ghost use Rattle.fact_compound.specs.Described.{AreReallocsImported, linear_of, number_if_any};
+ghost use Rattle.fact_module.specs.Links.{IsDataOfCandidate, IsDataOfSide, NamesOf, links_of, page_size_log2_of, side_links_of};
 
 use fact_builder::ComponentTypesBuilder;
 use fact_checks::{AdapterOptionsDfg, Candidate};
@@ -36,7 +38,8 @@ fn link_memory(
     sections: &mut ModuleSections,
     memory: &Option<MemoryOption>,
 ) -> Result<Option<MemoryIndex>, OutOfMemory>
-    ensures { IfOk result (λ place. IsMemoryLinked sections.old sections.new memory.now (number_if_any place)) }
+    ensures linked { IfOk result (λ place. IsMemoryLinked sections.old sections.new memory.now (number_if_any place)) }
+    ensures keeps { Extended sections.old sections.new }
 {
     let Some(memory) = memory else {
         return Ok(None);
@@ -51,7 +54,9 @@ fn link_realloc(
     memory64: bool,
     realloc: &Option<CoreDef>,
 ) -> Result<Option<FuncIndex>, OutOfMemory>
-    ensures { IfOk result (λ place. IsLinkedIfAny sections.old sections.new (Realloc memory64) realloc.now (number_if_any place)) }
+    ensures linked { IfOk result (λ place. IsLinkedIfAny sections.old sections.new (Realloc memory64) realloc.now (number_if_any place)) }
+    ensures below { IfOk result (λ place. (n : ℕ) → number_if_any place ≡ Some n → n < length (functions_of sections.new)) }
+    ensures keeps { Extended sections.old sections.new }
 {
     let Some(realloc) = realloc else {
         return Ok(None);
@@ -65,7 +70,8 @@ fn link_callback(
     sections: &mut ModuleSections,
     callback: &Option<CoreDef>,
 ) -> Result<Option<FuncIndex>, OutOfMemory>
-    ensures { IfOk result (λ place. IsLinkedIfAny sections.old sections.new Callback callback.now (number_if_any place)) }
+    ensures linked { IfOk result (λ place. IsLinkedIfAny sections.old sections.new Callback callback.now (number_if_any place)) }
+    ensures keeps { Extended sections.old sections.new }
 {
     let Some(callback) = callback else {
         return Ok(None);
@@ -99,6 +105,8 @@ fn link_side(
 ) -> Result<AdapterOptions, OutOfMemory>
     ensures linked { IfOk result (λ o. (s : Side) → NamesOf options.now s → IsSideLinked sections.old sections.new s (side_links_of o)) }
     ensures described { IfOk result (λ o. IsDataOfSide ty options.now o) }
+    ensures realloc { IfOk result (λ o. IsReallocImported (linear_of o) sections.new) }
+    ensures keeps { Extended sections.old sections.new }
 {
     let (memory64, page_size_log2) = memory_type(&options.memory);
     let flags = sections.flags(options.instance)?;
@@ -135,6 +143,7 @@ pub fn link_adapter(
     requires typed { candidate.now.adapter.now.lift_options.core_type.number < length builder.now.module_types }
     ensures linked { IfOk result (λ d. (a : LinkedAdapter) → IsLinked builder.now candidate.now a → IsAdapterLinked sections.old sections.new a (links_of d)) }
     ensures callee { IfOk result (λ d. d.callee.number < length (functions_of sections.new)) }
+    ensures reallocs { IfOk result (λ d. AreReallocsImported d sections.new) }
     ensures described { IfOk result (λ d. IsDataOfCandidate candidate.now d) }
 {
     let adapter = candidate.adapter;

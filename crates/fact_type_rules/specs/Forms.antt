@@ -3,10 +3,11 @@ use Rattle.std.specs.Prelude.{◌⊎◌, List}
 use Rattle.std.specs.List.{Any}
 use Rattle.fact_types.specs.declared.interface.InterfaceType.{InterfaceType}
 use Rattle.fact_types.specs.declared.interface.InterfaceType.TheVariants as ty
-use Rattle.fact_types.specs.Shapes.{Kind, k_record, k_variant, k_tuple, k_flags, k_enum, k_option, k_result, Shape, s_plain, s_node}
+use Rattle.fact_types.specs.Shapes.{Kind, k_record, k_variant, k_list, k_tuple, k_map, k_flags, k_enum, k_option, k_result, k_fixed, Shape, s_plain, s_node}
 use Rattle.fact_type_rules.specs.TypeFaults.{AnyIn}
 
--- any type but a bool, an integer, a float, a char, a record, a variant, a tuple, flags, an enum, an option or a result
+-- any type but a bool, an integer, a float, a char, a record, a variant, a list, a list of fixed length, a tuple, a map, flags, an enum,
+-- an option or a result
 abbrev pub IsUnbuiltType : InterfaceType → Type 0
 IsUnbuiltType ty.Bool = ⊥
 IsUnbuiltType ty.S8 = ⊥
@@ -22,7 +23,10 @@ IsUnbuiltType ty.Float64 = ⊥
 IsUnbuiltType ty.Char = ⊥
 IsUnbuiltType (ty.Record i) = ⊥
 IsUnbuiltType (ty.Variant i) = ⊥
+IsUnbuiltType (ty.List i) = ⊥
+IsUnbuiltType (ty.FixedLengthList i) = ⊥
 IsUnbuiltType (ty.Tuple i) = ⊥
+IsUnbuiltType (ty.Map i) = ⊥
 IsUnbuiltType (ty.Flags i) = ⊥
 IsUnbuiltType (ty.Enum i) = ⊥
 IsUnbuiltType (ty.Option i) = ⊥
@@ -32,7 +36,10 @@ IsUnbuiltType _ = Unit {0}
 abbrev pub IsUnbuiltKind : Kind → Type 0
 IsUnbuiltKind k_record = ⊥
 IsUnbuiltKind k_variant = ⊥
+IsUnbuiltKind k_list = ⊥
+IsUnbuiltKind (k_fixed n) = ⊥
 IsUnbuiltKind k_tuple = ⊥
+IsUnbuiltKind k_map = ⊥
 IsUnbuiltKind k_flags = ⊥
 IsUnbuiltKind k_enum = ⊥
 IsUnbuiltKind k_option = ⊥

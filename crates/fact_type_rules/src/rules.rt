@@ -63,7 +63,10 @@ fn is_unbuilt(ty: InterfaceType) -> bool
         | InterfaceType::Char
         | InterfaceType::Record(_)
         | InterfaceType::Variant(_)
+        | InterfaceType::List(_)
+        | InterfaceType::FixedLengthList(_)
         | InterfaceType::Tuple(_)
+        | InterfaceType::Map(_)
         | InterfaceType::Flags(_)
         | InterfaceType::Enum(_)
         | InterfaceType::Option(_)
