@@ -1,6 +1,6 @@
-//! Tests of component types and of their values: of types made of their members, of their indices and facts, of their flat types
-//! and signatures, and of their agreement; of values that are read from memory and from core values, and carried from a type to
-//! another one.
+//! Tests of keys, tables and layouts; of the tables of the source; of component types made of their members, of their indices and
+//! facts, of their flat types and signatures, and of their agreement; of values that are read from memory and from core values,
+//! and carried from a type to another one.
 #![tactic(auto)]
 
 #[cfg(test)]
@@ -8,11 +8,17 @@ mod agreement;
 #[cfg(test)]
 mod carried;
 #[cfg(test)]
+mod entities;
+#[cfg(test)]
+mod externs;
+#[cfg(test)]
 mod facts;
 #[cfg(test)]
 mod flat;
 #[cfg(test)]
 mod indices;
+#[cfg(test)]
+mod layouts;
 #[cfg(test)]
 mod lifted;
 #[cfg(test)]
@@ -27,6 +33,12 @@ mod parts;
 mod questions;
 #[cfg(test)]
 mod signatures;
+#[cfg(test)]
+mod source;
+#[cfg(test)]
+mod tables;
+#[cfg(test)]
+mod traits;
 #[cfg(test)]
 mod values;
 #[cfg(test)]

@@ -1,6 +1,9 @@
-//! Tests that cross the crates: the worked rows, each allocating call once with ample memory, and the real streams.
+//! Tests of code that is written, run on the machine; of modules that take adapters one after another; and tests that cross the
+//! crates: the worked rows, each allocating call once with ample memory, and the real streams.
 #![tactic(auto)]
 
+#[cfg(test)]
+mod adapted;
 #[cfg(test)]
 mod adapters;
 #[cfg(test)]
@@ -12,9 +15,13 @@ mod faults;
 #[cfg(test)]
 mod fused;
 #[cfg(test)]
+mod lists;
+#[cfg(test)]
 mod machine;
 #[cfg(test)]
 mod many;
+#[cfg(test)]
+mod moved;
 #[cfg(test)]
 mod near;
 #[cfg(test)]
@@ -26,7 +33,11 @@ mod rows;
 #[cfg(test)]
 mod runs;
 #[cfg(test)]
+mod stated;
+#[cfg(test)]
 mod streams;
+#[cfg(test)]
+mod types;
 #[cfg(test)]
 mod variants;
 #[cfg(test)]

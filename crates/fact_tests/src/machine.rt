@@ -6,6 +6,9 @@
 //! A state is its globals and its memories: `SIZE` is a memory of so many bytes, each 170, in which `ADDRESS=HEX` stands behind
 //! further commas. An answer leaves the state as it was at the start, but for the globals behind ` leaves `. Answers are parted
 //! by `;`.
+//!
+//! Where `through` stands behind the steps, an answer leaves the state as it was before its call, so that what was written stays,
+//! and an outside call is told by the module and the name of its import.
 
 use crate::plans::{PLAN, edited};
 use crate::rows::{number_of, numbers_of, parts_of};
@@ -79,18 +82,63 @@ fn answer_of(alloc: Global, words: &str, state: &MachineState) -> Result<Answer,
     }
 }
 
+/// What a run begins with, and whether its state goes through outside calls.
+#[derive(Clone, Copy)]
+struct Begin<'a> {
+    module: &'a WasmModule,
+    func: u32,
+    steps: u64,
+    args: &'a [CoreValue],
+    state: &'a MachineState,
+    through: bool,
+}
+
+/// The run of a function. What the machine says of it is not asked for here.
+fn run(alloc: Global, begin: &Begin<'_>, answers: &[Answer]) -> Result<Outcome, AllocError> {
+    let (module, func, args) = (begin.module, begin.func, begin.args);
+    Machine::run(alloc, module, func, args, begin.state, answers, begin.steps)
+}
+
+/// The state in which a run with these answers lacks a further one, or ends.
+fn state_behind(
+    alloc: Global,
+    begin: &Begin<'_>,
+    answers: &[Answer],
+) -> Result<MachineState, AllocError> {
+    let outcome = run(alloc, begin, answers)?;
+    let state = outcome.state.try_clone();
+    drop(outcome);
+    state
+}
+
+/// The answer behind these ones.
+fn next_answer(
+    alloc: Global,
+    begin: &Begin<'_>,
+    answers: &[Answer],
+    words: &str,
+) -> Result<Answer, AllocError> {
+    if !begin.through {
+        return answer_of(alloc, words, begin.state);
+    }
+    let state = state_behind(alloc, begin, answers)?;
+    let answer = answer_of(alloc, words, &state);
+    drop(state);
+    answer
+}
+
 /// Adds the answers of words, of which there are none in `lacks`.
 fn add_answers(
-    answers: &mut Vec<Answer>,
     alloc: Global,
+    begin: &Begin<'_>,
+    answers: &mut Vec<Answer>,
     words: &str,
-    state: &MachineState,
 ) -> Result<(), AllocError> {
     if words == "lacks" {
         return Ok(());
     }
     for answer in words.split(';') {
-        let answer = answer_of(alloc, answer, state)?;
+        let answer = next_answer(alloc, begin, answers.as_slice(), answer)?;
         if let Err(answer) = answers.push(answer) {
             drop(answer);
             return Err(AllocError);
@@ -117,21 +165,55 @@ fn trap_of(fused: &Fused, func: u32) -> Option<Trap> {
     None
 }
 
-/// Adds an outside call.
-fn add_event(text: &mut String, fused: &Fused, event: &Event) -> Result<(), AllocError> {
-    write!(text, " {}", event.func)?;
-    if let Some(trap) = trap_of(fused, event.func) {
-        write!(text, ":{trap:?}")?;
+/// Adds the number of an imported function, and the trap that it is, if it is one.
+fn add_number(text: &mut String, fused: &Fused, func: u32) -> Result<(), AllocError> {
+    write!(text, " {func}")?;
+    match trap_of(fused, func) {
+        Some(trap) => write!(text, ":{trap:?}"),
+        None => Ok(()),
+    }
+}
+
+/// Adds the module and the name of an imported function.
+fn add_names(text: &mut String, fused: &Fused, func: u32) -> Result<(), AllocError> {
+    let mut number = 0;
+    for import in fused.module.imports.as_slice() {
+        if let ImportType::Func(_) = import.ty {
+            if number == func {
+                return write!(text, " {} {}", import.module.as_str(), import.name.as_str());
+            }
+            number = number.wrapping_add(1);
+        }
+    }
+    Ok(())
+}
+
+/// Adds an outside call, by names or by its number.
+fn add_event(
+    text: &mut String,
+    fused: &Fused,
+    event: &Event,
+    by_names: bool,
+) -> Result<(), AllocError> {
+    if by_names {
+        add_names(text, fused, event.func)?;
+    } else {
+        add_number(text, fused, event.func)?;
     }
     let globals = event.before.globals.as_slice();
     write!(text, "{:?} at {globals:?}", event.args.as_slice())
 }
 
 /// Adds how a run ended, its outside calls, and the globals then.
-fn add_told(text: &mut String, fused: &Fused, outcome: &Outcome) -> Result<(), AllocError> {
+fn add_told(
+    text: &mut String,
+    fused: &Fused,
+    outcome: &Outcome,
+    by_names: bool,
+) -> Result<(), AllocError> {
     write!(text, "{:?}", outcome.end)?;
     for event in outcome.log.as_slice() {
-        add_event(text, fused, event)?;
+        add_event(text, fused, event, by_names)?;
     }
     write!(text, " {:?}", outcome.state.globals.as_slice())
 }
@@ -141,10 +223,11 @@ fn is_told_so(
     alloc: Global,
     fused: &Fused,
     outcome: &Outcome,
+    by_names: bool,
     wanted: &str,
 ) -> Result<bool, AllocError> {
     let mut text = String::new(alloc);
-    let told = add_told(&mut text, fused, outcome);
+    let told = add_told(&mut text, fused, outcome, by_names);
     let is_so = text.as_str() == wanted;
     drop(text);
     told?;
@@ -194,61 +277,53 @@ fn are_told_so(
     alloc: Global,
     fused: &Fused,
     outcome: &Outcome,
+    begin: &Begin<'_>,
     wanted: &str,
-    state: &MachineState,
 ) -> Result<bool, AllocError> {
     let (wanted, changes) = wanted.split_once(" | ").unwrap_or((wanted, ""));
     Ok(
-        is_told_so(alloc, fused, outcome, wanted)?
-            && memories_are_changed(alloc, state, &outcome.state, changes)?,
+        is_told_so(alloc, fused, outcome, begin.through, wanted)?
+            && memories_are_changed(alloc, begin.state, &outcome.state, changes)?,
     )
 }
 
-/// The run of a function. What the machine says of it is not asked for here.
-fn run(
-    alloc: Global,
-    module: &WasmModule,
-    numbers: (u32, u64),
-    args: &[CoreValue],
-    state: &MachineState,
-    answers: &[Answer],
-) -> Result<Outcome, AllocError> {
-    let (func, steps) = numbers;
-    Machine::run(alloc, module, func, args, state, answers, steps)
-}
-
-/// Whether a run from a state, with these arguments, is told as the row says.
+/// Whether a run is told as the row says.
 fn run_is_told(
     alloc: Global,
     fused: &Fused,
-    state: &MachineState,
-    args: &[CoreValue],
+    begin: &Begin<'_>,
     row: [&str; 5],
 ) -> Result<bool, AllocError> {
-    let [_, numbers, _, words, wanted] = row;
-    let [func, steps, _, _, _] = numbers_of(numbers);
-    let func = u32::try_from(func).unwrap_or(u32::MAX);
     let mut answers = Vec::new(alloc);
-    let outcome = match add_answers(&mut answers, alloc, words, state) {
-        Ok(()) => run(alloc, &fused.module, (func, steps), args, state, &answers),
+    let outcome = match add_answers(alloc, begin, &mut answers, row[3]) {
+        Ok(()) => run(alloc, begin, answers.as_slice()),
         Err(error) => Err(error),
     };
     drop(answers);
     let outcome = outcome?;
-    let holds = are_told_so(alloc, fused, &outcome, wanted, state);
+    let holds = are_told_so(alloc, fused, &outcome, begin, row[4]);
     drop(outcome);
     holds
 }
 
-/// The same, with the arguments of the row.
+/// Whether a row holds of runs that begin in this state.
 fn run_holds(
     alloc: Global,
     fused: &Fused,
     state: &MachineState,
     row: [&str; 5],
 ) -> Result<bool, AllocError> {
+    let [func, steps, _, _, _] = numbers_of(row[1]);
     let args = values_of(alloc, row[2])?;
-    let holds = run_is_told(alloc, fused, state, args.as_slice(), row);
+    let begin = Begin {
+        module: &fused.module,
+        func: u32::try_from(func).unwrap_or(u32::MAX),
+        steps,
+        args: args.as_slice(),
+        state,
+        through: row[1].ends_with(" through"),
+    };
+    let holds = run_is_told(alloc, fused, &begin, row);
     drop(args);
     holds
 }

@@ -369,22 +369,22 @@ const POINTED: &str =
 
 /// What its sides need: for both, for parameters alone, for results alone, for a list, for a text, and for neither.
 const POINTERS: &str = r#"
-sound: "name":"p" => "name":"q"
+sound: "name":"p" => "name":"q" | }}}]} => }}}],"tunables":{"concurrency":true}}
 BadMemory at adapter 0: {"def":2},"realloc":3 => null
 BadMemory at adapter 0: "realloc":3 => "realloc":null
 BadMemory at adapter 0: {"def":1} => null
 BadMemory at adapter 0: ["u32","u32"] => [] | ["i32","i32"] => ["i32"] | ["i32"],"results":["i32"] => ["i32"],"results":[] | "realloc":3 => "realloc":null
 BadMemory at adapter 0: ["u32","u32"] => [] | ["i32","i32"] => ["i32"] | ["i32"],"results":["i32"] => ["i32"],"results":[] | {"def":1} => null
-sound: ["u32","u32"] => [] | ["i32","i32"] => ["i32"] | ["i32"],"results":["i32"] => ["i32"],"results":[]
+sound: ["u32","u32"] => [] | ["i32","i32"] => ["i32"] | ["i32"],"results":["i32"] => ["i32"],"results":[] | }}}]} => }}}],"tunables":{"concurrency":true}}
 BadMemory at adapter 0: [["x",0]] => [] | ["i32","i32"] => ["i32"] | ["i32"],"results":["i32"] => [],"results":["i32"] | {"def":2},"realloc":3 => null
 BadMemory at adapter 0: [["x",0]] => [] | ["i32","i32"] => ["i32"] | ["i32"],"results":["i32"] => [],"results":["i32"] | {"def":1} => null
 0061736d01000000010c036000017f60017f00600000027c0805666c61677309696e7374616e636531037f01066d656d6f7279026d3002000005666c61677309696e7374616e636530037f01066d656d6f7279026d310200000663616c6c6565017000000772756e74696d6505747261703000020772756e74696d6505747261703500020772756e74696d65057472617032000203020101070501017000040ab10101ae0102037f037e0240230122010d001001000b23002102410024002002240010002103410024012003ad21044208210502402004420383500d001002000b3f00ad428080047e21060240200620055a200620057d20045a710d001003000b2000ad21044208210502402004420383500d001002000b3f01ad428080047e21060240200620055a200620057d20045a710d001003000b20002003280200364201002000200328020436420104200124010b: [["x",0]] => [] | ["i32","i32"] => ["i32"] | ["i32"],"results":["i32"] => [],"results":["i32"] | "realloc":3 => "realloc":null
 BadMemory at adapter 0: [["x",0]],"results":["u32","u32"] => [["x",1]],"results":[] | ["i32"],"results":["i32"] => ["i32","i32"],"results":[] | "realloc":3 => "realloc":null
 BadMemory at adapter 0: [["x",0]],"results":["u32","u32"] => [["x",1]],"results":[] | ["i32"],"results":["i32"] => ["i32","i32"],"results":[] | {"def":1} => null
-sound: [["x",0]],"results":["u32","u32"] => [["x",1]],"results":[] | ["i32"],"results":["i32"] => ["i32","i32"],"results":[]
+sound: [["x",0]],"results":["u32","u32"] => [["x",1]],"results":[] | ["i32"],"results":["i32"] => ["i32","i32"],"results":[] | }}}]} => }}}],"tunables":{"concurrency":true}}
 BadMemory at adapter 0: ["u32","u32"] => ["string"]
 sound: ["u32","u32"] => ["string"] | {"def":1} => {"def":1},"realloc":4
-sound: [["x",0]],"results":["u32","u32"] => [["x",1]],"results":[1] | ["i32","i32"] => ["i64","i64","i64"] | ["i32"],"results":["i32"] => ["i32","i32"],"results":["i32"] | {"def":1} => {"def":1,"memory64":true},"realloc":4
+sound: [["x",0]],"results":["u32","u32"] => [["x",1]],"results":[1] | ["i32","i32"] => ["i64","i64","i64"] | ["i32"],"results":["i32"] => ["i32","i32"],"results":["i32"] | {"def":1} => {"def":1,"memory64":true},"realloc":4 | "realloc":4}}]} => "realloc":4}}],"tunables":{"concurrency":true}}
 sound: [["x",0]],"results":["u32","u32"] => [["x",2]],"results":[2] | {"def":2},"realloc":3 => null | "core_type":0,"memory":{"def":1} => "core_type":1
 BadSignature at adapter 0: ["u32",17] => ["u32",16]
 BadSignature at adapter 0: ["u32","u32"] => ["u32"]

@@ -3,10 +3,11 @@
 use fact_builder::ComponentTypesBuilder;
 use fact_emit::places::{Address, LinearMemory, Sides, SourcePlace, TargetPlace};
 use fact_emit::pointers::check_area;
-use fact_emit::products::translate;
+use fact_emit::requests::is_realloc_imported;
 use fact_emit::writer::Writer;
 use fact_machine::{Answer, CoreValue, End, Machine, MachineState, Outcome};
 use fact_making::make_tuple;
+use fact_translate::products::translate;
 use fact_types::{ComponentTypes, InterfaceType};
 use fact_wasm::{FuncType, ImportType, Seq, Text, ValType, WasmFunc, WasmImport, WasmModule};
 use std::alloc::{AllocError, Global};
@@ -38,6 +39,7 @@ fn memory(place: u32) -> LinearMemory {
         memory: place,
         memory64: false,
         page_size_log2: None,
+        realloc: None,
     }
 }
 
@@ -67,6 +69,7 @@ fn write_code(
         offset: 0,
     });
     assert!(rt; types.is_live(ty));
+    assert!(rt; is_realloc_imported(&w.imports, sides.to));
     translate(types, w, sides, ty, ty, from, to)
 }
 

@@ -1,5 +1,0 @@
-//! Tests of the tables of the source.
-#![tactic(auto)]
-
-#[cfg(test)]
-mod source;
