@@ -16,7 +16,6 @@ use std::ops::Index;
 
 /// A table of values that are distinct by `==`, in the order in which they came. Contracts see it as the list of its
 /// values; a key is live where its number is below the length.
-#[derive(Drop)]
 pub struct Interner<K: EntityRef, T: Eq + Hash> {
     values: IndexSet<T>,
     keys: PhantomData<K>,
@@ -31,6 +30,14 @@ impl<K: EntityRef, T: Eq + Hash> Model for Interner<K, T> {
     ghost view = { λ s. keys_of s.values };
 
     ghost invariant = { λ s. (length (keys_of s.values) ≤ 4294967295) × IsUnique T.eq s.values };
+}
+
+// Written out, it is proved here once, where a derived one is proved anew in each crate that ends a table.
+impl<K: EntityRef, T: Drop + Eq + Hash> Drop for Interner<K, T> {
+    fn drop(self) {
+        let Interner { values, keys: _ } = self;
+        drop(values);
+    }
 }
 
 impl<K: EntityRef, T: Eq + Hash> Interner<K, T> {

@@ -16,7 +16,6 @@ pub(crate) const MAX_ENTRIES: usize = 4_294_967_295;
 
 /// A table whose keys are the places of its entries, counted from 0. Contracts see it as the list of its entries; a key
 /// is live where its number is below the length.
-#[derive(Drop)]
 pub struct PrimaryMap<K: EntityRef, V> {
     entries: Vec<V>,
     keys: PhantomData<K>,
@@ -30,6 +29,14 @@ impl<K: EntityRef, V> Model for PrimaryMap<K, V> {
     ghost view = { λ m. m.entries.items };
 
     ghost invariant = { λ m. length m.entries.items ≤ 4294967295 };
+}
+
+// Written out, it is proved here once, where a derived one is proved anew in each crate that ends a table.
+impl<K: EntityRef, V: Drop> Drop for PrimaryMap<K, V> {
+    fn drop(self) {
+        let PrimaryMap { entries, keys: _ } = self;
+        drop(entries);
+    }
 }
 
 impl<K: EntityRef, V> PrimaryMap<K, V> {

@@ -84,10 +84,18 @@ impl ComponentExtern {
 }
 
 /// A type of core modules: its imports by module and name, and its exports by name.
-#[derive(Drop)]
 pub struct TypeModule {
     pub imports: IndexMap<(Text, Text), EntityType>,
     pub exports: IndexMap<Text, EntityType>,
+}
+
+// Written out, it is proved here once, where a derived one is proved anew in each crate that ends such a value.
+impl Drop for TypeModule {
+    fn drop(self) {
+        let TypeModule { imports, exports } = self;
+        drop(imports);
+        drop(exports);
+    }
 }
 
 impl Model for TypeModule {
@@ -111,10 +119,18 @@ impl TypeModule {
 }
 
 /// A type of components: its imports and exports by name.
-#[derive(Drop)]
 pub struct TypeComponent {
     pub imports: IndexMap<Text, ComponentExtern>,
     pub exports: IndexMap<Text, ComponentExtern>,
+}
+
+// Written out, it is proved here once, where a derived one is proved anew in each crate that ends such a value.
+impl Drop for TypeComponent {
+    fn drop(self) {
+        let TypeComponent { imports, exports } = self;
+        drop(imports);
+        drop(exports);
+    }
 }
 
 impl Model for TypeComponent {
@@ -138,9 +154,16 @@ impl TypeComponent {
 }
 
 /// A type of instances of components: its exports by name.
-#[derive(Drop)]
 pub struct TypeComponentInstance {
     pub exports: IndexMap<Text, ComponentExtern>,
+}
+
+// Written out, it is proved here once, where a derived one is proved anew in each crate that ends such a value.
+impl Drop for TypeComponentInstance {
+    fn drop(self) {
+        let TypeComponentInstance { exports } = self;
+        drop(exports);
+    }
 }
 
 impl Model for TypeComponentInstance {

@@ -12,9 +12,16 @@ use std::marker::Model;
 use std::ops::Index;
 
 /// Core function types that are distinct, by index. Contracts see it as their list.
-#[derive(Drop)]
 pub struct ModuleTypes {
     types: Interner<ModuleInternedTypeIndex, FuncType>,
+}
+
+// Written out, it is proved here once, where a derived one is proved anew in each crate that ends such a value.
+impl Drop for ModuleTypes {
+    fn drop(self) {
+        let ModuleTypes { types } = self;
+        drop(types);
+    }
 }
 
 impl Model for ModuleTypes {

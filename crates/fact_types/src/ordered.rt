@@ -23,11 +23,22 @@ use std::hash::{Hash, Hasher};
 use std::marker::Model;
 
 /// A variant: its cases by name, in the order of their discriminants, with their payloads.
-#[derive(Drop)]
 pub struct TypeVariant {
     pub cases: IndexMap<Text, Option<InterfaceType>>,
     pub abi: CanonicalAbiInfo,
     pub info: VariantInfo,
+}
+
+// Written out, it is proved here once, where a derived one is proved anew in each crate that ends such a value.
+impl Drop for TypeVariant {
+    fn drop(self) {
+        let TypeVariant {
+            cases,
+            abi: _,
+            info: _,
+        } = self;
+        drop(cases);
+    }
 }
 
 impl Model for TypeVariant {
@@ -80,10 +91,17 @@ impl TypeVariant {
 }
 
 /// Flags: their names, in the order of their bits.
-#[derive(Drop)]
 pub struct TypeFlags {
     pub names: IndexSet<Text>,
     pub abi: CanonicalAbiInfo,
+}
+
+// Written out, it is proved here once, where a derived one is proved anew in each crate that ends such a value.
+impl Drop for TypeFlags {
+    fn drop(self) {
+        let TypeFlags { names, abi: _ } = self;
+        drop(names);
+    }
 }
 
 impl Model for TypeFlags {
@@ -132,11 +150,22 @@ impl TypeFlags {
 }
 
 /// An enum: the names of its cases, in the order of their discriminants.
-#[derive(Drop)]
 pub struct TypeEnum {
     pub names: IndexSet<Text>,
     pub abi: CanonicalAbiInfo,
     pub info: VariantInfo,
+}
+
+// Written out, it is proved here once, where a derived one is proved anew in each crate that ends such a value.
+impl Drop for TypeEnum {
+    fn drop(self) {
+        let TypeEnum {
+            names,
+            abi: _,
+            info: _,
+        } = self;
+        drop(names);
+    }
 }
 
 impl Model for TypeEnum {

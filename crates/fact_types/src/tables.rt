@@ -37,7 +37,6 @@ use std::marker::Model;
 /// The types that a component names, one table for each kind. Contracts see it as the lists of the tables; an index is
 /// live where its number is below the length of its table. At all times each type has a shape, its layout is that of the
 /// shape, and every index that an entry holds is live.
-#[derive(Drop)]
 pub struct ComponentTypes {
     pub(crate) modules: PrimaryMap<TypeModuleIndex, TypeModule>,
     pub(crate) components: PrimaryMap<TypeComponentIndex, TypeComponent>,
@@ -63,6 +62,56 @@ pub struct ComponentTypes {
     >,
     pub(crate) resource_tables: PrimaryMap<TypeResourceTableIndex, TypeResourceTable>,
     pub(crate) module_types: Option<ModuleTypes>,
+}
+
+// Written out, it is proved here once, where a derived one is proved anew in each crate that ends such a value.
+impl Drop for ComponentTypes {
+    fn drop(self) {
+        let ComponentTypes {
+            modules,
+            components,
+            component_instances,
+            functions,
+            records,
+            variants,
+            tuples,
+            flags,
+            enums,
+            options,
+            results,
+            lists,
+            maps,
+            fixed_length_lists,
+            futures,
+            future_tables,
+            streams,
+            stream_tables,
+            error_context_tables,
+            resource_tables,
+            module_types,
+        } = self;
+        drop(modules);
+        drop(components);
+        drop(component_instances);
+        drop(functions);
+        drop(records);
+        drop(variants);
+        drop(tuples);
+        drop(flags);
+        drop(enums);
+        drop(options);
+        drop(results);
+        drop(lists);
+        drop(maps);
+        drop(fixed_length_lists);
+        drop(futures);
+        drop(future_tables);
+        drop(streams);
+        drop(stream_tables);
+        drop(error_context_tables);
+        drop(resource_tables);
+        drop(module_types);
+    }
 }
 
 impl Model for ComponentTypes {
