@@ -2,7 +2,9 @@ pub mod Aligned
 pub mod Blocks
 pub mod CaseMoves
 pub mod Chars
+pub mod ContextSteps
 pub mod Countdown
+pub mod Choices
 pub mod FieldMoves
 pub mod FixedLoops
 pub mod FixedMoves

@@ -20,6 +20,7 @@ use Rattle.fact_moves.specs.Actions.{Action, Give, Ask, ◌>>=◌}
 use Rattle.fact_moves.specs.Running.{ImportPlaces}
 use Rattle.fact_moves.specs.Sides.{get_slots, set_slots}
 use Rattle.fact_pieces.specs.Does.{Locals, Way, Onward, held_types, Does, PushesValue}
+pub use Rattle.fact_pieces.specs.Context.{ContextSlots, save_code, restore_code, HasContextSlots, HasSlotsIf}
 use Rattle.fact_pieces.specs.Knows.{KnowsFunction}
 use Rattle.fact_pieces.specs.Places.{KeepsLocals}
 use Rattle.fact_pieces.specs.Typed.{OnStack, IsTyped}
@@ -34,38 +35,9 @@ use Rattle.fact_machine.proofs.Tests.{first_of, second_of}
 
 -- ---- code and action
 
--- the places of the functions of the slots, and two temporaries
-pub record ContextSlots : Type 0 where
-  pub get0 : ℕ
-  pub get1 : ℕ
-  pub set0 : ℕ
-  pub set1 : ℕ
-  pub saved0 : ℕ
-  pub saved1 : ℕ
-
-abbrev pub save_code : Bool → ContextSlots → List Instr
-save_code false s = []
-save_code true s =
-    I.Call (func.Import s.get0) ∷ I.LocalSet s.saved0 ∷ I.Call (func.Import s.get1) ∷ I.LocalSet s.saved1
-    ∷ I.I32Const 0 ∷ I.Call (func.Import s.set0) ∷ I.I32Const 0 ∷ I.Call (func.Import s.set1) ∷ []
-
-abbrev pub restore_code : Bool → ContextSlots → List Instr
-restore_code false s = []
-restore_code true s = I.LocalGet s.saved0 ∷ I.Call (func.Import s.set0) ∷ I.LocalGet s.saved1 ∷ I.Call (func.Import s.set1) ∷ []
-
 -- an action with the slots saved around it
 abbrev pub in_slots : Bool → Action (List CoreValue) → Action (List CoreValue)
 in_slots concurrency q = get_slots concurrency (λ a b. set_slots concurrency (I32 0 ∷ []) (I32 0 ∷ []) (q >>= (λ rs. set_slots concurrency a b (Give rs))))
-
-pub record HasContextSlots (M : WasmModule) (p : ImportPlaces) (s : ContextSlots) : Type 0 where
-  pub gets0 : KnowsFunction M p (import.UnsafeIntrinsic slot.ContextGetI32_0) s.get0 [] (val.I32 ∷ [])
-  pub gets1 : KnowsFunction M p (import.UnsafeIntrinsic slot.ContextGetI32_1) s.get1 [] (val.I32 ∷ [])
-  pub sets0 : KnowsFunction M p (import.UnsafeIntrinsic slot.ContextSetI32_0) s.set0 (val.I32 ∷ []) []
-  pub sets1 : KnowsFunction M p (import.UnsafeIntrinsic slot.ContextSetI32_1) s.set1 (val.I32 ∷ []) []
-
-abbrev pub HasSlotsIf : Bool → WasmModule → ImportPlaces → ContextSlots → Type 0
-HasSlotsIf false M p s = Unit {0}
-HasSlotsIf true M p s = HasContextSlots M p s
 
 -- all locals but the two temporaries
 abbrev pub others : ContextSlots → ℕ → Bool
@@ -115,14 +87,14 @@ pub slots_do : {M : WasmModule} {p : ImportPlaces} {ls : Locals} {extra spare : 
 slots_do {M} {p} {ls} {extra} {spare} {code} {q} {ts} false s h apart t0 t1 inner =
     within (omega arith) (in_turn (inner ls keeps_all) (λ rs l r. done refl (r.0, subst (λ l. KeepsLocals (others s) ls l) (sym r.1) keeps_all)))
 slots_do {M} {p} {ls} {extra} {spare} {code} {q} {ts} true s h apart t0 t1 inner =
-    within (omega arith) (ask_i32 [] h.gets0 refl (λ x. local_set val.I32 t0 refl (λ ls1 set0.
-    ask_i32 [] h.gets1 refl (λ y. local_set val.I32 (ap (λ l. slice_get l s.saved1) set0.types ∙ t1) refl (λ ls2 set1.
-    pushing pushes_zero (ask_none (I32 0 ∷ []) h.sets0 refl (pushing pushes_zero (ask_none (I32 0 ∷ []) h.sets1 refl (
+    within (omega arith) (ask_i32 [] h.reads.gets0 refl (λ x. local_set val.I32 t0 refl (λ ls1 set0.
+    ask_i32 [] h.reads.gets1 refl (λ y. local_set val.I32 (ap (λ l. slice_get l s.saved1) set0.types ∙ t1) refl (λ ls2 set1.
+    pushing pushes_zero (ask_none (I32 0 ∷ []) h.writes.sets0 refl (pushing pushes_zero (ask_none (I32 0 ∷ []) h.writes.sets1 refl (
     let k = keeps_then (set_keeps (saved_free0 s) set0) (set_keeps (saved_free1 s) set1) in
     in_turn (inner ls2 k) (λ rs l r.
     let there0 : slice_get l s.saved0 ≡ Some (Some (I32 x)) = ap (λ l. slice_get l s.saved0) r.1 ∙ set1.others s.saved0 apart ∙ set0.here in
     let there1 : slice_get l s.saved1 ≡ Some (Some (I32 y)) = ap (λ l. slice_get l s.saved1) r.1 ∙ set1.here in
-    local_get there0 (ask_none (I32 x ∷ []) h.sets0 refl (local_get there1 (ask_none (I32 y ∷ []) h.sets1 refl
+    local_get there0 (ask_none (I32 x ∷ []) h.writes.sets0 refl (local_get there1 (ask_none (I32 y ∷ []) h.writes.sets1 refl
     (done refl (r.0, subst (λ l. KeepsLocals (others s) ls l) (sym r.1) k)))))))))))))))
 
 -- ---- its types
@@ -131,14 +103,14 @@ typed_save : {M : WasmModule} {locals : List ValType} {labels : List (List ValTy
     → {ins : List ValType} → IsTyped M locals labels (save_code concurrency s) ins (OnStack ins)
 typed_save p false s h t0 t1 = typed_done
 typed_save p true s h t0 t1 {ins} =
-    typed_next (takes_import ins h.gets0) (typed_next (takes_local_set t0) (typed_next (takes_import ins h.gets1) (typed_next (takes_local_set t1)
-    (typed_next (takes_plain (o.I32Const 0) (I.outs-I32Const 0) refl) (typed_next (takes_import ins h.sets0) (typed_next (takes_plain (o.I32Const 0) (I.outs-I32Const 0) refl) (typed_one (takes_import ins h.sets1))))))))
+    typed_next (takes_import ins h.reads.gets0) (typed_next (takes_local_set t0) (typed_next (takes_import ins h.reads.gets1) (typed_next (takes_local_set t1)
+    (typed_next (takes_plain (o.I32Const 0) (I.outs-I32Const 0) refl) (typed_next (takes_import ins h.writes.sets0) (typed_next (takes_plain (o.I32Const 0) (I.outs-I32Const 0) refl) (typed_one (takes_import ins h.writes.sets1))))))))
 
 typed_restore : {M : WasmModule} {locals : List ValType} {labels : List (List ValType)} (p : ImportPlaces) (concurrency : Bool) (s : ContextSlots) → HasSlotsIf concurrency M p s → slice_get locals s.saved0 ≡ Some val.I32 → slice_get locals s.saved1 ≡ Some val.I32
     → {ins : List ValType} → IsTyped M locals labels (restore_code concurrency s) ins (OnStack ins)
 typed_restore p false s h t0 t1 = typed_done
 typed_restore p true s h t0 t1 {ins} =
-    typed_next (takes_local_get t0) (typed_next (takes_import ins h.sets0) (typed_next (takes_local_get t1) (typed_one (takes_import ins h.sets1))))
+    typed_next (takes_local_get t0) (typed_next (takes_import ins h.writes.sets0) (typed_next (takes_local_get t1) (typed_one (takes_import ins h.writes.sets1))))
 
 -- code with the slots saved around it is typed where it is
 pub typed_slots : {M : WasmModule} {locals : List ValType} {labels : List (List ValType)} {ins outs : List ValType} {code : List Instr} (p : ImportPlaces) (concurrency : Bool) (s : ContextSlots) → HasSlotsIf concurrency M p s → slice_get locals s.saved0 ≡ Some val.I32

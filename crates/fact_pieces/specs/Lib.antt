@@ -1,5 +1,7 @@
 pub mod Cases
+pub mod Choices
 pub mod Code
+pub mod Context
 pub mod Does
 pub mod FixedLists
 pub mod Knows
