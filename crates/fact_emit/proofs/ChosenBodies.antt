@@ -1,6 +1,7 @@
 -- Bodies that were written aside, and the choice of one of them.
 use Rattle.std.proofs.Common.{◌≡◌, ℕ, zero, suc, ◌+◌, List, [], ◌∷◌, ◌++◌, length, refl, sym, ap, ◌∙◌, subst, arith, append_assoc, append-nil}
 use Rattle.std.specs.List.{AllByRecursion}
+use Rattle.std.proofs.lemmas.Grind.{flat_map-append}
 use Rattle.fact_wasm.specs.declared.types.ValType.{ValType}
 use Rattle.fact_wasm.specs.declared.instr.BlockType.TheVariants.{Empty}
 use Rattle.fact_wasm.specs.declared.instr.Instr.{Instr, the_lemmas}
@@ -11,7 +12,8 @@ use Rattle.fact_wasm.proofs.Ranged.{all-first, all-second}
 use Rattle.fact_types.specs.declared.outside.Trap.TheVariants.{InvalidDiscriminant}
 use Rattle.fact_machine.specs.Exits.{nest}
 use Rattle.fact_moves.specs.Running.{ImportPlaces}
-use Rattle.fact_pieces.specs.Code.{arms, labels_from, trap_code, sum_code}
+use Rattle.fact_pieces.specs.Choices.{all_of_chunks, chunk_codes, chunk_number, full_chunk_code, place_in_chunk, IsChoice, InOneTable, InChunks}
+use Rattle.fact_pieces.specs.Code.{arms, cases_code, labels_from, trap_code, sum_code}
 use Rattle.fact_emit.specs.declared.places.LinearMemory.{LinearMemory}
 use Rattle.fact_emit.specs.declared.writer.Writer.{Writer}
 use Rattle.fact_emit.specs.Bodies.{ChoosesCase, WroteChoice, code_of_bodies}
@@ -20,8 +22,9 @@ use Rattle.fact_emit.specs.Emits.{Grew, GrewAside, Emits, Later, Piece}
 use Rattle.fact_emit.specs.Imports.{AreOnce}
 use Rattle.fact_emit.specs.NamedFunctions.{imported_named}
 use Rattle.fact_emit.specs.Requests.{IsReallocImported}
+use Rattle.fact_emit.specs.States.{ModuleSoFar}
 use Rattle.fact_emit.specs.Writers.{Wrote, TookTrap, Began, Ended}
-use Rattle.fact_emit.proofs.BroughtLaws.{brought_as, brought_before, brought_between, brought_on, brought_trap, traps_count}
+use Rattle.fact_emit.proofs.BroughtLaws.{brought_as, brought_before, brought_between, brought_on, brought_runtime, runtime_count}
 use Rattle.fact_emit.proofs.Emitting.{same_locals, same_still, same_types, serves_imported, sooner, still_numbers}
 use Rattle.fact_emit.proofs.ImportLaws.{extended_none, extended_on, grows_none, grows_on}
 use Rattle.fact_emit.proofs.NamedLaws.{named_append, named_block, names_none, ranged_append, ranged_block, ranged_more, ranged_none}
@@ -72,23 +75,90 @@ pub bodies_behind : (bodies : List (List Instr)) (last : List Instr) → code_of
 bodies_behind [] last = append-nil last
 bodies_behind (b ∷ bs) last = ap (λ l. b ++ l) (bodies_behind bs last) ∙ sym (append_assoc b (code_of_bodies bs) last)
 
-module _ (local place : ℕ) (bodies : List (List Instr)) where
-  abbrev jump : List Instr
-  jump = I.LocalGet local ∷ I.BrTable (labels_from 0 (length bodies)) (length bodies) ∷ []
+-- A table names what its bodies name, where the code of its number names nothing.
+module _ (number : List Instr) (none : AreRanged 0 0 number) where
+  jump_none : (count : ℕ) → AreRanged 0 0 (number ++ I.BrTable (labels_from 0 count) count ∷ [])
+  jump_none count = ranged_append 0 0 number (I.BrTable (labels_from 0 count) count ∷ []) none (ranged_none 0 0 (I.BrTable (labels_from 0 count) count ∷ []) (simp the_lemmas))
 
-  jump_none : AreRanged 0 0 jump
-  jump_none = ranged_none 0 0 jump (simp the_lemmas)
+  table_named : (count : ℕ) (bodies : List (List Instr)) → imported_named (cases_code number (labels_from 0 count) count bodies) ≡ imported_named (code_of_bodies bodies)
+  table_named count bodies =
+      let jump : List Instr = number ++ I.BrTable (labels_from 0 count) count ∷ [] in
+      named_block Empty (nest (arms bodies) jump) ∙ nested_named bodies jump ∙ ap (λ ns. ns ++ imported_named (code_of_bodies bodies)) (names_none jump (jump_none count))
 
-  choice_named : imported_named (sum_code (I.LocalGet local ∷ []) place bodies) ≡ imported_named (code_of_bodies bodies ++ trap_code place)
-  choice_named =
-      named_block Empty (nest (arms (bodies ++ trap_code place ∷ [])) jump) ∙ nested_named (bodies ++ trap_code place ∷ []) jump
-      ∙ ap (λ ns. ns ++ imported_named (code_of_bodies (bodies ++ trap_code place ∷ []))) (names_none jump jump_none)
-      ∙ ap imported_named (bodies_behind bodies (trap_code place))
+  table_ranged : (n count : ℕ) (bodies : List (List Instr)) → AreRanged n 0 (code_of_bodies bodies) → AreRanged n 0 (cases_code number (labels_from 0 count) count bodies)
+  table_ranged n count bodies h =
+      let jump : List Instr = number ++ I.BrTable (labels_from 0 count) count ∷ [] in
+      ranged_block n 0 Empty (nest (arms bodies) jump) (nested_ranged n bodies jump (ranged_more 0 n (omega arith) jump (jump_none count)) h)
 
-  choice_ranged : (n : ℕ) → AreRanged n 0 (code_of_bodies bodies ++ trap_code place) → AreRanged n 0 (sum_code (I.LocalGet local ∷ []) place bodies)
-  choice_ranged n h =
-      ranged_block n 0 Empty (nest (arms (bodies ++ trap_code place ∷ [])) jump)
-      (nested_ranged n (bodies ++ trap_code place ∷ []) jump (ranged_more 0 n (omega arith) jump jump_none) (subst (AreRanged n 0) (sym (bodies_behind bodies (trap_code place))) h))
+  sum_named : (place : ℕ) (bodies : List (List Instr)) → imported_named (sum_code number place bodies) ≡ imported_named (code_of_bodies bodies ++ trap_code place)
+  sum_named place bodies = table_named (length bodies) (bodies ++ trap_code place ∷ []) ∙ ap imported_named (bodies_behind bodies (trap_code place))
+
+  sum_ranged : (n place : ℕ) (bodies : List (List Instr)) → AreRanged n 0 (code_of_bodies bodies ++ trap_code place) → AreRanged n 0 (sum_code number place bodies)
+  sum_ranged n place bodies h = table_ranged n (length bodies) (bodies ++ trap_code place ∷ []) (subst (AreRanged n 0) (sym (bodies_behind bodies (trap_code place))) h)
+
+-- ---- chunks of bodies
+
+code_behind : (xs ys : List (List Instr)) (last : List Instr) → code_of_bodies (xs ++ ys) ++ last ≡ code_of_bodies xs ++ (code_of_bodies ys ++ last)
+code_behind xs ys last = ap (λ code. code ++ last) (flat_map-append (λ body. body) xs ys) ∙ append_assoc (code_of_bodies xs) (code_of_bodies ys) last
+
+module _ (number : List Instr) (none : AreRanged 0 0 (place_in_chunk number)) (place : ℕ) (rest : List (List Instr)) where
+  -- the codes of chunks name what the bodies name, and then the trap
+  chunks_named : (chunks : List (List (List Instr))) → imported_named (code_of_bodies (chunk_codes number place chunks rest)) ≡ imported_named (code_of_bodies (all_of_chunks chunks ++ rest) ++ trap_code place)
+  chunks_named [] = ap imported_named (append-nil (sum_code (place_in_chunk number) place rest)) ∙ sum_named (place_in_chunk number) none place rest
+  chunks_named (c ∷ cs) =
+      let more : List (List Instr) = all_of_chunks cs ++ rest in
+      named_append (full_chunk_code number c) (code_of_bodies (chunk_codes number place cs rest))
+      ∙ (λ i. table_named (place_in_chunk number) none 63 c i ++ chunks_named cs i)
+      ∙ sym (named_append (code_of_bodies c) (code_of_bodies more ++ trap_code place))
+      ∙ ap imported_named (sym (code_behind c more (trap_code place)) ∙ ap (λ bs. code_of_bodies bs ++ trap_code place) (sym (append_assoc c (all_of_chunks cs) rest)))
+
+  chunks_ranged : (n : ℕ) (chunks : List (List (List Instr))) → AreRanged n 0 (code_of_bodies (all_of_chunks chunks ++ rest) ++ trap_code place) → AreRanged n 0 (code_of_bodies (chunk_codes number place chunks rest))
+  chunks_ranged n [] h = subst (AreRanged n 0) (sym (append-nil (sum_code (place_in_chunk number) place rest))) (sum_ranged (place_in_chunk number) none n place rest h)
+  chunks_ranged n (c ∷ cs) h =
+      let more : List Instr = code_of_bodies (all_of_chunks cs ++ rest) ++ trap_code place in
+      let all = subst (AreRanged n 0) (ap (λ bs. code_of_bodies bs ++ trap_code place) (append_assoc c (all_of_chunks cs) rest) ∙ code_behind c (all_of_chunks cs ++ rest) (trap_code place)) h in
+      ranged_append n 0 (full_chunk_code number c) (code_of_bodies (chunk_codes number place cs rest))
+      (table_ranged (place_in_chunk number) none n 63 c (all-first (λ i. AllByRecursion (IsPoint n 0) (points i)) (code_of_bodies c) more all))
+      (chunks_ranged n cs (all-second (λ i. AllByRecursion (IsPoint n 0) (points i)) (code_of_bodies c) more all))
+
+-- ---- the code of a choice
+
+module _ (local place : ℕ) where
+  whole_none : AreRanged 0 0 (I.LocalGet local ∷ [])
+  whole_none = ranged_none 0 0 (I.LocalGet local ∷ []) (simp the_lemmas)
+
+  chunk_none : AreRanged 0 0 (chunk_number (I.LocalGet local ∷ []))
+  chunk_none = ranged_none 0 0 (chunk_number (I.LocalGet local ∷ [])) (simp the_lemmas)
+
+  place_none : AreRanged 0 0 (place_in_chunk (I.LocalGet local ∷ []))
+  place_none = ranged_none 0 0 (place_in_chunk (I.LocalGet local ∷ [])) (simp the_lemmas)
+
+  -- two levels name what the bodies name, and then the trap twice
+  levels_named : (chunks : List (List (List Instr))) (rest : List (List Instr))
+      → imported_named (sum_code (chunk_number (I.LocalGet local ∷ [])) place (chunk_codes (I.LocalGet local ∷ []) place chunks rest)) ≡ imported_named ((code_of_bodies (all_of_chunks chunks ++ rest) ++ trap_code place) ++ trap_code place)
+  levels_named chunks rest =
+      let codes : List (List Instr) = chunk_codes (I.LocalGet local ∷ []) place chunks rest in
+      sum_named (chunk_number (I.LocalGet local ∷ [])) chunk_none place codes ∙ named_append (code_of_bodies codes) (trap_code place)
+      ∙ ap (λ ns. ns ++ imported_named (trap_code place)) (chunks_named (I.LocalGet local ∷ []) place_none place rest chunks)
+      ∙ sym (named_append (code_of_bodies (all_of_chunks chunks ++ rest) ++ trap_code place) (trap_code place))
+
+  levels_ranged : (n : ℕ) (chunks : List (List (List Instr))) (rest : List (List Instr)) → AreRanged n 0 ((code_of_bodies (all_of_chunks chunks ++ rest) ++ trap_code place) ++ trap_code place)
+      → AreRanged n 0 (sum_code (chunk_number (I.LocalGet local ∷ [])) place (chunk_codes (I.LocalGet local ∷ []) place chunks rest))
+  levels_ranged n chunks rest h =
+      let codes : List (List Instr) = chunk_codes (I.LocalGet local ∷ []) place chunks rest in
+      let once : List Instr = code_of_bodies (all_of_chunks chunks ++ rest) ++ trap_code place in
+      sum_ranged (chunk_number (I.LocalGet local ∷ [])) chunk_none n place codes
+      (ranged_append n 0 (code_of_bodies codes) (trap_code place)
+      (chunks_ranged (I.LocalGet local ∷ []) place_none place rest n chunks (all-first (λ i. AllByRecursion (IsPoint n 0) (points i)) once (trap_code place) h))
+      (all-second (λ i. AllByRecursion (IsPoint n 0) (points i)) once (trap_code place) h))
+
+  -- A choice brings what its bodies bring, and then its trap.
+  choice_brought : {a b : ModuleSoFar} {bodies : List (List Instr)} {code : List Instr} → Brought a b (code_of_bodies bodies ++ trap_code place) → Brought b b (trap_code place) → IsChoice (I.LocalGet local ∷ []) place bodies code → Brought a b code
+  choice_brought {a} {b} {bodies} x again (InOneTable few is) =
+      subst (Brought a b) (sym is) (brought_as (sum_named (I.LocalGet local ∷ []) whole_none place bodies) (λ n. sum_ranged (I.LocalGet local ∷ []) whole_none n place bodies) x)
+  choice_brought {a} {b} x again (InChunks chunks rest many are is) =
+      subst (Brought a b) (sym is) (brought_as (levels_named chunks rest) (λ n. levels_ranged n chunks rest)
+      (brought_on (subst (λ bs. Brought a b (code_of_bodies bs ++ trap_code place)) are.all x) again))
 
 -- ---- bodies aside, one after another
 
@@ -105,7 +175,7 @@ aside_nothing a = record {
 
 -- a realloc is imported still behind bodies that were written aside
 pub realloc_aside : {m : LinearMemory} {a b : Writer} {bodies : List Instr} → IsReallocImported m a.imports → GrewAside a b bodies → IsReallocImported m b.imports
-realloc_aside {m} {a} {b} h x = record { below = λ place e. omega (arith, h.below place e, traps_count x.brought.traps a.imports b.imports x.brought.imported) }
+realloc_aside {m} {a} {b} h x = record { below = λ place e. omega (arith, h.below place e, runtime_count x.brought.runtime a.imports b.imports x.brought.imported) }
 
 pub aside_on : {a b c : Writer} {xs ys : List Instr} → GrewAside a b xs → GrewAside b c ys → GrewAside a c (xs ++ ys)
 aside_on x y = record {
@@ -140,14 +210,6 @@ module _ {a b c d : Writer} {outer body : List Instr} (began : Began a b outer) 
 
 -- ---- the choice
 
--- the choice was put together
-pub choice_put : {a b c : Writer} {local place count : ℕ} {inner code all : List Instr} {bodies trapped : List (List Instr)} → count ≡ length bodies → inner ≡ I.LocalGet local ∷ I.BrTable (labels_from 0 count) count ∷ []
-    → TookTrap a b InvalidDiscriminant place → all ≡ trap_code place → trapped ≡ bodies ++ all ∷ [] → code ≡ nest (arms trapped) inner → Wrote b c (I.Block Empty code ∷ []) → WroteChoice a c local bodies
-choice_put {b = b} {c} {local} {place} {count} {inner} {code} {all} {bodies} {trapped} count_is inner_is took all_is trapped_is code_is w =
-    let same : I.Block Empty code ∷ [] ≡ sum_code (I.LocalGet local ∷ []) place bodies =
-    ap (λ c. I.Block Empty c ∷ []) (code_is ∙ ap (λ t. nest (arms t) inner) (trapped_is ∙ ap (λ t. bodies ++ t ∷ []) all_is) ∙ ap (nest (arms (bodies ++ trap_code place ∷ []))) (inner_is ∙ ap (λ n. I.LocalGet local ∷ I.BrTable (labels_from 0 n) n ∷ []) count_is)) in
-    record { between = b; place = place; took = took; wrote = subst (Wrote b c) same w }
-
 trap_names : (place : ℕ) → imported_named (trap_code place) ≡ place ∷ []
 trap_names place = simp the_lemmas
 
@@ -157,13 +219,13 @@ trap_in_range place = (simp the_lemmas (omega arith, tt), (simp the_lemmas tt, t
 -- Bodies were written aside, and then the choice among them. It brings what they bring, and then the trap.
 module _ {a b c : Writer} {local : ℕ} {bodies : List (List Instr)} (aside : GrewAside a b (code_of_bodies bodies)) (w : WroteChoice b c local bodies) where
   trap_brought : Brought b.imports c.imports (trap_code w.place)
-  trap_brought = brought_between refl (sym w.wrote.imports) (brought_trap (trap_names w.place) (trap_in_range w.place) w.took.imported)
+  trap_brought = brought_between refl (sym w.wrote.imports) (brought_runtime (trap_names w.place) (trap_in_range w.place) w.took.imported)
 
   pub choice_grew : Grew a c
   choice_grew = record {
-    added = sum_code (I.LocalGet local ∷ []) w.place bodies;
-    code = w.wrote.code ∙ ap (λ l. l ++ sum_code (I.LocalGet local ∷ []) w.place bodies) (w.took.code ∙ aside.code);
-    brought = brought_as (choice_named local w.place bodies) (choice_ranged local w.place bodies) (brought_on aside.brought trap_brought);
+    added = w.code;
+    code = w.wrote.code ∙ ap (λ l. l ++ w.code) (w.took.code ∙ aside.code);
+    brought = choice_brought local w.place (brought_on aside.brought trap_brought) (brought_before refl trap_brought.ranged) w.chooses;
     imports = extended_on aside.imports (extended_on w.took.imports (extended_none w.wrote.imports));
     once = λ o. subst AreOnce (sym w.wrote.imports) (w.took.once (aside.once o));
     locals = grows_on aside.locals (grows_on (same_locals b w.between w.took.locals) (same_locals w.between c w.wrote.locals));
@@ -179,5 +241,5 @@ module _ {a b c : Writer} {local : ℕ} {bodies : List (List Instr)} (aside : Gr
     grew = choice_grew;
     does = λ M p locals l.
         let between : Later w.between M p locals = sooner {a = w.between} (extended_none w.wrote.imports) (same_locals w.between c w.wrote.locals) l in
-        join M p locals (sum_code (I.LocalGet local ∷ []) w.place bodies) (does M p locals (sooner {a = b} w.took.imports (same_locals b w.between w.took.locals) between)) (record { place = w.place; has = serves_imported between.serves w.took.there; is = refl });
+        join M p locals w.code (does M p locals (sooner {a = b} w.took.imports (same_locals b w.between w.took.locals) between)) (record { place = w.place; has = serves_imported between.serves w.took.there; chooses = w.chooses });
   }

@@ -4,11 +4,11 @@ use Rattle.fact_wasm.specs.declared.instr.Instr.{Instr}
 use Rattle.fact_wasm.specs.declared.types.FuncType.{FuncType}
 use Rattle.fact_wasm.specs.declared.module.WasmImport.{WasmImport}
 use Rattle.fact_types.specs.declared.import.Import.{Import}
-use Rattle.fact_types.specs.declared.outside.Trap.{Trap}
-use Rattle.fact_emit.specs.Brought.{AreTrapsImported, Brought}
+use Rattle.fact_emit.specs.declared.imported.RuntimeFunction.{RuntimeFunction}
+use Rattle.fact_emit.specs.Brought.{AreRuntimeImported, Brought}
 use Rattle.fact_emit.specs.ImportSection.{a_function, a_memory, a_global, imports_of, sort_of}
 use Rattle.fact_emit.specs.Imports.{Extended}
-use Rattle.fact_emit.specs.States.{ModuleSoFar, HasType, IsImported, IsTrapImported, KeepsDefined, with_import}
+use Rattle.fact_emit.specs.States.{ModuleSoFar, HasType, IsImported, IsRuntimeImported, KeepsDefined, with_import}
 use Rattle.fact_emit.proofs.ImportLaws.{grows_none}
 
 pub defined_same : {a b : ModuleSoFar} → b ≡ a → KeepsDefined a b
@@ -28,15 +28,15 @@ defined_import {a} {b} {w} {i} h = go h.step
     go (inl e) = defined_same e.0
     go (inr e) = record { functions = ap (λ (s : ModuleSoFar). s.functions) e.0; exports = ap (λ (s : ModuleSoFar). s.exports) e.0 }
 
-pub defined_trap : {a b : ModuleSoFar} {t : Trap} {place : ℕ} → IsTrapImported a b t place → KeepsDefined a b
-defined_trap h = defined_on (defined_type h.types) (defined_import h.imported)
+pub defined_runtime : {a b : ModuleSoFar} {f : RuntimeFunction} {place : ℕ} → IsRuntimeImported a b f place → KeepsDefined a b
+defined_runtime h = defined_on (defined_type h.types) (defined_import h.imported)
 
-pub defined_traps : (ts : List Trap) {a b : ModuleSoFar} → AreTrapsImported a b ts → KeepsDefined a b
-defined_traps [] e = defined_same e
-defined_traps (t ∷ ts) h = defined_on (defined_trap h.2) (defined_traps ts h.3)
+pub defined_all : (fs : List RuntimeFunction) {a b : ModuleSoFar} → AreRuntimeImported a b fs → KeepsDefined a b
+defined_all [] e = defined_same e
+defined_all (f ∷ fs) h = defined_on (defined_runtime h.2) (defined_all fs h.3)
 
 pub defined_brought : {a b : ModuleSoFar} {code : List Instr} → Brought a b code → KeepsDefined a b
-defined_brought x = defined_traps x.traps x.imported
+defined_brought x = defined_all x.runtime x.imported
 
 -- a module that defines and exports more imports the same
 pub extended_defined : {a b : ModuleSoFar} → b.types ≡ a.types → b.section ≡ a.section → b.imports ≡ a.imports → Extended a b

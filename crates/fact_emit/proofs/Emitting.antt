@@ -7,24 +7,24 @@ use Rattle.fact_wasm.specs.declared.instr.Instr.{Instr}
 use Rattle.fact_wasm.specs.declared.module.WasmModule.{WasmModule}
 use Rattle.fact_wasm.specs.Ranges.{AreRanged}
 use Rattle.fact_types.specs.declared.import.Import.{Import}
-use Rattle.fact_types.specs.declared.import.Import.TheVariants as import
 use Rattle.fact_types.specs.declared.outside.MemoryOption.{MemoryOption}
-use Rattle.fact_types.specs.declared.outside.Trap.{Trap}
 use Rattle.fact_machine.specs.Trace.{Grows}
 use Rattle.fact_moves.specs.Running.{ImportPlaces}
 use Rattle.fact_moves.specs.Sides.{LiftLowerOptions}
 use Rattle.fact_pieces.specs.Knows.{KnowsFunction, ExtendsModule}
 use Rattle.fact_pieces.specs.Places.{SideMemory}
 use Rattle.fact_pieces.proofs.KnowsLaws.{has_flags, has_function, has_memory}
+use Rattle.fact_emit.specs.declared.imported.RuntimeFunction.{RuntimeFunction}
 use Rattle.fact_emit.specs.declared.writer.Local.{Local}
 use Rattle.fact_emit.specs.declared.writer.Writer.{Writer}
 use Rattle.fact_emit.specs.Emits.{Later, Grew, Piece, Is, Emits, Both}
 use Rattle.fact_emit.specs.Brought.{Brought}
 use Rattle.fact_emit.specs.Imports.{HasImport, HasMemory, Extended, AreOnce, Serves}
 use Rattle.fact_emit.specs.NamedFunctions.{imported_named}
+use Rattle.fact_emit.specs.Runtime.{import_of, type_of_runtime}
 use Rattle.fact_emit.specs.States.{ModuleSoFar, functions_of}
-use Rattle.fact_emit.specs.Writers.{AreNumberTypes, types_of_locals, is_local_in_use, taken_in, Wrote, Took, Freed, TookTrap}
-use Rattle.fact_emit.proofs.BroughtLaws.{brought_as, brought_before, brought_between, brought_on, brought_trap}
+use Rattle.fact_emit.specs.Writers.{AreNumberTypes, types_of_locals, is_local_in_use, taken_in, Wrote, Took, Freed, TookRuntime}
+use Rattle.fact_emit.proofs.BroughtLaws.{brought_as, brought_before, brought_between, brought_on, brought_runtime}
 use Rattle.fact_emit.proofs.NamedLaws.{ranged_more}
 use Rattle.fact_emit.proofs.ImportLaws.{extended_none, extended_on, grown_get, grows_none, grows_on}
 use Rattle.fact_emit.proofs.ServingLaws.{serves_sooner}
@@ -138,13 +138,13 @@ serves_extended x s = record { functions = λ i place params results h. has_func
 pub serves_side : {M : WasmModule} {p : ImportPlaces} {s : ModuleSoFar} {place : ℕ} {log2 : Option ℕ} (o : LiftLowerOptions) (m : MemoryOption) → Serves M p s → HasMemory s m.def place m.memory64 log2 → o.memory ≡ Some m → SideMemory M p o m.memory64 place
 serves_side {log2 = log2} o m s i is = record { option = m; is = is; wide = refl; log2 = log2; has = s.memories _ _ _ _ i }
 
--- A trap was taken, and then code was put there that names its function, and no other one.
-module _ {a b c : Writer} {t : Trap} {place : ℕ} {xs : List Instr} (names : imported_named xs ≡ place ∷ []) (ranged : AreRanged (suc place) 0 xs) (x : TookTrap a b t place) (y : Wrote b c xs) where
+-- A function of the runtime was imported, and then code was put there that names it, and no other one.
+module _ {a b c : Writer} {f : RuntimeFunction} {place : ℕ} {xs : List Instr} (names : imported_named xs ≡ place ∷ []) (ranged : AreRanged (suc place) 0 xs) (x : TookRuntime a b f place) (y : Wrote b c xs) where
   grew_taking : Grew a c
   grew_taking = record {
     added = xs;
     code = y.code ∙ ap (λ l. l ++ xs) x.code;
-    brought = brought_between refl (sym y.imports) (brought_trap names ranged x.imported);
+    brought = brought_between refl (sym y.imports) (brought_runtime names ranged x.imported);
     imports = extended_on x.imports (extended_none y.imports);
     once = λ o. subst AreOnce (sym y.imports) (x.once o);
     locals = grows_on (same_locals a b x.locals) (same_locals b c y.locals);
@@ -152,7 +152,7 @@ module _ {a b c : Writer} {t : Trap} {place : ℕ} {xs : List Instr} (names : im
     still = λ i. same_still b c y.locals i ∙ same_still a b x.locals i;
   }
 
-  pub emits_taking : {P : Piece} → ((M : WasmModule) (p : ImportPlaces) (locals : List ValType) → KnowsFunction M p (import.Trap t) place [] [] → P M p locals xs) → Emits a c P
+  pub emits_taking : {P : Piece} → ((M : WasmModule) (p : ImportPlaces) (locals : List ValType) → KnowsFunction M p (import_of f) place (type_of_runtime f).params (type_of_runtime f).results → P M p locals xs) → Emits a c P
   unfolding grew_taking
   emits_taking d = record { grew = grew_taking; does = λ M p locals l. d M p locals (serves_imported (sooner {a = b} (extended_none y.imports) (same_locals b c y.locals) l).serves x.there) }
 

@@ -2,17 +2,20 @@
 use Rattle.std.proofs.Common.{◌≡◌, ℕ, List, [], ◌∷◌, ◌++◌, Contains, Option, Some, None, refl, sym, ap, subst, length, append_assoc, append-nil, slice_get, inl, inr}
 use Rattle.std.proofs.lemmas.List.Elements.{Contains-push}
 use Rattle.fact_wasm.specs.declared.types.FuncType.{FuncType}
+use Rattle.fact_wasm.specs.declared.module.ImportType.TheVariants as import
 use Rattle.fact_wasm.specs.declared.module.WasmImport.{WasmImport}
 use Rattle.fact_types.specs.declared.outside.CoreDef.{CoreDef}
-use Rattle.fact_types.specs.declared.outside.Trap.{Trap}
 use Rattle.fact_types.specs.declared.import.Import.{Import}
 use Rattle.fact_types.specs.declared.import.Import.TheVariants as known
 use Rattle.fact_emit.specs.ImportSection.{AreNamed, IsNamed, Mention, Role, StandsFor, imports_of}
 use Rattle.fact_emit.specs.Imports.{Extended}
+use Rattle.fact_emit.specs.declared.imported.RuntimeFunction.{RuntimeFunction}
 use Rattle.fact_emit.specs.Known.{AreKnown, AreLinked}
 use Rattle.fact_emit.specs.Linked.{HasTypeIfAny, IsDefLinked, type_of_role}
-use Rattle.fact_emit.specs.States.{HasType, IsImported, IsTrapImported, ModuleSoFar, nothing_so_far}
+use Rattle.fact_emit.specs.Runtime.{name_of_runtime, origin_of_runtime}
+use Rattle.fact_emit.specs.States.{HasType, IsImported, IsRuntimeImported, ModuleSoFar, import_as, nothing_so_far}
 use Rattle.fact_emit.proofs.ImportLaws.{extended_none, extended_on, grows_none}
+use Rattle.fact_emit.proofs.RuntimeNamed.{runtime-named}
 use Rattle.fact_emit.proofs.Named.{named-lengths, named-more, named-push, sort_for, stands-sort}
 use Rattle.fact_emit.proofs.StateLaws.{extended-by}
 
@@ -52,7 +55,17 @@ known_within s ms ns within h = record { named = go [] s.section s.imports h.nam
     one : (before : List WasmImport) (w : WasmImport) (i : Import) → IsNamed s.types ms before w i → IsNamed s.types ns before w i
     one before w (known.CoreDef d) n = (n.0, within _ n.1, n.2)
     one before w (known.Trap t) n = n
-    one before w i n = absurd n
+    one before w known.ResourceTransferOwn n = n
+    one before w known.ResourceTransferBorrow n = n
+    one before w known.FutureTransfer n = n
+    one before w known.StreamTransfer n = n
+    one before w known.ErrorContextTransfer n = n
+    one before w known.EnterSyncCall n = n
+    one before w known.ExitSyncCall n = n
+    one before w (known.UnsafeIntrinsic s) n = n
+    one before w (known.Transcode a b c d e) n = absurd n
+    one before w (known.PrepareCall a) n = absurd n
+    one before w (known.StartCall a b) n = absurd n
 
     go : (before ws : List WasmImport) (is : List Import) → AreNamed s.types ms before ws is → AreNamed s.types ns before ws is
     go before [] [] n = tt
@@ -60,9 +73,9 @@ known_within s ms ns within h = record { named = go [] s.section s.imports h.nam
     go before (w ∷ ws) [] n = absurd n
     go before (w ∷ ws) (i ∷ is) n = (one before w i n.0, go (before ++ w ∷ []) ws is n.1)
 
--- a trap
-pub known_trap : {old new : ModuleSoFar} {ms : List Mention} (t : Trap) (place : ℕ) → IsTrapImported old new t place → AreKnown old ms → AreKnown new ms
-known_trap t place x h = known_import x.imported (record { is_from = refl; is_named = refl; is_typed = x.ty_there }) (known_type _ x.types h)
+-- a function of the runtime
+pub known_runtime : {old new : ModuleSoFar} {ms : List Mention} (f : RuntimeFunction) (place : ℕ) → IsRuntimeImported old new f place → AreKnown old ms → AreKnown new ms
+known_runtime {ms = ms} f place x h = known_import x.imported (runtime-named x.typed.types ms x.typed.section (import_as (origin_of_runtime f) (name_of_runtime f) (import.Func x.ty)) f (record { is_from = refl; is_named = refl; is_typed = x.ty_there })) (known_type _ x.types h)
 
 -- only types come with a type
 same_section : (old new : ModuleSoFar) (o : Option FuncType) → HasTypeIfAny old new o → new.section ≡ old.section

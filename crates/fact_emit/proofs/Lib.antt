@@ -1,11 +1,14 @@
 pub mod AdapterKnown
 pub mod AreaMoves
+pub mod BarrierMoves
 pub mod BroughtLaws
 pub mod CheckMoves
 pub mod ChosenBodies
+pub mod ChunkBodies
 pub mod DefinedKept
 pub mod Emitting
 pub mod ExactItems
+pub mod HandleMoves
 pub mod ImportLaws
 pub mod ImportLists
 pub mod KnownLaws
@@ -25,7 +28,10 @@ pub mod PlacesOfLaws
 pub mod RangedCode
 pub mod RequestMoves
 pub mod RequestRanged
+pub mod RuntimeMoves
+pub mod RuntimeNamed
 pub mod ScalarMoves
 pub mod ServingLaws
 pub mod StateLaws
+pub mod TakenLocals
 pub mod Using

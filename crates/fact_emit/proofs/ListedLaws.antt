@@ -1,6 +1,6 @@
 -- A module that is being made lists what adapters mention, as more is imported.
-use Rattle.std.proofs.Common.{◌≡◌, ◌≢◌, ◌<◌, ℕ, Bool, true, false, List, [], ◌∷◌, ◌++◌, Some, None, Option, Contains, refl, sym, ap, ◌∙◌, subst, length, slice_get, append-nil, append_assoc, get_or, ◌⊎◌, inl, inr, codes}
-use Rattle.std.specs.Fmt.{decimal}
+use Rattle.std.proofs.Common.{◌≡◌, ◌≢◌, ◌<◌, ℕ, Bool, true, false, List, [], ◌∷◌, ◌++◌, Some, None, Option, Contains, refl, sym, ap, ◌∙◌, subst, length, slice_get, append-nil, append_assoc, get_or, ◌⊎◌, inl, inr}
+use Rattle.std.specs.List.{cons_option, filter_map}
 use Rattle.std.proofs.lemmas.Bool.{false≢true}
 use Rattle.std.proofs.lemmas.List.Elements.{Contains-append_cases, Contains-append_left, Contains-append_right, Contains-push, filter_map-append}
 use Rattle.std.proofs.lemmas.List.Quantifiers.{all_pairs_push}
@@ -9,16 +9,18 @@ use Rattle.fact_wasm.specs.declared.types.FuncType.{FuncType}
 use Rattle.fact_wasm.specs.declared.module.ImportType.TheVariants as import
 use Rattle.fact_wasm.specs.declared.module.WasmImport.{WasmImport}
 use Rattle.fact_types.specs.declared.outside.CoreDef.{CoreDef}
-use Rattle.fact_types.specs.declared.outside.Trap.{Trap}
 use Rattle.fact_types.specs.declared.import.Import.{Import}
 use Rattle.fact_types.specs.declared.import.Import.TheVariants as known
-use Rattle.fact_emit.specs.Brought.{AreTrapsImported}
-use Rattle.fact_emit.specs.ImportSection.{AreNamed, Callback, Callee, Flags, IsTrap, Mention, PostReturn, Realloc, Role, Sort, StandsFor, Storage, a_function, a_global, a_memory, def_of, imports_of, is_mentioned, sort_of, trap_number, with_mention, with_mentions}
+use Rattle.fact_emit.specs.declared.imported.RuntimeFunction.{RuntimeFunction}
+use Rattle.fact_emit.specs.Brought.{AreRuntimeImported}
+use Rattle.fact_emit.specs.ImportSection.{AreNamed, Callback, Callee, Flags, IsRuntime, Mention, PostReturn, Realloc, Role, Sort, StandsFor, Storage, a_function, a_global, a_memory, def_of, imports_of, is_mentioned, sort_of, with_mention, with_mentions}
 use Rattle.fact_emit.specs.Known.{AreUsedAlike, IsUsedAlike, memory_of_role}
 use Rattle.fact_emit.specs.Linked.{HasTypeIfAny, IsDefLinked, type_of_role}
 use Rattle.fact_emit.specs.Listed.{AreLinkedInTurn, ListsMentions}
-use Rattle.fact_emit.specs.States.{HasType, IsImported, IsTrapImported, ModuleSoFar, import_as, with_import}
+use Rattle.fact_emit.specs.Runtime.{import_of, name_of_runtime, origin_of_runtime}
+use Rattle.fact_emit.specs.States.{HasType, IsImported, IsRuntimeImported, ModuleSoFar, import_as, with_import}
 use Rattle.fact_emit.proofs.ImportLists.{get-map, get-there, map-push, there-get, unmap}
+use Rattle.fact_emit.proofs.RuntimeNamed.{named-runtime, runtime-defines-none, runtime-named}
 use Rattle.fact_emit.proofs.Named.{function-sort, named-at, named-lengths, named-more, named-push, sort_for, stands-sort}
 use Rattle.fact_emit.proofs.Mentions.{def_of-is, given, giver, in-its-kind, in-one, mention-of, mentioned, of-a-kind}
 
@@ -52,35 +54,35 @@ listed_type old new ms ty (inr anew) h = subst (λ s. ListsMentions s ms) (sym a
   signatures = all_pairs_push (λ t u. t ≢ u) old.types ty h.signatures (λ k t within e. anew.0 (there-get old.types k ty (slice_get-get_or old.types k t within ∙ ap Some e)));
 })
 
--- the import of a trap
-import_trap : (old new : ModuleSoFar) (ms : List Mention) (w : WasmImport) (t : Trap) (place : ℕ) → sort_of w.ty ≡ a_function → IsTrap old.types t w → IsImported old new w (known.Trap t) place → ListsMentions old ms → ListsMentions new ms
-import_trap old new ms w t place is_function names i h = elim i.step [
+-- the import of a function of the runtime
+import_runtime : (old new : ModuleSoFar) (ms : List Mention) (w : WasmImport) (f : RuntimeFunction) (place : ℕ) → sort_of w.ty ≡ a_function → IsRuntime old.types f w → IsImported old new w (import_of f) place → ListsMentions old ms → ListsMentions new ms
+import_runtime old new ms w f place is_function names i h = elim i.step [
   | inl there ↦ subst (λ s. ListsMentions s ms) (sym there.0) h
   | inr anew ↦ subst (λ s. ListsMentions s ms) (sym anew.0) (record {
-    defs = filter_map-append def_of old.imports (known.Trap t ∷ []) ∙ append-nil _ ∙ h.defs;
-    named = named-push old.types ms [] old.section old.imports w (known.Trap t) h.named names;
-    once = all_pairs_push (λ i j. i ≢ j) old.imports (known.Trap t) h.once (λ k i within e. fresh anew.1 k i within e);
+    defs = filter_map-append def_of old.imports (import_of f ∷ []) ∙ ap (λ o. filter_map def_of old.imports ++ cons_option o []) (runtime-defines-none f) ∙ append-nil _ ∙ h.defs;
+    named = named-push old.types ms [] old.section old.imports w (import_of f) h.named (runtime-named old.types ms old.section w f names);
+    once = all_pairs_push (λ i j. i ≢ j) old.imports (import_of f) h.once (λ k i within e. fresh anew.1 k i within e);
     signatures = h.signatures;
   })
 ]
   where
-    fresh : (Contains (imports_of (sort_of w.ty) old.section old.imports) (known.Trap t) → ⊥) → (k : ℕ) (i : Import) → k < length old.imports → get_or old.imports k i ≡ known.Trap t → ⊥
+    fresh : (Contains (imports_of (sort_of w.ty) old.section old.imports) (import_of f) → ⊥) → (k : ℕ) (i : Import) → k < length old.imports → get_or old.imports k i ≡ import_of f → ⊥
     fresh absent k i within e =
-        let at : slice_get old.imports k ≡ Some (known.Trap t) = slice_get-get_or old.imports k i within ∙ ap Some e in
-        let (w', there, b, trap) = named-at old.types ms [] old.section old.imports k (known.Trap t) h.named at in
-        let (n, of) = in-its-kind old.section old.imports k w' (known.Trap t) there at in
-        let same : sort_of w'.ty ≡ sort_of w.ty = function-sort old.types w'.ty _ trap.is_typed ∙ sym is_function in
-        absent (there-get _ n (known.Trap t) (subst (λ sort. slice_get (imports_of sort old.section old.imports) n ≡ Some (known.Trap t)) same of))
+        let at : slice_get old.imports k ≡ Some (import_of f) = slice_get-get_or old.imports k i within ∙ ap Some e in
+        let (w', there, b, named) = named-at old.types ms [] old.section old.imports k (import_of f) h.named at in
+        let (n, of) = in-its-kind old.section old.imports k w' (import_of f) there at in
+        let same : sort_of w'.ty ≡ sort_of w.ty = function-sort old.types w'.ty _ (named-runtime old.types ms b w' f named).is_typed ∙ sym is_function in
+        absent (there-get _ n (import_of f) (subst (λ sort. slice_get (imports_of sort old.section old.imports) n ≡ Some (import_of f)) same of))
 
-pub listed_trap : (old new : ModuleSoFar) (ms : List Mention) (t : Trap) (place : ℕ) → IsTrapImported old new t place → ListsMentions old ms → ListsMentions new ms
-listed_trap old new ms t place h lists =
-    import_trap h.typed new ms (import_as (codes "runtime") (codes "trap" ++ decimal (trap_number t)) (import.Func h.ty)) t place refl
+pub listed_runtime : (old new : ModuleSoFar) (ms : List Mention) (f : RuntimeFunction) (place : ℕ) → IsRuntimeImported old new f place → ListsMentions old ms → ListsMentions new ms
+listed_runtime old new ms f place h lists =
+    import_runtime h.typed new ms (import_as (origin_of_runtime f) (name_of_runtime f) (import.Func h.ty)) f place refl
     (record { is_from = refl; is_named = refl; is_typed = h.ty_there }) h.imported (listed_type old h.typed ms _ h.types lists)
 
--- Traps that code brought in.
-pub listed_traps : (ts : List Trap) (old new : ModuleSoFar) (ms : List Mention) → AreTrapsImported old new ts → ListsMentions old ms → ListsMentions new ms
-listed_traps [] old new ms h lists = subst (λ s. ListsMentions s ms) (sym h) lists
-listed_traps (t ∷ ts) old new ms h lists = listed_traps ts h.0 new ms h.3 (listed_trap old h.0 ms t h.1 h.2 lists)
+-- Functions of the runtime that code brought in.
+pub listed_all_runtime : (fs : List RuntimeFunction) (old new : ModuleSoFar) (ms : List Mention) → AreRuntimeImported old new fs → ListsMentions old ms → ListsMentions new ms
+listed_all_runtime [] old new ms h lists = subst (λ s. ListsMentions s ms) (sym h) lists
+listed_all_runtime (f ∷ fs) old new ms h lists = listed_all_runtime fs h.0 new ms h.3 (listed_runtime old h.0 ms f h.1 h.2 lists)
 
 -- ---- the import of a core definition
 

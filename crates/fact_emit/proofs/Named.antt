@@ -39,16 +39,16 @@ is-named-more : (types more : List FuncType) (ms ns : List Mention) (before : Li
 is-named-more types more ms ns before w (known.CoreDef d) h = (h.0, Contains-append_left ms ns _ h.1, stands-more types more before h.0 w h.2)
 is-named-more types more ms ns before w (known.Trap t) h = function-more types more w _ _ _ h
 is-named-more types more ms ns before w (known.Transcode a b c d e) h = absurd h
-is-named-more types more ms ns before w known.ResourceTransferOwn h = absurd h
-is-named-more types more ms ns before w known.ResourceTransferBorrow h = absurd h
+is-named-more types more ms ns before w known.ResourceTransferOwn h = function-more types more w _ _ _ h
+is-named-more types more ms ns before w known.ResourceTransferBorrow h = function-more types more w _ _ _ h
 is-named-more types more ms ns before w (known.PrepareCall a) h = absurd h
 is-named-more types more ms ns before w (known.StartCall a b) h = absurd h
-is-named-more types more ms ns before w known.FutureTransfer h = absurd h
-is-named-more types more ms ns before w known.StreamTransfer h = absurd h
-is-named-more types more ms ns before w known.ErrorContextTransfer h = absurd h
-is-named-more types more ms ns before w known.EnterSyncCall h = absurd h
-is-named-more types more ms ns before w known.ExitSyncCall h = absurd h
-is-named-more types more ms ns before w (known.UnsafeIntrinsic a) h = absurd h
+is-named-more types more ms ns before w known.FutureTransfer h = function-more types more w _ _ _ h
+is-named-more types more ms ns before w known.StreamTransfer h = function-more types more w _ _ _ h
+is-named-more types more ms ns before w known.ErrorContextTransfer h = function-more types more w _ _ _ h
+is-named-more types more ms ns before w known.EnterSyncCall h = function-more types more w _ _ _ h
+is-named-more types more ms ns before w known.ExitSyncCall h = function-more types more w _ _ _ h
+is-named-more types more ms ns before w (known.UnsafeIntrinsic a) h = function-more types more w _ _ _ h
 
 pub named-more : (types more : List FuncType) (ms ns : List Mention) (before ws : List WasmImport) (is : List Import) → AreNamed types ms before ws is → AreNamed (types ++ more) (ms ++ ns) before ws is
 named-more types more ms ns before [] [] h = tt

@@ -123,7 +123,7 @@ number_emits {a} {n = n} k {src} {dst} sides h x y z v =
     (λ M p locals c l is r.
     let all : c ++ l ≡ number_code (checks_at sides.debug p) n src (canonical_code k) dst = λ i. is i ++ r.1 i in
     subst (λ code. MovesValue sides src dst (taken_in a) 516 (FitsUnchecked n src dst) (number_moves n (canonical_of k)) M p locals code) (sym all)
-    (record { moves = λ o o' concurrency rooms used u fits. let S = setting_of sides o o' concurrency rooms M p locals in moves_number S used src dst n (fits_checked S r.0 fits) (canonical_converts k n h) }))
+    (record { moves = λ o o' rooms used u fits. let S = setting_of sides o o' rooms M p locals in moves_number S used src dst n (fits_checked S r.0 fits) (canonical_converts k n h) }))
     (emits_wrote (before_ranged dst) x) (reads_then (ranged_append 0 0 (canonical_code k) (code_behind n dst) (canonical_ranged k) (behind_ranged n dst)) y (wrote_then z v))
 
 -- ---- numbers that are tested
@@ -152,8 +152,8 @@ tested_emits {a} {n = n} local {src} {dst} sides t short u v x y z r =
     ∙ ap (λ k. code_before dst ++ (reads ++ I.LocalSet local ∷ k)) g.is in
     subst (λ code. MovesValue sides src dst (except local (taken_in a)) 516 (λ S. FitsUnchecked n src dst S × HasLocal local val.I32 S) (tested_moves n t) M p locals code) (sym all)
     (record {
-      moves = λ o o' concurrency rooms used using fits.
-          let S = setting_of sides o o' concurrency rooms M p locals in
+      moves = λ o o' rooms used using fits.
+          let S = setting_of sides o o' rooms M p locals in
           moves_tested S used src dst local g.place n (narrow_of n short) (fits_checked S h.0 fits.0) using.to (record { local = fits.1; free = free_except (taken_in a) using }) (trap_of_test t) g.has (test_is t);
     }))
     (emits_then {P = Is (code_before dst)} {Q = ReadsThen sides.debug n src (I.LocalSet local ∷ [])} (λ M p locals c k is q. (q.0, λ i. is i ++ q.1 i)) (emits_wrote (before_ranged dst) u) (reads_then (set_ranged local) v x))

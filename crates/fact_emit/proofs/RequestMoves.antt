@@ -10,6 +10,7 @@ use Rattle.fact_types.specs.declared.import.Import.TheVariants as import
 use Rattle.fact_types.specs.declared.outside.Trap.{Trap}
 use Rattle.fact_types.specs.declared.outside.Trap.TheVariants.{UnalignedPointer}
 use Rattle.fact_moves.specs.Running.{ImportPlaces}
+use Rattle.fact_pieces.specs.Context.{restore_code}
 use Rattle.fact_pieces.specs.Knows.{KnowsFunction}
 use Rattle.fact_pieces.specs.Places.{widen}
 use Rattle.fact_pieces.specs.Tests.{HasUnaligned, aligned_guard, pointer, region_code}
@@ -18,10 +19,12 @@ use Rattle.fact_emit.specs.declared.requests.NewRegion.{NewRegion}
 use Rattle.fact_emit.specs.declared.writer.Writer.{Writer}
 use Rattle.fact_emit.specs.Checks.{ChecksRegion}
 use Rattle.fact_emit.specs.Emits.{Is, Emits}
-use Rattle.fact_emit.specs.Requests.{IsReallocImported, request_code, AsksRegion}
+use Rattle.fact_emit.specs.Requests.{IsReallocImported, ask_code_if, AsksRegion, CallsRealloc}
+use Rattle.fact_emit.specs.RuntimeCalls.{slots_of, SavesSlots, WritesSlots}
 use Rattle.fact_emit.specs.Writers.{Wrote}
-use Rattle.fact_emit.proofs.Emitting.{emits_then, emits_as, emits_before, wrote_then}
-use Rattle.fact_emit.proofs.RequestRanged.{kept_request_ranged}
+use Rattle.fact_emit.proofs.Emitting.{emits_then, emits_as, emits_before, emits_wrote}
+use Rattle.fact_emit.proofs.RangedCode.{kept_ranged}
+use Rattle.fact_emit.proofs.RequestRanged.{asked_ranged}
 
 -- where there is no test, any place will do
 aligned_at : (one : Bool) (M : WasmModule) (p : ImportPlaces) (local align place : ℕ) → HasUnaligned one M p place
@@ -46,13 +49,22 @@ region_at {m} {align} {address} {bytes} {length} {t} M p locals code r =
       is = r.is ∙ ap (λ g. g ++ region_code m.memory m.memory64 m.page_size_log2 1 address bytes length 0 r.outside) a.1 ∙ ap (λ n. one (p.function (import.Trap UnalignedPointer)) n) (sym r.has_outside.placed);
     }
 
-pub asks_region : {a b c d : Writer} {t : Trap} {m : LinearMemory} (r : NewRegion) → IsReallocImported m a.imports → Wrote a b (request_code m.realloc m.memory64 r.align r.bytes) → Wrote b c (widen (pointer m.memory64) val.I64 ++ I.LocalSet r.address ∷ []) → Emits c d (ChecksRegion m r.align r.address r.bytes r.length t)
-    → Emits a d (AsksRegion m r t)
-asks_region {a} {m = m} r imported x y z =
-    let request : List Instr = request_code m.realloc m.memory64 r.align r.bytes in
+-- realloc is called, with the slots saved in front of the call and set back behind it
+pub calls_realloc : {a b c d : Writer} {concurrency : Bool} {m : LinearMemory} (r : NewRegion) → IsReallocImported m b.imports → Emits a b (SavesSlots concurrency r.context) → Wrote b c (ask_code_if m.realloc m.memory64 r.align r.bytes) → Emits c d (WritesSlots concurrency r.context)
+    → Emits a d (CallsRealloc concurrency m r)
+calls_realloc {b = b} {concurrency = concurrency} {m} r imported x y z =
+    let ask : List Instr = ask_code_if m.realloc m.memory64 r.align r.bytes in
+    emits_then {Q = λ M p locals k. k ≡ ask ++ restore_code concurrency (slots_of p r.context)} (λ M p locals c k s is. record { slots = s.has; is = λ i. s.is i ++ is i }) x
+    (emits_then {P = Is ask} (λ M p locals c k is w. λ i. is i ++ w.is i) (emits_before (asked_ranged m b.imports r.align r.bytes imported) y) z)
+
+pub asks_region : {a b c d : Writer} {t : Trap} {concurrency : Bool} {m : LinearMemory} (r : NewRegion) → Emits a b (CallsRealloc concurrency m r) → Wrote b c (widen (pointer m.memory64) val.I64 ++ I.LocalSet r.address ∷ []) → Emits c d (ChecksRegion m r.align r.address r.bytes r.length t)
+    → Emits a d (AsksRegion concurrency m r t)
+asks_region {t = t} {concurrency} {m} r x y z =
     let keep : List Instr = widen (pointer m.memory64) val.I64 ++ I.LocalSet r.address ∷ [] in
-    emits_then {P = Is (request ++ keep)} (λ M p locals c k is g. record {
-      unaligned = g.unaligned;
-      outside = g.outside;
-      is = ap (λ c. c ++ k) is ∙ append_assoc request keep k ∙ ap (λ k. request ++ (keep ++ k)) g.is;
-    }) (emits_before (kept_request_ranged m a.imports r.align r.bytes r.address imported) (wrote_then x y)) (emits_as region_at z)
+    emits_then {Q = λ M p locals k. (checks : List Instr) × RegionAt m r.align r.address r.bytes r.length t M p locals checks × (k ≡ keep ++ checks)} (λ M p locals c k q g. record {
+      slots = q.slots;
+      unaligned = g.1.unaligned;
+      outside = g.1.outside;
+      is = λ i. q.is i ++ (g.2 ∙ ap (λ k. keep ++ k) g.1.is) i;
+    }) x
+    (emits_then {P = Is keep} (λ M p locals c k is g. (k, g, ap (λ c. c ++ k) is)) (emits_wrote (kept_ranged (pointer m.memory64) val.I64 r.address) y) (emits_as region_at z))

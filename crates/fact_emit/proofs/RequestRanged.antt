@@ -6,16 +6,15 @@ use Rattle.fact_wasm.specs.declared.instr.Instr.TheVariants as I
 use Rattle.fact_wasm.specs.declared.types.ValType.TheVariants as val
 use Rattle.fact_wasm.specs.Ranges.{AreRanged}
 use Rattle.fact_pieces.specs.Lists.{address_code, ask_code, const_code}
-use Rattle.fact_pieces.specs.Places.{widen}
 use Rattle.fact_pieces.specs.Tests.{pointer}
 use Rattle.fact_emit.specs.declared.places.LinearMemory.{LinearMemory}
 use Rattle.fact_emit.specs.declared.writer.Writer.{Writer}
 use Rattle.fact_emit.specs.Emits.{Grew}
-use Rattle.fact_emit.specs.Requests.{IsReallocImported, request_code}
+use Rattle.fact_emit.specs.Requests.{IsReallocImported, ask_code_if}
 use Rattle.fact_emit.specs.States.{ModuleSoFar, functions_of}
-use Rattle.fact_emit.proofs.BroughtLaws.{traps_count}
+use Rattle.fact_emit.proofs.BroughtLaws.{runtime_count}
 use Rattle.fact_emit.proofs.NamedLaws.{ranged_append, ranged_more, ranged_none}
-use Rattle.fact_emit.proofs.RangedCode.{kept_ranged, local_ranged, unreachable_ranged}
+use Rattle.fact_emit.proofs.RangedCode.{local_ranged, unreachable_ranged}
 
 pub const_ranged : (memory64 : Bool) (n : ℕ) → AreRanged 0 0 (const_code memory64 n ∷ [])
 const_ranged true n = ranged_none 0 0 (const_code true n ∷ []) (simp the_lemmas)
@@ -34,24 +33,16 @@ ask_ranged imports memory64 align bytes place lt =
     (ranged_append imports 0 (const_code memory64 align ∷ []) last (none align)
     (ranged_append imports 0 (address_code memory64 bytes) (I.Call (func.Import place) ∷ []) (ranged_more 0 imports (omega arith) (address_code memory64 bytes) (address_ranged memory64 bytes)) (simp the_lemmas (lt, tt), tt))))
 
-pub request_ranged : (m : LinearMemory) (s : ModuleSoFar) (align bytes : ℕ) → IsReallocImported m s → AreRanged (length (functions_of s)) 0 (request_code m.realloc m.memory64 align bytes)
-request_ranged m s align bytes h = go m.realloc refl
+pub asked_ranged : (m : LinearMemory) (s : ModuleSoFar) (align bytes : ℕ) → IsReallocImported m s → AreRanged (length (functions_of s)) 0 (ask_code_if m.realloc m.memory64 align bytes)
+asked_ranged m s align bytes h = go m.realloc refl
   where
-    go : (r : Option ℕ) → m.realloc ≡ r → AreRanged (length (functions_of s)) 0 (request_code r m.memory64 align bytes)
+    go : (r : Option ℕ) → m.realloc ≡ r → AreRanged (length (functions_of s)) 0 (ask_code_if r m.memory64 align bytes)
     go None e = ranged_more 0 (length (functions_of s)) (omega arith) (I.Unreachable ∷ []) unreachable_ranged
     go (Some place) e = ask_ranged (length (functions_of s)) m.memory64 align bytes place (h.below place e)
 
--- and its answer is kept
-pub kept_request_ranged : (m : LinearMemory) (s : ModuleSoFar) (align bytes address : ℕ) → IsReallocImported m s
-    → AreRanged (length (functions_of s)) 0 (request_code m.realloc m.memory64 align bytes ++ (widen (pointer m.memory64) val.I64 ++ I.LocalSet address ∷ []))
-kept_request_ranged m s align bytes address h =
-    let keep = widen (pointer m.memory64) val.I64 ++ I.LocalSet address ∷ [] in
-    ranged_append (length (functions_of s)) 0 (request_code m.realloc m.memory64 align bytes) keep (request_ranged m s align bytes h)
-    (ranged_more 0 (length (functions_of s)) (omega arith) keep (kept_ranged (pointer m.memory64) val.I64 address))
-
 -- it is imported still when more is
 pub realloc_on : {m : LinearMemory} {a b : Writer} → IsReallocImported m a.imports → Grew a b → IsReallocImported m b.imports
-realloc_on {m} {a} {b} h x = record { below = λ place e. omega (arith, h.below place e, traps_count x.brought.traps a.imports b.imports x.brought.imported) }
+realloc_on {m} {a} {b} h x = record { below = λ place e. omega (arith, h.below place e, runtime_count x.brought.runtime a.imports b.imports x.brought.imported) }
 
 pub realloc_same : {m : LinearMemory} {s s' : ModuleSoFar} → s' ≡ s → IsReallocImported m s → IsReallocImported m s'
 realloc_same {m} e h = subst (IsReallocImported m) (sym e) h

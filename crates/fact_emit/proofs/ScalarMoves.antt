@@ -72,7 +72,7 @@ fits_one sides S {t} {u} {src} {dst} f n holds one_t one_u fit =
 pub moves_as : {sides : Sides} {src : From} {dst : To} {taken : ℕ → Bool} {spare : ℕ} {Fit Fit' : Setting → Type 0} {act act' : Act} {M : WasmModule} {p : ImportPlaces} {locals : List ValType} {code : List Instr}
     → ((S : Setting) → Fit' S → Fit S) → ((S : Setting) (s : Source) (d : Target) → act (transfer S) s d ≡ act' (transfer S) s d) → MovesValue sides src dst taken spare Fit act M p locals code → MovesValue sides src dst taken spare Fit' act' M p locals code
 moves_as {sides} {M = M} {p} {locals} fits is m = record {
-  moves = λ a b concurrency rooms used u fit. let S = setting_of sides a b concurrency rooms M p locals in moves_same (is S) (m.moves a b concurrency rooms used u (fits S fit));
+  moves = λ a b rooms used u fit. let S = setting_of sides a b rooms M p locals in moves_same (is S) (m.moves a b rooms used u (fits S fit));
 }
 
 -- ---- scalars

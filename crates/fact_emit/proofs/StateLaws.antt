@@ -1,5 +1,5 @@
 -- One more import of a kind, over the lists by which the imports are found.
-use Rattle.std.proofs.Common.{◌≡◌, ℕ, Bool, true, false, ◌+◌, ◌<◌, ◌^◌, List, [], ◌∷◌, ◌++◌, Option, Some, Contains, refl, sym, ap, ◌∙◌, subst, arith, length, map, slice_get, length-append, append-nil, ◌⊎◌, inl, inr}
+use Rattle.std.proofs.Common.{◌≡◌, ℕ, Bool, true, false, ◌+◌, ◌<◌, ◌^◌, List, [], ◌∷◌, ◌++◌, Option, Some, None, Contains, refl, sym, ap, ◌∙◌, subst, arith, length, map, slice_get, length-append, append-nil, ◌⊎◌, inl, inr}
 use Rattle.std.specs.Prelude.{Err, IfOk, IsFalse, IsTrue, Ok, OnOk, Result, cond, count_by, not}
 use Rattle.std.proofs.lemmas.List.{length-map}
 use Rattle.std.proofs.lemmas.Option.{slice_get_within}
@@ -13,13 +13,12 @@ use Rattle.fact_wasm.specs.declared.module.WasmFunc.{WasmFunc}
 use Rattle.fact_wasm.specs.declared.module.WasmImport.{WasmImport}
 use Rattle.fact_machine.specs.Trace.{Grows}
 use Rattle.fact_types.specs.declared.import.Import.{Import}
-use Rattle.fact_types.specs.declared.import.Import.TheVariants as known
-use Rattle.fact_types.specs.declared.outside.Trap.{Trap}
-use Rattle.fact_types.specs.ImportTypes.{trap_type}
 use Rattle.fact_emit.specs.declared.imported.ImportedItem.{ImportedItem}
 use Rattle.fact_emit.specs.declared.imported.ImportedItem.TheVariants as item
+use Rattle.fact_emit.specs.declared.imported.RuntimeFunction.{RuntimeFunction}
 use Rattle.fact_emit.specs.ImportSection.{Sort, a_function, a_memory, a_global, imports_of, imported_type, is_of, same_sort, sort_of}
 use Rattle.fact_emit.specs.Imports.{AreOnce, Extended, HasImport, StandsOnce}
+use Rattle.fact_emit.specs.Runtime.{import_of, type_of_runtime}
 use Rattle.fact_emit.specs.State.{IsAdded, IsIndexed, IsKept, by_sort}
 use Rattle.fact_emit.specs.States.{HasType, IsImported, ModuleSoFar, functions_of, known_as, with_import}
 use Rattle.fact_emit.proofs.ExactItems.{known-once}
@@ -102,39 +101,35 @@ absent-known is xs x e absent c =
     let y = unmap known_as xs at.0 (known_as x) at.1 in
     absent (there-get xs at.0 x (y.1 ∙ ap Some (known-once y.0 x y.2)))
 
-trap-item : (x : ImportedItem) (t : Trap) → known_as x ≡ known.Trap t → x ≡ item.Trap t
-trap-item (item.Trap u) t h = ap item.Trap cc
-trap-item (item.Def d) t h = cc
-
 -- the number of a type that there is
-type-number : (s : ModuleSoFar) (ty : ImportType) → imported_type s.types ty ≡ Some trap_type → (k : ℕ) × (ty ≡ import.Func k) × (slice_get s.types k ≡ Some trap_type)
-type-number s (import.Func k) h = (k, refl, h)
-type-number s (import.Memory least wide page) h = cc
-type-number s (import.Global t mutable) h = cc
+type-number : (s : ModuleSoFar) (ty : ImportType) (t : FuncType) → imported_type s.types ty ≡ Some t → (k : ℕ) × (ty ≡ import.Func k) × (slice_get s.types k ≡ Some t)
+type-number s (import.Func k) t h = (k, refl, h)
+type-number s (import.Memory least wide page) t h = cc
+type-number s (import.Global u mutable) t h = cc
 
 module _ (s : ModuleSoFar) (gs ms fs : List ImportedItem) (h : IsIndexed s gs ms fs) where
   -- One more item among those of its kind.
-  module _ (w : WasmImport) (x : ImportedItem) (typed : (t : Trap) → x ≡ item.Trap t → imported_type s.types w.ty ≡ Some trap_type) where
+  module _ (w : WasmImport) (x : ImportedItem) (typed : (f : RuntimeFunction) → x ≡ item.Runtime f → imported_type s.types w.ty ≡ Some (type_of_runtime f)) where
     abbrev new : ModuleSoFar
     new = with_import s w (known_as x)
 
-    added-trap : (n : ℕ) (t : Trap) → (n ≡ length (functions_of s)) × (known_as x ≡ known.Trap t) → slice_get (functions_of new) n ≡ Some (known.Trap t) → HasImport new (known.Trap t) n [] []
-    added-trap n t last there =
-        let (k, is, at) = type-number s w.ty (typed t (trap-item x t last.1)) in
+    added-runtime : (n : ℕ) (f : RuntimeFunction) → (n ≡ length (functions_of s)) × (known_as x ≡ import_of f) → slice_get (functions_of new) n ≡ Some (import_of f) → HasImport new (import_of f) n (type_of_runtime f).params (type_of_runtime f).results
+    added-runtime n f last there =
+        let (k, is, at) = type-number s w.ty (type_of_runtime f) (typed f (known-once x (item.Runtime f) last.1)) in
         record { there = there; type_at = k; imported = rw last.0 (func-last s.section s.imports w k h.same_length is); type_is = at }
 
-    traps-added : (n : ℕ) (t : Trap) → slice_get (functions_of new) n ≡ Some (known.Trap t) → HasImport new (known.Trap t) n [] []
-    traps-added n t at = go (is_of a_function w) (ap (λ l. slice_get l n) (sym (more s h.same_length w (known_as x) a_function)) ∙ at)
+    runtime-added : (n : ℕ) (f : RuntimeFunction) → slice_get (functions_of new) n ≡ Some (import_of f) → HasImport new (import_of f) n (type_of_runtime f).params (type_of_runtime f).results
+    runtime-added n f at = go (is_of a_function w) (ap (λ l. slice_get l n) (sym (more s h.same_length w (known_as x) a_function)) ∙ at)
       where
-        before : slice_get (functions_of s) n ≡ Some (known.Trap t) → HasImport new (known.Trap t) n [] []
-        before e = later_import (extended-by s h.same_length w (known_as x)) (h.traps n t e)
+        before : slice_get (functions_of s) n ≡ Some (import_of f) → HasImport new (import_of f) n (type_of_runtime f).params (type_of_runtime f).results
+        before e = later_import (extended-by s h.same_length w (known_as x)) (h.runtime n f e)
 
-        by_place : (slice_get (functions_of s) n ≡ Some (known.Trap t)) ⊎ ((n ≡ length (functions_of s)) × (known_as x ≡ known.Trap t)) → HasImport new (known.Trap t) n [] []
+        by_place : (slice_get (functions_of s) n ≡ Some (import_of f)) ⊎ ((n ≡ length (functions_of s)) × (known_as x ≡ import_of f)) → HasImport new (import_of f) n (type_of_runtime f).params (type_of_runtime f).results
         by_place (inl e) = before e
-        by_place (inr last) = added-trap n t last at
+        by_place (inr last) = added-runtime n f last at
 
-        go : (b : Bool) → slice_get (functions_of s ++ cond b (known_as x ∷ []) []) n ≡ Some (known.Trap t) → HasImport new (known.Trap t) n [] []
-        go true e = by_place (last-or-before (functions_of s) (known_as x) n (known.Trap t) e)
+        go : (b : Bool) → slice_get (functions_of s ++ cond b (known_as x ∷ []) []) n ≡ Some (import_of f) → HasImport new (import_of f) n (type_of_runtime f).params (type_of_runtime f).results
+        go true e = by_place (last-or-before (functions_of s) (known_as x) n (import_of f) e)
         go false e = before (ap (λ l. slice_get l n) (sym (append-nil (functions_of s))) ∙ e)
 
     module _ (gs' ms' fs' : List ImportedItem) (items : (q : Sort) → by_sort gs' ms' fs' q ≡ by_sort gs ms fs q ++ if_of q (sort_of w.ty) x) (room : length fs' + length s.functions < 2 ^ 32) where
@@ -151,7 +146,7 @@ module _ (s : ModuleSoFar) (gs ms fs : List ImportedItem) (h : IsIndexed s gs ms
         same_length = omega (arith, h.same_length, length-append s.section (w ∷ []), length-append s.imports (known_as x ∷ []));
         lists = list-added;
         numbered = room;
-        traps = traps-added;
+        runtime = runtime-added;
       }
 
 -- ---- an item that is looked up among those of its kind
@@ -165,7 +160,7 @@ pub record Leaves (old new : ModuleSoFar) (gs ms fs xs : List ImportedItem) (w :
 
 module _ (v : ModuleSoFar) (xs xs' : List ImportedItem) (G M F : List ImportedItem → List ImportedItem) (h : IsIndexed v (G xs) (M xs) (F xs))
     (w : WasmImport) (x : ImportedItem) (section' : List WasmImport) (imports' : List Import)
-    (typed : (t : Trap) → x ≡ item.Trap t → imported_type v.types w.ty ≡ Some trap_type)
+    (typed : (f : RuntimeFunction) → x ≡ item.Runtime f → imported_type v.types w.ty ≡ Some (type_of_runtime f))
     (items : (q : Sort) → by_sort (G (xs ++ x ∷ [])) (M (xs ++ x ∷ [])) (F (xs ++ x ∷ [])) q ≡ by_sort (G xs) (M xs) (F xs) q ++ if_of q (sort_of w.ty) x)
     (of : (ys : List ImportedItem) → by_sort (G ys) (M ys) (F ys) (sort_of w.ty) ≡ ys)
     (Room : Type 0) (room : Room → length (F (xs ++ x ∷ [])) + length v.functions < 2 ^ 32)
@@ -213,8 +208,8 @@ module _ (v : ModuleSoFar) (xs xs' : List ImportedItem) (G M F : List ImportedIt
 
 -- The state that contracts see, and the import that is asked for.
 module _ (v t : ModuleSoFar) (same : v ≡ t) (gs ms fs : List ImportedItem) (h : IsIndexed v gs ms fs) (w w' : WasmImport) (is_w : w ≡ w') (x : ImportedItem)
-    (typed : (t' : Trap) → x ≡ item.Trap t' → imported_type t.types w'.ty ≡ Some trap_type) (section' : List WasmImport) (imports' : List Import) (xs' : List ImportedItem) where
-  typed-here : (t' : Trap) → x ≡ item.Trap t' → imported_type v.types w.ty ≡ Some trap_type
+    (typed : (f : RuntimeFunction) → x ≡ item.Runtime f → imported_type t.types w'.ty ≡ Some (type_of_runtime f)) (section' : List WasmImport) (imports' : List Import) (xs' : List ImportedItem) where
+  typed-here : (f : RuntimeFunction) → x ≡ item.Runtime f → imported_type v.types w.ty ≡ Some (type_of_runtime f)
   typed-here = rw (same, is_w) typed
 
   seen : {new : ModuleSoFar} {gs' ms' fs' : List ImportedItem} → Leaves v new gs' ms' fs' xs' w x → Leaves t new gs' ms' fs' xs' w' x
@@ -245,9 +240,16 @@ module _ (v t : ModuleSoFar) (same : v ≡ t) (gs ms fs : List ImportedItem) (h 
   leaves-global ty mutable is step =
       seen (leaves v gs xs' (λ ys. ys) (λ ys. ms) (λ ys. fs) h w x section' imports' typed-here (rw is (with-global gs ms fs x)) (λ ys. rw is refl) (IsTrue true) (λ u. h.numbered) step)
 
--- a trap that is there has the type of traps
-pub trap-there : (s : ModuleSoFar) (gs ms fs : List ImportedItem) (h : IsIndexed s gs ms fs) (x : ImportedItem) (n : ℕ) → slice_get fs n ≡ Some x → (t : Trap) → x ≡ item.Trap t → HasImport s (known.Trap t) n [] []
-trap-there s gs ms fs h x n at t e = h.traps n t (known-there _ fs x n (h.lists a_function) at ∙ ap (λ y. Some (known_as y)) e)
+-- a memory or a global is no function, so none of the runtime
+pub memory-untyped : (types : List FuncType) {w w' : WasmImport} {least : ℕ} {wide : Bool} {page : Option ℕ} {t : FuncType} → w ≡ w' → w.ty ≡ import.Memory least wide page → imported_type types w'.ty ≡ Some t → ⊥
+memory-untyped types {t = t} is_w is h = let none : None ≡ Some t = ap (imported_type types) (sym is ∙ ap (λ (v : WasmImport). v.ty) is_w) ∙ h in cc
+
+pub global-untyped : (types : List FuncType) {w w' : WasmImport} {ty : ValType} {mutable : Bool} {t : FuncType} → w ≡ w' → w.ty ≡ import.Global ty mutable → imported_type types w'.ty ≡ Some t → ⊥
+global-untyped types {t = t} is_w is h = let none : None ≡ Some t = ap (imported_type types) (sym is ∙ ap (λ (v : WasmImport). v.ty) is_w) ∙ h in cc
+
+-- a function of the runtime that is there has its type
+pub runtime-there : (s : ModuleSoFar) (gs ms fs : List ImportedItem) (h : IsIndexed s gs ms fs) (x : ImportedItem) (n : ℕ) → slice_get fs n ≡ Some x → (f : RuntimeFunction) → x ≡ item.Runtime f → HasImport s (import_of f) n (type_of_runtime f).params (type_of_runtime f).results
+runtime-there s gs ms fs h x n at f e = h.runtime n f (known-there _ fs x n (h.lists a_function) at ∙ ap (λ y. Some (known_as y)) e)
 
 -- ---- types
 
@@ -258,7 +260,7 @@ typed-indexed v types gs ms fs h keeps = record {
   same_length = h.same_length;
   lists = h.lists;
   numbered = h.numbered;
-  traps = λ n t at. let i = h.traps n t at in record { there = i.there; type_at = i.type_at; imported = i.imported; type_is = keeps i.type_at _ i.type_is };
+  runtime = λ n f at. let i = h.runtime n f at in record { there = i.there; type_at = i.type_at; imported = i.imported; type_is = keeps i.type_at _ i.type_is };
 }
 
 -- A function was defined, or one was exported.
@@ -268,7 +270,7 @@ module _ (v : ModuleSoFar) (gs ms fs : List ImportedItem) (h : IsIndexed v gs ms
     same_length = h.same_length;
     lists = h.lists;
     numbered = omega (arith, ap length is, length-append v.functions (f ∷ []), length-map fs known_as, ap length (h.lists a_function), subst (λ (u : ModuleSoFar). length (functions_of u) + length u.functions + 1 < 2 ^ 32) (sym same) room);
-    traps = λ n t at. let i = h.traps n t at in record { there = i.there; type_at = i.type_at; imported = i.imported; type_is = i.type_is };
+    runtime = λ n f at. let i = h.runtime n f at in record { there = i.there; type_at = i.type_at; imported = i.imported; type_is = i.type_is };
   }
 
   pub exported-indexed : (exports : List WasmExport) → IsIndexed (record v { exports = exports }) gs ms fs
@@ -276,7 +278,7 @@ module _ (v : ModuleSoFar) (gs ms fs : List ImportedItem) (h : IsIndexed v gs ms
     same_length = h.same_length;
     lists = h.lists;
     numbered = h.numbered;
-    traps = λ n t at. let i = h.traps n t at in record { there = i.there; type_at = i.type_at; imported = i.imported; type_is = i.type_is };
+    runtime = λ n f at. let i = h.runtime n f at in record { there = i.there; type_at = i.type_at; imported = i.imported; type_is = i.type_is };
   }
 
 -- A list to which a type came, or in which it was, has it at one place.

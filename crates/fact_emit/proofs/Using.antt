@@ -46,7 +46,7 @@ free_except {i} u {used} x = go (used i) refl
 pub moves_around : {a b c d : Writer} {t : ValType} {i : ℕ} {sides : Sides} {src : From} {dst : To} {spare : ℕ} {Fit : Setting → Type 0} {act : Act}
     → Took a b t i → Emits b c (MovesValue sides src dst (except i (taken_in b)) spare (λ S. Fit S × HasLocal i t S) act) → Freed c d i → Emits a d (MovesValue sides src dst (taken_in a) spare Fit act)
 moves_around {a} {b} {i = i} took x freed =
-    emits_around (λ M p locals code h m. record { moves = λ o o' concurrency rooms used using fit. m.moves o o' concurrency rooms used (using_more more using) (fit, h) }) took x freed
+    emits_around (λ M p locals code h m. record { moves = λ o o' rooms used using fit. m.moves o o' rooms used (using_more more using) (fit, h) }) took x freed
   where
     more : (j : ℕ) → taken_in a j ≡ true → except i (taken_in b) j ≡ true
     more j e =

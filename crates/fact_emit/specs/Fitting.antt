@@ -95,7 +95,7 @@ pub record FitsShapes (sides : Sides) (S : Setting) (t u : Shape) (src : From) (
   pub reads : CanRead S.whole S.places S.locals S.from S.from64 src (flat (width_of_side S.from) t) (bytes_of_shape (width_of_side S.from) t)
   pub writes : CanWrite S.whole S.places S.locals S.to S.to64 dst (flat (width_of_side S.to) u) (bytes_of_shape (width_of_side S.to) u)
   pub within : AreWithin S.rooms src dst (bytes_of_shape (width_of_side S.from) t) (bytes_of_shape (width_of_side S.to) u)
-  pub lists : has_pointer_pair t ≡ true → ServesLists sides.from sides.to S.whole S.places S.from S.to S.concurrency
+  pub lists : has_pointer_pair t ≡ true → ServesLists sides.from sides.to S.whole S.places S.from S.to
 
 -- The same of the fields of a record, where its last fields are still to be written, behind so many bytes.
 pub record FitsFields (sides : Sides) (S : Setting) (ms ns : Members) (end : ℕ) (src : From) (dst : To) : Type 0 where
@@ -104,7 +104,7 @@ pub record FitsFields (sides : Sides) (S : Setting) (ms ns : Members) (end : ℕ
   pub reads : CanRead S.whole S.places S.locals S.from S.from64 src (flat_members (width_of_side S.from) ms) (ends_of (width_of_side S.from) ms 0)
   pub writes : CanWrite S.whole S.places S.locals S.to S.to64 dst (flat_members (width_of_side S.to) ns) (ends_of (width_of_side S.to) ns end)
   pub within : AreWithin S.rooms src dst (ends_of (width_of_side S.from) ms 0) (ends_of (width_of_side S.to) ns end)
-  pub lists : have_pointer_pair ms ≡ true → ServesLists sides.from sides.to S.whole S.places S.from S.to S.concurrency
+  pub lists : have_pointer_pair ms ≡ true → ServesLists sides.from sides.to S.whole S.places S.from S.to
 
 -- ---- what the code does
 

@@ -13,13 +13,14 @@ use Rattle.fact_wasm.specs.declared.module.WasmImport.{WasmImport}
 use Rattle.fact_wasm.specs.declared.module.WasmModule.{WasmModule}
 use Rattle.fact_types.specs.declared.outside.CoreDef.{CoreDef}
 use Rattle.fact_types.specs.declared.outside.CoreDef.TheVariants as def
-use Rattle.fact_types.specs.declared.outside.Trap.{Trap}
-use Rattle.fact_types.specs.declared.outside.Trap.TheVariants as trap
 use Rattle.fact_types.specs.declared.import.Import.{Import}
 use Rattle.fact_types.specs.declared.import.Import.TheVariants as known
 use Rattle.fact_types.specs.declared.outside.MemoryOption.{MemoryOption}
 use Rattle.fact_types.specs.Adapters.{LinkedAdapter, Side, is_wide, same_def}
-use Rattle.fact_types.specs.ImportTypes.{callback_type, post_return_type, realloc_type, trap_type}
+use Rattle.fact_types.specs.ImportTypes.{callback_type, post_return_type, realloc_type}
+use Rattle.fact_emit.specs.declared.imported.RuntimeFunction.{RuntimeFunction}
+use Rattle.fact_emit.specs.declared.imported.RuntimeFunction.TheVariants as runtime
+use Rattle.fact_emit.specs.Runtime.{name_of_runtime, origin_of_runtime, type_of_runtime}
 
 -- ---- what the adapters mention
 
@@ -121,29 +122,23 @@ StandsFor types before Callback w =
 StandsFor types before (Callee adapter ty) w = IsImportedFunction types w (codes "callee") adapter ty
 StandsFor types before (PostReturn adapter results) w = IsImportedFunction types w (codes "post_return") adapter (post_return_type results)
 
-abbrev pub trap_number : Trap → ℕ
-trap_number trap.CannotLeaveComponent = 0
-trap_number trap.CannotEnterComponent = 1
-trap_number trap.MemoryOutOfBounds = 2
-trap_number trap.StringOutOfBounds = 3
-trap_number trap.ListOutOfBounds = 4
-trap_number trap.UnalignedPointer = 5
-trap_number trap.InvalidChar = 6
-trap_number trap.InvalidDiscriminant = 7
-trap_number trap.UncaughtException = 8
-trap_number trap.DebugAssertPointerAligned = 9
-trap_number trap.DebugAssertUpperBitsUnset = 10
-trap_number trap.DebugAssertStringEncodingFinished = 11
-trap_number trap.DebugAssertEqualCodeUnits = 12
-
-abbrev pub IsTrap : List FuncType → Trap → WasmImport → Type 0
-IsTrap types t w = IsImportedFunction types w (codes "runtime") (codes "trap" ++ decimal (trap_number t)) trap_type
+-- the import is this function of the runtime
+abbrev pub IsRuntime : List FuncType → RuntimeFunction → WasmImport → Type 0
+IsRuntime types f w = IsImportedFunction types w (origin_of_runtime f) (name_of_runtime f) (type_of_runtime f)
 
 -- The import, behind these others, has the names and the type of what it is: a core definition those of the role in which it is
--- mentioned. Adapters that are built so far import nothing else.
+-- mentioned. Adapters that are built so far import no others.
 abbrev pub IsNamed : List FuncType → List Mention → List WasmImport → WasmImport → Import → Type 0
 IsNamed types ms before w (known.CoreDef d) = (role : Role) × Contains ms (record { def = d; role = role }) × StandsFor types before role w
-IsNamed types ms before w (known.Trap t) = IsTrap types t w
+IsNamed types ms before w (known.Trap t) = IsRuntime types (runtime.Trap t) w
+IsNamed types ms before w known.ResourceTransferOwn = IsRuntime types runtime.ResourceTransferOwn w
+IsNamed types ms before w known.ResourceTransferBorrow = IsRuntime types runtime.ResourceTransferBorrow w
+IsNamed types ms before w known.FutureTransfer = IsRuntime types runtime.FutureTransfer w
+IsNamed types ms before w known.StreamTransfer = IsRuntime types runtime.StreamTransfer w
+IsNamed types ms before w known.ErrorContextTransfer = IsRuntime types runtime.ErrorContextTransfer w
+IsNamed types ms before w known.EnterSyncCall = IsRuntime types runtime.EnterSyncCall w
+IsNamed types ms before w known.ExitSyncCall = IsRuntime types runtime.ExitSyncCall w
+IsNamed types ms before w (known.UnsafeIntrinsic s) = IsRuntime types (runtime.UnsafeIntrinsic s) w
 IsNamed types ms before w _ = ⊥
 
 -- The imports `ws`, behind `before`, are what `is` says, one by one.

@@ -1,10 +1,12 @@
 pub mod AdapterLinks
 pub mod Areas
+pub mod Barriers
 pub mod Bodies
 pub mod Brought
 pub mod Checks
 pub mod Emits
 pub mod Fitting
+pub mod Handles
 pub mod ImportSection
 pub mod ImportedPlaces
 pub mod Imports
@@ -20,6 +22,8 @@ pub mod Parts
 pub mod Places
 pub mod PlacesOf
 pub mod Requests
+pub mod Runtime
+pub mod RuntimeCalls
 pub mod Scalars
 pub mod Settings
 pub mod State

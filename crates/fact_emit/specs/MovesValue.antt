@@ -18,8 +18,8 @@ Act = Transfer → Source → Target → Action (List CoreValue)
 -- In a module and a function, whatever the options of the sides are and what room there is behind addresses: where the places fit, the
 -- code moves the value.
 pub record MovesValue (sides : Sides) (src : From) (dst : To) (taken : ℕ → Bool) (spare : ℕ) (Fit : Setting → Type 0) (act : Act) (M : WasmModule) (p : ImportPlaces) (locals : List ValType) (code : List Instr) : Type 0 where
-  pub moves : (a b : LiftLowerOptions) (concurrency : Bool) (rooms : Rooms) (used : ℕ → Bool) → Using taken used src dst → Fit (setting_of sides a b concurrency rooms M p locals)
-      → Moves (setting_of sides a b concurrency rooms M p locals) used 0 spare src dst (act (transfer (setting_of sides a b concurrency rooms M p locals))) code
+  pub moves : (a b : LiftLowerOptions) (rooms : Rooms) (used : ℕ → Bool) → Using taken used src dst → Fit (setting_of sides a b rooms M p locals)
+      → Moves (setting_of sides a b rooms M p locals) used 0 spare src dst (act (transfer (setting_of sides a b rooms M p locals))) code
 
 -- all locals in use but one
 abbrev pub except : ℕ → (ℕ → Bool) → ℕ → Bool

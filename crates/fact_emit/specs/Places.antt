@@ -33,8 +33,8 @@ checks_at false p = Off
 checks_at true p = On (p.function (import.Trap DebugAssertUpperBitsUnset)) (p.function (import.Trap DebugAssertPointerAligned))
 
 -- what code of moves between two sides stands in
-abbrev pub setting_of : Sides → (from to : LiftLowerOptions) → (concurrency : Bool) → Rooms → WasmModule → ImportPlaces → List ValType → Setting
-setting_of sides a b concurrency rooms M p locals = record {
+abbrev pub setting_of : Sides → (from to : LiftLowerOptions) → Rooms → WasmModule → ImportPlaces → List ValType → Setting
+setting_of sides a b rooms M p locals = record {
   whole = M;
   places = p;
   from = a;
@@ -42,7 +42,7 @@ setting_of sides a b concurrency rooms M p locals = record {
   from64 = sides.from.memory64;
   to64 = sides.to.memory64;
   rooms = rooms;
-  concurrency = concurrency;
+  concurrency = sides.concurrency;
   checks = checks_at sides.debug p;
   locals = locals;
 }

@@ -3,11 +3,11 @@
 use Rattle.std.specs.Prelude.{◌≡◌, ℕ, ◌+◌, ◌<◌, ◌^◌, List, [], ◌∷◌, ◌++◌, Contains, Some, map, length, slice_get}
 use Rattle.fact_wasm.specs.declared.module.WasmImport.{WasmImport}
 use Rattle.fact_types.specs.declared.import.Import.{Import}
-use Rattle.fact_types.specs.declared.import.Import.TheVariants as known
-use Rattle.fact_types.specs.declared.outside.Trap.{Trap}
 use Rattle.fact_emit.specs.declared.imported.ImportedItem.{ImportedItem}
+use Rattle.fact_emit.specs.declared.imported.RuntimeFunction.{RuntimeFunction}
 use Rattle.fact_emit.specs.ImportSection.{Sort, a_function, a_memory, a_global, imports_of}
 use Rattle.fact_emit.specs.Imports.{HasImport}
+use Rattle.fact_emit.specs.Runtime.{import_of, type_of_runtime}
 use Rattle.fact_emit.specs.States.{ModuleSoFar, functions_of, known_as}
 
 -- the items of a kind, where these are the globals, the memories and the functions
@@ -16,12 +16,12 @@ by_sort globals memories functions a_global = globals
 by_sort globals memories functions a_memory = memories
 by_sort globals memories functions a_function = functions
 
--- The imports of each kind are listed in order, all functions have a number, and each trap has the type of traps.
+-- The imports of each kind are listed in order, all functions have a number, and each function of the runtime has its type.
 pub record IsIndexed (s : ModuleSoFar) (globals memories functions : List ImportedItem) : Type 0 where
   pub same_length : length s.section ≡ length s.imports
   pub lists : (sort : Sort) → imports_of sort s.section s.imports ≡ map known_as (by_sort globals memories functions sort)
   pub numbered : length functions + length s.functions < 2 ^ 32
-  pub traps : (n : ℕ) (t : Trap) → slice_get (functions_of s) n ≡ Some (known.Trap t) → HasImport s (known.Trap t) n [] []
+  pub runtime : (n : ℕ) (f : RuntimeFunction) → slice_get (functions_of s) n ≡ Some (import_of f) → HasImport s (import_of f) n (type_of_runtime f).params (type_of_runtime f).results
 
 -- The lists are what they were.
 pub record IsKept (ws ws' : List WasmImport) (is is' : List Import) (xs xs' : List ImportedItem) : Type 0 where

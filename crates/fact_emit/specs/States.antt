@@ -1,6 +1,5 @@
 -- The parts of a module that is being made, and what the calls on them change.
-use Rattle.std.specs.Prelude.{◌≡◌, ℕ, ◌⊎◌, List, [], ◌∷◌, ◌++◌, Some, Contains, length, slice_get, codes}
-use Rattle.std.specs.Fmt.{decimal}
+use Rattle.std.specs.Prelude.{◌≡◌, ℕ, ◌⊎◌, List, [], ◌∷◌, ◌++◌, Some, Contains, length, slice_get}
 use Rattle.fact_wasm.specs.declared.types.FuncType.{FuncType}
 use Rattle.fact_wasm.specs.declared.module.ImportType.{ImportType}
 use Rattle.fact_wasm.specs.declared.module.ImportType.TheVariants as import
@@ -13,10 +12,12 @@ use Rattle.fact_wasm.specs.declared.instr.FuncName.TheVariants as func
 use Rattle.fact_types.specs.declared.outside.Trap.{Trap}
 use Rattle.fact_types.specs.declared.import.Import.{Import}
 use Rattle.fact_types.specs.declared.import.Import.TheVariants as known
-use Rattle.fact_types.specs.ImportTypes.{trap_type}
 use Rattle.fact_emit.specs.declared.imported.ImportedItem.{ImportedItem}
 use Rattle.fact_emit.specs.declared.imported.ImportedItem.TheVariants as item
-use Rattle.fact_emit.specs.ImportSection.{a_function, a_memory, a_global, imports_of, sort_of, trap_number}
+use Rattle.fact_emit.specs.declared.imported.RuntimeFunction.{RuntimeFunction}
+use Rattle.fact_emit.specs.declared.imported.RuntimeFunction.TheVariants as runtime
+use Rattle.fact_emit.specs.ImportSection.{a_function, a_memory, a_global, imports_of, sort_of}
+use Rattle.fact_emit.specs.Runtime.{import_of, name_of_runtime, origin_of_runtime, type_of_runtime}
 
 -- The sections of a module so far, and what its imports are.
 pub record ModuleSoFar : Type 0 where
@@ -44,7 +45,7 @@ globals_of s = imports_of a_global s.section s.imports
 
 abbrev pub known_as : ImportedItem → Import
 known_as (item.Def d) = known.CoreDef d
-known_as (item.Trap t) = known.Trap t
+known_as (item.Runtime f) = import_of f
 
 -- ---- steps
 
@@ -73,13 +74,17 @@ pub record IsImported (old new : ModuleSoFar) (w : WasmImport) (i : Import) (pla
 abbrev pub HasType : (old new : ModuleSoFar) → FuncType → Type 0
 HasType old new ty = (new ≡ old) ⊎ ((Contains old.types ty → ⊥) × (new ≡ record old { types = old.types ++ ty ∷ [] }))
 
--- A trap is imported, and has this place among the imported functions.
-pub record IsTrapImported (old new : ModuleSoFar) (t : Trap) (place : ℕ) : Type 0 where
+-- A function of the runtime is imported, and has this place among the imported functions.
+pub record IsRuntimeImported (old new : ModuleSoFar) (f : RuntimeFunction) (place : ℕ) : Type 0 where
   pub ty : ℕ
   pub typed : ModuleSoFar
-  pub types : HasType old typed trap_type
-  pub ty_there : slice_get typed.types ty ≡ Some trap_type
-  pub imported : IsImported typed new (import_as (codes "runtime") (codes "trap" ++ decimal (trap_number t)) (import.Func ty)) (known.Trap t) place
+  pub types : HasType old typed (type_of_runtime f)
+  pub ty_there : slice_get typed.types ty ≡ Some (type_of_runtime f)
+  pub imported : IsImported typed new (import_as (origin_of_runtime f) (name_of_runtime f) (import.Func ty)) (import_of f) place
+
+-- So is a trap.
+abbrev pub IsTrapImported : (old new : ModuleSoFar) → Trap → (place : ℕ) → Type 0
+IsTrapImported old new t place = IsRuntimeImported old new (runtime.Trap t) place
 
 -- The functions that the module defines, and its exports, are the same.
 pub record KeepsDefined (old new : ModuleSoFar) : Type 0 where

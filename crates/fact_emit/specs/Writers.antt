@@ -6,13 +6,15 @@ use Rattle.fact_wasm.specs.declared.instr.Instr.{Instr}
 use Rattle.fact_types.specs.declared.outside.Trap.{Trap}
 use Rattle.fact_machine.specs.Trace.{Grows}
 use Rattle.fact_machine.specs.Typing.{is_number}
-use Rattle.fact_types.specs.declared.import.Import.TheVariants as import
 use Rattle.fact_pieces.specs.Places.{Slot, AreLocals, IsNone}
+use Rattle.fact_emit.specs.declared.imported.RuntimeFunction.{RuntimeFunction}
+use Rattle.fact_emit.specs.declared.imported.RuntimeFunction.TheVariants as runtime
 use Rattle.fact_emit.specs.declared.writer.Local.{Local}
 use Rattle.fact_emit.specs.declared.writer.Writer.{Writer}
 use Rattle.fact_emit.specs.Imports.{HasImport, Extended, AreOnce}
 use Rattle.fact_emit.specs.Places.{AreDistinctSlots}
-use Rattle.fact_emit.specs.States.{IsTrapImported}
+use Rattle.fact_emit.specs.Runtime.{import_of, type_of_runtime}
+use Rattle.fact_emit.specs.States.{IsRuntimeImported}
 
 abbrev pub types_of_locals : Writer → List ValType
 types_of_locals w = map (λ l. l.ty) w.locals.items
@@ -112,11 +114,15 @@ pub record FreedAll (old new : Writer) (locals : List ℕ) : Type 0 where
   pub others : (i : ℕ) → IsNoneOf i locals → taken_in new i ≡ taken_in old i
   pub types : types_of_locals new ≡ types_of_locals old
 
--- a trap has a place among the imported functions
-pub record TookTrap (old new : Writer) (trap : Trap) (place : ℕ) : Type 0 where
+-- a function of the runtime has a place among the imported functions
+pub record TookRuntime (old new : Writer) (f : RuntimeFunction) (place : ℕ) : Type 0 where
   pub code : new.code.items ≡ old.code.items
   pub locals : new.locals ≡ old.locals
-  pub imported : IsTrapImported old.imports new.imports trap place
+  pub imported : IsRuntimeImported old.imports new.imports f place
   pub imports : Extended old.imports new.imports
   pub once : AreOnce old.imports → AreOnce new.imports
-  pub there : HasImport new.imports (import.Trap trap) place [] []
+  pub there : HasImport new.imports (import_of f) place (type_of_runtime f).params (type_of_runtime f).results
+
+-- so has a trap
+abbrev pub TookTrap : (old new : Writer) → Trap → (place : ℕ) → Type 0
+TookTrap old new t place = TookRuntime old new (runtime.Trap t) place

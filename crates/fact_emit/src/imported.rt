@@ -1,16 +1,51 @@
 //! What the imports of a module are looked up by.
 
 ghost use Rattle.std.specs.Prelude.{◌≡◌, IfOk};
+ghost use Rattle.fact_emit.specs.Runtime.{import_of};
 ghost use Rattle.fact_emit.specs.States.{known_as};
 
-use fact_types::{CoreDef, Import, Trap};
+use fact_types::{CoreDef, Import, Trap, UnsafeIntrinsic};
 use fact_wasm::OutOfMemory;
+
+/// A function of the runtime that adapter code calls, and that a module imports once: a trap, the transfer of a handle from a table
+/// of one component instance to one of another, a call that is told of, or a slot of the task's context (canonical ABI).
+#[derive(Clone, Copy, PartialEq, Eq, Hash)]
+pub enum RuntimeFunction {
+    Trap(Trap),
+    ResourceTransferOwn,
+    ResourceTransferBorrow,
+    FutureTransfer,
+    StreamTransfer,
+    ErrorContextTransfer,
+    EnterSyncCall,
+    ExitSyncCall,
+    UnsafeIntrinsic(UnsafeIntrinsic),
+}
+
+impl RuntimeFunction {
+    /// It as an import.
+    pub fn import(self) -> Import
+        ensures { result ≡ import_of self }
+    {
+        match self {
+            RuntimeFunction::Trap(trap) => Import::Trap(trap),
+            RuntimeFunction::ResourceTransferOwn => Import::ResourceTransferOwn,
+            RuntimeFunction::ResourceTransferBorrow => Import::ResourceTransferBorrow,
+            RuntimeFunction::FutureTransfer => Import::FutureTransfer,
+            RuntimeFunction::StreamTransfer => Import::StreamTransfer,
+            RuntimeFunction::ErrorContextTransfer => Import::ErrorContextTransfer,
+            RuntimeFunction::EnterSyncCall => Import::EnterSyncCall,
+            RuntimeFunction::ExitSyncCall => Import::ExitSyncCall,
+            RuntimeFunction::UnsafeIntrinsic(slot) => Import::UnsafeIntrinsic(slot),
+        }
+    }
+}
 
 /// What an import is that is made once.
 #[derive(Drop, PartialEq, Eq, Hash)]
 pub enum ImportedItem {
     Def(CoreDef),
-    Trap(Trap),
+    Runtime(RuntimeFunction),
 }
 
 impl ImportedItem {
@@ -20,7 +55,7 @@ impl ImportedItem {
     {
         match self {
             ImportedItem::Def(def) => Ok(Import::CoreDef(def.try_clone()?)),
-            ImportedItem::Trap(trap) => Ok(Import::Trap(*trap)),
+            ImportedItem::Runtime(function) => Ok(function.import()),
         }
     }
 }

@@ -2,8 +2,12 @@
 //! check, convert and write values at places. What each function ensures is what the code does that it has written.
 #![tactic(auto)]
 
+pub mod barriers;
 pub mod bodies;
+pub mod calls;
 pub mod checks;
+pub mod context;
+pub mod handles;
 pub mod imported;
 pub mod linking;
 pub mod loops;
@@ -11,6 +15,7 @@ pub mod numbers;
 pub mod places;
 pub mod pointers;
 pub mod requests;
+pub mod runtime;
 pub mod scalars;
 pub mod state;
 pub mod tunables;

@@ -47,12 +47,14 @@ pub struct LinearMemory {
     pub realloc: Option<u32>,
 }
 
-/// Values go from the one side to the other, with debug checks or without them.
+/// Values go from the one side to the other, with debug checks or without them. With concurrency on, the slots of the context are
+/// saved around calls of realloc.
 #[derive(Clone, Copy)]
 pub struct Sides {
     pub from: LinearMemory,
     pub to: LinearMemory,
     pub debug: bool,
+    pub concurrency: bool,
 }
 
 /// The locals behind so many.

@@ -8,9 +8,10 @@ ghost use Rattle.fact_pieces.specs.Places.{widen};
 ghost use Rattle.fact_pieces.specs.Tests.{pointer};
 ghost use Rattle.fact_emit.specs.Emits.{Emits};
 ghost use Rattle.fact_emit.specs.NewAreas.{AsksArea, NewAreaCode};
-ghost use Rattle.fact_emit.specs.Requests.{IsReallocImported, request_code, AsksRegion};
+ghost use Rattle.fact_emit.specs.Requests.{IsReallocImported, ask_code_if, AsksRegion, CallsRealloc};
 ghost use Rattle.fact_emit.specs.Writers.{Wrote, taken_in};
 
+use crate::context::{ContextLocals, restore_context, save_context};
 use crate::numbers::{put_narrowed, put_widened};
 use crate::places::LinearMemory;
 use crate::pointers::{AreaLocals, check_region, pointer_number};
@@ -19,14 +20,15 @@ use crate::writer::Writer;
 use fact_types::Trap;
 use fact_wasm::{FuncName, Instr, OutOfMemory, ValType};
 
-/// A region that is asked for: its alignment, a local with its bytes, one for its address, and one for the memory's length. They
-/// are of type i64.
+/// A region that is asked for: its alignment, a local with its bytes, one for its address, and one for the memory's length, which are
+/// of type i64, and locals for the slots of the context.
 #[derive(Clone, Copy)]
 pub struct NewRegion {
     pub align: u32,
     pub bytes: u32,
     pub address: u32,
     pub length: u32,
+    pub context: ContextLocals,
 }
 
 /// Whether a side's realloc, where it has one, is among the functions that were imported.
@@ -87,13 +89,8 @@ fn put_call(
 }
 
 /// Asks a side for a new region of an alignment, and of as many bytes as a local says. A side without realloc is never asked.
-fn put_request(
-    w: &mut Writer,
-    linear: LinearMemory,
-    align: u32,
-    bytes: u32,
-) -> Result<(), OutOfMemory>
-    ensures { OnOk result (Wrote w.old w.new (request_code linear.realloc linear.memory64 align bytes)) }
+fn put_ask(w: &mut Writer, linear: LinearMemory, align: u32, bytes: u32) -> Result<(), OutOfMemory>
+    ensures { OnOk result (Wrote w.old w.new (ask_code_if linear.realloc linear.memory64 align bytes)) }
 {
     match linear.realloc {
         Some(place) => put_call(w, linear.memory64, align, bytes, place),
@@ -101,18 +98,36 @@ fn put_request(
     }
 }
 
-/// Asks a side for a new region, and checks the address that it answers: it is aligned, and the region lies within the memory.
+/// Asks a side for a new region. With concurrency on, the slots of the context are saved and 0 during the call.
+fn put_request(
+    w: &mut Writer,
+    concurrency: bool,
+    linear: LinearMemory,
+    region: NewRegion,
+) -> Result<(), OutOfMemory>
+    requires realloc { IsReallocImported linear w.old.imports }
+    ensures { OnOk result (Emits w.old w.new (CallsRealloc concurrency linear region)) }
+{
+    save_context(w, concurrency, region.context)?;
+    put_ask(w, linear, region.align, region.bytes)?;
+    restore_context(w, concurrency, region.context)?;
+    Ok(())
+}
+
+/// Asks a side for a new region, and checks the address that it answers: it is aligned, and the region lies within the memory. With
+/// concurrency on, the slots of the context are saved and 0 during the call.
 pub fn reallocate(
     w: &mut Writer,
+    concurrency: bool,
     linear: LinearMemory,
     region: NewRegion,
     trap: Trap,
 ) -> Result<(), OutOfMemory>
     requires aligned { 0 < region.align }
     requires realloc { IsReallocImported linear w.old.imports }
-    ensures { OnOk result (Emits w.old w.new (AsksRegion linear region trap)) }
+    ensures { OnOk result (Emits w.old w.new (AsksRegion concurrency linear region trap)) }
 {
-    put_request(w, linear, region.align, region.bytes)?;
+    put_request(w, concurrency, linear, region)?;
     keep_address(w, linear.memory64, region.address)?;
     check_region(
         w,
@@ -126,19 +141,21 @@ pub fn reallocate(
     Ok(())
 }
 
-/// Asks a side for an area of so many bytes, checks it, and puts its address into a local of the address's type. The three other
+/// Asks a side for an area of so many bytes, checks it, and puts its address into a local of the address's type. Three of the other
 /// locals are of type i64.
 fn ask_area_by(
     w: &mut Writer,
+    concurrency: bool,
     linear: LinearMemory,
     address: u32,
     size: u32,
     align: u32,
     temporaries: AreaLocals,
+    context: ContextLocals,
 ) -> Result<(), OutOfMemory>
     requires aligned { 0 < align }
     requires realloc { IsReallocImported linear w.old.imports }
-    ensures { OnOk result (Emits w.old w.new (NewAreaCode linear address size align temporaries)) }
+    ensures { OnOk result (Emits w.old w.new (NewAreaCode concurrency linear address size align temporaries context)) }
 {
     w.put(Instr::I64Const(u64::from(size)))?;
     w.put(Instr::LocalSet(temporaries.bytes))?;
@@ -147,17 +164,19 @@ fn ask_area_by(
         bytes: temporaries.bytes,
         address: temporaries.pointer,
         length: temporaries.length,
+        context,
     };
-    reallocate(w, linear, region, Trap::MemoryOutOfBounds)?;
+    reallocate(w, concurrency, linear, region, Trap::MemoryOutOfBounds)?;
     put_address(w, linear.memory64, temporaries.pointer)?;
     w.put(Instr::LocalSet(address))?;
     Ok(())
 }
 
 /// Asks a side for an area of so many bytes, checks what realloc answers, and puts the area's address into a local of the address's
-/// type.
+/// type. With concurrency on, the slots of the context are saved and 0 during the call.
 pub fn ask_area(
     w: &mut Writer,
+    concurrency: bool,
     linear: LinearMemory,
     address: u32,
     size: u32,
@@ -165,17 +184,31 @@ pub fn ask_area(
 ) -> Result<(), OutOfMemory>
     requires aligned { 0 < align }
     requires realloc { IsReallocImported linear w.old.imports }
-    ensures { OnOk result (Emits w.old w.new (AsksArea linear (taken_in w.old) address size align)) }
+    ensures { OnOk result (Emits w.old w.new (AsksArea concurrency linear (taken_in w.old) address size align)) }
 {
     let pointer = w.take_local(ValType::I64)?;
     let bytes = w.take_local(ValType::I64)?;
     let length = w.take_local(ValType::I64)?;
+    let first = w.take_local(ValType::I32)?;
+    let second = w.take_local(ValType::I32)?;
     let temporaries = AreaLocals {
         pointer,
         bytes,
         length,
     };
-    ask_area_by(w, linear, address, size, align, temporaries)?;
+    let context = ContextLocals { first, second };
+    ask_area_by(
+        w,
+        concurrency,
+        linear,
+        address,
+        size,
+        align,
+        temporaries,
+        context,
+    )?;
+    w.free_local(second)?;
+    w.free_local(first)?;
     w.free_local(length)?;
     w.free_local(bytes)?;
     w.free_local(pointer)?;

@@ -1,24 +1,22 @@
 //! A module that is being made: its sections, and what it is made with.
 
-ghost use Rattle.std.specs.Prelude.{◌≡◌, ◌⊎◌, ◌+◌, ◌++◌, ◌∷◌, [], ◌<◌, ◌≤◌, ◌^◌, Contains, IsTrue, None, Some, position, slice_get, length, IfOk, IsFalse, OnErr, OnOk, codes, count_by};
-ghost use Rattle.std.specs.Fmt.{decimal};
+ghost use Rattle.std.specs.Prelude.{◌≡◌, ◌⊎◌, ◌+◌, ◌++◌, ◌∷◌, [], ◌<◌, ◌≤◌, ◌^◌, Contains, IsTrue, None, Some, position, slice_get, length, IfOk, IsFalse, OnErr, OnOk, count_by};
 ghost use Rattle.fact_wasm.specs.CoreTypes.{signature};
-ghost use Rattle.fact_types.specs.ImportTypes.{trap_type};
-ghost use Rattle.fact_types.specs.declared.outside.Trap.{Trap as TrapSet};
-ghost use Rattle.fact_wasm.specs.declared.module.ImportType.TheVariants as import_type;
 ghost use Rattle.fact_types.specs.declared.import.Import.TheVariants as known;
 ghost use Rattle.fact_emit.specs.declared.imported.ImportedItem.TheVariants as variant;
-ghost use Rattle.fact_emit.specs.ImportSection.{a_function, a_memory, imported_type, is_of, trap_number as trap_number_of};
+ghost use Rattle.fact_emit.specs.declared.imported.RuntimeFunction.{RuntimeFunction as RuntimeFunctionSet};
+ghost use Rattle.fact_emit.specs.ImportSection.{a_function, a_memory, imported_type, is_of};
+ghost use Rattle.fact_emit.specs.Runtime.{import_of, type_of_runtime};
 ghost use Rattle.fact_emit.specs.Imports.{AreOnce, Extended, HasImport};
 ghost use Rattle.fact_emit.specs.Settings.{OnlySectionsChanged};
 ghost use Rattle.fact_emit.specs.State.{IsAdded, IsKept};
-ghost use Rattle.fact_emit.specs.States.{HasType, IsImported, IsTrapImported, OnlyTypesAdded, export_as, functions_of, import_as, known_as, module_of, nothing_so_far};
+ghost use Rattle.fact_emit.specs.States.{HasType, IsImported, export_as, functions_of, import_as, known_as, module_of, nothing_so_far};
 
 use crate::imported::ImportedItem;
 use crate::tunables::{Tunables, WasmFeatures};
 use fact_builder::ComponentTypesBuilder;
 use fact_entity::{EntityRef, FuncIndex, GlobalIndex, Interner, MemoryIndex};
-use fact_types::{CoreDef, Import, Trap};
+use fact_types::{CoreDef, Import};
 use fact_wasm::{
     CoreTypes, FuncName, ImportType, OutOfMemory, Seq, Text, ValType, WasmExport, WasmFunc,
     WasmImport, WasmModule,
@@ -30,7 +28,7 @@ use std::marker::Model;
 const MOST_FUNCTIONS: usize = 4_294_967_295;
 
 /// The sections of a module that is being made, and what its imports are. Each type stands in them once, and so does each
-/// definition and each trap among the imports of its kind. A refusal leaves the imports as they were.
+/// definition and each function of the runtime among the imports of its kind. A refusal leaves the imports as they were.
 #[derive(Drop)]
 pub struct ModuleSections {
     alloc: Global,
@@ -158,27 +156,6 @@ fn find_or_add<K: EntityRef>(
     Ok(place)
 }
 
-/// The number of a trap, by which its import is named.
-fn trap_number(trap: Trap) -> u32
-    ensures { result ≡ trap_number_of trap }
-{
-    match trap {
-        Trap::CannotLeaveComponent => 0,
-        Trap::CannotEnterComponent => 1,
-        Trap::MemoryOutOfBounds => 2,
-        Trap::StringOutOfBounds => 3,
-        Trap::ListOutOfBounds => 4,
-        Trap::UnalignedPointer => 5,
-        Trap::InvalidChar => 6,
-        Trap::InvalidDiscriminant => 7,
-        Trap::UncaughtException => 8,
-        Trap::DebugAssertPointerAligned => 9,
-        Trap::DebugAssertUpperBitsUnset => 10,
-        Trap::DebugAssertStringEncodingFinished => 11,
-        Trap::DebugAssertEqualCodeUnits => 12,
-    }
-}
-
 impl ModuleSections {
     /// Nothing is there yet. It takes no memory.
     pub fn new(alloc: Global) -> ModuleSections
@@ -288,40 +265,6 @@ impl ModuleSections {
         Ok(place)
     }
 
-    /// The place of a trap among the imported functions. A new one is imported last.
-    pub fn trap(&mut self, trap: Trap) -> Result<u32, OutOfMemory>
-        ensures imported { IfOk result (λ place. IsTrapImported self.old self.new trap place) }
-        ensures place { IfOk result (λ place. HasImport self.new (known.Trap trap) place [] []) }
-        ensures keeps { Extended self.old self.new }
-        ensures once { AreOnce self.old → AreOnce self.new }
-        ensures refused { OnErr result (OnlyTypesAdded self.old self.new) }
-    {
-        let number = trap_number(trap);
-        let name = format!(in self.alloc; "trap{number}")?;
-        let ty = self.function(&[], &[])?;
-        let place = self.import_trap(trap, &name, ty)?;
-        Ok(place)
-    }
-
-    /// The place of a trap among the imported functions. A new one is imported last, under this name, with the type of this
-    /// number, which is that of traps.
-    fn import_trap(&mut self, trap: Trap, name: &str, ty: u32) -> Result<u32, OutOfMemory>
-        requires { slice_get self.old.types ty ≡ Some trap_type }
-        ensures imported { IfOk result (λ place. IsImported self.old self.new (import_as (codes "runtime") name.now (import_type.Func ty)) (known.Trap trap) place) }
-        ensures place { IfOk result (λ place. HasImport self.new (known.Trap trap) place [] []) }
-        ensures keeps { Extended self.old self.new }
-        ensures once { AreOnce self.old → AreOnce self.new }
-        ensures refused { OnErr result (self.new ≡ self.old) }
-    {
-        let place = self.import(
-            ImportedItem::Trap(trap),
-            "runtime",
-            name,
-            ImportType::Func(ty),
-        )?;
-        Ok(place)
-    }
-
     /// Puts a function behind the others that the module defines, and answers its number among them. More functions than have
     /// numbers are a want of memory.
     pub fn define(&mut self, func: WasmFunc) -> Result<u32, OutOfMemory>
@@ -414,18 +357,18 @@ impl ModuleSections {
         self.functions.len() + self.module.funcs.len() >= MOST_FUNCTIONS
     }
 
-    /// The place of an item among the imports of its kind. A new one is imported last, under these names, with this type. A trap
-    /// has the type of traps.
-    fn import(
+    /// The place of an item among the imports of its kind. A new one is imported last, under these names, with this type. A function
+    /// of the runtime has its type.
+    pub(crate) fn import(
         &mut self,
         item: ImportedItem,
         origin: &str,
         name: &str,
         ty: ImportType,
     ) -> Result<u32, OutOfMemory>
-        requires typed { (t : TrapSet) → item ≡ variant.Trap t → imported_type self.old.types ty ≡ Some trap_type }
+        requires typed { (f : RuntimeFunctionSet) → item ≡ variant.Runtime f → imported_type self.old.types ty ≡ Some (type_of_runtime f) }
         ensures imported { IfOk result (λ place. IsImported self.old self.new (import_as origin.now name.now ty) (known_as item) place) }
-        ensures trap { IfOk result (λ place. (t : TrapSet) → item ≡ variant.Trap t → HasImport self.new (known.Trap t) place [] []) }
+        ensures runtime { IfOk result (λ place. (f : RuntimeFunctionSet) → item ≡ variant.Runtime f → HasImport self.new (import_of f) place (type_of_runtime f).params (type_of_runtime f).results) }
         ensures keeps { Extended self.old self.new }
         ensures once { AreOnce self.old → AreOnce self.new }
         ensures refused { OnErr result (self.new ≡ self.old) }

@@ -4,8 +4,9 @@ ghost use Rattle.std.specs.Prelude.{IsTrue, IfOk, IfSome, OnOk, ◌≡◌, ◌++
 ghost use Rattle.fact_types.specs.declared.import.Import.TheVariants as import;
 ghost use Rattle.fact_emit.specs.Imports.{AreOnce};
 ghost use Rattle.fact_machine.specs.Typing.{is_number};
-ghost use Rattle.fact_emit.specs.Writers.{Wrote, AddedLocal, Took, Freed, TookTrap, Began, Ended, Same, free_local_of, taken_in};
+ghost use Rattle.fact_emit.specs.Writers.{Wrote, AddedLocal, Began, Ended, Took, Freed, TookRuntime, TookTrap, Same, free_local_of, taken_in};
 
+use crate::imported::RuntimeFunction;
 use crate::state::ModuleSections;
 use fact_types::Trap;
 use fact_wasm::{Instr, OutOfMemory, Seq, ValType};
@@ -99,11 +100,18 @@ impl Writer {
         Seq::from_vec(mem::replace(&mut self.code, outer))
     }
 
+    /// The place of a function of the runtime among the imported functions.
+    pub fn runtime(&mut self, function: RuntimeFunction) -> Result<u32, OutOfMemory>
+        ensures { IfOk result (λ place. TookRuntime self.old self.new function place) }
+    {
+        self.imports.runtime(function)
+    }
+
     /// The place of a trap among the imported functions.
     pub fn trap(&mut self, trap: Trap) -> Result<u32, OutOfMemory>
         ensures { IfOk result (λ place. TookTrap self.old self.new trap place) }
     {
-        self.imports.trap(trap)
+        self.runtime(RuntimeFunction::Trap(trap))
     }
 
     /// Whether a local is of a type and not in use.

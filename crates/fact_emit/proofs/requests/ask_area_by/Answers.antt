@@ -7,4 +7,4 @@ pub reallocate-requires : goal.reallocate-requires
 reallocate-requires c = record { aligned = c.requires.aligned; realloc = realloc_same (c.in_ok-put-2.ensures.imports ∙ c.in_ok-put.ensures.imports) c.requires.realloc }
 
 pub returns : goal.returns
-returns c = new_area_emits c.args.temporaries c.from.ensures c.in_ok-put.ensures c.in_ok-put-2.ensures c.in_ok-reallocate.ensures c.in_ok-put_address.ensures c.in_ok-put-3.ensures
+returns c = new_area_emits c.args.temporaries c.args.context c.from.ensures c.in_ok-put.ensures c.in_ok-put-2.ensures c.in_ok-reallocate.ensures c.in_ok-put_address.ensures c.in_ok-put-3.ensures

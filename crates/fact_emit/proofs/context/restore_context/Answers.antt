@@ -1,0 +1,15 @@
+use Rattle.fact_emit.proofs.RangedCode.{get_ranged}
+use Rattle.fact_emit.proofs.RuntimeMoves.{no_writes, writes_emits}
+use Rattle.fact_emit.proofs.context.restore_context.Goals as goal
+
+pub write_slot-requires : goal.write_slot-requires
+write_slot-requires c = get_ranged _
+
+pub write_slot-requires-then-is_on : goal.write_slot-requires-then-is_on
+write_slot-requires-then-is_on c = get_ranged _
+
+pub returns-in_ok-write_slot-2 : goal.returns-in_ok-write_slot-2
+returns-in_ok-write_slot-2 c = writes_emits c.args.is_on c.args.locals c.if-is_on.true c.in_ok-write_slot.ensures c.in_ok-write_slot-2.ensures
+
+pub returns-else-is_on : goal.returns-else-is_on
+returns-else-is_on c = no_writes c.args.w.now c.args.is_on c.args.locals c.if-is_on.false
