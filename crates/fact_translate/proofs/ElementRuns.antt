@@ -63,7 +63,7 @@ pub record FitsElements (sides : Sides) (S : Setting) (all i n : ℕ) (s u : Sha
   pub reads : CanRead S.whole S.places S.locals S.from S.from64 src (times all (flat_members (width_of_side S.from) (single s))) (bytes_of_shape (width_of_side S.from) s * all)
   pub writes : CanWrite S.whole S.places S.locals S.to S.to64 dst (times n (flat_members (width_of_side S.to) (single u))) (bytes_of_shape (width_of_side S.to) u * (i + n))
   pub within : AreWithin S.rooms src dst (bytes_of_shape (width_of_side S.from) s * all) (bytes_of_shape (width_of_side S.to) u * (i + n))
-  pub lists : has_pointer_pair s ≡ true → ServesLists sides.from sides.to S.whole S.places S.from S.to S.concurrency
+  pub lists : has_pointer_pair s ≡ true → ServesLists sides.from sides.to S.whole S.places S.from S.to
 
 abbrev pub element_moves : (i n : ℕ) → Shape → Shape → Act
 element_moves i n s u tr x y =
@@ -224,8 +224,8 @@ elements_join : {sides : Sides} {src : From} {dst : To} {taken : ℕ → Bool} {
     → (M : WasmModule) (p : ImportPlaces) (locals : List ValType) (c k : List Instr) → MovesShape sides (nth_from from_count from_size i src) (nth_to to_count to_size i dst) taken s u M p locals c
     → MovesElements sides src (to_past to_count dst) taken (i + suc n) (suc i) n s u M p locals k → MovesElements sides src dst taken (i + suc n) i (suc n) s u M p locals (c ++ k)
 elements_join {sides} {src} {dst} {taken} {s} {u} {from_count} {from_size} {to_count} {to_size} h i n M p locals c k one rest = record {
-  moves = λ a b concurrency rooms used using fit.
-      let S = setting_of sides a b concurrency rooms M p locals in
+  moves = λ a b rooms used using fit.
+      let S = setting_of sides a b rooms M p locals in
       let f = element_flats a (single s) in
       let g = element_flats b (single u) in
       let size = bytes_of_shape (width_of_side a) s in
@@ -257,14 +257,14 @@ elements_join {sides} {src} {dst} {taken} {s} {u} {from_count} {from_size} {to_c
         lists = fit.lists;
       } in
       moves_element f size g size' (λ x y. move_fields (transfer S) (single s) (single u) 0 x y) i n using.from using.to (apart_dst g dst using.distinct)
-      (single_at s u f (i * f) (i * size) g (i * size') src dst (ap length (one_flats (width_of_side a) s)) (ap length (one_flats (width_of_side b) u)) here.from here.to (apart_dst (flat_length b u) spot here.distinct) (one'.moves a b concurrency rooms used here fits_here))
-      (rest'.moves a b concurrency rooms (with_to used spot) (using_past using g (i * size')) fits_later);
+      (single_at s u f (i * f) (i * size) g (i * size') src dst (ap length (one_flats (width_of_side a) s)) (ap length (one_flats (width_of_side b) u)) here.from here.to (apart_dst (flat_length b u) spot here.distinct) (one'.moves a b rooms used here fits_here))
+      (rest'.moves a b rooms (with_to used spot) (using_past using g (i * size')) fits_later);
 }
 
 -- no element is left
 elements_none : {sides : Sides} {src : From} {dst : To} {taken : ℕ → Bool} {s u : Shape} (all i : ℕ) (M : WasmModule) (p : ImportPlaces) (locals : List ValType) → MovesElements sides src dst taken all i 0 s u M p locals []
 elements_none {dst = dst} {s = s} {u} all i M p locals = record {
-  moves = λ a b concurrency rooms used using fit. record {
+  moves = λ a b rooms used using fit. record {
     effect = λ ls x y e st g r. done refl (stood b _ _ dst ls fit.writes, keeps_all);
     typed = typed_done;
   };
@@ -279,8 +279,8 @@ elements_none {dst = dst} {s = s} {u} all i M p locals = record {
 elements_all : {sides : Sides} {src : From} {dst : To} {taken : ℕ → Bool} {s u : Shape} (all : ℕ) (M : WasmModule) (p : ImportPlaces) (locals : List ValType) (code : List Instr)
     → MovesElements sides src dst taken all 0 all s u M p locals code → MovesNode sides src dst taken (fixed_of all s) (fixed_of all u) M p locals code
 elements_all {sides} {src} {dst} {s = s} {u} all M p locals code m = record {
-  moves = λ a b concurrency rooms used using fit.
-      let S = setting_of sides a b concurrency rooms M p locals in
+  moves = λ a b rooms used using fit.
+      let S = setting_of sides a b rooms M p locals in
       let act : Source → Target → Action (List CoreValue) = λ x y. move_fields (transfer S) (single s) (single u) 0 x y in
       let size_is : bytes_of_shape (width_of_side a) s ≡ (entry_extent a (single s)).size = ap (λ (x : Extent). x.size) (sym (single_extent (width_of_side a) s)) in
       let size_is' : bytes_of_shape (width_of_side b) u ≡ (entry_extent b (single u)).size = ap (λ (x : Extent). x.size) (sym (single_extent (width_of_side b) u)) in
@@ -299,7 +299,7 @@ elements_all {sides} {src} {dst} {s = s} {u} all M p locals code m = record {
       moves_fixed_by_parts S used (single s) (single u) all
       (moves_same (λ x y. ap (λ z. elements_from (element_flats a (single s)) z (element_flats b (single u)) (bytes_of_shape (width_of_side b) u) act 0 all x y) size_is
       ∙ ap (λ z. elements_from (element_flats a (single s)) (entry_extent a (single s)).size (element_flats b (single u)) z act 0 all x y) size_is')
-      (m.moves a b concurrency rooms used using fits));
+      (m.moves a b rooms used using fits));
 }
 
 -- ---- as it is written

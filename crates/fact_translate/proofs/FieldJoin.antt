@@ -193,8 +193,8 @@ pub fields_join_paid : {sides : Sides} {taken : ℕ → Bool} {psrc src : From} 
     → (M : WasmModule) (p : ImportPlaces) (locals : List ValType) (c k : List Instr) → MovesShape sides psrc pdst taken f.shape u M p locals c → MovesFields sides src after taken ms ns next M p locals k
     → MovesPaidFields sides src dst taken ms (typed y u ns) end M p locals (c ++ k)
 fields_join_paid {sides} {taken} {psrc} {src} {pdst} {dst} {after} {ms} {ns} {y} {u} {end} {next} {f} skip cnt bytes count place found counted src_is spot_is past_is skip_is cnt_is bytes_is count_is place_is next_is M p locals c k one rest = record {
-  moves = λ a b concurrency rooms used using fit.
-      let S = setting_of sides a b concurrency rooms M p locals in
+  moves = λ a b rooms used using fit.
+      let S = setting_of sides a b rooms M p locals in
       let x : IsAmong (width_of_side a) ms 0 0 f = subst (λ n. IsAmong (width_of_side a) ms 0 n f) (zeros (width_of_side a)) (among (width_of_side a) y ms 0 0 0 f found) in
       let bytes_are : bytes ≡ place_in (width_of_side a) f = bytes_is ∙ ap (λ m. bytes_by (width m) f.place32 f.place64) (sym fit.from_wide) ∙ by_place_in (width_of_side a) f in
       let place_are : place ≡ place_of (width_of_side b) u end = place_is ∙ ap (λ m. place_of (width m) u end) (sym fit.to_wide) in
@@ -216,7 +216,7 @@ fields_join_paid {sides} {taken} {psrc} {src} {pdst} {dst} {after} {ms} {ns} {y}
       let one' = subst (λ s. MovesShape sides s (to_spot n room dst) taken f.shape u M p locals c) part_is (subst (λ d. MovesShape sides psrc d taken f.shape u M p locals c) to_is one) in
       let rest' = subst (λ e. MovesFields sides src (to_past n dst) taken ms ns e M p locals k) next_are (subst (λ d. MovesFields sides src d taken ms ns next M p locals k) after_is rest) in
       (moves_member ms ns y u end f found using.from using.to (apart_dst n dst using.distinct)
-      (one'.moves a b concurrency rooms used here fits_here) (rest'.moves a b concurrency rooms (with_to used (to_spot n room dst)) (using_past using n room) fits_later));
+      (one'.moves a b rooms used here fits_here) (rest'.moves a b rooms (with_to used (to_spot n room dst)) (using_past using n room) fits_later));
 }
   where
     zeros : (w : MemoryWidth) → bytes_by w 0 0 ≡ 0
@@ -233,4 +233,4 @@ pub fields_join : {sides : Sides} {taken : ℕ → Bool} {psrc src : From} {pdst
     → MovesFields sides src dst taken ms (typed y u ns) end M p locals (c ++ k)
 fields_join skip cnt bytes count place found counted src_is spot_is past_is skip_is cnt_is bytes_is count_is place_is next_is M p locals c k one rest =
     let paid = fields_join_paid skip cnt bytes count place found counted src_is spot_is past_is skip_is cnt_is bytes_is count_is place_is next_is M p locals c k one rest in
-    record { moves = λ a b concurrency rooms used using fit. spare_none (paid.moves a b concurrency rooms used using fit) }
+    record { moves = λ a b rooms used using fit. spare_none (paid.moves a b rooms used using fit) }

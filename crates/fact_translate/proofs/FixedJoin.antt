@@ -130,9 +130,9 @@ count_small n zero room offset some le = absurd (omega arith)
 count_small n (suc size) room offset some le = omega (arith, le)
 
 module _ {sides : Sides} {e : FixedElements} {l : FixedLocals} {taken inner : ℕ → Bool} {s u : Shape} (h : WritesFixed sides e l taken inner s u) (from to : Address) (M : WasmModule) (p : ImportPlaces) (locals : List ValType) (typed : AreLocals locals (fixed_slots sides.from.memory64 sides.to.memory64 l))
-    (a b : LiftLowerOptions) (concurrency : Bool) (rooms : Rooms) (used : ℕ → Bool) where
+    (a b : LiftLowerOptions) (rooms : Rooms) (used : ℕ → Bool) where
   abbrev S : Setting
-  S = setting_of sides a b concurrency rooms M p locals
+  S = setting_of sides a b rooms M p locals
 
   abbrev src : From
   src = InMemory sides.from.memory from.local from.offset
@@ -189,7 +189,7 @@ module _ {sides : Sides} {e : FixedElements} {l : FixedLocals} {taken inner : �
     one_of zero size offset some le = absurd (omega arith)
     one_of (suc n) size offset some le = omega (arith, le)
 
-    element_fits : FitsFields sides (setting_of sides a b concurrency element_rooms M p locals) (single s) (single u) 0 (InMemory sides.from.memory l.source 0) (ToMemory sides.to.memory l.target 0)
+    element_fits : FitsFields sides (setting_of sides a b element_rooms M p locals) (single s) (single u) 0 (InMemory sides.from.memory l.source 0) (ToMemory sides.to.memory l.target 0)
     element_fits =
         let from_ends : ends_of (width_of_side a) (single s) 0 ≡ e.from_size = single_ends (width_of_side a) s ∙ sym from_size in
         let to_ends : ends_of (width_of_side b) (single u) 0 ≡ e.to_size = single_ends (width_of_side b) u ∙ sym to_size in
@@ -221,7 +221,7 @@ module _ {sides : Sides} {e : FixedElements} {l : FixedLocals} {taken inner : �
       used2 = using.to;
       room1 = let le : from.offset + e.from_size * e.count ≤ rooms.from = subst (λ z. from.offset + z * e.count ≤ rooms.from) (sym from_size) (subst (λ z. from.offset + z ≤ rooms.from) (fixed_bytes (width_of_side a) e.count s) fit.within.source) in omega (arith, le);
       room2 = let le : to.offset + e.to_size * e.count ≤ rooms.to = subst (λ z. to.offset + z * e.count ≤ rooms.to) (sym to_size) (subst (λ z. to.offset + z ≤ rooms.to) (fixed_bytes (width_of_side b) e.count u) fit.within.target) in omega (arith, le);
-      element_moves = m.moves a b concurrency element_rooms (with_fixed used fixed) element_using element_fits;
+      element_moves = m.moves a b element_rooms (with_fixed used fixed) element_using element_fits;
     }
 
     entry_from : e.from_size ≡ (entry_extent a (single s)).size
@@ -239,9 +239,9 @@ module _ {sides : Sides} {e : FixedElements} {l : FixedLocals} {taken inner : �
       let loop = k.second_holds in
       let code_is : code ≡ fixed_begin_code sides.from.memory64 sides.to.memory64 e l from to ++ countdown_code l.left (loop.body ++ fixed_end_code sides.from.memory64 sides.to.memory64 e l) = k.is ∙ (λ i. k.first_holds i ++ loop.is i) in
       subst (MovesNode sides (InMemory sides.from.memory from.local from.offset) (ToMemory sides.to.memory to.local to.offset) taken (fixed_of e.count s) (fixed_of e.count u) M p locals) (sym code_is) (record {
-        moves = λ a b concurrency rooms used using fit.
-            moves_fixed_in_memory (setting_of sides a b concurrency rooms M p locals) used (single s) (single u) (fixed h from to M p locals typed a b concurrency rooms used) loop.body
-            (entry_from h from to M p locals typed a b concurrency rooms used using fit) (entry_to h from to M p locals typed a b concurrency rooms used using fit) (is_fixed h from to M p locals typed a b concurrency rooms used using fit loop.moves);
+        moves = λ a b rooms used using fit.
+            moves_fixed_in_memory (setting_of sides a b rooms M p locals) used (single s) (single u) (fixed h from to M p locals typed a b rooms used) loop.body
+            (entry_from h from to M p locals typed a b rooms used using fit) (entry_to h from to M p locals typed a b rooms used using fit) (is_fixed h from to M p locals typed a b rooms used using fit loop.moves);
       })
 
 -- ---- as it was written

@@ -5,6 +5,7 @@ pub mod FixedJoin
 pub mod FixedMembers
 pub mod FlagMoves
 pub mod Found
+pub mod HandleMoves
 pub mod ListJoin
 pub mod ListMembers
 pub mod ListParts

@@ -12,6 +12,7 @@ use Rattle.fact_types.specs.declared.abi.CanonicalAbiInfo.{CanonicalAbiInfo}
 use Rattle.fact_types.specs.declared.flats.FlatType.{FlatType}
 use Rattle.fact_types.specs.declared.flats.FlatType.TheVariants as flat_type
 use Rattle.fact_types.specs.declared.import.Import.TheVariants as import
+use Rattle.fact_types.specs.declared.outside.UnsafeIntrinsic.TheVariants as slot
 use Rattle.fact_types.specs.declared.outside.Trap.TheVariants.{UnalignedPointer, ListOutOfBounds}
 use Rattle.fact_types.specs.declared.widths.MemoryWidth.{MemoryWidth}
 use Rattle.fact_types.specs.declared.widths.MemoryWidth.TheVariants.{Memory32, Memory64}
@@ -28,7 +29,7 @@ use Rattle.fact_moves.specs.Moves.{move_fields, move_list, entry_extent}
 use Rattle.fact_moves.specs.Running.{ImportPlaces}
 use Rattle.fact_moves.specs.Sides.{LiftLowerOptions, Source, AtAddress, Target, Into, width_of_side}
 use Rattle.fact_pieces.specs.Code.{counted_code}
-use Rattle.fact_pieces.specs.Lists.{is_few, few_guard, bytes_code, bump_code, count_code, left_code, address_code, ask_code, put_code}
+use Rattle.fact_pieces.specs.Lists.{is_few, few_guard, bytes_code, bump_code, count_code, left_code, address_code, put_code}
 use Rattle.fact_pieces.specs.Places.{Slot, From, InLocals, InMemory, To, ToLocals, ToMemory, DebugChecks, Rooms, Setting, transfer, Readable, Writable, FromUsed, FromTyped, ToTyped, MayHold, AreLocals, IsNone, Moves, size_of, widen}
 use Rattle.fact_pieces.specs.Tests.{HasUnaligned, pointer, read_into, region_code}
 use Rattle.fact_pieces.proofs.Blocks.{weaker}
@@ -38,7 +39,6 @@ use Rattle.fact_pieces.proofs.ListMoves.{list_code, slots_of}
 use Rattle.fact_pieces.proofs.ListNodes.{ListPlaces, IsList, listed, moves_elements}
 use Rattle.fact_pieces.proofs.ListTurns.{list_type}
 use Rattle.fact_pieces.proofs.Pairs.{PairFrom, PairInLocals, PairInMemory, PairTo, PairToLocals, PairToMemory, all_from, first_from, second_from as pair_second_from, all_to, first_to, second_to as pair_second_to, IsApart}
-use Rattle.fact_pieces.proofs.Slots.{HasSlotsIf}
 use Rattle.fact_pieces.proofs.Temporaries.{Temporaries}
 use Rattle.fact_pieces.proofs.UsedLocals.{with_temps, temps_here}
 use Rattle.fact_emit.specs.declared.places.Sides.{Sides}
@@ -48,6 +48,7 @@ use Rattle.fact_emit.specs.Imports.{AreOnce}
 use Rattle.fact_emit.specs.Fitting.{CanRead, CanWrite, FitsFields, IsSlotFor, MovesNode, MovesPaidFields}
 use Rattle.fact_emit.specs.Numbers.{HasUpperAt}
 use Rattle.fact_emit.specs.Places.{AreDistinctSlots, checks_at, setting_of, Using}
+use Rattle.fact_emit.specs.RuntimeCalls.{slots_of as slots_at_of}
 use Rattle.fact_emit.specs.Requests.{request_code, ServesLists}
 use Rattle.fact_emit.specs.Writers.{Began}
 use Rattle.fact_emit.proofs.BroughtLaws.{brought_as, brought_between}
@@ -57,7 +58,7 @@ use Rattle.fact_emit.proofs.NamedLaws.{ranged_append}
 use Rattle.fact_emit.proofs.ScalarMoves.{reached, slot_holds}
 use Rattle.fact_translate.specs.declared.lists.Elements.{Elements}
 use Rattle.fact_translate.specs.declared.lists.ListLocals.{ListLocals}
-use Rattle.fact_translate.specs.Lists.{list_slots, second_from, second_to, OpensList, ClosesList, begin_code, asks_code, turn_end_code}
+use Rattle.fact_translate.specs.Lists.{list_slots, second_from, second_to, OpensList, ClosesList, begin_code, asks_code, list_context, turn_end_code}
 use Rattle.fact_translate.proofs.Alignments.{aligns_shape}
 use Rattle.fact_translate.proofs.FieldJoin.{exact}
 use Rattle.fact_translate.proofs.ListRanged.{counted_named, counted_ranged, left_ranged, put_ranged, turn_end_ranged}
@@ -257,7 +258,7 @@ some_bytes Memory64 c h = h.memory64
 written_is : {sides : Sides} {x : Elements} {l : ListLocals} {src : From} {dst : To} {inner : ℕ → Bool} {ms ns : Members} (M : WasmModule) (p : ImportPlaces) (locals : List ValType) (c k : List Instr)
     → OpensList sides x l src M p locals c → (loop : LoopsList sides x l inner ms ns dst M p locals k)
     → c ++ k ≡ parts_code (read_into (checks_at sides.debug p) sides.from.memory64 src l.pointer) (read_into (checks_at sides.debug p) sides.from.memory64 (second_from sides.from.memory64 src) l.number)
-    ((request_code sides.to.realloc sides.to.memory64 x.to_align l.bytes ++ []) ++ (widen (pointer sides.to.memory64) val.I64 ++ I.LocalSet l.address ∷ []))
+    (request_code sides.concurrency (slots_at_of p (list_context l)) sides.to.realloc sides.to.memory64 x.to_align l.bytes ++ (widen (pointer sides.to.memory64) val.I64 ++ I.LocalSet l.address ∷ []))
     (put_code sides.to.memory64 l.address dst ++ put_code sides.to.memory64 l.number (second_to sides.to.memory64 dst))
     sides.from.memory64 sides.to.memory64 x.from_size x.from_align x.to_size x.to_align sides.from.page_size_log2 sides.to.page_size_log2 sides.from.memory sides.to.memory (p.function (import.Trap UnalignedPointer)) (p.function (import.Trap ListOutOfBounds)) l loop.body
 written_is {sides} {x} {l} {src} {dst} M p locals c k opened loop =
@@ -271,32 +272,32 @@ written_is {sides} {x} {l} {src} {dst} M p locals c k opened loop =
     let f2 : List Instr = few_guard (is_few to64 x.to_size) l.number x.to_size outside in
     let g1 : List Instr = region_code sides.from.memory from64 sides.from.page_size_log2 x.from_align l.pointer l.bytes l.length unaligned outside in
     let g2 : List Instr = region_code sides.to.memory to64 sides.to.page_size_log2 x.to_align l.address l.bytes l.length unaligned outside in
-    let request : List Instr = request_code sides.to.realloc to64 x.to_align l.bytes in
+    let request : List Instr = request_code sides.concurrency (slots_at_of p (list_context l)) sides.to.realloc to64 x.to_align l.bytes in
     let keep : List Instr = widen (pointer to64) val.I64 ++ I.LocalSet l.address ∷ [] in
-    let asks : List Instr = asks_code p sides.to x.to_size x.to_align l in
+    let asks : List Instr = asks_code sides.concurrency p sides.to x.to_size x.to_align l in
     let begin : List Instr = begin_code from64 to64 l in
     let last : List Instr = asks ++ begin in
     let begun : begin ++ k ≡ address_code from64 l.pointer ++ (I.LocalSet l.source ∷ (address_code to64 l.address ++ (I.LocalSet l.target ∷ I.LocalGet l.number ∷ I.LocalSet l.left ∷ k))) =
     append_assoc (address_code from64 l.pointer) (I.LocalSet l.source ∷ (address_code to64 l.address ++ (I.LocalSet l.target ∷ I.LocalGet l.number ∷ I.LocalSet l.left ∷ []))) k
     ∙ ap (λ e. address_code from64 l.pointer ++ (I.LocalSet l.source ∷ e)) (append_assoc (address_code to64 l.address) (I.LocalSet l.target ∷ I.LocalGet l.number ∷ I.LocalSet l.left ∷ []) k) in
-    let asked : (e : List Instr) → (request ++ (keep ++ g2)) ++ e ≡ ((request ++ []) ++ keep) ++ (g2 ++ e) = λ e.
-    append_assoc request (keep ++ g2) e ∙ ap (λ k. request ++ k) (append_assoc keep g2 e) ∙ ap (λ r. r ++ (keep ++ (g2 ++ e))) (sym (append-nil request)) ∙ sym (append_assoc (request ++ []) keep (g2 ++ e)) in
-    let ends : last ++ k ≡ bytes_code l.number x.to_size ++ (I.LocalSet l.bytes ∷ (((request ++ []) ++ keep) ++ (g2 ++ (begin ++ k)))) =
+    let asked : (e : List Instr) → (request ++ (keep ++ g2)) ++ e ≡ (request ++ keep) ++ (g2 ++ e) = λ e.
+    append_assoc request (keep ++ g2) e ∙ ap (λ k. request ++ k) (append_assoc keep g2 e) ∙ sym (append_assoc request keep (g2 ++ e)) in
+    let ends : last ++ k ≡ bytes_code l.number x.to_size ++ (I.LocalSet l.bytes ∷ ((request ++ keep) ++ (g2 ++ (begin ++ k)))) =
     append_assoc asks begin k ∙ ap (λ e. bytes_code l.number x.to_size ++ (I.LocalSet l.bytes ∷ e)) (asked (begin ++ k)) in
     let f2r : List Instr = bytes_code l.number x.from_size ++ (I.LocalSet l.bytes ∷ (g1 ++ last)) in
     ap (λ c. c ++ k) opened.is
     ∙ append_assoc r1 (r2 ++ (f1 ++ (f2 ++ f2r))) k ∙ ap (λ e. r1 ++ e) (append_assoc r2 (f1 ++ (f2 ++ f2r)) k
     ∙ ap (λ e. r2 ++ e) (append_assoc f1 (f2 ++ f2r) k ∙ ap (λ e. f1 ++ e) (append_assoc f2 f2r k
     ∙ ap (λ e. f2 ++ (bytes_code l.number x.from_size ++ (I.LocalSet l.bytes ∷ e))) (append_assoc g1 last k
-    ∙ ap (λ e. g1 ++ e) (ends ∙ ap (λ e. bytes_code l.number x.to_size ++ (I.LocalSet l.bytes ∷ (((request ++ []) ++ keep) ++ (g2 ++ e)))) (begun
+    ∙ ap (λ e. g1 ++ e) (ends ∙ ap (λ e. bytes_code l.number x.to_size ++ (I.LocalSet l.bytes ∷ ((request ++ keep) ++ (g2 ++ e)))) (begun
     ∙ ap (λ e. address_code from64 l.pointer ++ (I.LocalSet l.source ∷ (address_code to64 l.address ++ (I.LocalSet l.target ∷ I.LocalGet l.number ∷ I.LocalSet l.left ∷ e)))) loop.is))))))
 
 -- ---- what it does
 
 module _ {sides : Sides} {x : Elements} {l : ListLocals} {taken inner : ℕ → Bool} {ms ns : Members} (h : WritesList sides x l taken inner ms ns) (M : WasmModule) (p : ImportPlaces) (locals : List ValType) (typed : AreLocals locals (list_slots sides.from.memory64 sides.to.memory64 l))
-    (a b : LiftLowerOptions) (concurrency : Bool) (rooms : Rooms) (used : ℕ → Bool) where
+    (a b : LiftLowerOptions) (rooms : Rooms) (used : ℕ → Bool) where
   abbrev S : Setting
-  S = setting_of sides a b concurrency rooms M p locals
+  S = setting_of sides a b rooms M p locals
 
   -- all bytes of an element have addresses
   abbrev element_rooms : Rooms
@@ -322,7 +323,7 @@ module _ {sides : Sides} {x : Elements} {l : ListLocals} {taken inner : ℕ → 
     distinct = tt;
   }
 
-  element_fits : is_wide a.memory ≡ sides.from.memory64 → is_wide b.memory ≡ sides.to.memory64 → ServesLists sides.from sides.to M p a b concurrency → FitsFields sides (setting_of sides a b concurrency element_rooms M p locals) ms ns 0 (InMemory sides.from.memory l.source 0) (ToMemory sides.to.memory l.target 0)
+  element_fits : is_wide a.memory ≡ sides.from.memory64 → is_wide b.memory ≡ sides.to.memory64 → ServesLists sides.from sides.to M p a b → FitsFields sides (setting_of sides a b element_rooms M p locals) ms ns 0 (InMemory sides.from.memory l.source 0) (ToMemory sides.to.memory l.target 0)
   element_fits from_wide to_wide serves = record {
     from_wide = from_wide;
     to_wide = to_wide;
@@ -333,7 +334,7 @@ module _ {sides : Sides} {x : Elements} {l : ListLocals} {taken inner : ℕ → 
   }
 
   -- The code is that of the list's pieces, and does what a list's move does.
-  module _ (from : PairFrom) (to : PairTo) (from_wide : is_wide a.memory ≡ sides.from.memory64) (to_wide : is_wide b.memory ≡ sides.to.memory64) (serves : ServesLists sides.from sides.to M p a b concurrency)
+  module _ (from : PairFrom) (to : PairTo) (from_wide : is_wide a.memory ≡ sides.from.memory64) (to_wide : is_wide b.memory ≡ sides.to.memory64) (serves : ServesLists sides.from sides.to M p a b)
       (reads : PairReads M p locals (checks_at sides.debug p) a sides.from.memory64 from) (writes : PairWrites M p locals (checks_at sides.debug p) b sides.to.memory64 to) (using : Using taken used (all_from from) (all_to to))
       {c k : List Instr} (opened : OpensList sides x l (all_from from) M p locals c) (loop : LoopsList sides x l inner ms ns (all_to to) M p locals k) where
     abbrev places : ListPlaces
@@ -347,10 +348,10 @@ module _ {sides : Sides} {x : Elements} {l : ListLocals} {taken inner : ℕ → 
       outside = p.function (import.Trap ListOutOfBounds);
       realloc = serves.realloc.def;
       realloc_at = serves.realloc.place;
-      get0 = 0;
-      get1 = 0;
-      set0 = 0;
-      set1 = 0;
+      get0 = p.function (import.UnsafeIntrinsic slot.ContextGetI32_0);
+      get1 = p.function (import.UnsafeIntrinsic slot.ContextGetI32_1);
+      set0 = p.function (import.UnsafeIntrinsic slot.ContextSetI32_0);
+      set1 = p.function (import.UnsafeIntrinsic slot.ContextSetI32_1);
     }
 
     abbrev act : Source → Target → Action (List CoreValue)
@@ -376,7 +377,7 @@ module _ {sides : Sides} {x : Elements} {l : ListLocals} {taken inner : ℕ → 
 
     is_list : IsList S used places ms ns loop.body act
     is_list =
-        let moves = loop.moves.moves a b concurrency element_rooms (with_temps used temp 10) (element_using using.within) (element_fits from_wide to_wide serves) in
+        let moves = loop.moves.moves a b element_rooms (with_temps used temp 10) (element_using using.within) (element_fits from_wide to_wide serves) in
         let from_uses = from_used used (size_of (pointer sides.from.memory64)) from using.from in
         record {
           some1 = some_bytes (width_of_side a) (entry_layout ms) h.from_takes;
@@ -391,7 +392,7 @@ module _ {sides : Sides} {x : Elements} {l : ListLocals} {taken inner : ℕ → 
           traps = opened.outside;
           realloc_is = serves.realloc.given;
           reallocs = serves.realloc.knows;
-          slots = subst (λ q. HasSlotsIf q M p (slots_of (listed S used places ms ns loop.body act))) (sym serves.alone) tt;
+          slots = opened.slots;
           readable1 = first_readable M p locals checks a sides.from.memory64 from reads opened.has_pointer;
           readable2 = second_readable M p locals checks a sides.from.memory64 from reads (subst (HasUpperAt M p checks (pointer sides.from.memory64)) second_is opened.has_number);
           from_used1 = from_uses.0;
@@ -411,13 +412,12 @@ module _ {sides : Sides} {x : Elements} {l : ListLocals} {taken inner : ℕ → 
           element_typed = moves.typed;
         }
 
-    request_is : ((request_code sides.to.realloc sides.to.memory64 x.to_align l.bytes ++ []) ++ (widen (pointer sides.to.memory64) val.I64 ++ I.LocalSet l.address ∷ []))
-        ≡ realloc_code concurrency (slots_of (listed S used places ms ns loop.body act)) sides.to.memory64 (entry_extent b ns).align l.bytes l.address serves.realloc.place
+    request_is : (request_code sides.concurrency (slots_at_of p (list_context l)) sides.to.realloc sides.to.memory64 x.to_align l.bytes ++ (widen (pointer sides.to.memory64) val.I64 ++ I.LocalSet l.address ∷ []))
+        ≡ realloc_code sides.concurrency (slots_of (listed S used places ms ns loop.body act)) sides.to.memory64 (entry_extent b ns).align l.bytes l.address serves.realloc.place
     request_is =
         let keep : List Instr = widen (pointer sides.to.memory64) val.I64 ++ I.LocalSet l.address ∷ [] in
-        ap (λ o. (request_code o sides.to.memory64 x.to_align l.bytes ++ []) ++ keep) serves.realloc.is
-        ∙ ap (λ n. (ask_code sides.to.memory64 n l.bytes serves.realloc.place ++ []) ++ keep) align2_is
-        ∙ ap (λ q. realloc_code q (slots_of (listed S used places ms ns loop.body act)) sides.to.memory64 (entry_extent b ns).align l.bytes l.address serves.realloc.place) (sym serves.alone)
+        ap (λ o. request_code sides.concurrency (slots_at_of p (list_context l)) o sides.to.memory64 x.to_align l.bytes ++ keep) serves.realloc.is
+        ∙ ap (λ n. request_code sides.concurrency (slots_at_of p (list_context l)) (Some serves.realloc.place) sides.to.memory64 n l.bytes ++ keep) align2_is
 
     code_is : c ++ k ≡ list_code S (listed S used places ms ns loop.body act) serves.from_memory.side.log2 serves.to_memory.side.log2
     code_is =
@@ -438,23 +438,23 @@ module _ {sides : Sides} {x : Elements} {l : ListLocals} {taken inner : ℕ → 
 -- ---- a list, and a map
 
 module _ {sides : Sides} {x : Elements} {l : ListLocals} {taken inner : ℕ → Bool} {ms ns : Members} (h : WritesList sides x l taken inner ms ns) where
-  list_moves : {src : From} {dst : To} (M : WasmModule) (p : ImportPlaces) (locals : List ValType) (a b : LiftLowerOptions) (concurrency : Bool) (rooms : Rooms) (used : ℕ → Bool) → AreLocals locals (list_slots sides.from.memory64 sides.to.memory64 l)
-      → is_wide a.memory ≡ sides.from.memory64 → is_wide b.memory ≡ sides.to.memory64 → ServesLists sides.from sides.to M p a b concurrency
+  list_moves : {src : From} {dst : To} (M : WasmModule) (p : ImportPlaces) (locals : List ValType) (a b : LiftLowerOptions) (rooms : Rooms) (used : ℕ → Bool) → AreLocals locals (list_slots sides.from.memory64 sides.to.memory64 l)
+      → is_wide a.memory ≡ sides.from.memory64 → is_wide b.memory ≡ sides.to.memory64 → ServesLists sides.from sides.to M p a b
       → CanRead M p locals a sides.from.memory64 src (flat_pointer (width_of_side a) ∷ flat_pointer (width_of_side a) ∷ []) (extent (width_of_side a) pointer_pair_layout).size
       → CanWrite M p locals b sides.to.memory64 dst (flat_pointer (width_of_side b) ∷ flat_pointer (width_of_side b) ∷ []) (extent (width_of_side b) pointer_pair_layout).size
       → Using taken used src dst → (c k : List Instr) → OpensList sides x l src M p locals c → LoopsList sides x l inner ms ns dst M p locals k
-      → Moves (setting_of sides a b concurrency rooms M p locals) used 0 516 src dst (λ s d. Visit 1 (move_list (transfer (setting_of sides a b concurrency rooms M p locals)) ms ns (λ s d. move_fields (transfer (setting_of sides a b concurrency rooms M p locals)) ms ns 0 s d) s d)) (c ++ k)
-  list_moves {src} {dst} M p locals a b concurrency rooms used typed from_wide to_wide serves reads writes using c k opened loop =
+      → Moves (setting_of sides a b rooms M p locals) used 0 516 src dst (λ s d. Visit 1 (move_list (transfer (setting_of sides a b rooms M p locals)) ms ns (λ s d. move_fields (transfer (setting_of sides a b rooms M p locals)) ms ns 0 s d) s d)) (c ++ k)
+  list_moves {src} {dst} M p locals a b rooms used typed from_wide to_wide serves reads writes using c k opened loop =
       let from64 = sides.from.memory64 in
       let to64 = sides.to.memory64 in
       let reads' = subst (λ m. CanRead M p locals a from64 src (flat_pointer (width m) ∷ flat_pointer (width m) ∷ []) (extent (width m) pointer_pair_layout).size) from_wide reads in
       let writes' = subst (λ m. CanWrite M p locals b to64 dst (flat_pointer (width m) ∷ flat_pointer (width m) ∷ []) (extent (width m) pointer_pair_layout).size) to_wide writes in
       let (from, from_is) = pair_from M p locals a from64 (flat_pointer (width from64)) (extent (width from64) pointer_pair_layout).size src reads' in
       let (to, to_is) = pair_to M p locals b to64 (flat_pointer (width to64)) (extent (width to64) pointer_pair_layout).size dst writes' in
-      let S = setting_of sides a b concurrency rooms M p locals in
+      let S = setting_of sides a b rooms M p locals in
       let act : Source → Target → Action (List CoreValue) = λ s d. Visit 1 (move_list (transfer S) ms ns (λ s d. move_fields (transfer S) ms ns 0 s d) s d) in
       subst (λ s. Moves S used 0 516 s dst act (c ++ k)) (sym from_is) (subst (λ d. Moves S used 0 516 (all_from from) d act (c ++ k)) (sym to_is)
-      (pair_moves h M p locals typed a b concurrency rooms used from to from_wide to_wide serves
+      (pair_moves h M p locals typed a b rooms used from to from_wide to_wide serves
       (subst (λ s. CanRead M p locals a from64 s (flat_pointer (width from64) ∷ flat_pointer (width from64) ∷ []) (extent (width from64) pointer_pair_layout).size) from_is reads')
       (subst (λ d. CanWrite M p locals b to64 d (flat_pointer (width to64) ∷ flat_pointer (width to64) ∷ []) (extent (width to64) pointer_pair_layout).size) to_is writes')
       (subst (λ d. Using taken used (all_from from) d) to_is (subst (λ s. Using taken used s dst) from_is using))
@@ -464,14 +464,14 @@ module _ {sides : Sides} {x : Elements} {l : ListLocals} {taken inner : ℕ → 
       → Both (OpensList sides x l src) (LoopsList sides x l inner ms ns dst) M p locals code → MovesNode sides src dst taken (s_node k_list ms) (s_node k_list ns) M p locals code
   list_piece {src} {dst} M p locals code typed k =
       subst (MovesNode sides src dst taken (s_node k_list ms) (s_node k_list ns) M p locals) (sym k.is) (record {
-        moves = λ a b concurrency rooms used using fit. list_moves M p locals a b concurrency rooms used typed fit.from_wide fit.to_wide (fit.lists refl) fit.reads fit.writes using k.first k.second k.first_holds k.second_holds;
+        moves = λ a b rooms used using fit. list_moves M p locals a b rooms used typed fit.from_wide fit.to_wide (fit.lists refl) fit.reads fit.writes using k.first k.second k.first_holds k.second_holds;
       })
 
   pub map_piece : {src : From} {dst : To} (M : WasmModule) (p : ImportPlaces) (locals : List ValType) (code : List Instr) → AreLocals locals (list_slots sides.from.memory64 sides.to.memory64 l)
       → Both (OpensList sides x l src) (LoopsList sides x l inner ms ns dst) M p locals code → MovesNode sides src dst taken (s_node k_map ms) (s_node k_map ns) M p locals code
   map_piece {src} {dst} M p locals code typed k =
       subst (MovesNode sides src dst taken (s_node k_map ms) (s_node k_map ns) M p locals) (sym k.is) (record {
-        moves = λ a b concurrency rooms used using fit. list_moves M p locals a b concurrency rooms used typed fit.from_wide fit.to_wide (fit.lists refl) fit.reads fit.writes using k.first k.second k.first_holds k.second_holds;
+        moves = λ a b rooms used using fit. list_moves M p locals a b rooms used typed fit.from_wide fit.to_wide (fit.lists refl) fit.reads fit.writes using k.first k.second k.first_holds k.second_holds;
       })
 
 -- ---- as it was written

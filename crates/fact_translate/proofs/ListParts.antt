@@ -23,7 +23,7 @@ use Rattle.fact_emit.proofs.Emitting.{emits_then, emits_as, emits_wrote, emits_n
 use Rattle.fact_emit.proofs.RequestMoves.{region_at}
 use Rattle.fact_translate.specs.declared.lists.Elements.{Elements}
 use Rattle.fact_translate.specs.declared.lists.ListLocals.{ListLocals}
-use Rattle.fact_translate.specs.Lists.{second_from, second_to, ReadsList, ChecksFew, ChecksBytes, AsksList, OpensList, ClosesList, asks_code, begin_code, turn_end_code}
+use Rattle.fact_translate.specs.Lists.{second_from, second_to, ReadsList, ChecksFew, ChecksBytes, AsksList, OpensList, list_context, ClosesList, asks_code, begin_code, turn_end_code}
 use Rattle.fact_translate.proofs.ListRanged.{begin_ranged, bytes_ranged}
 
 -- ---- lengths
@@ -59,10 +59,11 @@ bytes_checked {size = size} l x y =
       is = ap (λ c. c ++ k) is ∙ ap (λ k. bytes_code l.number size ++ (I.LocalSet l.bytes ∷ k)) r.is;
     }) (emits_wrote (bytes_ranged l.number size l.bytes) x) (emits_as region_at y)
 
-pub list_asked : {a b c : Writer} {m : LinearMemory} {size align : ℕ} (l : ListLocals) → Wrote a b (bytes_code l.number size ++ I.LocalSet l.bytes ∷ [])
-    → Emits b c (AsksRegion m (record { align = align; bytes = l.bytes; address = l.address; length = l.length }) ListOutOfBounds) → Emits a c (AsksList m size align l)
+pub list_asked : {a b c : Writer} {concurrency : Bool} {m : LinearMemory} {size align : ℕ} (l : ListLocals) → Wrote a b (bytes_code l.number size ++ I.LocalSet l.bytes ∷ [])
+    → Emits b c (AsksRegion concurrency m (record { align = align; bytes = l.bytes; address = l.address; length = l.length; context = list_context l }) ListOutOfBounds) → Emits a c (AsksList concurrency m size align l)
 list_asked {size = size} l x y =
     emits_then {P = Is (bytes_code l.number size ++ I.LocalSet l.bytes ∷ [])} (λ M p locals c k is r. record {
+      slots = r.slots;
       unaligned = r.unaligned;
       is = ap (λ c. c ++ k) is ∙ ap (λ k. bytes_code l.number size ++ (I.LocalSet l.bytes ∷ k)) r.is;
     }) (emits_wrote (bytes_ranged l.number size l.bytes) x) y
@@ -70,7 +71,7 @@ list_asked {size = size} l x y =
 -- all that stands in front of the elements
 pub list_opened : {a b c d e f g : Writer} {sides : Sides} {x : Elements} {l : ListLocals} {src : From}
     → Emits a b (ReadsList sides.debug sides.from.memory64 l src) → Emits b c (ChecksFew sides.from.memory64 x.from_size l.number) → Emits c d (ChecksFew sides.to.memory64 x.to_size l.number)
-    → Emits d e (ChecksBytes sides.from x.from_size x.from_align l) → Emits e f (AsksList sides.to x.to_size x.to_align l) → Wrote f g (begin_code sides.from.memory64 sides.to.memory64 l)
+    → Emits d e (ChecksBytes sides.from x.from_size x.from_align l) → Emits e f (AsksList sides.concurrency sides.to x.to_size x.to_align l) → Wrote f g (begin_code sides.from.memory64 sides.to.memory64 l)
     → Emits a g (OpensList sides x l src)
 list_opened {sides = sides} {x} {l} {src} u v w y z o =
     emits_as (λ M p locals code k.
@@ -85,7 +86,7 @@ list_opened {sides = sides} {x} {l} {src} u v w y z o =
     let f1 : List Instr = few_guard (is_few sides.from.memory64 x.from_size) l.number x.from_size outside in
     let f2 : List Instr = few_guard (is_few sides.to.memory64 x.to_size) l.number x.to_size outside in
     let region : List Instr = region_code sides.from.memory sides.from.memory64 sides.from.page_size_log2 x.from_align l.pointer l.bytes l.length (p.function (import.Trap UnalignedPointer)) outside in
-    let asks : List Instr = asks_code p sides.to x.to_size x.to_align l in
+    let asks : List Instr = asks_code sides.concurrency p sides.to x.to_size x.to_align l in
     let begin : List Instr = begin_code sides.from.memory64 sides.to.memory64 l in
     record {
       has_pointer = read.has_pointer;
@@ -93,6 +94,7 @@ list_opened {sides = sides} {x} {l} {src} u v w y z o =
       from_unaligned = k4.first_holds.unaligned;
       to_unaligned = k5.first_holds.unaligned;
       outside = k4.first_holds.outside;
+      slots = k5.first_holds.slots;
       is = k.is ∙ ap (λ c. c ++ k.second) read.is ∙ append_assoc r1 r2 k.second
           ∙ ap (λ k. r1 ++ (r2 ++ k)) (k2.is ∙ ap (λ c. c ++ k2.second) k2.first_holds.is
           ∙ ap (λ k. f1 ++ k) (k3.is ∙ ap (λ c. c ++ k3.second) k3.first_holds.is

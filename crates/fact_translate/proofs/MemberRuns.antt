@@ -170,7 +170,7 @@ none_left t (typed m s ns) h = absurd h
 pub nothing_moves : {sides : Sides} {src : From} {dst : To} {taken : ℕ → Bool} {ms : Members} {end : ℕ} (M : WasmModule) (p : ImportPlaces) (locals : List ValType) → MovesFields sides src dst taken ms no_members end M p locals []
 unfolding move_fields
 nothing_moves {dst = dst} M p locals = record {
-  moves = λ a b concurrency rooms used using fit. record {
+  moves = λ a b rooms used using fit. record {
     effect = λ ls s d e st g r. done refl (stood b _ _ dst ls fit.writes, keeps_all);
     typed = typed_done;
   };

@@ -1,5 +1,5 @@
 -- From what is moved behind checks to the values of types: records, tuples, flags, enums, and all of them with their checks.
-use Rattle.std.proofs.Common.{◌≡◌, ◌≢◌, ℕ, ◌≤◌, Bool, List, ◌++◌, Option, Some, None, refl, sym, ap, ◌∙◌, subst, arith}
+use Rattle.std.proofs.Common.{◌≡◌, ◌≢◌, ℕ, ◌≤◌, Bool, List, ◌++◌, Option, Some, None, refl, sym, ap, ◌∙◌, subst, arith, ◌⊎◌, inl, inr}
 use Rattle.std.specs.Prelude.{unwrap_or}
 use Rattle.fact_entity.specs.declared.id.Id.{Id}
 use Rattle.fact_entity.specs.declared.table.TypeFixedLengthLists.{TypeFixedLengthLists}
@@ -23,7 +23,7 @@ use Rattle.fact_types.specs.declared.interface.InterfaceType.TheVariants as ty
 use Rattle.fact_types.specs.Fields.{Field, IsFound, Finds}
 use Rattle.fact_types.specs.FlatShapes.{IsCounted, AreCounted}
 use Rattle.fact_types.specs.Layout.{extent}
-use Rattle.fact_types.specs.Shapes.{k_record, k_variant, k_list, k_tuple, k_map, k_flags, k_enum, k_fixed, k_option, k_result, Shape, s_plain, s_node, Members, layout_of, ends_of}
+use Rattle.fact_types.specs.Shapes.{k_record, k_variant, k_list, k_tuple, k_map, k_flags, k_enum, k_fixed, k_option, k_result, k_future, k_stream, Shape, s_plain, s_node, Members, layout_of, ends_of}
 use Rattle.fact_types.specs.Signatures.{width}
 use Rattle.fact_types.specs.Tables.{Tables, HasShape}
 use Rattle.fact_types.proofs.PlaceLaws.{ends_within}
@@ -38,6 +38,7 @@ use Rattle.fact_emit.specs.declared.writer.Writer.{Writer}
 use Rattle.fact_emit.specs.Checks.{ChecksFrom, ChecksTo, ChecksPlaces}
 use Rattle.fact_emit.specs.Emits.{Grew, Emits}
 use Rattle.fact_emit.specs.Fitting.{CanRead, CanWrite, node_moves, MovesShape, MovesNode, MovesTuple, MovesFields}
+use Rattle.fact_emit.specs.Handles.{handle_transfer}
 use Rattle.fact_emit.specs.Parts.{from_behind, bytes_by}
 use Rattle.fact_emit.specs.Places.{setting_of}
 use Rattle.fact_emit.specs.Scalars.{is_scalar, MovedScalar}
@@ -49,6 +50,7 @@ use Rattle.fact_translate.specs.Movable.{CanMove, CanMoveFields}
 use Rattle.fact_translate.specs.Moved.{MovedFrom, MovedNode, MovedTuple, MovedValue, CheckedPlaces, IsLiveFound, MovedMember}
 use Rattle.fact_translate.proofs.Alignments.{aligns_shape}
 use Rattle.fact_translate.proofs.Found.{flat_is, some_within}
+use Rattle.fact_translate.proofs.HandleMoves.{no_future, no_stream, no_transfer}
 use Rattle.fact_translate.proofs.TypeKinds.{record_kind, tuple_kind, record_type, tuple_type, flags_type, enum_type, variant_type, option_type, result_type, list_type, map_type, fixed_type}
 use Rattle.fact_translate.proofs.WithinRooms.{within_less}
 
@@ -86,8 +88,8 @@ checked_node : {sides : Sides} {src : From} {dst : To} {taken : ℕ → Bool} (t
     → MovesNode sides src dst taken t u M p locals k → MovesShape sides src dst taken t u M p locals (c ++ k)
 checked_node {sides} {src} {dst} {taken} t u M p locals c k h m =
     subst (λ c. MovesShape sides src dst taken t u M p locals (c ++ k)) (sym h.is) (record {
-      moves = λ a b concurrency rooms used using fit.
-          let S = setting_of sides a b concurrency rooms M p locals in
+      moves = λ a b rooms used using fit.
+          let S = setting_of sides a b rooms M p locals in
           moves_same (node_is (transfer S) t u) (moves_checked (record {
             from_is = ap (λ m. (extent (width m) (layout_of t)).align) fit.from_wide;
             to_is = ap (λ m. (extent (width m) (layout_of u)).align) fit.to_wide;
@@ -97,7 +99,7 @@ checked_node {sides} {src} {dst} {taken} t u M p locals c k h m =
             to_checked = h.to_has;
             from_typed = source_typed M p locals a S.from64 _ _ src fit.reads;
             to_typed = target_typed M p locals b S.to64 _ _ dst fit.writes;
-          }) (m.moves a b concurrency rooms used using fit));
+          }) (m.moves a b rooms used using fit));
     })
 
 -- the locals in use are the same behind code that was written
@@ -127,7 +129,7 @@ module _ (M : WasmModule) (p : ImportPlaces) (locals : List ValType) (o : LiftLo
 record_node : {sides : Sides} {src : From} {dst : To} {taken : ℕ → Bool} {ms ns : Members} (M : WasmModule) (p : ImportPlaces) (locals : List ValType) (code : List Instr)
     → MovesFields sides src dst taken ms ns 0 M p locals code → MovesNode sides src dst taken (s_node k_record ms) (s_node k_record ns) M p locals code
 record_node {src = src} {dst} {ms = ms} {ns} M p locals code x = record {
-  moves = λ a b concurrency rooms used using fit. moves_visited (x.moves a b concurrency rooms used using (record {
+  moves = λ a b rooms used using fit. moves_visited (x.moves a b rooms used using (record {
     from_wide = fit.from_wide;
     to_wide = fit.to_wide;
     reads = read_less M p locals a _ _ (ends_of (width_of_side a) ms 0) _ (ends_within (width_of_side a) ms) src fit.reads;
@@ -140,7 +142,7 @@ record_node {src = src} {dst} {ms = ms} {ns} M p locals code x = record {
 tuple_node : {sides : Sides} {src : From} {dst : To} {taken : ℕ → Bool} {ms ns : Members} (M : WasmModule) (p : ImportPlaces) (locals : List ValType) (code : List Instr)
     → MovesFields sides src dst taken ms ns 0 M p locals code → MovesTuple sides src dst taken (s_node k_tuple ms) (s_node k_tuple ns) M p locals code
 tuple_node {src = src} {dst} {ms = ms} {ns} M p locals code x = record {
-  moves = λ a b concurrency rooms used using fit. moves_unpaid (x.moves a b concurrency rooms used using (record {
+  moves = λ a b rooms used using fit. moves_unpaid (x.moves a b rooms used using (record {
     from_wide = fit.from_wide;
     to_wide = fit.to_wide;
     reads = read_less M p locals a _ _ (ends_of (width_of_side a) ms 0) _ (ends_within (width_of_side a) ms) src fit.reads;
@@ -155,7 +157,7 @@ pub tuple_as_node : {t : Tables} {from to kind kind' : InterfaceType} {sides : S
 tuple_as_node {t} is is' m = record {
   grew = m.grew;
   emits = λ s u hs hu cs cu can.
-      emits_as (λ M p locals code x. record { moves = λ a b concurrency rooms used using fit. moves_less (x.moves a b concurrency rooms used using fit) })
+      emits_as (λ M p locals code x. record { moves = λ a b rooms used using fit. moves_less (x.moves a b rooms used using fit) })
       (m.emits s u (subst (λ y. HasShape t y s) is hs) (subst (λ y. HasShape t y u) is' hu) cs cu can);
 }
 
@@ -221,25 +223,28 @@ pub scalar_moved : {t : Tables} {from to : InterfaceType} {sides : Sides} {src :
     → ((i : Id TypeRecords) → from ≢ ty.Record i) → ((i : Id TypeTuples) → from ≢ ty.Tuple i) → ((i : Id FlagsTable) → from ≢ ty.Flags i) → ((i : Id TypeEnums) → from ≢ ty.Enum i)
     → ((i : Id TypeVariants) → from ≢ ty.Variant i) → ((i : Id TypeOptions) → from ≢ ty.Option i) → ((i : Id TypeResults) → from ≢ ty.Result i)
     → ((i : Id TypeLists) → from ≢ ty.List i) → ((i : Id TypeMaps) → from ≢ ty.Map i) → ((i : Id TypeFixedLengthLists) → from ≢ ty.FixedLengthList i)
-    → MovedScalar from sides src dst first last → MovedNode t from to sides src dst first last
-scalar_moved {t} {from} {to} {sides} {src} {dst} {first} {last} no_record no_tuple no_flags no_enum no_variant no_option no_result no_list no_map no_fixed scalar = record { grew = scalar.grew; emits = λ s u hs hu cs cu can. moved s u hs can }
+    → handle_transfer from to ≡ None → MovedScalar from sides src dst first last → MovedNode t from to sides src dst first last
+scalar_moved {t} {from} {to} {sides} {src} {dst} {first} {last} no_record no_tuple no_flags no_enum no_variant no_option no_result no_list no_map no_fixed no_handle scalar = record { grew = scalar.grew; emits = λ s u hs hu cs cu can. moved s u hs hu can }
   where
-    moved : (s u : Shape) → HasShape t from s → CanMove s u → Emits first last (MovesNode sides src dst (taken_in first) s u)
-    moved (s_plain a) (s_plain b) hs can =
+    moved : (s u : Shape) → HasShape t from s → HasShape t to u → CanMove s u → Emits first last (MovesNode sides src dst (taken_in first) s u)
+    moved (s_plain a) (s_plain b) hs hu (inl can) =
         subst (λ b. Emits first last (MovesNode sides src dst (taken_in first) (s_plain a) (s_plain b))) can.0
         (subst (λ a. Emits first last (MovesNode sides src dst (taken_in first) (s_plain a) (s_plain a))) hs.0 (scalar.emits (ap is_scalar hs.0 ∙ can.1)))
-    moved (s_node k ms) (s_plain b) hs can = absurd can
-    moved (s_node k_record ms) (s_node k_record ns) hs can = let (i, is) = record_type t from ms hs in absurd (no_record i is)
-    moved (s_node k_tuple ms) (s_node k_tuple ns) hs can = let (i, is) = tuple_type t from ms hs in absurd (no_tuple i is)
-    moved (s_node k_flags ms) (s_node k_flags ns) hs can = let (i, is) = flags_type t from ms hs in absurd (no_flags i is)
-    moved (s_node k_enum ms) (s_node k_enum ns) hs can = let (i, is) = enum_type t from ms hs in absurd (no_enum i is)
-    moved (s_node k_variant ms) (s_node k_variant ns) hs can = let (i, is) = variant_type t from ms hs in absurd (no_variant i is)
-    moved (s_node k_option ms) (s_node k_option ns) hs can = let (i, is) = option_type t from ms hs in absurd (no_option i is)
-    moved (s_node k_result ms) (s_node k_result ns) hs can = let (i, is) = result_type t from ms hs in absurd (no_result i is)
-    moved (s_node k_list ms) (s_node k_list ns) hs can = let (i, is) = list_type t from ms hs in absurd (no_list i is)
-    moved (s_node k_map ms) (s_node k_map ns) hs can = let (i, is) = map_type t from ms hs in absurd (no_map i is)
-    moved (s_node (k_fixed m) ms) (s_node (k_fixed n) ns) hs can = let (i, is) = fixed_type t from m ms hs in absurd (no_fixed i is)
-    moved _ _ hs can = absurd can
+    moved (s_plain a) (s_plain b) hs hu (inr can) = absurd (no_transfer a b (ap (λ a. handle_transfer a b) (sym hs.0) ∙ ap (handle_transfer from) (sym hu.0) ∙ no_handle) can)
+    moved (s_node k ms) (s_plain b) hs hu can = absurd can
+    moved (s_node (k_future i m) ms) (s_node (k_future j n) ns) hs hu can = absurd (no_future t from to ms ns no_handle hs hu)
+    moved (s_node (k_stream i m) ms) (s_node (k_stream j n) ns) hs hu can = absurd (no_stream t from to ms ns no_handle hs hu)
+    moved (s_node k_record ms) (s_node k_record ns) hs hu can = let (i, is) = record_type t from ms hs in absurd (no_record i is)
+    moved (s_node k_tuple ms) (s_node k_tuple ns) hs hu can = let (i, is) = tuple_type t from ms hs in absurd (no_tuple i is)
+    moved (s_node k_flags ms) (s_node k_flags ns) hs hu can = let (i, is) = flags_type t from ms hs in absurd (no_flags i is)
+    moved (s_node k_enum ms) (s_node k_enum ns) hs hu can = let (i, is) = enum_type t from ms hs in absurd (no_enum i is)
+    moved (s_node k_variant ms) (s_node k_variant ns) hs hu can = let (i, is) = variant_type t from ms hs in absurd (no_variant i is)
+    moved (s_node k_option ms) (s_node k_option ns) hs hu can = let (i, is) = option_type t from ms hs in absurd (no_option i is)
+    moved (s_node k_result ms) (s_node k_result ns) hs hu can = let (i, is) = result_type t from ms hs in absurd (no_result i is)
+    moved (s_node k_list ms) (s_node k_list ns) hs hu can = let (i, is) = list_type t from ms hs in absurd (no_list i is)
+    moved (s_node k_map ms) (s_node k_map ns) hs hu can = let (i, is) = map_type t from ms hs in absurd (no_map i is)
+    moved (s_node (k_fixed m) ms) (s_node (k_fixed n) ns) hs hu can = let (i, is) = fixed_type t from m ms hs in absurd (no_fixed i is)
+    moved _ _ hs hu can = absurd can
 
 -- ---- members
 

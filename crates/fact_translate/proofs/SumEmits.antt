@@ -27,7 +27,6 @@ use Rattle.fact_moves.specs.Moves.{padded, write_case, move}
 use Rattle.fact_moves.specs.Running.{ImportPlaces}
 use Rattle.fact_moves.specs.Sides.{write_number}
 use Rattle.fact_pieces.specs.Cases.{tag_code, zero_code}
-use Rattle.fact_pieces.specs.Code.{sum_code}
 use Rattle.fact_pieces.specs.Places.{From, To, Setting, Number, to_past, read_code}
 use Rattle.fact_emit.specs.declared.places.Sides.{Sides}
 use Rattle.fact_emit.specs.declared.writer.Writer.{Writer}
@@ -253,8 +252,8 @@ sum_by_emits {t} {from} {to} {sum} {sides} {src} {dst} {size} {bodies} {a} {b} {
       let same : taken_in c ≡ taken_in a = same_locals_taken b c sets.locals ∙ (λ j. λ x. (reads.grew.still x) j) in
       emits_then {P = ReadsThen sides.debug size src (I.LocalSet local ∷ [])} {Q = λ M p locals k. AreCaseBodies sides src dst (taken_in a) ms ns bodies M p locals × ChoosesCase local bodies M p locals k}
       (λ M p locals x y r q.
-      let code_is : x ++ y ≡ read_code (checks_at sides.debug p) size src ++ (I.LocalSet local ∷ sum_code (I.LocalGet local ∷ []) q.1.place bodies) =
-      ap (λ x. x ++ y) r.1 ∙ append_assoc (read_code (checks_at sides.debug p) size src) (I.LocalSet local ∷ []) y ∙ ap (λ y. read_code (checks_at sides.debug p) size src ++ (I.LocalSet local ∷ y)) q.1.is in
+      let code_is : x ++ y ≡ read_code (checks_at sides.debug p) size src ++ (I.LocalSet local ∷ y) =
+      ap (λ x. x ++ y) r.1 ∙ append_assoc (read_code (checks_at sides.debug p) size src) (I.LocalSet local ∷ []) y in
       subst (λ code. MovesValue sides src dst (except local (taken_in a)) 516 (λ S. FitsShapes sides S (s_node k_variant ms) (s_node k_variant ns) src dst × HasLocal local val.I32 S) (node_moves (s_node k_variant ms) (s_node k_variant ns)) M p locals code) (sym code_is)
       (sum_join size local bodies size_at all M p locals y r.0 q.0 q.1))
       (reads_then (set_ranged local) reads sets)

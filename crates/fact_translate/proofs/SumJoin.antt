@@ -70,9 +70,9 @@ module _ (sides : Sides) (src : From) (dst : To) (taken : ℕ → Bool) (ms ns :
   bytes_of_size : size_of size ≡ case_bytes ns
   bytes_of_size = ap size_of size_is ∙ case_size (discriminant_size (count_of_members ns))
 
-  module _ (a b : LiftLowerOptions) (concurrency : Bool) (rooms : Rooms) (used : ℕ → Bool) (using : Using taken used src dst) (fit : FitsShapes sides (setting_of sides a b concurrency rooms M q locals) (s_node k_variant ms) (s_node k_variant ns) src dst) where
+  module _ (a b : LiftLowerOptions) (rooms : Rooms) (used : ℕ → Bool) (using : Using taken used src dst) (fit : FitsShapes sides (setting_of sides a b rooms M q locals) (s_node k_variant ms) (s_node k_variant ns) src dst) where
     abbrev S : Setting
-    S = setting_of sides a b concurrency rooms M q locals
+    S = setting_of sides a b rooms M q locals
 
     tag_is : IsTag S used dst size number
     tag_is = let w = tag_writable M q locals b S.to64 ns size short dst fit.writes in record { narrow = narrow_of size short; number = below; writable = w.0; typed = w.1 }
@@ -125,11 +125,11 @@ module _ (sides : Sides) (src : From) (dst : To) (taken : ℕ → Bool) (ms ns :
           ∙ sym (is s d))
           (moves_some_case S used src dst size number tag_is using.to (apart_dst 1 dst using.distinct) (flat_length a p) from_place (flat_length b u) to_place using.from apart_rest
           (zeros_fit M q locals b S.to64 ns (flat_length b u) dst fit.writes using.distinct)
-          (m.moves a b concurrency rooms (with_to used (to_spot 1 0 dst)) (using_spot (using_past using 1 0) (flat_length a p) 1 from_place (flat_length b u) to_place) fits_payload))
+          (m.moves a b rooms (with_to used (to_spot 1 0 dst)) (using_spot (using_past using 1 0) (flat_length a p) 1 from_place (flat_length b u) to_place) fits_payload))
 
   -- a case that carries nothing
   pub bare_case : ((tr : Transfer) (ms : Members) (s : Source) (d : Target) → move_case tr ms ns c ns 0 s d ≡ write_number tr.to (case_bytes ns) d number >>= (λ tag. Give (padded d tag))) → MovesCaseOf sides src dst taken ms ns c M q locals (tag_code size number dst ++ zero_code (to_past 1 dst))
-  bare_case is = record { moves = λ a b concurrency rooms used using fit. bare_moves a b concurrency rooms used using fit (λ s d. is (transfer (setting_of sides a b concurrency rooms M q locals)) ms s d) }
+  bare_case is = record { moves = λ a b rooms used using fit. bare_moves a b rooms used using fit (λ s d. is (transfer (setting_of sides a b rooms M q locals)) ms s d) }
 
   -- a case with a payload
   pub some_case : {p u : Shape} {source_info destination_info : VariantInfo} {code : List Instr} (from_count to_count : ℕ) → IsPayload ms p → IsPayload ns u
@@ -139,7 +139,7 @@ module _ (sides : Sides) (src : From) (dst : To) (taken : ℕ → Bool) (ms ns :
       → MovesPayload sides p u from_count (bytes_by (width sides.from.memory64) source_info.payload_offset32 source_info.payload_offset64) to_count (bytes_by (width sides.to.memory64) destination_info.payload_offset32 destination_info.payload_offset64) src dst taken M q locals code
       → MovesCaseOf sides src dst taken ms ns c M q locals (tag_code size number dst ++ code)
   some_case {p} {u} {source_info} {destination_info} {code} from_count to_count source destination source_is destination_is from_is to_is is m = record {
-    moves = λ a b concurrency rooms used using fit.
+    moves = λ a b rooms used using fit.
         let from_bytes = bytes_by (width sides.from.memory64) source_info.payload_offset32 source_info.payload_offset64 in
         let to_bytes = bytes_by (width sides.to.memory64) destination_info.payload_offset32 destination_info.payload_offset64 in
         let from_at : from_bytes ≡ payload_place (side_abi a) ms = info_place (width sides.from.memory64) ms source_info source_is ∙ ap (λ x. place_by (width x) ms) (sym fit.from_wide) in
@@ -149,9 +149,9 @@ module _ (sides : Sides) (src : From) (dst : To) (taken : ℕ → Bool) (ms ns :
         let rest_at = past_is M q locals b sides.to.memory64 ns u destination to_count to_bytes (to_is (width_of_side b)) to_at dst fit.writes in
         let moved = subst (λ s. MovesShape sides s (to_spot (flat_length b u) (payload_place (side_abi b) ns) (to_past 1 dst)) taken p u M q locals m.payload) part_at (subst (λ d. MovesShape sides (from_behind 1 from_count from_bytes src) d taken p u M q locals m.payload) spot_at m.moves) in
         let code_is : m.payload ++ zero_code (to_past (flat_length b u) (to_past 1 dst)) ≡ code = ap (λ r. m.payload ++ zero_code r) (sym rest_at) ∙ sym m.is in
-        let S = setting_of sides a b concurrency rooms M q locals in
+        let S = setting_of sides a b rooms M q locals in
         subst (λ k. Moves S used 300 0 src dst (λ s d. move_case (transfer S) ms ns c ns 0 s d) (tag_code size number dst ++ k)) code_is
-        (some_moves a b concurrency rooms used using fit p u source destination moved (λ s d. is (transfer S) ms s d));
+        (some_moves a b rooms used using fit p u source destination moved (λ s d. is (transfer S) ms s d));
   }
 
 -- ---- all cases
@@ -183,14 +183,14 @@ case_below (typed x s ms) (suc n) c h = let lt = case_below ms n c h in omega ar
 pub sum_join : {sides : Sides} {src : From} {dst : To} {taken : ℕ → Bool} {ms ns : Members} (size : Number) (local : ℕ) (bodies : List (List Instr)) → size ≡ discriminant_number_of (discriminant_size (count_of_members ms)) → length bodies ≡ count_of_members ms
     → (M : WasmModule) (q : ImportPlaces) (locals : List ValType) (code : List Instr) → HasUpperAt M q (checks_at sides.debug q) size src → AreCaseBodies sides src dst taken ms ns bodies M q locals
     → (chosen : ChoosesCase local bodies M q locals code)
-    → MovesValue sides src dst (except local taken) 516 (λ S. FitsShapes sides S (s_node k_variant ms) (s_node k_variant ns) src dst × HasLocal local val.I32 S) (node_moves (s_node k_variant ms) (s_node k_variant ns)) M q locals (tagged_code (checks_at sides.debug q) size local chosen.place src bodies)
+    → MovesValue sides src dst (except local taken) 516 (λ S. FitsShapes sides S (s_node k_variant ms) (s_node k_variant ns) src dst × HasLocal local val.I32 S) (node_moves (s_node k_variant ms) (s_node k_variant ns)) M q locals (tagged_code (checks_at sides.debug q) size local src code)
 sum_join {sides} {src} {dst} {taken} {ms} {ns} size local bodies size_is all M q locals code upper are chosen = record {
-  moves = λ a b concurrency rooms used using fit.
-      let S = setting_of sides a b concurrency rooms M q locals in
+  moves = λ a b rooms used using fit.
+      let S = setting_of sides a b rooms M q locals in
       let short : size ≢ N64 = λ e. discriminant_short (discriminant_size (count_of_members ms)) (sym size_is ∙ e) in
       let reads = tag_readable M q locals a S.from64 ms size short src fit.0.reads in
       let using' : Using taken used src dst = using_more (within local taken) using in
-      moves_sum S used src dst ms (λ c s d. move_case (transfer S) ms ns c ns 0 s d) bodies local chosen.place size (record {
+      moves_sum S used src dst ms (λ c s d. move_case (transfer S) ms ns c ns 0 s d) bodies code local chosen.place size (record {
         narrow = narrow_of size short;
         size = sym (case_size (discriminant_size (count_of_members ms))) ∙ ap size_of (sym size_is);
         all = all;
@@ -199,12 +199,13 @@ sum_join {sides} {src} {dst} {taken} {ms} {ns} size local bodies size_is all M q
         from_used = using.from;
         to_used = using.to;
         temporary = record { local = fit.1; free = free_except taken using };
+        chooses = chosen.chooses;
         traps = chosen.has;
-        cases = λ n c h. let lt : n < length bodies = omega (arith, all, case_below ms n c h) in let b' = get_there bodies n lt in record { code = b'.0; there = b'.1; moves = (are.each n b'.0 b'.1 c h).moves a b concurrency rooms used using' fit.0 };
+        cases = λ n c h. let lt : n < length bodies = omega (arith, all, case_below ms n c h) in let b' = get_there bodies n lt in record { code = b'.0; there = b'.1; moves = (are.each n b'.0 b'.1 c h).moves a b rooms used using' fit.0 };
         typed = each_of (IsClosedCode M locals) bodies (λ n body there.
             let lt : n < count_of_members ms = omega (arith, all, slice_get_within bodies n body there) in
             let x = case_there ms n lt in
-            record { ends = OnStack []; closed = tt; typed = ((are.each n body there x.0 x.1).moves a b concurrency rooms used using' fit.0).typed });
+            record { ends = OnStack []; closed = tt; typed = ((are.each n body there x.0 x.1).moves a b rooms used using' fit.0).typed });
       });
 }
   where

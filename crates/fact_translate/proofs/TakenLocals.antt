@@ -19,36 +19,8 @@ use Rattle.fact_emit.specs.Writers.{taken_in, IsNoneOf, Took, TookAll, Freed, Fr
 use Rattle.fact_emit.proofs.BroughtLaws.{brought_between}
 use Rattle.fact_emit.proofs.Emitting.{sooner, still_numbers}
 use Rattle.fact_emit.proofs.ImportLaws.{extended_none, extended_on, grown_get, grows_none, grows_on}
+use Rattle.fact_emit.proofs.TakenLocals.{not_free}
 use Rattle.fact_translate.specs.Lists.{AreDistinctNumbers}
-
--- ---- locals that are taken
-
-pub took_none : {a : Writer} → TookAll a a []
-took_none = record { code = refl; imports = refl; were_free = tt; taken = tt; others = λ i h. refl; grows = grows_none refl; typed = tt; numbers = λ n. n; distinct = tt }
-
--- a local that is in use is none of those that are free
-pub not_free : (b : Writer) (i : ℕ) → taken_in b i ≡ true → (ss : List Slot) → AllByRecursion (λ s. taken_in b s.0 ≡ false) ss → IsNone i ss
-not_free b i taken [] h = tt
-not_free b i taken (s ∷ ss) h = (ne_eqb i s.0 (λ e. absurd (let no : true ≡ false = sym taken ∙ ap (taken_in b) e ∙ h.0 in cc)), not_free b i taken ss h.1)
-
-free_before : (a b : Writer) (i : ℕ) → ((j : ℕ) → j ≢ i → taken_in b j ≡ taken_in a j) → (ss : List Slot) → IsNone i ss → AllByRecursion (λ s. taken_in b s.0 ≡ false) ss → AllByRecursion (λ s. taken_in a s.0 ≡ false) ss
-free_before a b i others [] n h = tt
-free_before a b i others (s ∷ ss) n h = (sym (others s.0 (λ e. eqb-false i s.0 n.0 (sym e))) ∙ h.0, free_before a b i others ss n.1 h.1)
-
-pub took_more : {a b c : Writer} {t : ValType} {i : ℕ} {ss : List Slot} → Took a b t i → TookAll b c ss → TookAll a c ((i, t) ∷ ss)
-took_more {a} {b} {c} {t} {i} {ss} x xs =
-    let none : IsNone i ss = not_free b i x.taken ss xs.were_free in
-    record {
-      code = xs.code ∙ x.code;
-      imports = xs.imports ∙ x.imports;
-      were_free = (x.was_free, free_before a b i x.others ss none xs.were_free);
-      taken = (xs.others i none ∙ x.taken, xs.taken);
-      others = λ j h. xs.others j h.1 ∙ x.others j (eqb-false j i h.0);
-      grows = grows_on x.grows xs.grows;
-      typed = (grown_get xs.grows i t x.typed, xs.typed);
-      numbers = λ n. xs.numbers (x.numbers n);
-      distinct = (none, xs.distinct);
-    }
 
 -- ---- locals that are freed
 
@@ -162,9 +134,6 @@ emits_around_all {a = a} {b} {c} {d} {ss} f took x freed = record {
       let before : Later c M p locals = sooner (extended_none freed.imports) (grows_none freed.types) l in
       f M p locals x.grew.added (locals_later ss (grows_on x.grew.locals (grows_on (grows_none freed.types) l.begin)) took.typed) (x.does M p locals before);
 }
-
-pub took_typed : {a b : Writer} {t t' : ValType} {i : ℕ} → t ≡ t' → Took a b t i → Took a b t' i
-took_typed {a} {b} {i = i} e x = subst (λ t. Took a b t i) e x
 
 -- locals in use before are in use behind code that was written with these taken
 pub inside_taken : {a b c : Writer} {ss : List Slot} (d : Writer) → TookAll a b ss → Grew b c → ((i : ℕ) → taken_in d i ≡ taken_in c i) → (i : ℕ) → taken_in a i ≡ true → taken_in d i ≡ true

@@ -12,6 +12,8 @@ use Rattle.fact_entity.specs.declared.table.TypeEnums.{TypeEnums}
 use Rattle.fact_entity.specs.declared.table.TypeOptions.{TypeOptions}
 use Rattle.fact_entity.specs.declared.table.TypeResults.{TypeResults}
 use Rattle.fact_entity.specs.declared.table.TypeVariants.{TypeVariants}
+use Rattle.fact_entity.specs.declared.table.TypeFutureTables.{TypeFutureTables}
+use Rattle.fact_entity.specs.declared.table.TypeStreamTables.{TypeStreamTables}
 use Rattle.fact_types.specs.declared.interface.InterfaceType.{InterfaceType}
 use Rattle.fact_types.specs.declared.interface.InterfaceType.TheVariants as ty
 use Rattle.fact_types.specs.declared.kinds.TypeFixedLengthList.{TypeFixedLengthList}
@@ -118,6 +120,26 @@ module _ (t : Tables) where
       let (k, ms, is) = plain_kind t (ty.Result i) refl s h in
       (ms, is ∙ ap (λ k. s_node k ms) (kind_is t (ty.Result i) k ms (subst (HasShape t (ty.Result i)) is h)))
 
+  -- futures and streams, by the numbers of their tables
+  pub future_kind : (i : Id TypeFutureTables) (s : Shape) → HasShape t (ty.Future i) s → (n : ℕ) × (ms : Members) × (s ≡ s_node (k_future i.number n) ms)
+  future_kind i s h =
+      let (k, ms, is) = plain_kind t (ty.Future i) refl s h in
+      let shaped = subst (HasShape t (ty.Future i)) is h in
+      let r = entry_kind (slice_get t.future_tables i.number) (future_node t.futures i.number) shaped.0 shaped.1 in
+      (r.0.instance.number, ms, is ∙ ap (λ k. s_node k ms) (sym shaped.2 ∙ r.1))
+
+  pub stream_kind : (i : Id TypeStreamTables) (s : Shape) → HasShape t (ty.Stream i) s → (n : ℕ) × (ms : Members) × (s ≡ s_node (k_stream i.number n) ms)
+  stream_kind i s h =
+      let (k, ms, is) = plain_kind t (ty.Stream i) refl s h in
+      let shaped = subst (HasShape t (ty.Stream i)) is h in
+      let r = entry_kind (slice_get t.stream_tables i.number) (stream_node t.streams i.number) shaped.0 shaped.1 in
+      (r.0.instance.number, ms, is ∙ ap (λ k. s_node k ms) (sym shaped.2 ∙ r.1))
+
+  -- a type without members
+  pub plain_only : (a : InterfaceType) → node_of t a ≡ None → (s : Shape) → HasShape t a s → s ≡ s_plain a
+  plain_only a none (s_plain p) h = ap s_plain (sym h.0)
+  plain_only a none (s_node k ms) h = absurd (none_some (node_of t a) h.0 none h.1)
+
   -- only records have shapes of records, and so on
   pub record_type : (a : InterfaceType) (ms : Members) → HasShape t a (s_node k_record ms) → (i : Id TypeRecords) × (a ≡ ty.Record i)
   record_type a ms h = go a (kind_is t a k_record ms h)
@@ -216,6 +238,24 @@ module _ (t : Tables) where
       go (ty.Future i) e = absurd (let no : k_result ≡ k_future e.0 e.1 = e.2 in cc)
       go (ty.Stream i) e = absurd (let no : k_result ≡ k_stream e.0 e.1 = e.2 in cc)
       go (ty.FixedLengthList i) e = absurd (let no : k_result ≡ k_fixed e.0 = e.1 in cc)
+      go _ e = absurd cc
+
+  pub future_type : (a : InterfaceType) (ms : Members) {m n : ℕ} → HasShape t a (s_node (k_future m n) ms) → (i : Id TypeFutureTables) × (a ≡ ty.Future i)
+  future_type a ms {m} {n} h = go a (kind_is t a (k_future m n) ms h)
+    where
+      go : (a : InterfaceType) → KindIs a (k_future m n) → (i : Id TypeFutureTables) × (a ≡ ty.Future i)
+      go (ty.Future i) e = (i, refl)
+      go (ty.Stream i) e = absurd (let no : k_future m n ≡ k_stream e.0 e.1 = e.2 in cc)
+      go (ty.FixedLengthList i) e = absurd (let no : k_future m n ≡ k_fixed e.0 = e.1 in cc)
+      go _ e = absurd cc
+
+  pub stream_type : (a : InterfaceType) (ms : Members) {m n : ℕ} → HasShape t a (s_node (k_stream m n) ms) → (i : Id TypeStreamTables) × (a ≡ ty.Stream i)
+  stream_type a ms {m} {n} h = go a (kind_is t a (k_stream m n) ms h)
+    where
+      go : (a : InterfaceType) → KindIs a (k_stream m n) → (i : Id TypeStreamTables) × (a ≡ ty.Stream i)
+      go (ty.Stream i) e = (i, refl)
+      go (ty.Future i) e = absurd (let no : k_stream m n ≡ k_future e.0 e.1 = e.2 in cc)
+      go (ty.FixedLengthList i) e = absurd (let no : k_stream m n ≡ k_fixed e.0 = e.1 in cc)
       go _ e = absurd cc
 
   -- ---- their members

@@ -13,10 +13,12 @@ use Rattle.fact_types.specs.Layout.{extent}
 use Rattle.fact_types.specs.Signatures.{width}
 use Rattle.fact_moves.specs.Running.{ImportPlaces}
 use Rattle.fact_pieces.specs.Code.{counted_code}
+use Rattle.fact_pieces.specs.Context.{HasSlotsIf}
 use Rattle.fact_pieces.specs.Knows.{KnowsFunction}
 use Rattle.fact_pieces.specs.Lists.{is_few, few_guard, bytes_code, bump_code, count_code, left_code, address_code, put_code}
 use Rattle.fact_pieces.specs.Places.{Slot, From, To, size_of, widen}
 use Rattle.fact_pieces.specs.Tests.{HasUnaligned, pointer, read_into, region_code}
+use Rattle.fact_emit.specs.declared.context.ContextLocals.{ContextLocals}
 use Rattle.fact_emit.specs.declared.places.LinearMemory.{LinearMemory}
 use Rattle.fact_emit.specs.declared.places.Sides.{Sides}
 use Rattle.fact_emit.specs.declared.writer.Writer.{Writer}
@@ -24,6 +26,7 @@ use Rattle.fact_emit.specs.Numbers.{HasUpperAt}
 use Rattle.fact_emit.specs.Parts.{from_behind, to_behind}
 use Rattle.fact_emit.specs.Places.{checks_at}
 use Rattle.fact_emit.specs.Requests.{request_code}
+use Rattle.fact_emit.specs.RuntimeCalls.{slots_of}
 use Rattle.fact_emit.specs.Writers.{IsNoneOf}
 use Rattle.fact_translate.specs.declared.lists.Elements.{Elements}
 use Rattle.fact_translate.specs.declared.lists.ListLocals.{ListLocals}
@@ -38,6 +41,10 @@ list_slots from64 to64 l =
 
 abbrev pub list_numbers : ListLocals → List ℕ
 list_numbers l = l.pointer ∷ l.number ∷ l.bytes ∷ l.address ∷ l.length ∷ l.left ∷ l.source ∷ l.target ∷ l.saved0 ∷ l.saved1 ∷ []
+
+-- those for the slots of the context
+abbrev pub list_context : ListLocals → ContextLocals
+list_context l = record { first = l.saved0; second = l.saved1 }
 
 -- no number stands there twice
 abbrev pub AreDistinctNumbers : List ℕ → Type 0
@@ -78,14 +85,15 @@ pub record ChecksBytes (m : LinearMemory) (size align : ℕ) (l : ListLocals) (M
   pub is : code ≡ bytes_code l.number size ++ (I.LocalSet l.bytes ∷ region_code m.memory m.memory64 m.page_size_log2 align l.pointer l.bytes l.length (p.function (import.Trap UnalignedPointer)) (p.function (import.Trap ListOutOfBounds)))
 
 -- a new region is asked for and checked
-abbrev pub asks_code : ImportPlaces → LinearMemory → (size align : ℕ) → ListLocals → List Instr
-asks_code p m size align l =
-    bytes_code l.number size ++ (I.LocalSet l.bytes ∷ (request_code m.realloc m.memory64 align l.bytes ++ ((widen (pointer m.memory64) val.I64 ++ I.LocalSet l.address ∷ [])
+abbrev pub asks_code : (concurrency : Bool) → ImportPlaces → LinearMemory → (size align : ℕ) → ListLocals → List Instr
+asks_code concurrency p m size align l =
+    bytes_code l.number size ++ (I.LocalSet l.bytes ∷ (request_code concurrency (slots_of p (list_context l)) m.realloc m.memory64 align l.bytes ++ ((widen (pointer m.memory64) val.I64 ++ I.LocalSet l.address ∷ [])
     ++ region_code m.memory m.memory64 m.page_size_log2 align l.address l.bytes l.length (p.function (import.Trap UnalignedPointer)) (p.function (import.Trap ListOutOfBounds)))))
 
-pub record AsksList (m : LinearMemory) (size align : ℕ) (l : ListLocals) (M : WasmModule) (p : ImportPlaces) (locals : List ValType) (code : List Instr) : Type 0 where
+pub record AsksList (concurrency : Bool) (m : LinearMemory) (size align : ℕ) (l : ListLocals) (M : WasmModule) (p : ImportPlaces) (locals : List ValType) (code : List Instr) : Type 0 where
+  pub slots : HasSlotsIf concurrency M p (slots_of p (list_context l))
   pub unaligned : HasUnaligned (nat_eq align 1) M p (p.function (import.Trap UnalignedPointer))
-  pub is : code ≡ asks_code p m size align l
+  pub is : code ≡ asks_code concurrency p m size align l
 
 -- the first elements, and how many are left
 abbrev pub begin_code : (from64 to64 : Bool) → ListLocals → List Instr
@@ -93,17 +101,18 @@ begin_code from64 to64 l =
     address_code from64 l.pointer ++ (I.LocalSet l.source ∷ (address_code to64 l.address ++ (I.LocalSet l.target ∷ I.LocalGet l.number ∷ I.LocalSet l.left ∷ [])))
 
 -- All that stands in front of the elements: what is read, the tests of the lengths in both layouts, the source's region, and the new
--- one. The traps' functions are there.
+-- one. The functions of the traps and of the slots are there.
 pub record OpensList (sides : Sides) (e : Elements) (l : ListLocals) (src : From) (M : WasmModule) (p : ImportPlaces) (locals : List ValType) (code : List Instr) : Type 0 where
   pub has_pointer : HasUpperAt M p (checks_at sides.debug p) (pointer sides.from.memory64) src
   pub has_number : HasUpperAt M p (checks_at sides.debug p) (pointer sides.from.memory64) (second_from sides.from.memory64 src)
   pub from_unaligned : HasUnaligned (nat_eq e.from_align 1) M p (p.function (import.Trap UnalignedPointer))
   pub to_unaligned : HasUnaligned (nat_eq e.to_align 1) M p (p.function (import.Trap UnalignedPointer))
   pub outside : KnowsFunction M p (import.Trap ListOutOfBounds) (p.function (import.Trap ListOutOfBounds)) [] []
+  pub slots : HasSlotsIf sides.concurrency M p (slots_of p (list_context l))
   pub is : code ≡ read_into (checks_at sides.debug p) sides.from.memory64 src l.pointer ++ (read_into (checks_at sides.debug p) sides.from.memory64 (second_from sides.from.memory64 src) l.number
       ++ (few_guard (is_few sides.from.memory64 e.from_size) l.number e.from_size (p.function (import.Trap ListOutOfBounds)) ++ (few_guard (is_few sides.to.memory64 e.to_size) l.number e.to_size (p.function (import.Trap ListOutOfBounds))
       ++ (bytes_code l.number e.from_size ++ (I.LocalSet l.bytes ∷ (region_code sides.from.memory sides.from.memory64 sides.from.page_size_log2 e.from_align l.pointer l.bytes l.length (p.function (import.Trap UnalignedPointer)) (p.function (import.Trap ListOutOfBounds))
-      ++ (asks_code p sides.to e.to_size e.to_align l ++ begin_code sides.from.memory64 sides.to.memory64 l)))))))
+      ++ (asks_code sides.concurrency p sides.to e.to_size e.to_align l ++ begin_code sides.from.memory64 sides.to.memory64 l)))))))
 
 -- ---- the elements
 

@@ -1,21 +1,29 @@
 -- Shapes between which these functions move values: a scalar and the same one, flags of at most 32 names and enums with as many
 -- names, tuples member by member, records whose members can be moved by name, variants, options and results of which each case can
--- be moved to the case of its name, and lists and maps whose elements can be moved.
-use Rattle.std.specs.Prelude.{◌≡◌, ◌<◌, ◌≤◌, ℕ, true, Some, None}
+-- be moved to the case of its name, lists and maps whose elements can be moved, and handles of one kind.
+use Rattle.std.specs.Prelude.{◌≡◌, ◌<◌, ◌≤◌, ◌⊎◌, ℕ, true, Some, None}
 use Rattle.std.specs.Str.{bytes_eq}
 use Rattle.fact_types.specs.declared.interface.InterfaceType.{InterfaceType}
+use Rattle.fact_types.specs.declared.interface.InterfaceType.TheVariants as ty
 use Rattle.fact_types.specs.Agrees.{chosen}
 use Rattle.fact_types.specs.Fields.{field_of}
 use Rattle.fact_types.specs.Layout.{payloads, record_layout}
-use Rattle.fact_types.specs.Shapes.{Kind, k_record, k_variant, k_list, k_tuple, k_map, k_flags, k_enum, k_fixed, k_option, k_result, Shape, s_plain, s_node, Members, no_members, bare, typed, layouts_of}
+use Rattle.fact_types.specs.Shapes.{Kind, k_record, k_variant, k_list, k_tuple, k_map, k_flags, k_enum, k_fixed, k_option, k_result, k_future, k_stream, Shape, s_plain, s_node, Members, no_members, bare, typed, layouts_of}
 use Rattle.fact_types.specs.Sound.{TakesBytes}
 use Rattle.fact_abi.specs.Canonical.{ThereIs}
 use Rattle.fact_abi.specs.Limits.{CaseType, case_type}
 use Rattle.fact_abi.specs.Places.{count_of_members}
 use Rattle.fact_emit.specs.Scalars.{is_scalar}
 
+-- handles of one kind that are plain
+abbrev pub CanTransfer : InterfaceType → InterfaceType → Type 0
+CanTransfer (ty.Own i) (ty.Own j) = Unit {0}
+CanTransfer (ty.Borrow i) (ty.Borrow j) = Unit {0}
+CanTransfer (ty.ErrorContext i) (ty.ErrorContext j) = Unit {0}
+CanTransfer _ _ = ⊥
+
 abbrev pub CanMovePlain : Shape → InterfaceType → Type 0
-CanMovePlain (s_plain a) b = (a ≡ b) × (is_scalar a ≡ true)
+CanMovePlain (s_plain a) b = ((a ≡ b) × (is_scalar a ≡ true)) ⊎ CanTransfer a b
 CanMovePlain (s_node k ms) b = ⊥
 
 -- flags of as many names, at least one and at most 32
@@ -45,6 +53,8 @@ CanMoveNode (s_node k_enum ms) k_enum ns Fields Case = count_of_members ns ≡ c
 CanMoveNode (s_node k_variant ms) k_variant ns Fields Case = EachCaseOf ms Case
 CanMoveNode (s_node k_option ms) k_option ns Fields Case = EachCaseOf ms Case
 CanMoveNode (s_node k_result ms) k_result ns Fields Case = EachCaseOf ms Case
+CanMoveNode (s_node (k_future t i) ms) (k_future u j) ns Fields Case = Unit {0}
+CanMoveNode (s_node (k_stream t i) ms) (k_stream u j) ns Fields Case = Unit {0}
 CanMoveNode _ _ ns Fields Case = ⊥
 
 abbrev mutual

@@ -75,8 +75,8 @@ pub record MovedPayload (t : Tables) (source destination : VariantInfo) (from to
 
 -- code that moves a case of a source to the case of its name at a destination
 pub record MovesCaseOf (sides : Sides) (src : From) (dst : To) (taken : ℕ → Bool) (ms ns : Members) (c : CaseType) (M : WasmModule) (p : ImportPlaces) (locals : List ValType) (code : List Instr) : Type 0 where
-  pub moves : (a b : LiftLowerOptions) (concurrency : Bool) (rooms : Rooms) (used : ℕ → Bool) → Using taken used src dst → FitsShapes sides (setting_of sides a b concurrency rooms M p locals) (s_node k_variant ms) (s_node k_variant ns) src dst
-      → Moves (setting_of sides a b concurrency rooms M p locals) used 300 0 src dst (λ s d. move_case (transfer (setting_of sides a b concurrency rooms M p locals)) ms ns c ns 0 s d) code
+  pub moves : (a b : LiftLowerOptions) (rooms : Rooms) (used : ℕ → Bool) → Using taken used src dst → FitsShapes sides (setting_of sides a b rooms M p locals) (s_node k_variant ms) (s_node k_variant ns) src dst
+      → Moves (setting_of sides a b rooms M p locals) used 300 0 src dst (λ s d. move_case (transfer (setting_of sides a b rooms M p locals)) ms ns c ns 0 s d) code
 
 -- a case of these members of a source, with the case of its name among the members of a destination
 pub record IsCaseOf (t : Tables) (ms ns : Members) (paired : PairedCase) (c : CaseType) : Type 0 where

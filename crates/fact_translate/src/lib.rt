@@ -3,6 +3,8 @@
 #![tactic(auto)]
 
 pub mod fixed;
+pub mod flags;
+pub mod layouts;
 pub mod lists;
 pub mod maps;
 pub mod members;

@@ -14,6 +14,7 @@ ghost use Rattle.fact_emit.specs.Writers.{Wrote, TookAll, FreedAll, taken_in};
 ghost use Rattle.fact_translate.specs.Lists.{AreDistinctNumbers, ChecksFew, ChecksBytes, ReadsList, OpensList, ClosesList, AsksList, begin_code, turn_end_code, list_slots, list_numbers, second_to};
 
 use fact_emit::checks::put_guard;
+use fact_emit::context::ContextLocals;
 use fact_emit::loops::put_counted;
 use fact_emit::numbers::{open, write_number};
 use fact_emit::places::{LinearMemory, Sides, SourcePlace, TargetPlace};
@@ -186,6 +187,7 @@ fn check_bytes(
 /// Asks for the new region of a list, and checks it.
 fn ask_list(
     w: &mut Writer,
+    concurrency: bool,
     linear: LinearMemory,
     size: u32,
     align: u32,
@@ -193,7 +195,7 @@ fn ask_list(
 ) -> Result<(), OutOfMemory>
     requires aligned { 0 < align }
     requires realloc { IsReallocImported linear w.old.imports }
-    ensures { OnOk result (Emits w.old w.new (AsksList linear size align l)) }
+    ensures { OnOk result (Emits w.old w.new (AsksList concurrency linear size align l)) }
 {
     put_bytes(w, l.number, size, l.bytes)?;
     let region = NewRegion {
@@ -201,8 +203,12 @@ fn ask_list(
         bytes: l.bytes,
         address: l.address,
         length: l.length,
+        context: ContextLocals {
+            first: l.saved0,
+            second: l.saved1,
+        },
     };
-    reallocate(w, linear, region, Trap::ListOutOfBounds)?;
+    reallocate(w, concurrency, linear, region, Trap::ListOutOfBounds)?;
     Ok(())
 }
 
@@ -238,7 +244,7 @@ pub fn open_list(
     check_few(w, sides.from.memory64, l.number, e.from_size)?;
     check_few(w, sides.to.memory64, l.number, e.to_size)?;
     check_bytes(w, sides.from, e.from_size, e.from_align, l)?;
-    ask_list(w, sides.to, e.to_size, e.to_align, l)?;
+    ask_list(w, sides.concurrency, sides.to, e.to_size, e.to_align, l)?;
     begin_elements(w, sides, l)?;
     Ok(())
 }

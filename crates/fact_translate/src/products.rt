@@ -1,21 +1,15 @@
 //! Records, tuples, variants, options, results, lists and maps, lists of fixed length, and values of any type that these functions move.
 
-ghost use Rattle.std.specs.Prelude.{IfOk, OnOk, ◌≡◌, ◌<◌, ◌≤◌, ◌+◌, length, unwrap_or};
+ghost use Rattle.std.specs.Prelude.{IfOk, None, OnOk, ◌≡◌, length};
 ghost use Rattle.fact_types.specs.declared.interface.InterfaceType.TheVariants as ty;
-ghost use Rattle.fact_types.specs.Fits.{FieldFits};
-ghost use Rattle.fact_types.specs.Layout.{extent, aligned};
-ghost use Rattle.fact_types.specs.Shapes.{Shape, layout_of};
-ghost use Rattle.fact_types.specs.Signatures.{width};
-ghost use Rattle.fact_types.specs.Tables.{IsLive, IsLiveMember, HasShape};
+ghost use Rattle.fact_types.specs.Tables.{IsLive, IsLiveMember};
 ghost use Rattle.fact_pieces.specs.Places.{InMemory, ToMemory};
-ghost use Rattle.fact_emit.specs.Numbers.{number_sized};
-ghost use Rattle.fact_emit.specs.Parts.{bytes_by};
+ghost use Rattle.fact_emit.specs.Handles.{handle_transfer as transfer_of};
 ghost use Rattle.fact_emit.specs.Places.{from_of, to_of};
 ghost use Rattle.fact_emit.specs.Requests.{IsReallocImported};
-ghost use Rattle.fact_translate.specs.Moved.{MovedFrom, MovedNode, MovedTuple, MovedValue, MovedMember, CheckedPlaces, IsLiveFound};
+ghost use Rattle.fact_translate.specs.Moved.{MovedNode, MovedTuple, MovedValue, MovedMember, CheckedPlaces, IsLiveFound};
 ghost use Rattle.fact_translate.specs.MovedFixed.{MovedElements};
 ghost use Rattle.fact_translate.specs.MovedSums.{IsLiveNumbered, MovedSome, MovedPayload, MovedCase, WroteBodies, MovedSumBy, MovedSum};
-ghost use Rattle.fact_translate.specs.Kinds.{flags_number_of, discriminant_number_of};
 ghost use Rattle.fact_translate.specs.MemberPairs.{ArePairs, MovedPairs};
 ghost use Rattle.fact_translate.specs.Sums.{IsSumOf};
 
@@ -23,6 +17,8 @@ use crate::fixed::{
     FixedElements, close_fixed, free_fixed_locals, nth_source, nth_target, open_fixed,
     take_fixed_locals,
 };
+use crate::flags::{discriminant_number, move_enum, move_flags};
+use crate::layouts::{alignment, byte_count, byte_place, flat_length, next_place};
 use crate::lists::{Elements, close_list, free_list_locals, open_list, take_list_locals};
 use crate::maps::{entries, value_place};
 use crate::members::{MemberPair, pair_fields, pair_members};
@@ -31,138 +27,17 @@ use crate::sums::{
 };
 use fact_emit::bodies::put_cases;
 use fact_emit::checks::{check_source, check_target};
-use fact_emit::numbers::{NumberSize, read_number};
+use fact_emit::handles::{handle_transfer, move_handle};
+use fact_emit::numbers::read_number;
 use fact_emit::places::{Address, Sides, SourcePlace, TargetPlace};
-use fact_emit::scalars::{Canonical, NumberTest, move_number, move_scalar, move_tested};
+use fact_emit::scalars::move_scalar;
 use fact_emit::writer::Writer;
 use fact_entity::{
-    TypeEnumIndex, TypeFixedLengthListIndex, TypeFlagsIndex, TypeListIndex, TypeMapIndex,
-    TypeOptionIndex, TypeRecordIndex, TypeResultIndex, TypeTupleIndex, TypeVariantIndex,
+    TypeFixedLengthListIndex, TypeListIndex, TypeMapIndex, TypeOptionIndex, TypeRecordIndex,
+    TypeResultIndex, TypeTupleIndex, TypeVariantIndex,
 };
-use fact_types::{
-    CanonicalAbiInfo, ComponentTypes, DiscriminantSize, FieldPlace, InterfaceType, VariantInfo,
-};
+use fact_types::{ComponentTypes, FieldPlace, InterfaceType, VariantInfo};
 use fact_wasm::{Instr, OutOfMemory, Seq, ValType};
-use std::alloc::AllocError;
-
-/// The number of flat types of a live type that has at most 16.
-fn flat_length(types: &ComponentTypes, ty: &InterfaceType) -> usize
-    requires { IsLive types.now ty.now }
-    ensures { (s : Shape) → HasShape types.now ty.now s → result ≡ unwrap_or (layout_of s).flat_count 0 }
-{
-    usize::from(types.canonical_abi(ty).flat_count.unwrap_or(0))
-}
-
-/// Takes the place of a field behind others in a width of memory.
-fn next_place(abi: &CanonicalAbiInfo, memory64: bool, end: &mut u32) -> u32
-    requires { FieldFits (extent (width memory64) abi.now) end.old }
-    ensures place { result ≡ aligned end.old (extent (width memory64) abi.now).align }
-    ensures moved { end.new ≡ aligned end.old (extent (width memory64) abi.now).align + (extent (width memory64) abi.now).size }
-{
-    if memory64 {
-        abi.next_field64(end)
-    } else {
-        abi.next_field32(end)
-    }
-}
-
-/// The place of a field in a width of memory.
-fn byte_place(found: FieldPlace, memory64: bool) -> u32
-    ensures { result ≡ bytes_by (width memory64) found.place32 found.place64 }
-{
-    if memory64 {
-        found.place64
-    } else {
-        found.place32
-    }
-}
-
-/// The alignment of a live type in a width of memory.
-fn alignment(types: &ComponentTypes, ty: &InterfaceType, memory64: bool) -> u32
-    requires { IsLive types.now ty.now }
-    ensures some { 0 < result }
-    ensures is { (s : Shape) → HasShape types.now ty.now s → result ≡ (extent (width memory64) (layout_of s)).align }
-{
-    let abi = types.canonical_abi(ty);
-    if memory64 { abi.align64 } else { abi.align32 }
-}
-
-/// The bytes of a live type's values in a width of memory, or 1 where there are none: values of a valid type take as many.
-fn byte_count(types: &ComponentTypes, ty: &InterfaceType, memory64: bool) -> u32
-    requires { IsLive types.now ty.now }
-    ensures some { 0 < result }
-    ensures is { (s : Shape) → HasShape types.now ty.now s → 0 < (extent (width memory64) (layout_of s)).size → result ≡ (extent (width memory64) (layout_of s)).size }
-    ensures small { (s : Shape) → HasShape types.now ty.now s → (extent (width memory64) (layout_of s)).size ≤ 4294967295 }
-{
-    let abi = types.canonical_abi(ty);
-    let size = if memory64 { abi.size64 } else { abi.size32 };
-    size.max(1)
-}
-
-/// The number that holds flags of so many names, at most 32.
-fn flags_number(names: usize) -> NumberSize
-    ensures { number_sized result ≡ flags_number_of names }
-{
-    if names <= 8 {
-        NumberSize::Bits8
-    } else if names <= 16 {
-        NumberSize::Bits16
-    } else {
-        NumberSize::Bits32
-    }
-}
-
-/// The number of a discriminant.
-fn discriminant_number(size: DiscriminantSize) -> NumberSize
-    ensures { number_sized result ≡ discriminant_number_of size }
-{
-    match size {
-        DiscriminantSize::Size1 => NumberSize::Bits8,
-        DiscriminantSize::Size2 => NumberSize::Bits16,
-        DiscriminantSize::Size4 => NumberSize::Bits32,
-    }
-}
-
-/// Moves flags, of which those that have names: at most 32.
-fn move_flags(
-    types: &ComponentTypes,
-    w: &mut Writer,
-    sides: Sides,
-    from: TypeFlagsIndex,
-    source: SourcePlace<'_>,
-    target: TargetPlace<'_>,
-) -> Result<(), OutOfMemory>
-    requires { IsLive types.now (ty.Flags from) }
-    ensures { OnOk result (MovedFrom types.now (ty.Flags from) sides (from_of sides.from source.entry) (to_of sides.to target.entry) w.old w.new) }
-{
-    types.reveal();
-    let names = types[from].names.len();
-    let canonical = Canonical::Low(names.min(32) as u32);
-    move_number(w, sides, flags_number(names), canonical, source, target)?;
-    Ok(())
-}
-
-/// Moves a case without a payload, with a trap past the last one.
-fn move_enum(
-    types: &ComponentTypes,
-    w: &mut Writer,
-    sides: Sides,
-    from: TypeEnumIndex,
-    source: SourcePlace<'_>,
-    target: TargetPlace<'_>,
-) -> Result<(), OutOfMemory>
-    requires { IsLive types.now (ty.Enum from) }
-    ensures { OnOk result (MovedFrom types.now (ty.Enum from) sides (from_of sides.from source.entry) (to_of sides.to target.entry) w.old w.new) }
-{
-    types.reveal();
-    let cases = types[from].names.len();
-    let Some(size) = DiscriminantSize::from_count(cases) else {
-        return Err(AllocError);
-    };
-    let test = NumberTest::CaseBelow(cases as u32);
-    move_tested(w, sides, discriminant_number(size), test, source, target)?;
-    Ok(())
-}
 
 /// With debug checks on, traps where a place in memory is not aligned for its type.
 fn check_places(
@@ -202,11 +77,14 @@ pub fn translate(
     ensures { OnOk result (MovedValue types.now from to sides (from_of sides.from source.entry) (to_of sides.to target.entry) w.old w.new) }
 {
     check_places(types, w, sides, from, to, source, target)?;
-    move_node(types, w, sides, from, to, source, target)?;
+    match handle_transfer(from, to) {
+        Some(transfer) => move_handle(w, sides, transfer, source, target)?,
+        None => move_node(types, w, sides, from, to, source, target)?,
+    }
     Ok(())
 }
 
-/// Moves a value, behind the checks of its places.
+/// Moves a value that is no handle, behind the checks of its places.
 #[cycle(moving)]
 fn move_node(
     types: &ComponentTypes,
@@ -220,6 +98,7 @@ fn move_node(
     requires from_live { IsLive types.now from }
     requires to_live { IsLive types.now to }
     requires realloc { IsReallocImported sides.to w.old.imports }
+    requires no_handle { transfer_of from to ≡ None }
     ensures { OnOk result (MovedNode types.now from to sides (from_of sides.from source.entry) (to_of sides.to target.entry) w.old w.new) }
 {
     match from {

@@ -1,4 +1,4 @@
-use Rattle.fact_translate.proofs.TakenLocals.{took_none, took_more, took_typed}
+use Rattle.fact_emit.proofs.TakenLocals.{took_none, took_more, took_typed}
 use Rattle.fact_translate.proofs.lists.take_list_locals.Goals as goal
 
 pub returns : goal.returns

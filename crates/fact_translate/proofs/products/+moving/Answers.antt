@@ -16,6 +16,8 @@ use Rattle.fact_translate.proofs.ListMembers.{list_moved, list_alone, locals_tak
 use Rattle.fact_translate.proofs.MapMembers.{map_alone, map_laid, map_moved}
 use Rattle.fact_translate.proofs.MemberPairs.{bare_pair, no_pair, pair_at, record_of_pairs, tuple_of_pairs}
 use Rattle.fact_translate.proofs.MemberRuns.{members_begin, member_passed, next_fits, next_member, pairs_moved}
+use Rattle.fact_emit.proofs.HandleMoves.{transfers_handles}
+use Rattle.fact_translate.proofs.HandleMoves.{handle_moved}
 use Rattle.fact_translate.proofs.NodeMoves.{value_moved, record_alone, tuple_alone, tuple_as_node, from_moved, scalar_moved, member_emits}
 use Rattle.fact_translate.proofs.SumCases.{bare_case, pair_fits}
 use Rattle.fact_translate.proofs.SumEmits.{some_emits, payload_some, payload_alone, payload_none, case_moved, case_missing, bodies_begin, bodies_on, bodies_end, sum_by_emits, sum_around, variant_moved, variant_alone, option_moved, option_alone, result_moved, result_alone}
@@ -25,10 +27,16 @@ use Rattle.fact_translate.proofs.products.+moving.Goals as goal
 -- ---- values
 
 pub translate-move_node-requires : goal.translate-move_node-requires
-translate-move_node-requires t c = (omega (arith, c.decreases), (c.requires.from_live, (c.requires.to_live, realloc_on c.requires.realloc c.in_ok-check_places.ensures.grew)))
+translate-move_node-requires t c = (omega (arith, c.decreases), (c.requires.from_live, (c.requires.to_live, (realloc_on c.requires.realloc c.in_ok-check_places.ensures.grew, sym c.handle_transfer.ensures ∙ c.in-None.is))))
 
-pub translate-returns : goal.translate-returns
-translate-returns t c = value_moved c.in_ok-check_places.ensures c.in_ok-move_node.ensures
+pub translate-move_handle-requires : goal.translate-move_handle-requires
+translate-move_handle-requires t c = transfers_handles c.args.from c.args.to c.in-Some.transfer (sym c.handle_transfer.ensures ∙ c.in-Some.is)
+
+pub translate-returns-in_ok-move_handle-in-Some : goal.translate-returns-in_ok-move_handle-in-Some
+translate-returns-in_ok-move_handle-in-Some t c = value_moved c.in_ok-check_places.ensures (handle_moved c.in-Some.transfer c.handle_transfer.ensures c.in-Some.is c.in_ok-move_handle-in-Some.ensures)
+
+pub translate-returns-in_ok-move_node-in-None : goal.translate-returns-in_ok-move_node-in-None
+translate-returns-in_ok-move_node-in-None t c = value_moved c.in_ok-check_places.ensures c.in_ok-move_node-in-None.ensures
 
 pub move_node-returns-in_ok-put-in_default-to : goal.move_node-returns-in_ok-put-in_default-to
 move_node-returns-in_ok-put-in_default-to t c =
@@ -74,7 +82,7 @@ move_node-returns-in_ok-put-in_default-to-8 t c =
 pub move_node-returns-in_ok-move_scalar-in_default : goal.move_node-returns-in_ok-move_scalar-in_default
 move_node-returns-in_ok-move_scalar-in_default t c =
     scalar_moved c.in_default.not-Record c.in_default.not-Tuple c.in_default.not-Flags c.in_default.not-Enum c.in_default.not-Variant c.in_default.not-Option c.in_default.not-Result c.in_default.not-List c.in_default.not-Map c.in_default.not-FixedLengthList
-    c.in_ok-move_scalar-in_default.ensures
+    c.requires.no_handle c.in_ok-move_scalar-in_default.ensures
 
 pub move_member-returns-in_ok-translate-in-Some : goal.move_member-returns-in_ok-translate-in-Some
 move_member-returns-in_ok-translate-in-Some t c =

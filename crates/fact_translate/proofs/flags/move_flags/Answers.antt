@@ -1,6 +1,6 @@
 use Rattle.std.proofs.Common.{◌∙◌, ap, length}
 use Rattle.fact_translate.proofs.FlagMoves.{flags_moved}
-use Rattle.fact_translate.proofs.products.move_flags.Goals as goal
+use Rattle.fact_translate.proofs.flags.move_flags.Goals as goal
 
 pub returns : goal.returns
 returns c =
