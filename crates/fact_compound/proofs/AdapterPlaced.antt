@@ -1,5 +1,8 @@
 -- An adapter's parts have the places that its data say, in every module that knows what was imported for it.
-use Rattle.std.proofs.Common.{◌≡◌, Bool, true, false, List, [], ◌∷◌, Option, Some, None, refl, sym, ap, ◌∙◌, subst}
+use Rattle.std.proofs.Common.{◌≡◌, ℕ, Bool, true, false, List, [], ◌∷◌, Option, Some, None, refl, sym, ap, ◌∙◌, subst}
+use Rattle.std.specs.Prelude.{is_some}
+use Rattle.fact_entity.specs.declared.id.Id.{Id}
+use Rattle.fact_entity.specs.declared.table.Funcs.{Funcs}
 use Rattle.fact_wasm.specs.declared.module.WasmModule.{WasmModule}
 use Rattle.fact_wasm.specs.declared.types.FuncType.{FuncType}
 use Rattle.fact_wasm.specs.declared.types.ValType.{ValType}
@@ -8,6 +11,9 @@ use Rattle.fact_types.specs.Signatures.{address, flat_values}
 use Rattle.fact_machine.specs.Typing.{address_type}
 use Rattle.fact_moves.specs.Sides.{options_of}
 use Rattle.fact_types.specs.declared.import.Import.TheVariants as import
+use Rattle.fact_types.specs.ImportTypes.{post_return_type}
+use Rattle.fact_types.specs.declared.outside.CoreDef.{CoreDef}
+use Rattle.fact_types.proofs.ShapeLaws.{same_some}
 use Rattle.fact_moves.specs.Adapters.{lift_signature_of}
 use Rattle.fact_moves.specs.Running.{ImportPlaces}
 use Rattle.fact_pieces.specs.Knows.{KnowsFlags, KnowsFunction, KnowsMemory}
@@ -15,9 +21,10 @@ use Rattle.fact_emit.specs.Areas.{IsLinearMemoryOf}
 use Rattle.fact_emit.specs.Requests.{IsReallocOf}
 use Rattle.fact_emit.specs.AdapterLinks.{AdapterLinks, SideLinks}
 use Rattle.fact_emit.specs.ImportSection.{custom_page_size}
-use Rattle.fact_emit.specs.KnownAdapters.{KnowsAdapter, KnowsSide}
+use Rattle.fact_emit.specs.KnownAdapters.{KnowsAdapter, KnowsFunctionAt, KnowsSide}
 use Rattle.fact_emit.proofs.LinkLaws.{linear_memory_of}
-use Rattle.fact_compound.specs.Described.{HasNewTupleMemory, HasTupleMemory, KnowsAdapterData, KnowsSideData, linear_of}
+use Rattle.fact_compound.specs.Described.{HasNewTupleMemory, HasTupleMemory, KnowsAdapterData, KnowsPostReturn, KnowsSideData, linear_of}
+use Rattle.fact_compound.specs.Events.{function_place}
 use Rattle.fact_compound.specs.Placed.{AreOptionsOf, HasMemoriesFor, HasMemoryOption, HasReallocOption, IsDataOf}
 use Rattle.fact_compound.specs.declared.adapters.AdapterOptions.{AdapterOptions}
 use Rattle.fact_compound.specs.declared.adapters.AdapterData.{AdapterData}
@@ -25,6 +32,17 @@ use Rattle.fact_compound.specs.declared.adapters.AdapterData.{AdapterData}
 wide_address : (m : Bool) → address m ≡ address_type m
 wide_address true = refl
 wide_address false = refl
+
+-- the post-return takes what the callee gives
+knows_post : (M : WasmModule) (p : ImportPlaces) {given results : List ValType} (n : Option (Id Funcs)) (o : Option CoreDef) (place : Option ℕ) → is_some n ≡ is_some o → function_place n ≡ place → results ≡ given
+    → ((f : CoreDef) → o ≡ Some f → KnowsFunctionAt M p f (post_return_type results) place) → KnowsPostReturn M p given n o
+knows_post M p None None place e at same knows = tt
+knows_post M p {results = results} (Some n) (Some f) place e at same knows =
+    let k = knows f refl in
+    let number : n.number ≡ k.number = same_some (function_place (Some n)) n.number k.number refl (at ∙ k.place_is) in
+    subst (λ ts. KnowsFunction M p (import.CoreDef f) n.number ts []) same (subst (λ i. KnowsFunction M p (import.CoreDef f) i (post_return_type results).params (post_return_type results).results) (sym number) k.knows)
+knows_post M p None (Some f) place e at same knows = absurd (let no : false ≡ true = e in cc)
+knows_post M p (Some n) None place e at same knows = absurd (let no : true ≡ false = e in cc)
 
 module _ (M : WasmModule) (p : ImportPlaces) where
   module _ (s : Side) (at : SideLinks) (o : AdapterOptions) (knows : KnowsSide M p s at) (options : AreOptionsOf s at o) where
@@ -68,9 +86,10 @@ module _ (M : WasmModule) (p : ImportPlaces) where
         lower = links_side a.lower at.lower d.lower knows.lower is.lower needs.lower_results;
         params_memory = tuple_memory a.lower at.lower d.lower knows.lower is.lower (flat_values (is_wide a.lower.memory) 16 a.lower.params) needs.lower_params;
         params_area = new_tuple_memory a.lift at.lift d.lift knows.lift is.lift (flat_values (is_wide a.lift.memory) 16 a.lift.params) needs.lift_params;
-        params_lists = λ some. let n = needs.params_lists some in record { from_memory = lower_memory n.0; to_memory = lift_memory n.1; realloc = side_realloc a.lift at.lift d.lift knows.lift is.lift n.2; alone = refl };
-        results_lists = λ some. let n = needs.results_lists some in record { from_memory = lift_memory n.0; to_memory = lower_memory n.1; realloc = side_realloc a.lower at.lower d.lower knows.lower is.lower n.2; alone = refl };
+        params_lists = λ some. let n = needs.params_lists some in record { from_memory = lower_memory n.0; to_memory = lift_memory n.1; realloc = side_realloc a.lift at.lift d.lift knows.lift is.lift n.2 };
+        results_lists = λ some. let n = needs.results_lists some in record { from_memory = lift_memory n.0; to_memory = lower_memory n.1; realloc = side_realloc a.lower at.lower d.lower knows.lower is.lower n.2 };
         callee =
             let typed = subst (λ (ty : FuncType). KnowsFunction M p (import.CoreDef a.callee) at.callee ty.params ty.results) signature knows.callee in
             subst (λ n. KnowsFunction M p (import.CoreDef a.callee) n (lift_signature_of a).params (lift_signature_of a).results) (sym is.callee) typed;
+        post_return = knows_post M p d.lift.post_return a.lift.post_return at.post_return is.has_post_return is.post_return (ap (λ (ty : FuncType). ty.results) signature) knows.post_return;
       }

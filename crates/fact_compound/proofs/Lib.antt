@@ -1,5 +1,6 @@
 pub mod AdapterPlaced
 pub mod Addresses
+pub mod CallOptions
 pub mod FlagGuards
 pub mod Flats
 pub mod Fronts
@@ -14,11 +15,11 @@ pub mod RangedSteps
 pub mod ReallocsKept
 pub mod ResultMoves
 pub mod Runs
+pub mod SameInstanceFunctions
 pub mod SameNumbers
 pub mod Slots
 pub mod SlotsFrom
 pub mod StepRules
-pub mod SyncActions
 pub mod SyncBodies
 pub mod SyncSteps
 pub mod SyncTyping

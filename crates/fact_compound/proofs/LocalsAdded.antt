@@ -1,5 +1,5 @@
 -- Locals that were put behind the others, one after another.
-use Rattle.std.proofs.Common.{◌≡◌, ℕ, zero, suc, ◌+◌, ◌-◌, ◌<◌, ◌≤◌, Bool, List, [], ◌∷◌, ◌++◌, refl, sym, ap, ◌∙◌, subst, arith, append_assoc, append-nil, length, map, take, get_or}
+use Rattle.std.proofs.Common.{◌≡◌, ℕ, zero, suc, ◌+◌, ◌-◌, ◌<◌, ◌≤◌, Bool, true, false, List, [], ◌∷◌, ◌++◌, refl, sym, ap, ◌∙◌, subst, arith, append_assoc, append-nil, length, map, take, get_or}
 use Rattle.std.proofs.lemmas.List.{take_more, take_all, map-append, length-append, length-map}
 use Rattle.fact_wasm.specs.declared.types.ValType.{ValType}
 use Rattle.fact_wasm.specs.declared.types.ValType.TheVariants as val
@@ -11,11 +11,13 @@ use Rattle.fact_emit.specs.Writers.{used_local_of, AddedLocal}
 use Rattle.fact_emit.specs.declared.places.TypedLocal.{TypedLocal}
 use Rattle.fact_emit.specs.declared.writer.Writer.{Writer}
 use Rattle.fact_compound.specs.Code.{slot_types}
-use Rattle.fact_compound.specs.Functions.{slots_from, AddedLocals, AddedSyncLocals, core_slots, places_with, unless_passed}
+use Rattle.fact_compound.specs.Functions.{slots_from, AddedContext, AddedLocals, AddedSyncLocals, core_slots, places_with, unless_passed}
 use Rattle.fact_compound.specs.Syncs.{EmitsSync}
 use Rattle.fact_compound.specs.Written.{SyncPlaces}
 use Rattle.fact_compound.specs.declared.adapters.AdapterData.{AdapterData}
 use Rattle.fact_compound.specs.declared.functions.AdapterLocals.{AdapterLocals}
+use Rattle.fact_compound.specs.declared.syncs.CallOptions.{CallOptions}
+use Rattle.fact_emit.specs.declared.context.ContextLocals.{ContextLocals}
 
 -- ---- slots one behind the other
 
@@ -81,21 +83,30 @@ adds_all {types} {at} {first} {now} {locals} le h = subst (λ ts. AddedLocals fi
 
 -- ---- those of a sync adapter
 
-pub added_sync : {passed : Bool} {a b c e f g h : Writer} {lower lift : Signature} {l : AdapterLocals} → AddedLocals a b lower.params (slots_of_locals l.args.items) → AddedLocal b c val.I32 l.saved → AddedLocal c e val.I32 l.lift_saved
-    → AddedLocals e f (unless_passed passed lift.params) (slots_of_locals l.core.items) → AddedLocals f g lift.results (slots_of_locals l.given.items) → AddedLocals g h lower.results (slots_of_locals l.results.items) → AddedSyncLocals passed a h lower lift l
-added_sync x1 x2 x3 x4 x5 x6 = record {
-  added = added_then (added_then x1 (added_then (added_one x2) (added_one x3))) (added_then x4 (added_then x5 x6));
+-- locals for the slots of the context, or none
+pub context_added : {a b c : Writer} {first second : ℕ} (context : Bool) (locals : ContextLocals) → context ≡ true → locals ≡ record { first = first; second = second } → AddedLocal a b val.I32 first → AddedLocal b c val.I32 second → AddedContext context a c locals
+context_added {a} {c = c} true locals on is x y = subst (AddedContext true a c) (sym is) (record { added = added_then (added_one x) (added_one y) })
+context_added false locals on is x y = absurd (let no : false ≡ true = on in cc)
+
+pub no_context : (a : Writer) (context : Bool) (locals : ContextLocals) → context ≡ false → AddedContext context a a locals
+no_context a false locals off = record { added = added_none a }
+no_context a true locals off = absurd (let no : true ≡ false = off in cc)
+
+pub added_sync : {passed context : Bool} {a b c e f g h i j : Writer} {lower lift : Signature} {l : AdapterLocals} → AddedLocals a b lower.params (slots_of_locals l.args.items) → AddedLocal b c val.I32 l.saved → AddedLocal c e val.I32 l.lift_saved
+    → AddedLocals e f (unless_passed passed lift.params) (slots_of_locals l.core.items) → AddedLocals f g lift.results (slots_of_locals l.given.items) → AddedContext context g h l.callee_context → AddedLocals h i lower.results (slots_of_locals l.results.items) → AddedContext context i j l.own_context → AddedSyncLocals passed context a j lower lift l
+added_sync x1 x2 x3 x4 x5 x6 x7 x8 = record {
+  added = added_then (added_then x1 (added_then (added_one x2) (added_one x3))) (added_then x4 (added_then x5 (added_then x6.added (added_then x7 x8.added))));
   args = x1.slots_are;
   core_types = added_types x4;
   given_types = added_types x5;
-  results_types = added_types x6;
+  results_types = added_types x7;
 }
 
 -- the locals of a sync adapter as its code uses them
 pub same_places : {passed : Bool} {args given results : List TypedLocal} {core : List Slot} (params : List Slot) (l : AdapterLocals) → args ≡ l.args.items → core ≡ core_slots passed params (slots_of_locals l.core.items) → given ≡ l.given.items → results ≡ l.results.items
-    → ◌≡◌ {A = SyncPlaces} (record { passed = passed; args = slots_of_locals args; params = params; saved = l.saved; lift_saved = l.lift_saved; core = core; given = slots_of_locals given; results = slots_of_locals results }) (places_with passed l params)
+    → ◌≡◌ {A = SyncPlaces} (record { passed = passed; args = slots_of_locals args; params = params; saved = l.saved; lift_saved = l.lift_saved; core = core; given = slots_of_locals given; results = slots_of_locals results; callee_context = l.callee_context; own_context = l.own_context }) (places_with passed l params)
 same_places {passed} params l a c g r = λ i.
-    record { passed = passed; args = slots_of_locals (a i); params = params; saved = l.saved; lift_saved = l.lift_saved; core = c i; given = slots_of_locals (g i); results = slots_of_locals (r i) }
+    record { passed = passed; args = slots_of_locals (a i); params = params; saved = l.saved; lift_saved = l.lift_saved; core = c i; given = slots_of_locals (g i); results = slots_of_locals (r i); callee_context = l.callee_context; own_context = l.own_context }
 
-pub emits_places : {t : Tables} {d : AdapterData} {debug : Bool} {x y : SyncPlaces} {a b : Writer} → x ≡ y → EmitsSync t d debug x a b → EmitsSync t d debug y a b
-emits_places {t} {d} {debug} {a = a} {b} e h = subst (λ places. EmitsSync t d debug places a b) e h
+pub emits_places : {t : Tables} {d : AdapterData} {debug : Bool} {o : CallOptions} {x y : SyncPlaces} {a b : Writer} → x ≡ y → EmitsSync t d debug o x a b → EmitsSync t d debug o y a b
+emits_places {t} {d} {debug} {o} {a = a} {b} e h = subst (λ places. EmitsSync t d debug o places a b) e h

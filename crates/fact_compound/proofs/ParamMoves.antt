@@ -16,6 +16,7 @@ use Rattle.fact_types.specs.declared.outside.Trap.TheVariants.{MemoryOutOfBounds
 use Rattle.fact_types.specs.declared.import.Import.TheVariants as import
 use Rattle.fact_types.proofs.PlaceLaws.{sound_in}
 use Rattle.fact_machine.specs.declared.types.CoreValue.{CoreValue}
+use Rattle.fact_machine.specs.declared.types.CoreValue.TheVariants.{I32}
 use Rattle.fact_machine.specs.Typed.{is_value}
 use Rattle.fact_machine.specs.Typing.{address_bits, address_operand}
 use Rattle.fact_moves.specs.Actions as action
@@ -23,7 +24,7 @@ use Rattle.fact_moves.specs.Actions.{Action, Ask, Give, ◌>>=◌, ◌>>◌}
 use Rattle.fact_moves.specs.Adapters.{AdapterTunables, params_transfer, into_params, check_tuple, move_params}
 use Rattle.fact_moves.specs.Moves.{entry_extent, move_fields}
 use Rattle.fact_moves.specs.Running.{ImportPlaces}
-use Rattle.fact_moves.specs.Sides.{LiftLowerOptions, Source, Target, Values, Slots, AtAddress, Into, options_of, first_bits, address_value, check_region, reallocate, type_of_addresses}
+use Rattle.fact_moves.specs.Sides.{LiftLowerOptions, Source, Target, Values, Slots, AtAddress, Into, options_of, first_bits, address_value, check_region, get_slots, reallocate, set_slots, type_of_addresses}
 use Rattle.fact_pieces.specs.Does.{Locals, Onward, held_types, Does}
 use Rattle.fact_pieces.specs.Typed.{OnStack, IsTyped}
 use Rattle.fact_pieces.specs.Places.{Slot, AreHeld, AreLocals, AreUsed, FromUsed, ToUsed, KeepsLocals, Stood, MayGo, transfer, InRooms, Rooms, Setting}
@@ -36,7 +37,7 @@ use Rattle.fact_emit.specs.Areas.{IsLinearMemoryOf}
 use Rattle.fact_emit.specs.Fitting.{FitsShapes}
 use Rattle.fact_emit.specs.NewAreas.{HoldsArea}
 use Rattle.fact_emit.specs.Places.{AreDistinctSlots, HasDistinctSlots, TargetTaken, setting_of, Using}
-use Rattle.fact_emit.specs.Requests.{IsReallocOf, ServesLists}
+use Rattle.fact_emit.specs.Requests.{IsReallocOf}
 use Rattle.fact_emit.specs.declared.places.LinearMemory.{LinearMemory}
 use Rattle.fact_compound.specs.Described.{DescribesAdapter, HasListsOf, HasNewTupleMemory, HasTupleMemory, linear_of}
 use Rattle.fact_compound.specs.Passed.{MovesParams, params_sides}
@@ -82,18 +83,27 @@ params_are u a args {fs} {gs} sync e f =
 -- ---- the action
 
 -- a new area for values that are not flat
-abbrev asked : {A : Type 0} → Option (List ValType) → LiftLowerOptions → List Shape → (ℕ → Action A) → Action A
-asked (Some flats) o ts k = k 0
-asked None o ts k = reallocate false o MemoryOutOfBounds 0 0 (entry_extent o (tuple_members ts)).align (entry_extent o (tuple_members ts)).size k
+abbrev asked : {A : Type 0} → (concurrency : Bool) → Option (List ValType) → LiftLowerOptions → List Shape → (ℕ → Action A) → Action A
+asked concurrency (Some flats) o ts k = k 0
+asked concurrency None o ts k = reallocate concurrency o MemoryOutOfBounds 0 0 (entry_extent o (tuple_members ts)).align (entry_extent o (tuple_members ts)).size k
 
 -- what the core values are once they are moved: those that were given, or the area's address
 abbrev finished : Option (List ValType) → LiftLowerOptions → ℕ → Action (List CoreValue) → Action (List CoreValue)
 finished (Some flats) o at q = q
 finished None o at q = q >> Give (address_value o at ∷ [])
 
-asked_binds : {A B : Type 0} (flats : Option (List ValType)) (o : LiftLowerOptions) (ts : List Shape) (k : ℕ → Action A) (f : A → Action B) → (asked flats o ts k >>= f) ≡ asked flats o ts (λ at. k at >>= f)
-asked_binds (Some flats) o ts k f = refl
-asked_binds {A} {B} None o ts k f = by_realloc o.realloc
+-- the slots of the context are read and set in front of what follows
+slots_got : {A B : Type 0} (b : Bool) (k : List CoreValue → List CoreValue → Action A) (f : A → Action B) → (get_slots b k >>= f) ≡ get_slots b (λ x y. k x y >>= f)
+slots_got true k f = refl
+slots_got false k f = refl
+
+slots_set : {A B : Type 0} (b : Bool) (x y : List CoreValue) (q : Action A) (f : A → Action B) → (set_slots b x y q >>= f) ≡ set_slots b x y (q >>= f)
+slots_set true x y q f = refl
+slots_set false x y q f = refl
+
+asked_binds : {A B : Type 0} (b : Bool) (flats : Option (List ValType)) (o : LiftLowerOptions) (ts : List Shape) (k : ℕ → Action A) (f : A → Action B) → (asked b flats o ts k >>= f) ≡ asked b flats o ts (λ at. k at >>= f)
+asked_binds b (Some flats) o ts k f = refl
+asked_binds {A} {B} b None o ts k f = by_realloc o.realloc
   where
     align : ℕ
     align = (entry_extent o (tuple_members ts)).align
@@ -101,45 +111,53 @@ asked_binds {A} {B} None o ts k f = by_realloc o.realloc
     size : ℕ
     size = (entry_extent o (tuple_members ts)).size
 
+    answered : {C : Type 0} → CoreDef → (x y : List CoreValue) → (ℕ → Action C) → Action C
+    answered g x y r =
+        Ask (import.CoreDef g) (address_value o 0 ∷ address_value o 0 ∷ address_value o align ∷ address_value o size ∷ []) (type_of_addresses o ∷ []) (λ rs. set_slots b x y (check_region o MemoryOutOfBounds (first_bits rs) size align (r (first_bits rs))))
+
+    answer_binds : (g : CoreDef) (x y : List CoreValue) → (answered g x y k >>= f) ≡ answered g x y (λ at. k at >>= f)
+    answer_binds g x y = λ i.
+        Ask (import.CoreDef g) (address_value o 0 ∷ address_value o 0 ∷ address_value o align ∷ address_value o size ∷ []) (type_of_addresses o ∷ [])
+        (λ rs. (slots_set b x y (check_region o MemoryOutOfBounds (first_bits rs) size align (k (first_bits rs))) f ∙ ap (set_slots b x y) (region_binds o MemoryOutOfBounds (first_bits rs) size align (k (first_bits rs)) f)) i)
+
+    requests : {C : Type 0} → CoreDef → (ℕ → Action C) → Action C
+    requests g r = get_slots b (λ x y. set_slots b (I32 0 ∷ []) (I32 0 ∷ []) (answered g x y r))
+
     by_realloc : (r : Option CoreDef)
-        → (elim r as (λ (r : Option CoreDef). Action A) [
-          | None ↦ action.Unreachable
-          | Some f ↦ Ask (import.CoreDef f) (address_value o 0 ∷ address_value o 0 ∷ address_value o align ∷ address_value o size ∷ []) (type_of_addresses o ∷ []) (λ rs. check_region o MemoryOutOfBounds (first_bits rs) size align (k (first_bits rs)))
-        ] >>= f)
-        ≡ elim r as (λ (r : Option CoreDef). Action B) [
-          | None ↦ action.Unreachable
-          | Some g ↦ Ask (import.CoreDef g) (address_value o 0 ∷ address_value o 0 ∷ address_value o align ∷ address_value o size ∷ []) (type_of_addresses o ∷ []) (λ rs. check_region o MemoryOutOfBounds (first_bits rs) size align (k (first_bits rs) >>= f))
-        ]
+        → (elim r as (λ (r : Option CoreDef). Action A) [ None ↦ action.Unreachable | Some g ↦ requests g k ] >>= f)
+        ≡ elim r as (λ (r : Option CoreDef). Action B) [ None ↦ action.Unreachable | Some g ↦ requests g (λ at. k at >>= f) ]
     by_realloc None = refl
-    by_realloc (Some g) = λ i. Ask (import.CoreDef g) (address_value o 0 ∷ address_value o 0 ∷ address_value o align ∷ address_value o size ∷ []) (type_of_addresses o ∷ []) (λ rs. region_binds o MemoryOutOfBounds (first_bits rs) size align (k (first_bits rs)) f i)
+    by_realloc (Some g) =
+        slots_got b (λ x y. set_slots b (I32 0 ∷ []) (I32 0 ∷ []) (answered g x y k)) f
+        ∙ (λ i. get_slots b (λ x y. (slots_set b (I32 0 ∷ []) (I32 0 ∷ []) (answered g x y k) f ∙ ap (set_slots b (I32 0 ∷ []) (I32 0 ∷ [])) (answer_binds g x y)) i))
 
 module _ (u : AdapterTunables) (a : LinkedAdapter) where
   abbrev fields : Source → Target → Action (List CoreValue)
   fields s d = move_fields (params_transfer u a) (tuple_members a.lower.params) (tuple_members a.lift.params) 0 s d
 
-  into_is : (alone : u.concurrency ≡ false) (k : Target → Action (List CoreValue)) (flats : Option (List ValType)) → flat_values (is_wide a.lift.memory) 16 a.lift.params ≡ flats
-      → into_params (params_transfer u a) a.lift.params k ≡ asked flats (options_of a.lift) a.lift.params (λ at. finished flats (options_of a.lift) at (k (passed_to flats at)))
-  into_is alone k flats e = ap (by_flats u.concurrency) e ∙ ap (λ b. by_flats b flats) alone ∙ go flats
+  into_is : (k : Target → Action (List CoreValue)) (flats : Option (List ValType)) → flat_values (is_wide a.lift.memory) 16 a.lift.params ≡ flats
+      → into_params (params_transfer u a) a.lift.params k ≡ asked u.concurrency flats (options_of a.lift) a.lift.params (λ at. finished flats (options_of a.lift) at (k (passed_to flats at)))
+  into_is k flats e = ap by_flats e ∙ go flats
     where
-      by_flats : Bool → Option (List ValType) → Action (List CoreValue)
-      by_flats b x =
+      by_flats : Option (List ValType) → Action (List CoreValue)
+      by_flats x =
           elim x as (λ (x : Option (List ValType)). Action (List CoreValue)) [
             | Some flats ↦ k (Slots flats)
             | None ↦
                 let e = entry_extent (options_of a.lift) (tuple_members a.lift.params) in
-                reallocate b (options_of a.lift) MemoryOutOfBounds 0 0 e.align e.size (λ q. k (Into q) >> Give (address_value (options_of a.lift) q ∷ []))
+                reallocate u.concurrency (options_of a.lift) MemoryOutOfBounds 0 0 e.align e.size (λ q. k (Into q) >> Give (address_value (options_of a.lift) q ∷ []))
           ]
 
-      go : (x : Option (List ValType)) → by_flats false x ≡ asked x (options_of a.lift) a.lift.params (λ at. finished x (options_of a.lift) at (k (passed_to x at)))
+      go : (x : Option (List ValType)) → by_flats x ≡ asked u.concurrency x (options_of a.lift) a.lift.params (λ at. finished x (options_of a.lift) at (k (passed_to x at)))
       go (Some fs) = refl
       go None = refl
 
   -- the move, whether or not parameters are flat on either side
-  params_by : (args : List CoreValue) (fs gs : Option (List ValType)) → u.concurrency ≡ false → a.lower.async_side ≡ false → flat_values (is_wide a.lower.memory) 16 a.lower.params ≡ fs → flat_values (is_wide a.lift.memory) 16 a.lift.params ≡ gs
-      → move_params u a args ≡ passed fs (options_of a.lower) a.lower.params (first_bits args) (asked gs (options_of a.lift) a.lift.params (λ at. finished gs (options_of a.lift) at (fields (passed_from fs args) (passed_to gs at))))
-  params_by args fs gs alone sync e f =
+  params_by : (args : List CoreValue) (fs gs : Option (List ValType)) → a.lower.async_side ≡ false → flat_values (is_wide a.lower.memory) 16 a.lower.params ≡ fs → flat_values (is_wide a.lift.memory) 16 a.lift.params ≡ gs
+      → move_params u a args ≡ passed fs (options_of a.lower) a.lower.params (first_bits args) (asked u.concurrency gs (options_of a.lift) a.lift.params (λ at. finished gs (options_of a.lift) at (fields (passed_from fs args) (passed_to gs at))))
+  params_by args fs gs sync e f =
       from_is u a (options_of a.lower) (lower_limit a.lower.async_side) a.lower.params args (λ s. into_params (params_transfer u a) a.lift.params (λ d. fields s d)) fs (ap (λ b. flat_values (is_wide a.lower.memory) (lower_limit b) a.lower.params) sync ∙ e)
-      ∙ ap (passed fs (options_of a.lower) a.lower.params (first_bits args)) (into_is alone (λ d. fields (passed_from fs args) d) gs f)
+      ∙ ap (passed fs (options_of a.lower) a.lower.params (first_bits args)) (into_is (λ d. fields (passed_from fs args) d) gs f)
 
 -- ---- what is known of the locals
 
@@ -202,25 +220,25 @@ last_held m ls (s ∷ []) at e lt h =
 
 -- ---- requests
 
-asks_tuple : (flats : Option (List ValType)) (flat : Bool) {M : WasmModule} {p : ImportPlaces} {locals : List ValType} {taken kept : ℕ → Bool} {code : List Instr} {ls : Locals} (o : LiftLowerOptions) (m : LinearMemory) (ts : List Shape) (core : List Slot)
+asks_tuple : (concurrency : Bool) (flats : Option (List ValType)) (flat : Bool) {M : WasmModule} {p : ImportPlaces} {locals : List ValType} {taken kept : ℕ → Bool} {code : List Instr} {ls : Locals} (o : LiftLowerOptions) (m : LinearMemory) (ts : List Shape) (core : List Slot)
     → flat ≡ is_some flats → is_wide o.memory ≡ m.memory64 → tuple_size m.memory64 ts ≤ 4294967295 → ((i : ℕ) → kept i ≡ true → taken i ≡ true) → held_types ls ≡ locals → IsAsked flats M p o m
     → slot_types core ≡ flat_or (address m.memory64 ∷ []) flats → AreLocals locals core → AreUnused kept core
-    → AsksTuple m taken flat (last_local core) (tuple_size m.memory64 ts) (tuple_align m.memory64 ts) M p locals code
-    → Does M p Onward 40 0 [] ls code (asked flats o ts (λ at. Give at)) (λ at. []) (λ at ls'. IsAreaThere flats m kept (tuple_size m.memory64 ts) core ls at ls')
-asks_tuple (Some flats) false o m ts core f wide few inside held h types l un c = absurd (let no : false ≡ true = f in cc)
-asks_tuple None true o m ts core f wide few inside held h types l un c = absurd (let no : true ≡ false = f in cc)
-asks_tuple (Some flats) true {M} {p} {kept = kept} {ls = ls} o m ts core f wide few inside held h types l un c =
-    subst (λ x. Does M p Onward 40 0 [] ls x (Give 0) (λ (at : ℕ). []) (λ at ls'. IsAreaThere (Some flats) m kept (tuple_size m.memory64 ts) core ls at ls')) (sym c) (within (omega arith) (done refl (record { by = keeps_all })))
-asks_tuple None false {M} {p} {locals} {kept = kept} {code} {ls} o m ts core f wide few inside held h types l un c =
+    → AsksTuple concurrency m taken flat (last_local core) (tuple_size m.memory64 ts) (tuple_align m.memory64 ts) M p locals code
+    → Does M p Onward 60 0 [] ls code (asked concurrency flats o ts (λ at. Give at)) (λ at. []) (λ at ls'. IsAreaThere flats m kept (tuple_size m.memory64 ts) core ls at ls')
+asks_tuple concurrency (Some flats) false o m ts core f wide few inside held h types l un c = absurd (let no : false ≡ true = f in cc)
+asks_tuple concurrency None true o m ts core f wide few inside held h types l un c = absurd (let no : true ≡ false = f in cc)
+asks_tuple concurrency (Some flats) true {M} {p} {kept = kept} {ls = ls} o m ts core f wide few inside held h types l un c =
+    subst (λ x. Does M p Onward 60 0 [] ls x (Give 0) (λ (at : ℕ). []) (λ at ls'. IsAreaThere (Some flats) m kept (tuple_size m.memory64 ts) core ls at ls')) (sym c) (within (omega arith) (done refl (record { by = keeps_all })))
+asks_tuple concurrency None false {M} {p} {locals} {kept = kept} {code} {ls} o m ts core f wide few inside held h types l un c =
     let asks = weaker (λ at. refl) (λ at ls' x. record { by = x }) (c.does o kept ls h.by.0 h.by.1 inside (last_unused kept core (address m.memory64) types un) (sound_in (width m.memory64) (tuple_of ts)).power (omega (arith, few)) held (pointed_local m.memory64 locals core types l)) in
-    subst (λ (b : Bool). Does M p Onward 40 0 [] ls code (reallocate false o MemoryOutOfBounds 0 0 (tuple_align b ts) (tuple_size b ts) (λ at. Give at)) (λ at. []) (λ at ls'. IsAreaThere None m kept (tuple_size m.memory64 ts) core ls at ls')) (sym wide) asks
+    subst (λ (b : Bool). Does M p Onward 60 0 [] ls code (reallocate concurrency o MemoryOutOfBounds 0 0 (tuple_align b ts) (tuple_size b ts) (λ at. Give at)) (λ at. []) (λ at ls'. IsAreaThere None m kept (tuple_size m.memory64 ts) core ls at ls')) (sym wide) asks
 
-asks_typed : (flats : Option (List ValType)) (flat : Bool) {M : WasmModule} {p : ImportPlaces} {locals : List ValType} {code : List Instr} (taken : ℕ → Bool) (o : LiftLowerOptions) (m : LinearMemory) (core : List Slot) (size align : ℕ)
-    → flat ≡ is_some flats → IsAsked flats M p o m → slot_types core ≡ flat_or (address m.memory64 ∷ []) flats → AreLocals locals core → AsksTuple m taken flat (last_local core) size align M p locals code → IsTyped M locals [] code [] (OnStack [])
-asks_typed (Some flats) false taken o m core size align f h types l c = absurd (let no : false ≡ true = f in cc)
-asks_typed None true taken o m core size align f h types l c = absurd (let no : true ≡ false = f in cc)
-asks_typed (Some flats) true {M} {locals = locals} taken o m core size align f h types l c = subst (λ x. IsTyped M locals [] x [] (OnStack [])) (sym c) typed_done
-asks_typed None false {locals = locals} taken o m core size align f h types l c = c.typed o h.by.0 h.by.1 (pointed_local m.memory64 locals core types l)
+asks_typed : (concurrency : Bool) (flats : Option (List ValType)) (flat : Bool) {M : WasmModule} {p : ImportPlaces} {locals : List ValType} {code : List Instr} (taken : ℕ → Bool) (o : LiftLowerOptions) (m : LinearMemory) (core : List Slot) (size align : ℕ)
+    → flat ≡ is_some flats → IsAsked flats M p o m → slot_types core ≡ flat_or (address m.memory64 ∷ []) flats → AreLocals locals core → AsksTuple concurrency m taken flat (last_local core) size align M p locals code → IsTyped M locals [] code [] (OnStack [])
+asks_typed concurrency (Some flats) false taken o m core size align f h types l c = absurd (let no : false ≡ true = f in cc)
+asks_typed concurrency None true taken o m core size align f h types l c = absurd (let no : true ≡ false = f in cc)
+asks_typed concurrency (Some flats) true {M} {locals = locals} taken o m core size align f h types l c = subst (λ x. IsTyped M locals [] x [] (OnStack [])) (sym c) typed_done
+asks_typed concurrency None false {locals = locals} taken o m core size align f h types l c = c.typed o h.by.0 h.by.1 (pointed_local m.memory64 locals core types l)
 
 -- behind it the kept locals are as they were, and the area is there
 area_keeps : (flats : Option (List ValType)) {m : LinearMemory} {kept : ℕ → Bool} {size : ℕ} {core : List Slot} {ls ls' : Locals} {at : ℕ} → IsAreaThere flats m kept size core ls at ls' → KeepsLocals kept ls ls'
@@ -289,17 +307,17 @@ finishes None false {kept = kept} o m core at wide f types s d =
       keeps_less (local_more kept (last_local core)) r.1,
     )) d
 
-module _ {t : Tables} {d : AdapterData} {debug : Bool} {u : AdapterTunables} {a : LinkedAdapter} (h : DescribesAdapter t d debug u a) {M : WasmModule} {p : ImportPlaces} {locals : List ValType} {taken kept : ℕ → Bool} {code : List Instr} (params core : List Slot)
-    (k : MovesParams d debug params core taken a.lower.params a.lift.params M p locals code) (fs gs : Option (List ValType)) (r : ParamLocals a fs gs params core locals kept taken)
+module _ {t : Tables} {d : AdapterData} {debug concurrency : Bool} {u : AdapterTunables} {a : LinkedAdapter} (h : DescribesAdapter t d debug u a) (same : concurrency ≡ u.concurrency) {M : WasmModule} {p : ImportPlaces} {locals : List ValType} {taken kept : ℕ → Bool} {code : List Instr} (params core : List Slot)
+    (k : MovesParams d debug concurrency params core taken a.lower.params a.lift.params M p locals code) (fs gs : Option (List ValType)) (r : ParamLocals a fs gs params core locals kept taken)
     (lists : HasListsOf M p (linear_of d.lower) (linear_of d.lift) (options_of a.lower) (options_of a.lift) a.lower.params) (memory : HasTupleMemory M p d.lower a.lower fs) (area : HasNewTupleMemory M p d.lift a.lift gs) where
   abbrev rooms : Rooms
   rooms = tuple_rooms (linear_of d.lower) (linear_of d.lift) a.lower.params a.lift.params
 
   abbrev setting : Setting
-  setting = setting_of (params_sides d debug) (options_of a.lower) (options_of a.lift) u.concurrency rooms M p locals
+  setting = setting_of (params_sides d debug concurrency) (options_of a.lower) (options_of a.lift) rooms M p locals
 
   params_transfer_is : transfer setting ≡ params_transfer u a
-  params_transfer_is = ap (λ b. record { from = options_of a.lower; to = options_of a.lift; concurrency = u.concurrency; debug = b }) (checks_on debug p ∙ sym h.same_debug)
+  params_transfer_is = λ i. record { from = options_of a.lower; to = options_of a.lift; concurrency = same i; debug = (checks_on debug p ∙ sym h.same_debug) i }
 
   abbrev lower : LinearMemory
   lower = linear_of d.lower
@@ -328,6 +346,9 @@ module _ {t : Tables} {d : AdapterData} {debug : Bool} {u : AdapterTunables} {a 
   core_types : slot_types core ≡ flat_or (address lift.memory64 ∷ []) gs
   core_types = r.core_types ∙ ap (λ m. flat_or (address m ∷ []) gs) h.lift.wide
 
+  asks_lift : AsksTuple u.concurrency lift taken lift_flat (last_local core) (tuple_size lift.memory64 a.lift.params) (tuple_align lift.memory64 a.lift.params) M p locals k.lift_request
+  asks_lift = subst (λ b. AsksTuple b lift taken lift_flat (last_local core) (tuple_size lift.memory64 a.lift.params) (tuple_align lift.memory64 a.lift.params) M p locals k.lift_request) same k.asks_lift
+
   is_asked : IsAsked gs M p (options_of a.lift) lift
   is_asked = go gs area
     where
@@ -350,7 +371,7 @@ module _ {t : Tables} {d : AdapterData} {debug : Bool} {u : AdapterTunables} {a 
       go None m e = record { by = (m, pointed_local lower.memory64 locals params e r.params_typed) }
 
   -- the places fit
-  params_fit : FitsShapes (params_sides d debug) setting (tuple_of a.lower.params) (tuple_of a.lift.params) (tuple_from lower lower_flat params) (tuple_to lift lift_flat core core)
+  params_fit : FitsShapes (params_sides d debug concurrency) setting (tuple_of a.lower.params) (tuple_of a.lift.params) (tuple_from lower lower_flat params) (tuple_to lift lift_flat core core)
   params_fit = record {
     from_wide = h.lower.wide;
     to_wide = h.lift.wide;
@@ -358,7 +379,7 @@ module _ {t : Tables} {d : AdapterData} {debug : Bool} {u : AdapterTunables} {a 
     writes = writes_passed M p locals kept (options_of a.lift) lift a.lift.params h.lift.wide k.lift_size 16 (omega arith) gs lift_flat core core lift_flat_is r.lift_is (λ ts e. r.core_types ∙ ap (flat_or (address (is_wide a.lift.memory) ∷ [])) e) r.core_typed
         (area_reached gs (options_of a.lift) lift core is_asked core_types r.core_typed);
     within = record { source = from_within lower (is_wide a.lower.memory) a.lower.params lower_flat params h.lower.wide; target = to_within lift (is_wide a.lift.memory) a.lift.params lift_flat core core h.lift.wide };
-    lists = λ some. subst (λ q. ServesLists lower lift M p (options_of a.lower) (options_of a.lift) q) (sym h.alone) (lists some);
+    lists = lists;
   }
 
   params_using : Using taken used (tuple_from lower lower_flat params) (tuple_to lift lift_flat core core)
@@ -393,8 +414,8 @@ module _ {t : Tables} {d : AdapterData} {debug : Bool} {u : AdapterTunables} {a 
   params_typed =
       subst (λ c. IsTyped M locals [] c [] (OnStack [])) (sym k.is)
       (typed_then (passes_typed fs lower_flat taken (options_of a.lower) lower (last_local params) (tuple_size lower.memory64 a.lower.params) (tuple_align lower.memory64 a.lower.params) lower_flat_is params_reached k.checks_lower)
-      (typed_then (asks_typed gs lift_flat taken (options_of a.lift) lift core (tuple_size lift.memory64 a.lift.params) (tuple_align lift.memory64 a.lift.params) lift_flat_is is_asked core_types r.core_typed k.asks_lift)
-      (k.moves.moves (options_of a.lower) (options_of a.lift) u.concurrency rooms used params_using params_fit).typed))
+      (typed_then (asks_typed u.concurrency gs lift_flat taken (options_of a.lift) lift core (tuple_size lift.memory64 a.lift.params) (tuple_align lift.memory64 a.lift.params) lift_flat_is is_asked core_types r.core_typed asks_lift)
+      (k.moves.moves (options_of a.lower) (options_of a.lift) rooms used params_using params_fit).typed))
 
   -- what was given stands in the places of the parameters, whatever stands behind it among the arguments
   source_is : (ls : Locals) (front rest : List CoreValue) → AreHeld ls params front → length front ≡ length params → (d' : Target) → fields u a (passed_from fs (front ++ rest)) d' ≡ fields u a (passed_from fs front) d'
@@ -430,21 +451,21 @@ module _ {t : Tables} {d : AdapterData} {debug : Bool} {u : AdapterTunables} {a 
         source = from_room fs lower_flat lower params ls2 (first_bits front) rooms.from lower_flat_is (passed_address fs (params_passed ls2 front given)) source;
         target = to_room gs lift_flat lift core core ls2 at rooms.to lift_flat_is (area_address gs s) (area_room gs s);
       } in
-      let moved = (k.moves.moves o o' u.concurrency rooms used params_using params_fit).effect ls2 (passed_from fs front) (passed_to gs at) held2
+      let moved = (k.moves.moves o o' rooms used params_using params_fit).effect ls2 (passed_from fs front) (passed_to gs at) held2
       (stands_passed M p locals kept o lower a.lower.params h.lower.wide k.lower_size 16 (omega arith) fs lower_flat params front lower_flat_is given (params_passed ls2 front given))
       (goes_core gs lift_flat M p o' lift a.lift.params core at h.lift.wide k.lift_size lift_flat_is held2 core_types r.core_typed r.core_unused s) roomy in
       finishes gs lift_flat o' lift core at h.lift.wide lift_flat_is core_types s
       (subst (λ tr. Does M p Onward 0 0 [] ls2 k.move (move_fields tr (tuple_members a.lower.params) (tuple_members a.lift.params) 0 (passed_from fs front) (passed_to gs at)) (λ vs. []) (λ vs ls'. Stood ls' (tuple_to lift lift_flat core core) vs × KeepsLocals used ls2 ls'))
       params_transfer_is (within (omega arith) (unvisited {n = 1} moved))) in
       let all = in_turn (passes fs lower_flat o lower a.lower.params (last_local params) (first_bits front) lower_flat_is h.lower.wide k.lower_size r.inside held (params_passed ls front parts.in_front) k.checks_lower) (λ (no : List CoreValue) ls1 one.
-      in_turn (asks_tuple gs lift_flat {ls = ls1} o' lift a.lift.params core lift_flat_is h.lift.wide k.lift_size r.inside (one.0.types ∙ held) is_asked core_types r.core_typed r.core_unused k.asks_lift) (λ at ls2 s.
+      in_turn (asks_tuple u.concurrency gs lift_flat {ls = ls1} o' lift a.lift.params core lift_flat_is h.lift.wide k.lift_size r.inside (one.0.types ∙ held) is_asked core_types r.core_typed r.core_unused asks_lift) (λ at ls2 s.
       weaker (λ vs. refl) (λ vs ls' x. (x.0, keeps_then one.0 (keeps_then (area_keeps gs s) x.1))) (last at ls1 ls2 one.0 one.1 s))) in
-      let is : (passed fs o a.lower.params (first_bits front) (Give []) >>= (λ (no : List CoreValue). asked gs o' a.lift.params (λ at. Give at) >>= (λ at. finished gs o' at (q at)))) ≡ move_params u a args =
-      passed_binds fs o a.lower.params (first_bits front) (Give []) (λ (no : List CoreValue). asked gs o' a.lift.params (λ at. Give at) >>= (λ at. finished gs o' at (q at)))
-      ∙ ap (passed fs o a.lower.params (first_bits front)) (asked_binds gs o' a.lift.params (λ at. Give at) (λ at. finished gs o' at (q at)))
-      ∙ (λ i. passed fs o a.lower.params (first_bits front) (asked gs o' a.lift.params (λ at. finished gs o' at (sym (source_is ls front parts.rest parts.in_front parts.long (passed_to gs at)) i))))
-      ∙ pointer_is ls front parts.rest (asked gs o' a.lift.params (λ at. finished gs o' at (fields u a (passed_from fs (front ++ parts.rest)) (passed_to gs at)))) parts.in_front
-      ∙ sym (params_by u a (front ++ parts.rest) fs gs h.alone h.lower.sync r.lower_is r.lift_is) ∙ ap (move_params u a) (sym parts.all) in
+      let is : (passed fs o a.lower.params (first_bits front) (Give []) >>= (λ (no : List CoreValue). asked u.concurrency gs o' a.lift.params (λ at. Give at) >>= (λ at. finished gs o' at (q at)))) ≡ move_params u a args =
+      passed_binds fs o a.lower.params (first_bits front) (Give []) (λ (no : List CoreValue). asked u.concurrency gs o' a.lift.params (λ at. Give at) >>= (λ at. finished gs o' at (q at)))
+      ∙ ap (passed fs o a.lower.params (first_bits front)) (asked_binds u.concurrency gs o' a.lift.params (λ at. Give at) (λ at. finished gs o' at (q at)))
+      ∙ (λ i. passed fs o a.lower.params (first_bits front) (asked u.concurrency gs o' a.lift.params (λ at. finished gs o' at (sym (source_is ls front parts.rest parts.in_front parts.long (passed_to gs at)) i))))
+      ∙ pointer_is ls front parts.rest (asked u.concurrency gs o' a.lift.params (λ at. finished gs o' at (fields u a (passed_from fs (front ++ parts.rest)) (passed_to gs at)))) parts.in_front
+      ∙ sym (params_by u a (front ++ parts.rest) fs gs h.lower.sync r.lower_is r.lift_is) ∙ ap (move_params u a) (sym parts.all) in
       subst (λ q. Does M p Onward 384 0 [] ls code q (λ vs. []) (λ vs ls'. AreHeld ls' core vs × KeepsLocals kept ls ls')) is
-      (subst (λ c. Does M p Onward 384 0 [] ls c (passed fs o a.lower.params (first_bits front) (Give []) >>= (λ (no : List CoreValue). asked gs o' a.lift.params (λ at. Give at) >>= (λ at. finished gs o' at (q at)))) (λ vs. []) (λ vs ls'. AreHeld ls' core vs × KeepsLocals kept ls ls')) (sym k.is)
+      (subst (λ c. Does M p Onward 384 0 [] ls c (passed fs o a.lower.params (first_bits front) (Give []) >>= (λ (no : List CoreValue). asked u.concurrency gs o' a.lift.params (λ at. Give at) >>= (λ at. finished gs o' at (q at)))) (λ vs. []) (λ vs ls'. AreHeld ls' core vs × KeepsLocals kept ls ls')) (sym k.is)
       (within (omega arith) all))

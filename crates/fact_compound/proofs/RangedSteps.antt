@@ -1,5 +1,5 @@
 -- The steps of adapters are in range, and name no function but the callee.
-use Rattle.std.proofs.Common.{ℕ, ◌<◌, List, [], ◌∷◌, arith}
+use Rattle.std.proofs.Common.{ℕ, ◌<◌, List, [], ◌∷◌, ◌++◌, arith}
 use Rattle.fact_wasm.specs.declared.instr.FuncName.TheVariants as func
 use Rattle.fact_wasm.specs.declared.instr.Instr.{Instr, the_lemmas}
 use Rattle.fact_wasm.specs.declared.instr.Instr.TheVariants as I
@@ -30,6 +30,14 @@ back_ranged flags saved = ranged_none 0 0 (I.LocalGet saved ∷ I.GlobalSet flag
 -- flags are kept and stand on the stack
 pub kept_ranged : (flags saved : ℕ) → AreRanged 0 0 (I.GlobalGet flags ∷ I.LocalTee saved ∷ [])
 kept_ranged flags saved = ranged_none 0 0 (I.GlobalGet flags ∷ I.LocalTee saved ∷ []) (simp the_lemmas)
+
+-- two numbers are pushed
+pub constants_ranged : (x y : ℕ) → AreRanged 0 0 (I.I32Const x ∷ I.I32Const y ∷ [])
+constants_ranged x y = ranged_none 0 0 (I.I32Const x ∷ I.I32Const y ∷ []) (simp the_lemmas)
+
+-- a post-return is called
+pub post_ranged : (imports function : ℕ) (given : List Slot) → function < imports → AreRanged imports 0 (pushed_code given ++ I.Call (func.Import function) ∷ [])
+post_ranged imports function given below = ranged_append imports 0 (pushed_code given) (I.Call (func.Import function) ∷ []) (ranged_more 0 imports (omega arith) (pushed_code given) (pushed_ranged given)) (simp the_lemmas (below, tt), tt)
 
 -- an imported function is called
 pub call_ranged : (imports flags saved callee : ℕ) (core given : List Slot) → callee < imports → AreRanged imports 0 (call_code core flags saved callee given)

@@ -28,3 +28,7 @@ reallocs_same {d} e h = subst (AreReallocsImported d) (sym e) h
 -- so they are behind code and two steps more
 pub realloc_behind : {m : LinearMemory} {a b c e : Writer} {xs ys : List Instr} → Grew a b → Wrote b c xs → Wrote c e ys → IsReallocImported m a.imports → IsReallocImported m e.imports
 realloc_behind {m} x y z h = subst (IsReallocImported m) (sym (z.imports ∙ y.imports)) (realloc_later x.imports h)
+
+-- and behind code and one step more
+pub realloc_then : {m : LinearMemory} {a b c : Writer} {xs : List Instr} → Grew a b → Wrote b c xs → IsReallocImported m a.imports → IsReallocImported m c.imports
+realloc_then {m} x y h = subst (IsReallocImported m) (sym y.imports) (realloc_later x.imports h)

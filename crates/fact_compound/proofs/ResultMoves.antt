@@ -30,7 +30,6 @@ use Rattle.fact_emit.specs.Fitting.{CanRead, CanWrite, MovesTuple, FitsShapes, A
 use Rattle.fact_emit.specs.Places.{checks_at, setting_of, Using}
 use Rattle.fact_emit.specs.declared.places.LinearMemory.{LinearMemory}
 use Rattle.fact_types.proofs.PlaceLaws.{sound_in}
-use Rattle.fact_emit.specs.Requests.{ServesLists}
 use Rattle.fact_compound.specs.Described.{DescribesAdapter, HasListsOf, linear_of}
 use Rattle.fact_compound.specs.Passed.{results_sides}
 use Rattle.fact_compound.specs.Passing.{last_local, tuple_from, tuple_to, tuple_size, tuple_align, ChecksTuple}
@@ -231,22 +230,22 @@ pub record ResultLocals (a : LinkedAdapter) (fs gs : Option (List ValType)) (giv
   pub results_typed : AreLocals locals results
   pub results_unused : AreUnused kept results
 
-module _ {t : Tables} {d : AdapterData} {debug : Bool} {u : AdapterTunables} {a : LinkedAdapter} (h : DescribesAdapter t d debug u a) where
+module _ {t : Tables} {d : AdapterData} {debug concurrency : Bool} {u : AdapterTunables} {a : LinkedAdapter} (h : DescribesAdapter t d debug u a) (same : concurrency ≡ u.concurrency) where
   abbrev rooms : Rooms
   rooms = tuple_rooms (linear_of d.lift) (linear_of d.lower) a.lift.results a.lower.results
 
   abbrev setting : WasmModule → ImportPlaces → List ValType → Setting
-  setting M p locals = setting_of (results_sides d debug) (options_of a.lift) (options_of a.lower) u.concurrency rooms M p locals
+  setting M p locals = setting_of (results_sides d debug concurrency) (options_of a.lift) (options_of a.lower) rooms M p locals
 
   results_transfer_is : (M : WasmModule) (p : ImportPlaces) (locals : List ValType) → transfer (setting M p locals) ≡ results_transfer u a
-  results_transfer_is M p locals = ap (λ b. record { from = options_of a.lift; to = options_of a.lower; concurrency = u.concurrency; debug = b }) (checks_on debug p ∙ sym h.same_debug)
+  results_transfer_is M p locals = λ i. record { from = options_of a.lift; to = options_of a.lower; concurrency = same i; debug = (checks_on debug p ∙ sym h.same_debug) i }
 
   -- the places fit
   results_fit : {M : WasmModule} {p : ImportPlaces} {locals : List ValType} (kept : ℕ → Bool) (fs gs : Option (List ValType)) (lift_flat lower_flat : Bool) (given results args : List Slot)
       → lift_flat ≡ is_some fs → lower_flat ≡ is_some gs → ResultLocals a fs gs given results locals kept → tuple_size (linear_of d.lift).memory64 a.lift.results ≤ 4294967295 → tuple_size (linear_of d.lower).memory64 a.lower.results ≤ 4294967295
       → IsReached fs M p (options_of a.lift) (linear_of d.lift) locals (last_local given) → IsReached gs M p (options_of a.lower) (linear_of d.lower) locals (last_local args)
       → HasListsOf M p (linear_of d.lift) (linear_of d.lower) (options_of a.lift) (options_of a.lower) a.lift.results
-      → FitsShapes (results_sides d debug) (setting M p locals) (tuple_of a.lift.results) (tuple_of a.lower.results) (tuple_from (linear_of d.lift) lift_flat given) (tuple_to (linear_of d.lower) lower_flat results args)
+      → FitsShapes (results_sides d debug concurrency) (setting M p locals) (tuple_of a.lift.results) (tuple_of a.lower.results) (tuple_from (linear_of d.lift) lift_flat given) (tuple_to (linear_of d.lower) lower_flat results args)
   results_fit {M} {p} {locals} kept fs gs lift_flat lower_flat given results args lf wf r few few' from to lists = record {
     from_wide = h.lift.wide;
     to_wide = h.lower.wide;
@@ -256,7 +255,7 @@ module _ {t : Tables} {d : AdapterData} {debug : Bool} {u : AdapterTunables} {a 
       source = from_within (linear_of d.lift) (is_wide a.lift.memory) a.lift.results lift_flat given h.lift.wide;
       target = to_within (linear_of d.lower) (is_wide a.lower.memory) a.lower.results lower_flat results args h.lower.wide;
     };
-    lists = λ some. subst (λ q. ServesLists (linear_of d.lift) (linear_of d.lower) M p (options_of a.lift) (options_of a.lower) q) (sym h.alone) (lists some);
+    lists = lists;
   }
 
   -- The code of the checks and of the move is typed.
@@ -264,21 +263,21 @@ module _ {t : Tables} {d : AdapterData} {debug : Bool} {u : AdapterTunables} {a 
       → lift_flat ≡ is_some fs → lower_flat ≡ is_some gs → ResultLocals a fs gs given results locals kept → tuple_size (linear_of d.lift).memory64 a.lift.results ≤ 4294967295 → tuple_size (linear_of d.lower).memory64 a.lower.results ≤ 4294967295
       → ChecksTuple (linear_of d.lift) taken lift_flat (last_local given) (tuple_size (linear_of d.lift).memory64 a.lift.results) (tuple_align (linear_of d.lift).memory64 a.lift.results) M p locals c1
       → ChecksTuple (linear_of d.lower) taken lower_flat (last_local args) (tuple_size (linear_of d.lower).memory64 a.lower.results) (tuple_align (linear_of d.lower).memory64 a.lower.results) M p locals c2
-      → MovesTuple (results_sides d debug) (tuple_from (linear_of d.lift) lift_flat given) (tuple_to (linear_of d.lower) lower_flat results args) taken (tuple_of a.lift.results) (tuple_of a.lower.results) M p locals c3
+      → MovesTuple (results_sides d debug concurrency) (tuple_from (linear_of d.lift) lift_flat given) (tuple_to (linear_of d.lower) lower_flat results args) taken (tuple_of a.lift.results) (tuple_of a.lower.results) M p locals c3
       → Using taken kept (tuple_from (linear_of d.lift) lift_flat given) (tuple_to (linear_of d.lower) lower_flat results args)
       → IsReached fs M p (options_of a.lift) (linear_of d.lift) locals (last_local given) → IsReached gs M p (options_of a.lower) (linear_of d.lower) locals (last_local args)
       → HasListsOf M p (linear_of d.lift) (linear_of d.lower) (options_of a.lift) (options_of a.lower) a.lift.results → IsTyped M locals [] (c1 ++ (c2 ++ c3)) [] (OnStack [])
   results_typed {M} {p} {locals} {taken} {kept} c1 c2 c3 fs gs lift_flat lower_flat given results args lf wf r few few' x y z using from to lists =
       typed_then (passes_typed fs lift_flat taken (options_of a.lift) (linear_of d.lift) (last_local given) (tuple_size (linear_of d.lift).memory64 a.lift.results) (tuple_align (linear_of d.lift).memory64 a.lift.results) lf from x)
       (typed_then (passes_typed gs lower_flat taken (options_of a.lower) (linear_of d.lower) (last_local args) (tuple_size (linear_of d.lower).memory64 a.lower.results) (tuple_align (linear_of d.lower).memory64 a.lower.results) wf to y)
-      (z.moves (options_of a.lift) (options_of a.lower) u.concurrency rooms kept using (results_fit {M = M} {p = p} {locals = locals} kept fs gs lift_flat lower_flat given results args lf wf r few few' from to lists)).typed)
+      (z.moves (options_of a.lift) (options_of a.lower) rooms kept using (results_fit {M = M} {p = p} {locals = locals} kept fs gs lift_flat lower_flat given results args lf wf r few few' from to lists)).typed)
 
   -- Both areas are checked, the callee's first, and then the members are moved.
   pub results_moved : {M : WasmModule} {p : ImportPlaces} {locals : List ValType} {taken kept : ℕ → Bool} (c1 c2 c3 : List Instr) (fs gs : Option (List ValType)) (lift_flat lower_flat : Bool) (given results args : List Slot)
       → lift_flat ≡ is_some fs → lower_flat ≡ is_some gs → ResultLocals a fs gs given results locals kept → tuple_size (linear_of d.lift).memory64 a.lift.results ≤ 4294967295 → tuple_size (linear_of d.lower).memory64 a.lower.results ≤ 4294967295
       → ChecksTuple (linear_of d.lift) taken lift_flat (last_local given) (tuple_size (linear_of d.lift).memory64 a.lift.results) (tuple_align (linear_of d.lift).memory64 a.lift.results) M p locals c1
       → ChecksTuple (linear_of d.lower) taken lower_flat (last_local args) (tuple_size (linear_of d.lower).memory64 a.lower.results) (tuple_align (linear_of d.lower).memory64 a.lower.results) M p locals c2
-      → MovesTuple (results_sides d debug) (tuple_from (linear_of d.lift) lift_flat given) (tuple_to (linear_of d.lower) lower_flat results args) taken (tuple_of a.lift.results) (tuple_of a.lower.results) M p locals c3
+      → MovesTuple (results_sides d debug concurrency) (tuple_from (linear_of d.lift) lift_flat given) (tuple_to (linear_of d.lower) lower_flat results args) taken (tuple_of a.lift.results) (tuple_of a.lower.results) M p locals c3
       → Using taken kept (tuple_from (linear_of d.lift) lift_flat given) (tuple_to (linear_of d.lower) lower_flat results args) → HasListsOf M p (linear_of d.lift) (linear_of d.lower) (options_of a.lift) (options_of a.lower) a.lift.results
       → (ls : Locals) (vs : List CoreValue) (pointer : ℕ) → held_types ls ≡ locals → AreUsed kept given → AreHeld ls given vs
       → IsPassed fs M p (options_of a.lift) (linear_of d.lift) locals kept ls (last_local given) (first_bits vs) → IsPassed gs M p (options_of a.lower) (linear_of d.lower) locals kept ls (last_local args) pointer
@@ -296,7 +295,7 @@ module _ {t : Tables} {d : AdapterData} {debug : Bool} {u : AdapterTunables} {a 
         source = from_room fs lift_flat (linear_of d.lift) given ls2 (first_bits vs) rooms.from lf (passed_address fs from2) source;
         target = to_room gs lower_flat (linear_of d.lower) results args ls2 pointer rooms.to wf (passed_address gs to2) target;
       } in
-      let moved = (z.moves (options_of a.lift) (options_of a.lower) u.concurrency rooms kept using fits).effect ls2 (passed_from fs vs) (passed_to gs pointer) (k.types ∙ held)
+      let moved = (z.moves (options_of a.lift) (options_of a.lower) rooms kept using fits).effect ls2 (passed_from fs vs) (passed_to gs pointer) (k.types ∙ held)
       (stands_passed M p locals kept (options_of a.lift) (linear_of d.lift) a.lift.results h.lift.wide few 1 (omega arith) fs lift_flat given vs lf (held_kept k given vs used g) from2)
       (goes_passed M p locals kept (options_of a.lower) (linear_of d.lower) a.lower.results h.lower.wide few' 1 (omega arith) gs lower_flat results args pointer wf (k.types ∙ held) r.results_types r.results_typed r.results_unused to2) roomy in
       weaker (λ vs. refl) (λ us ls' s. (stood_passed gs lower_flat (linear_of d.lower) results args us ls' wf r.no_results s.0, keeps_then k s.1))

@@ -1,36 +1,102 @@
 -- What was written for a sync adapter, step by step.
-use Rattle.std.proofs.Common.{◌≡◌, ℕ, ◌<◌, Bool, List, [], ◌∷◌, ◌++◌, sym, ap, ◌∙◌, subst, arith, append_assoc, append-nil, length, length-append}
+use Rattle.std.proofs.Common.{◌≡◌, ℕ, ◌<◌, ◌≤◌, Bool, true, false, List, [], ◌∷◌, ◌++◌, Option, Some, None, refl, sym, ap, ◌∙◌, subst, arith, append_assoc, append-nil, length, length-append, slice_get}
+use Rattle.fact_entity.specs.declared.id.Id.{Id}
+use Rattle.fact_entity.specs.declared.table.Funcs.{Funcs}
+use Rattle.fact_wasm.specs.declared.instr.FuncName.TheVariants as func
 use Rattle.fact_wasm.specs.declared.instr.Instr.{Instr}
 use Rattle.fact_wasm.specs.declared.instr.Instr.TheVariants as I
-use Rattle.fact_wasm.specs.Ranges.{AreRanged}
-use Rattle.fact_types.specs.declared.outside.Trap.TheVariants.{CannotLeaveComponent}
-use Rattle.fact_pieces.specs.Code.{guard_code}
-use Rattle.fact_emit.specs.Checks.{Guarded}
 use Rattle.fact_wasm.specs.declared.module.WasmModule.{WasmModule}
 use Rattle.fact_wasm.specs.declared.types.ValType.{ValType}
+use Rattle.fact_wasm.specs.Ranges.{AreRanged}
+use Rattle.fact_types.specs.Functions.{HasSignature}
 use Rattle.fact_types.specs.Shapes.{Shape}
 use Rattle.fact_types.specs.Tables.{Tables}
+use Rattle.fact_types.specs.declared.import.Import.TheVariants as import
+use Rattle.fact_types.specs.declared.outside.Trap.TheVariants.{CannotLeaveComponent}
 use Rattle.fact_moves.specs.Running.{ImportPlaces}
+use Rattle.fact_pieces.specs.Code.{guard_code}
+use Rattle.fact_pieces.specs.Context.{read_slots_code, restore_code, CanWriteSlotsIf}
+use Rattle.fact_pieces.specs.Places.{Slot}
+use Rattle.fact_emit.specs.Barriers.{Barred, WroteBarrier}
+use Rattle.fact_emit.specs.Checks.{Guarded}
 use Rattle.fact_emit.specs.Emits.{Grew, Is, Emits}
-use Rattle.fact_emit.specs.States.{functions_of}
-use Rattle.fact_emit.specs.Writers.{Wrote, taken_in}
+use Rattle.fact_emit.specs.RuntimeCalls.{CallsRuntime, ReadsSlots, WritesSlots, slots_of}
+use Rattle.std.specs.Prelude.{IfSome}
+use Rattle.fact_emit.specs.Imports.{Extended}
+use Rattle.fact_emit.specs.States.{ModuleSoFar, functions_of}
+use Rattle.fact_emit.proofs.ImportLaws.{extended_none, extended_on}
+use Rattle.fact_emit.specs.Writers.{Began, Ended, Wrote, is_local_in_use, taken_in}
+use Rattle.fact_emit.specs.declared.context.ContextLocals.{ContextLocals}
+use Rattle.fact_emit.specs.declared.imported.RuntimeFunction.TheVariants as runtime
 use Rattle.fact_emit.specs.declared.writer.Writer.{Writer}
+use Rattle.fact_emit.proofs.BarrierMoves.{barrier_emits, grew_barrier}
 use Rattle.fact_emit.proofs.CheckMoves.{guarded_as}
-use Rattle.fact_emit.proofs.Emitting.{emits_as, emits_before, emits_then, emits_wrote, wrote_then, grew_on}
-use Rattle.fact_emit.proofs.NamedLaws.{ranged_append, ranged_more}
-use Rattle.fact_compound.proofs.RangedSteps.{back_ranged, call_ranged, pushed_ranged, saved_ranged, zero_ranged}
-use Rattle.fact_compound.specs.Code.{saved_code, may_leave_code, started_code, cleared_code, pushed_code, call_code, sync_code}
+use Rattle.fact_emit.proofs.Emitting.{emits_as, emits_before, emits_nothing, emits_then, emits_wrote, wrote_then, grew_on}
+use Rattle.fact_emit.proofs.NamedLaws.{ranged_append}
+use Rattle.fact_compound.specs.Code.{saved_code, may_leave_code, started_code, cleared_code, pushed_code, call_code, enter_code, exit_code, finish_code}
+use Rattle.fact_compound.specs.Described.{CanMoveTuple, linear_of}
+use Rattle.fact_compound.specs.Events.{CanFinish, EntersCall, ExitsCall, FinishesCall, KnowsRuntimeIf, ReturnsPost, function_place}
 use Rattle.fact_compound.specs.Passed.{ParamsCode, PassedParams, MovesResults, MovedResults}
-use Rattle.fact_compound.specs.Written.{SyncPlaces, parts_of, WrittenSync}
+use Rattle.fact_compound.specs.Passing.{ChecksMayLeave, tuple_size}
+use Rattle.fact_compound.specs.Written.{IsCallCode, IsReturnCode, IsStepsCode, IsSyncCode, KnowsUncaught, SyncPlaces, WrittenBarred, WrittenCall, WrittenReturn, WrittenSteps}
 use Rattle.fact_compound.specs.declared.adapters.AdapterData.{AdapterData}
-use Rattle.fact_compound.specs.Passing.{ChecksMayLeave}
+use Rattle.fact_compound.specs.declared.syncs.CallOptions.{CallOptions}
+use Rattle.fact_compound.proofs.RangedSteps.{back_ranged, call_ranged, constants_ranged, post_ranged, pushed_ranged, saved_ranged, zero_ranged}
 
 -- the test whether an instance may be left
 pub may_leave_emits : {a b : Writer} {test : List Instr} (flags saved : ℕ) → test ≡ I.GlobalGet flags ∷ I.LocalTee saved ∷ [] → Emits a b (Guarded test CannotLeaveComponent []) → Emits a b (ChecksMayLeave flags saved)
 may_leave_emits flags saved same x =
     emits_as (λ M p locals code g. record { trap = g.place; has = g.has; is = g.is ∙ append-nil (guard_code (I.GlobalGet flags ∷ I.LocalTee saved ∷ []) g.place) }) (guarded_as same x)
 
--- ---- the whole
+-- ---- the steps that not every adapter has
+
+-- the runtime is told of the call, or is not
+pub enter_emits : {a b c e : Writer} (told : Bool) (instance : ℕ) → told ≡ true → Wrote a b (I.I32Const 0 ∷ []) → Wrote b c (I.I32Const instance ∷ []) → Emits c e (CallsRuntime runtime.EnterSyncCall) → Emits a e (EntersCall told instance)
+enter_emits true instance is x y z =
+    emits_then {P = Is (I.I32Const 0 ∷ I.I32Const instance ∷ [])} (λ M p locals code more e g. record { is = λ i. e i ++ g.is i; has = g.has }) (emits_wrote (constants_ranged 0 instance) (wrote_then x y)) z
+enter_emits false instance is x y z = absurd (let no : false ≡ true = is in cc)
+
+pub no_enter : (a : Writer) (told : Bool) (instance : ℕ) → told ≡ false → Emits a a (EntersCall told instance)
+no_enter a false instance is = emits_nothing (λ M p locals. record { is = refl; has = tt })
+no_enter a true instance is = absurd (let no : true ≡ false = is in cc)
+
+pub exit_emits : {a b : Writer} (told : Bool) → told ≡ true → Emits a b (CallsRuntime runtime.ExitSyncCall) → Emits a b (ExitsCall told)
+exit_emits true is x = emits_as (λ M p locals code g. record { is = g.is; has = g.has }) x
+exit_emits false is x = absurd (let no : false ≡ true = is in cc)
+
+pub no_exit : (a : Writer) (told : Bool) → told ≡ false → Emits a a (ExitsCall told)
+no_exit a false is = emits_nothing (λ M p locals. record { is = refl; has = tt })
+no_exit a true is = absurd (let no : true ≡ false = is in cc)
+
+-- the post-return, whose place was there before
+pub post_emits : {a b c e f g : Writer} (function : ℕ) (context : Bool) (callee own : ContextLocals) (given : List Slot) → function < length (functions_of a.imports)
+    → Emits a b (ReadsSlots context own) → Emits b c (WritesSlots context callee) → Wrote c e (pushed_code given) → Wrote e f (I.Call (func.Import function) ∷ []) → Emits f g (WritesSlots context own)
+    → Emits a g (ReturnsPost function context callee own given)
+post_emits {a} {b} {c} {e} {f} {g} function context callee own given below x y z v w =
+    let grew_c : Grew a c = grew_on x.grew y.grew in
+    let imports : ℕ = length (functions_of c.imports) in
+    let there : function < imports = omega (arith, below, ap length grew_c.imports.functions.is, length-append (functions_of a.imports) grew_c.imports.functions.more) in
+    let call = emits_before (post_ranged imports function given there) (wrote_then z v) in
+    let Last : WasmModule → ImportPlaces → List ValType → List Instr → Type 0 = λ M p locals code. (code ≡ (pushed_code given ++ I.Call (func.Import function) ∷ []) ++ restore_code context (slots_of p own)) × CanWriteSlotsIf context M p (slots_of p own) in
+    let last : Emits c g Last = emits_then {P = Is (pushed_code given ++ I.Call (func.Import function) ∷ [])} (λ M p locals code more is r. (λ i. is i ++ r.is i, r.can)) call w in
+    let Middle : WasmModule → ImportPlaces → List ValType → List Instr → Type 0 = λ M p locals code.
+    (code ≡ restore_code context (slots_of p callee) ++ ((pushed_code given ++ I.Call (func.Import function) ∷ []) ++ restore_code context (slots_of p own))) × CanWriteSlotsIf context M p (slots_of p callee) × CanWriteSlotsIf context M p (slots_of p own) in
+    let middle : Emits b g Middle = emits_then {Q = Last} (λ M p locals code more r is. (λ i. r.is i ++ is.0 i, r.can, is.1)) y last in
+    emits_then {Q = Middle} (λ M p locals code more r is. record {
+      is = (λ i. r.is i ++ is.0 i)
+          ∙ ap (λ c. read_slots_code context (slots_of p own) ++ (restore_code context (slots_of p callee) ++ c)) (append_assoc (pushed_code given) (I.Call (func.Import function) ∷ []) (restore_code context (slots_of p own)));
+      can = record { reads_own = r.can; writes = is.1; writes_own = is.2 };
+    }) x middle
+
+pub finish_emits : {a b : Writer} (o : Option (Id Funcs)) (f : Id Funcs) (context : Bool) (callee own : ContextLocals) (given : List Slot) → o ≡ Some f → Emits a b (ReturnsPost f.number context callee own given) → Emits a b (FinishesCall o context callee own given)
+finish_emits {a} {b} o f context callee own given is x =
+    subst (λ o. Emits a b (FinishesCall o context callee own given)) (sym is) (emits_as (λ M p locals code r. record { is = r.is; can = r.can }) x)
+
+pub no_finish : (a : Writer) (o : Option (Id Funcs)) (context : Bool) (callee own : ContextLocals) (given : List Slot) → o ≡ None → Emits a a (FinishesCall o context callee own given)
+no_finish a None context callee own given is = emits_nothing (λ M p locals. record { is = refl; can = tt })
+no_finish a (Some f) context callee own given is = absurd (let no : Some f ≡ None = is in cc)
+
+-- ---- up to the call
 
 abbrev zero_code : ℕ → List Instr
 zero_code flags = I.I32Const 0 ∷ I.GlobalSet flags ∷ []
@@ -38,88 +104,179 @@ zero_code flags = I.I32Const 0 ∷ I.GlobalSet flags ∷ []
 abbrev back_code : (flags saved : ℕ) → List Instr
 back_code flags saved = I.LocalGet saved ∷ I.GlobalSet flags ∷ []
 
-abbrev call_of : AdapterData → SyncPlaces → List Instr
-call_of d l = call_code l.core d.lift.flags.number l.lift_saved d.callee.number l.given
+abbrev callee_code : AdapterData → SyncPlaces → List Instr
+callee_code d l = call_code l.core d.lift.flags.number l.lift_saved d.callee.number l.given
 
--- the steps as they were written are the code of a sync adapter
-whole_code : (d : AdapterData) (l : SyncPlaces) (trap : ℕ) (pc rc : List Instr)
-    → (may_leave_code d.lower.flags.number l.saved trap ++ (started_code d.lift.flags.number l.lift_saved ++ (pc ++ ((call_of d l ++ zero_code d.lower.flags.number) ++ (rc ++ (back_code d.lower.flags.number l.saved ++ pushed_code l.results))))))
-    ≡ sync_code (parts_of d l trap) pc rc
-whole_code d l trap pc rc =
-    let last : List Instr = rc ++ (back_code d.lower.flags.number l.saved ++ pushed_code l.results) in
-    let behind : (call_of d l ++ zero_code d.lower.flags.number) ++ last ≡ call_of d l ++ (cleared_code d.lower.flags.number l.saved rc ++ pushed_code l.results) =
-    append_assoc (call_of d l) (zero_code d.lower.flags.number) last ∙ ap (λ c. call_of d l ++ I.I32Const 0 ∷ I.GlobalSet d.lower.flags.number ∷ c) (sym (append_assoc rc (back_code d.lower.flags.number l.saved) (pushed_code l.results))) in
-    ap (λ c. may_leave_code d.lower.flags.number l.saved trap ++ (started_code d.lift.flags.number l.lift_saved ++ (pc ++ c))) behind
-
--- what is left of the code, from the move of the results on, from the call on, and from the move of the parameters on
-record ResultsOn (d : AdapterData) (debug : Bool) (l : SyncPlaces) (taken : ℕ → Bool) (rs ss : List Shape) (M : WasmModule) (p : ImportPlaces) (locals : List ValType) (code : List Instr) : Type 0 where
-  results : List Instr
-  is : code ≡ results ++ (back_code d.lower.flags.number l.saved ++ pushed_code l.results)
-  moves_results : MovesResults d debug l.given l.results l.args taken ss rs M p locals results
-
-abbrev middle_code : AdapterData → SyncPlaces → List Instr
-middle_code d l = call_of d l ++ zero_code d.lower.flags.number
-
-record CallOn (d : AdapterData) (debug : Bool) (l : SyncPlaces) (taken : ℕ → Bool) (rs ss : List Shape) (M : WasmModule) (p : ImportPlaces) (locals : List ValType) (code : List Instr) : Type 0 where
-  results : List Instr
-  is : code ≡ middle_code d l ++ (results ++ (back_code d.lower.flags.number l.saved ++ pushed_code l.results))
-  moves_results : MovesResults d debug l.given l.results l.args taken ss rs M p locals results
-
-abbrev first_code : AdapterData → SyncPlaces → List Instr
-first_code d l = started_code d.lift.flags.number l.lift_saved
-
-record ParamsOn (d : AdapterData) (debug : Bool) (l : SyncPlaces) (taken : ℕ → Bool) (ps rs qs ss : List Shape) (front : List Instr) (M : WasmModule) (p : ImportPlaces) (locals : List ValType) (code : List Instr) : Type 0 where
+-- from the move of the parameters on, and from the flags of the lift side on
+record ParamsOn (d : AdapterData) (debug : Bool) (o : CallOptions) (l : SyncPlaces) (taken : ℕ → Bool) (ps qs : List Shape) (front : List Instr) (M : WasmModule) (p : ImportPlaces) (locals : List ValType) (code : List Instr) : Type 0 where
   params : List Instr
-  results : List Instr
-  is : code ≡ front ++ (params ++ (middle_code d l ++ (results ++ (back_code d.lower.flags.number l.saved ++ pushed_code l.results))))
-  moves_params : ParamsCode l.passed d debug l.params l.core taken ps qs M p locals params
-  moves_results : MovesResults d debug l.given l.results l.args taken ss rs M p locals results
+  is : code ≡ front ++ (params ++ callee_code d l)
+  moves_params : ParamsCode l.passed d debug o.concurrency l.params l.core taken ps qs M p locals params
 
-middle_ranged : (d : AdapterData) (l : SyncPlaces) (imports : ℕ) → d.callee.number < imports → AreRanged imports 0 (middle_code d l)
-middle_ranged d l imports below =
-    let zero : List Instr = zero_code d.lower.flags.number in
-    ranged_append imports 0 (call_of d l) zero (call_ranged imports d.lift.flags.number l.lift_saved d.callee.number l.core l.given below) (ranged_more 0 imports (omega arith) zero (zero_ranged d.lower.flags.number))
+record EnterOn (d : AdapterData) (debug : Bool) (o : CallOptions) (l : SyncPlaces) (taken : ℕ → Bool) (ps qs : List Shape) (M : WasmModule) (p : ImportPlaces) (locals : List ValType) (code : List Instr) : Type 0 where
+  params : List Instr
+  is : code ≡ enter_code o.told d.lift.instance.number (p.function import.EnterSyncCall) ++ (started_code d.lift.flags.number l.lift_saved ++ (params ++ callee_code d l))
+  enters : KnowsRuntimeIf o.told M p runtime.EnterSyncCall
+  moves_params : ParamsCode l.passed d debug o.concurrency l.params l.core taken ps qs M p locals params
 
-pub written_sync : {t : Tables} (d : AdapterData) (debug : Bool) (l : SyncPlaces) {a b c e f h i j k m : Writer} → d.callee.number < length (functions_of a.imports) → Emits a b (ChecksMayLeave d.lower.flags.number l.saved) → Wrote b c (saved_code d.lift.flags.number l.lift_saved) → Wrote c e (zero_code d.lift.flags.number)
-    → PassedParams t d debug l.passed l.params l.core e f → Wrote f h (call_of d l) → Wrote h i (zero_code d.lower.flags.number)
-    → MovedResults t d debug l.given l.results l.args i j → Wrote j k (back_code d.lower.flags.number l.saved) → Wrote k m (pushed_code l.results) → WrittenSync t d debug l a m
-written_sync d debug l {a} {b} {c} {e} {f} {h} {i} {j} {k} {m} callee x1 x2 x3 x4 x6 x7 x8 x9 x10 =
-    let front = emits_wrote (ranged_append 0 0 (saved_code d.lift.flags.number l.lift_saved) (zero_code d.lift.flags.number) (saved_ranged d.lift.flags.number l.lift_saved) (zero_ranged d.lift.flags.number)) (wrote_then x2 x3) in
-    let back = emits_wrote (ranged_append 0 0 (back_code d.lower.flags.number l.saved) (pushed_code l.results) (back_ranged d.lower.flags.number l.saved) (pushed_ranged l.results)) (wrote_then x9 x10) in
-    let grew_e : Grew a e = grew_on x1.grew front.grew in
-    let grew_f : Grew a f = grew_on grew_e x4.grew in
-    let imports : ℕ = length (functions_of f.imports) in
-    let there : d.callee.number < imports = omega (arith, callee, ap length grew_f.imports.functions.is, length-append (functions_of a.imports) grew_f.imports.functions.more) in
-    let middle = emits_before (middle_ranged d l imports there) (wrote_then x6 x7) in
-    let grew_i : Grew a i = grew_on grew_e (grew_on x4.grew middle.grew) in
-    let taken_e : taken_in e ≡ taken_in a = λ n. λ o. (grew_e.still o) n in
-    let taken_i : taken_in i ≡ taken_in a = λ n. λ o. (grew_i.still o) n in
+pub written_call : {t : Tables} (d : AdapterData) (debug : Bool) (o : CallOptions) (l : SyncPlaces) {a b c e f g h : Writer} → d.callee.number < length (functions_of a.imports)
+    → Emits a b (ChecksMayLeave d.lower.flags.number l.saved) → Emits b c (EntersCall o.told d.lift.instance.number) → Wrote c e (saved_code d.lift.flags.number l.lift_saved) → Wrote e f (zero_code d.lift.flags.number)
+    → PassedParams t d debug o.concurrency l.passed l.params l.core f g → Wrote g h (callee_code d l) → WrittenCall t d debug o l a h
+written_call d debug o l {a} {b} {c} {e} {f} {g} {h} callee x1 x2 x3 x4 x5 x6 =
+    let front = emits_wrote (ranged_append 0 0 (saved_code d.lift.flags.number l.lift_saved) (zero_code d.lift.flags.number) (saved_ranged d.lift.flags.number l.lift_saved) (zero_ranged d.lift.flags.number)) (wrote_then x3 x4) in
+    let grew_f : Grew a f = grew_on x1.grew (grew_on x2.grew front.grew) in
+    let grew_g : Grew a g = grew_on grew_f x5.grew in
+    let imports : ℕ = length (functions_of g.imports) in
+    let there : d.callee.number < imports = omega (arith, callee, ap length grew_g.imports.functions.is, length-append (functions_of a.imports) grew_g.imports.functions.more) in
+    let call = emits_before (call_ranged imports d.lift.flags.number l.lift_saved d.callee.number l.core l.given there) x6 in
+    let taken_f : taken_in f ≡ taken_in a = λ n. λ i. (grew_f.still i) n in
     record {
-      grew = grew_on grew_i (grew_on x8.grew back.grew);
-      lift_size = x8.lift_size;
-      lower_size = x8.lower_size;
-      emits = λ ps rs qs ss hl hf can can'.
-          let params : Emits e f (ParamsCode l.passed d debug l.params l.core (taken_in a) ps qs) =
-          subst (λ taken. Emits e f (ParamsCode l.passed d debug l.params l.core taken ps qs)) taken_e (x4.emits ps rs qs ss hl hf can) in
-          let results : Emits i j (MovesResults d debug l.given l.results l.args (taken_in a) ss rs) =
-          subst (λ taken. Emits i j (MovesResults d debug l.given l.results l.args taken ss rs)) taken_i (x8.emits ps rs qs ss hl hf can') in
-          emits_then {P = ChecksMayLeave d.lower.flags.number l.saved} {Q = ParamsOn d debug l (taken_in a) ps rs qs ss (first_code d l)}
+      grew = grew_on grew_g call.grew;
+      emits = λ ps rs qs ss hl hf can.
+          let params : Emits f g (ParamsCode l.passed d debug o.concurrency l.params l.core (taken_in a) ps qs) =
+          subst (λ taken. Emits f g (ParamsCode l.passed d debug o.concurrency l.params l.core taken ps qs)) taken_f (x5.emits ps rs qs ss hl hf can) in
+          emits_then {P = ChecksMayLeave d.lower.flags.number l.saved} {Q = EnterOn d debug o l (taken_in a) ps qs}
+          (λ M p locals code more y z. record { may_leave = y.trap; params = z.params; is = λ i. y.is i ++ z.is i; has = y.has; enters = z.enters; moves_params = z.moves_params })
+          x1
+          (emits_then {P = EntersCall o.told d.lift.instance.number} {Q = ParamsOn d debug o l (taken_in a) ps qs (started_code d.lift.flags.number l.lift_saved)}
+          (λ M p locals code more y z. record { params = z.params; is = λ i. y.is i ++ z.is i; enters = y.has; moves_params = z.moves_params })
+          x2
+          (emits_then {P = Is (started_code d.lift.flags.number l.lift_saved)} {Q = ParamsOn d debug o l (taken_in a) ps qs []} (λ M p locals code more y z. record { params = z.params; is = λ i. y i ++ z.is i; moves_params = z.moves_params })
+          front
+          (emits_then {Q = Is (callee_code d l)} (λ M p locals code more y z. record { params = code; is = ap (λ c. code ++ c) z; moves_params = y }) params call)));
+    }
+
+-- ---- behind it
+
+-- from the move of the results on, and from the telling of the return on
+record ResultsOn (d : AdapterData) (debug : Bool) (o : CallOptions) (l : SyncPlaces) (taken : ℕ → Bool) (rs ss : List Shape) (front : List Instr) (M : WasmModule) (p : ImportPlaces) (locals : List ValType) (code : List Instr) : Type 0 where
+  results : List Instr
+  is : code ≡ front ++ (results ++ (back_code d.lower.flags.number l.saved ++ finish_code o.context (function_place d.lift.post_return) (slots_of p l.callee_context) (slots_of p l.own_context) l.given))
+  finishes : CanFinish d.lift.post_return o.context l.callee_context l.own_context M p
+  moves_results : MovesResults d debug o.concurrency l.given l.results l.args taken ss rs M p locals results
+
+record ExitOn (d : AdapterData) (debug : Bool) (o : CallOptions) (l : SyncPlaces) (taken : ℕ → Bool) (rs ss : List Shape) (M : WasmModule) (p : ImportPlaces) (locals : List ValType) (code : List Instr) : Type 0 where
+  results : List Instr
+  is : code ≡ exit_code o.told (p.function import.ExitSyncCall) ++ (zero_code d.lower.flags.number ++ (results ++ (back_code d.lower.flags.number l.saved ++ finish_code o.context (function_place d.lift.post_return) (slots_of p l.callee_context) (slots_of p l.own_context) l.given)))
+  exits : KnowsRuntimeIf o.told M p runtime.ExitSyncCall
+  finishes : CanFinish d.lift.post_return o.context l.callee_context l.own_context M p
+  moves_results : MovesResults d debug o.concurrency l.given l.results l.args taken ss rs M p locals results
+
+-- the flags are set back behind the results
+back_assoc : (flags saved : ℕ) (front results finish : List Instr) → front ++ (zero_code flags ++ (results ++ (back_code flags saved ++ finish))) ≡ front ++ (cleared_code flags saved results ++ finish)
+back_assoc flags saved front results finish = ap (λ c. front ++ I.I32Const 0 ∷ I.GlobalSet flags ∷ c) (sym (append_assoc results (back_code flags saved) finish))
+
+pub written_return : {t : Tables} (d : AdapterData) (debug : Bool) (o : CallOptions) (l : SyncPlaces) {a b c e f g h : Writer} → Emits a b (ReadsSlots o.context l.callee_context) → Emits b c (ExitsCall o.told) → Wrote c e (zero_code d.lower.flags.number)
+    → MovedResults t d debug o.concurrency l.given l.results l.args e f → Wrote f g (back_code d.lower.flags.number l.saved) → Emits g h (FinishesCall d.lift.post_return o.context l.callee_context l.own_context l.given) → WrittenReturn t d debug o l a h
+written_return d debug o l {a} {b} {c} {e} {f} {g} {h} x1 x2 x3 x4 x5 x6 =
+    let zero = emits_wrote (zero_ranged d.lower.flags.number) x3 in
+    let back = emits_wrote (back_ranged d.lower.flags.number l.saved) x5 in
+    let grew_e : Grew a e = grew_on x1.grew (grew_on x2.grew zero.grew) in
+    let taken_e : taken_in e ≡ taken_in a = λ n. λ i. (grew_e.still i) n in
+    record {
+      grew = grew_on grew_e (grew_on x4.grew (grew_on back.grew x6.grew));
+      lift_size = x4.lift_size;
+      lower_size = x4.lower_size;
+      emits = λ ps rs qs ss hl hf can.
+          let results : Emits e f (MovesResults d debug o.concurrency l.given l.results l.args (taken_in a) ss rs) =
+          subst (λ taken. Emits e f (MovesResults d debug o.concurrency l.given l.results l.args taken ss rs)) taken_e (x4.emits ps rs qs ss hl hf can) in
+          let Last : WasmModule → ImportPlaces → List ValType → List Instr → Type 0 = λ M p locals code.
+          (code ≡ back_code d.lower.flags.number l.saved ++ finish_code o.context (function_place d.lift.post_return) (slots_of p l.callee_context) (slots_of p l.own_context) l.given) × CanFinish d.lift.post_return o.context l.callee_context l.own_context M p in
+          let last : Emits f h Last = emits_then {P = Is (back_code d.lower.flags.number l.saved)} (λ M p locals code more y z. (λ i. y i ++ z.is i, z.can)) back x6 in
+          emits_then {P = ReadsSlots o.context l.callee_context} {Q = ExitOn d debug o l (taken_in a) rs ss}
           (λ M p locals code more y z. record {
-            may_leave = y.trap;
-            params = z.params;
             results = z.results;
-            is = ap (λ c. c ++ more) y.is ∙ ap (λ c. may_leave_code d.lower.flags.number l.saved y.trap ++ c) z.is ∙ whole_code d l y.trap z.params z.results;
-            has = y.has;
-            moves_params = z.moves_params;
+            is = (λ i. y.is i ++ z.is i)
+                ∙ ap (λ c. read_slots_code o.context (slots_of p l.callee_context) ++ c) (back_assoc d.lower.flags.number l.saved (exit_code o.told (p.function import.ExitSyncCall)) z.results (finish_code o.context (function_place d.lift.post_return) (slots_of p l.callee_context) (slots_of p l.own_context) l.given));
+            exits = z.exits;
+            reads = y.can;
+            finishes = z.finishes;
             moves_results = z.moves_results;
           })
           x1
-          (emits_then {P = Is (first_code d l)} {Q = ParamsOn d debug l (taken_in a) ps rs qs ss []}
-          (λ M p locals code more y z. record { params = z.params; results = z.results; is = ap (λ c. c ++ more) y ∙ ap (λ c. first_code d l ++ c) z.is; moves_params = z.moves_params; moves_results = z.moves_results })
-          front
-          (emits_then {Q = CallOn d debug l (taken_in a) rs ss} (λ M p locals code more y z. record { params = code; results = z.results; is = ap (λ c. code ++ c) z.is; moves_params = y; moves_results = z.moves_results })
-          params
-          (emits_then {P = Is (middle_code d l)} {Q = ResultsOn d debug l (taken_in a) rs ss} (λ M p locals code more y z. record { results = z.results; is = ap (λ c. c ++ more) y ∙ ap (λ c. middle_code d l ++ c) z.is; moves_results = z.moves_results })
-          middle
-          (emits_then {Q = Is (back_code d.lower.flags.number l.saved ++ pushed_code l.results)} (λ M p locals code more y z. record { results = code; is = ap (λ c. code ++ c) z; moves_results = y }) results back))));
+          (emits_then {P = ExitsCall o.told} {Q = ResultsOn d debug o l (taken_in a) rs ss (zero_code d.lower.flags.number)}
+          (λ M p locals code more y z. record { results = z.results; is = λ i. y.is i ++ z.is i; exits = y.has; finishes = z.finishes; moves_results = z.moves_results })
+          x2
+          (emits_then {P = Is (zero_code d.lower.flags.number)} {Q = ResultsOn d debug o l (taken_in a) rs ss []} (λ M p locals code more y z. record { results = z.results; is = λ i. y i ++ z.is i; finishes = z.finishes; moves_results = z.moves_results })
+          zero
+          (emits_then {Q = Last} (λ M p locals code more y z. record { results = code; is = ap (λ c. code ++ c) z.0; finishes = z.1; moves_results = y }) results last)));
+    }
+
+-- a function that was imported before is imported still
+some_there : (o : Option (Id Funcs)) (a b : ModuleSoFar) → Extended a b → IfSome o (λ (f : Id Funcs). f.number < length (functions_of a)) → IfSome o (λ (f : Id Funcs). f.number < length (functions_of b))
+some_there None a b x h = tt
+some_there (Some f) a b x h = omega (arith, h, ap length x.functions.is, length-append (functions_of a) x.functions.more)
+
+pub return_there : {t : Tables} {d : AdapterData} {debug : Bool} {o : CallOptions} {l : SyncPlaces} {a b : Writer} (post : Option (Id Funcs)) → WrittenCall t d debug o l a b → IfSome post (λ (f : Id Funcs). f.number < length (functions_of a.imports)) → IfSome post (λ (f : Id Funcs). f.number < length (functions_of b.imports))
+return_there {a = a} {b} post x h = some_there post a.imports b.imports x.grew.imports h
+
+pub finish_there : {context told : Bool} {c0 : ContextLocals} {a b c e f g : Writer} {xs ys : List Instr} (post : Option (Id Funcs)) → Emits a b (ReadsSlots context c0) → Emits b c (ExitsCall told) → Wrote c e xs → Grew e f → Wrote f g ys
+    → IfSome post (λ (f : Id Funcs). f.number < length (functions_of a.imports)) → IfSome post (λ (f : Id Funcs). f.number < length (functions_of g.imports))
+finish_there {a = a} {g = g} post x y z r w h = some_there post a.imports g.imports (extended_on x.grew.imports (extended_on y.grew.imports (extended_on (extended_none z.imports) (extended_on r.imports (extended_none w.imports))))) h
+
+-- ---- all steps, and a barrier around them
+
+pub written_steps : {t : Tables} {d : AdapterData} {debug : Bool} {o : CallOptions} {l : SyncPlaces} {a b c : Writer} → WrittenCall t d debug o l a b → WrittenReturn t d debug o l b c → WrittenSteps t d debug o l a c
+written_steps {d = d} {debug} {o} {l} {a} {b} {c} x y =
+    let taken_b : taken_in b ≡ taken_in a = λ n. λ i. (x.grew.still i) n in
+    record {
+      grew = grew_on x.grew y.grew;
+      lift_size = y.lift_size;
+      lower_size = y.lower_size;
+      emits = λ ps rs qs ss hl hf can can'.
+          let returns : Emits b c (IsReturnCode d debug o l (taken_in a) rs ss) = subst (λ taken. Emits b c (IsReturnCode d debug o l taken rs ss)) taken_b (y.emits ps rs qs ss hl hf can') in
+          emits_then (λ M p locals code more v w. record { call = code; return = more; is = refl; calls = v; returns = w }) (x.emits ps rs qs ss hl hf can) returns;
+    }
+
+pub written_barred : {t : Tables} {d : AdapterData} {debug : Bool} {o : CallOptions} {l : SyncPlaces} {a b c e f : Writer} {out body : List Instr} → Began a b out → WrittenSteps t d debug o l b c → Ended c e out body → WroteBarrier e f body → WrittenBarred t d debug o l a f
+written_barred {d = d} {debug} {o} {l} {a} {b} {c} {e} {f} began x ended barrier =
+    let taken_b : taken_in b ≡ taken_in a = ap (λ ls. λ i. is_local_in_use (slice_get ls.items i)) began.locals in
+    record {
+      grew = grew_barrier began ended barrier x.grew;
+      lift_size = x.lift_size;
+      lower_size = x.lower_size;
+      emits = λ ps rs qs ss hl hf can can'. barrier_emits began ended barrier (subst (λ taken. Emits b c (IsStepsCode d debug o l taken ps rs qs ss)) taken_b (x.emits ps rs qs ss hl hf can can'));
+    }
+
+-- ---- the whole
+
+-- What was written for a sync adapter: its steps, in a barrier or not, and the results on the stack.
+pub record WrittenSync (t : Tables) (d : AdapterData) (debug : Bool) (o : CallOptions) (l : SyncPlaces) (old new : Writer) : Type 0 where
+  pub grew : Grew old new
+  pub lift_size : (qs ss : List Shape) → HasSignature t d.lift.ty qs ss → tuple_size (linear_of d.lift).memory64 ss ≤ 4294967295
+  pub lower_size : (ps rs : List Shape) → HasSignature t d.lower.ty ps rs → tuple_size (linear_of d.lower).memory64 rs ≤ 4294967295
+  pub emits : (ps rs qs ss : List Shape) → HasSignature t d.lower.ty ps rs → HasSignature t d.lift.ty qs ss → CanMoveTuple ps qs → CanMoveTuple ss rs → Emits old new (IsSyncCode d debug o l (taken_in old) ps rs qs ss)
+
+pub sync_barred : {t : Tables} {d : AdapterData} {debug : Bool} {o : CallOptions} {l : SyncPlaces} {a b c : Writer} → o.barrier ≡ true → WrittenBarred t d debug o l a b → Wrote b c (pushed_code l.results) → WrittenSync t d debug o l a c
+sync_barred {o = o} {l = l} on x y =
+    let back = emits_wrote (pushed_ranged l.results) y in
+    record {
+      grew = grew_on x.grew back.grew;
+      lift_size = x.lift_size;
+      lower_size = x.lower_size;
+      emits = λ ps rs qs ss hl hf can can'.
+          emits_then {Q = Is (pushed_code l.results)} (λ M p locals code more v w. record {
+            steps = v.body;
+            uncaught = Some v.place;
+            is = λ i. v.is i ++ w i;
+            barrier = subst (λ b. KnowsUncaught b M p (Some v.place)) (sym on) v.has;
+            are_steps = v.inner;
+          }) (x.emits ps rs qs ss hl hf can can') back;
+    }
+
+pub sync_alone : {t : Tables} {d : AdapterData} {debug : Bool} {o : CallOptions} {l : SyncPlaces} {a b c : Writer} → o.barrier ≡ false → WrittenSteps t d debug o l a b → Wrote b c (pushed_code l.results) → WrittenSync t d debug o l a c
+sync_alone {o = o} {l = l} off x y =
+    let back = emits_wrote (pushed_ranged l.results) y in
+    record {
+      grew = grew_on x.grew back.grew;
+      lift_size = x.lift_size;
+      lower_size = x.lower_size;
+      emits = λ ps rs qs ss hl hf can can'.
+          emits_then {Q = Is (pushed_code l.results)} (λ M p locals code more v w. record {
+            steps = code;
+            uncaught = None;
+            is = ap (λ c. code ++ c) w;
+            barrier = subst (λ b. KnowsUncaught b M p None) (sym off) tt;
+            are_steps = v;
+          }) (x.emits ps rs qs ss hl hf can can') back;
     }

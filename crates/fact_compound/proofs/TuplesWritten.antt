@@ -38,12 +38,12 @@ last_is (x ∷ y ∷ ys) n d e =
     let next : n ≡ suc (length ys) = omega (arith, e) in
     ap (λ n. (get_or (x ∷ y ∷ ys) n d).local) next ∙ last_is (y ∷ ys) (length ys) d (omega arith)
 
-pub params_moved_on : {t : Tables} {d : AdapterData} {debug passed : Bool} {params core : List Slot} {a b : Writer} → passed ≡ false → MovedParams t d debug params core a b → PassedParams t d debug passed params core a b
-params_moved_on {t} {d} {debug} {passed} {params} {core} {a} {b} e m = subst (λ p. PassedParams t d debug p params core a b) (sym e) (record { grew = m.grew; emits = m.emits })
+pub params_moved_on : {t : Tables} {d : AdapterData} {debug concurrency passed : Bool} {params core : List Slot} {a b : Writer} → passed ≡ false → MovedParams t d debug concurrency params core a b → PassedParams t d debug concurrency passed params core a b
+params_moved_on {t} {d} {debug} {concurrency} {passed} {params} {core} {a} {b} e m = subst (λ p. PassedParams t d debug concurrency p params core a b) (sym e) (record { grew = m.grew; emits = m.emits })
 
-pub params_passed_on : {t : Tables} {d : AdapterData} {debug passed : Bool} {params core : List Slot} {a : Writer} → passed ≡ true → PassedParams t d debug passed params core a a
-params_passed_on {t} {d} {debug} {passed} {params} {core} {a} e =
-    subst (λ p. PassedParams t d debug p params core a a) (sym e) (record { grew = (emits_nothing {P = λ M p locals code. code ≡ []} (λ M p locals. refl)).grew; emits = λ ps rs qs ss h k can. emits_nothing (λ M p locals. refl) })
+pub params_passed_on : {t : Tables} {d : AdapterData} {debug concurrency passed : Bool} {params core : List Slot} {a : Writer} → passed ≡ true → PassedParams t d debug concurrency passed params core a a
+params_passed_on {t} {d} {debug} {concurrency} {passed} {params} {core} {a} e =
+    subst (λ p. PassedParams t d debug concurrency p params core a a) (sym e) (record { grew = (emits_nothing {P = λ M p locals code. code ≡ []} (λ M p locals. refl)).grew; emits = λ ps rs qs ss h k can. emits_nothing (λ M p locals. refl) })
 
 -- ---- areas
 
@@ -89,29 +89,29 @@ module _ {t : Tables} {tuple : Id TypeTuples} {l : CanonicalAbiInfo} (m : Linear
       emits = λ ss h counted. subst (λ b. Emits old old (ChecksTuple m (taken_in old) b address (tuple_size m.memory64 ss) (tuple_align m.memory64 ss))) (sym all ∙ flats m.memory64 ss h counted) (emits_nothing (λ M p locals. refl));
     }
 
-  module _ {address : ℕ} {flat : Bool} (flats : (memory64 : Bool) (ss : List Shape) → HasShape t (ty.Tuple tuple) (tuple_of ss) → AreCounted (tuple_members ss) → flat ≡ is_some (flat_values memory64 16 ss)) where
-    pub asked_tuple : {size align : ℕ} {old new : Writer} (wide : Bool) → m.memory64 ≡ wide → flat ≡ false → HasExtent wide l size align → Emits old new (AsksArea m (taken_in old) address size align) → AskedTuple t tuple m address old new
+  module _ {concurrency : Bool} {address : ℕ} {flat : Bool} (flats : (memory64 : Bool) (ss : List Shape) → HasShape t (ty.Tuple tuple) (tuple_of ss) → AreCounted (tuple_members ss) → flat ≡ is_some (flat_values memory64 16 ss)) where
+    pub asked_tuple : {size align : ℕ} {old new : Writer} (wide : Bool) → m.memory64 ≡ wide → flat ≡ false → HasExtent wide l size align → Emits old new (AsksArea concurrency m (taken_in old) address size align) → AskedTuple t tuple concurrency m address old new
     asked_tuple {old = old} {new} wide is none e x = record {
       grew = x.grew;
       size = area_small;
-      emits = λ ss h counted. subst (λ b. Emits old new (AsksTuple m (taken_in old) b address (tuple_size m.memory64 ss) (tuple_align m.memory64 ss))) (sym none ∙ flats m.memory64 ss h counted) (area_written (λ size align. AsksArea m (taken_in old) address size align) wide is e x ss h);
+      emits = λ ss h counted. subst (λ b. Emits old new (AsksTuple concurrency m (taken_in old) b address (tuple_size m.memory64 ss) (tuple_align m.memory64 ss))) (sym none ∙ flats m.memory64 ss h counted) (area_written (λ size align. AsksArea concurrency m (taken_in old) address size align) wide is e x ss h);
     }
 
-    pub unasked_tuple : {old : Writer} → flat ≡ true → AskedTuple t tuple m address old old
+    pub unasked_tuple : {old : Writer} → flat ≡ true → AskedTuple t tuple concurrency m address old old
     unasked_tuple {old} all = record {
       grew = (emits_nothing {P = λ M p locals code. code ≡ []} (λ M p locals. refl)).grew;
       size = area_small;
-      emits = λ ss h counted. subst (λ b. Emits old old (AsksTuple m (taken_in old) b address (tuple_size m.memory64 ss) (tuple_align m.memory64 ss))) (sym all ∙ flats m.memory64 ss h counted) (emits_nothing (λ M p locals. refl));
+      emits = λ ss h counted. subst (λ b. Emits old old (AsksTuple concurrency m (taken_in old) b address (tuple_size m.memory64 ss) (tuple_align m.memory64 ss))) (sym all ∙ flats m.memory64 ss h counted) (emits_nothing (λ M p locals. refl));
     }
 
 -- both checks and the move
-results_by : {t : Tables} (d : AdapterData) (debug : Bool) (given results args : List Slot) (from to : Id TypeTuples) (address address' : ℕ) {src : From} {dst : To} {lift_flat lower_flat : Bool} {a b c e : Writer} → address ≡ last_local given → address' ≡ last_local args
+results_by : {t : Tables} (d : AdapterData) (debug concurrency : Bool) (given results args : List Slot) (from to : Id TypeTuples) (address address' : ℕ) {src : From} {dst : To} {lift_flat lower_flat : Bool} {a b c e : Writer} → address ≡ last_local given → address' ≡ last_local args
     → src ≡ tuple_from (linear_of d.lift) lift_flat given → dst ≡ tuple_to (linear_of d.lower) lower_flat results args
     → ((memory64 : Bool) (ss : List Shape) → HasShape t (ty.Tuple from) (tuple_of ss) → AreCounted (tuple_members ss) → lift_flat ≡ is_some (flat_values memory64 1 ss))
     → ((memory64 : Bool) (ss : List Shape) → HasShape t (ty.Tuple to) (tuple_of ss) → AreCounted (tuple_members ss) → lower_flat ≡ is_some (flat_values memory64 1 ss))
     → ((qs ss : List Shape) → HasSignature t d.lift.ty qs ss → HasShape t (ty.Tuple from) (tuple_of ss)) → ((ps rs : List Shape) → HasSignature t d.lower.ty ps rs → HasShape t (ty.Tuple to) (tuple_of rs))
-    → CheckedTuple t from (linear_of d.lift) 1 address a b → CheckedTuple t to (linear_of d.lower) 1 address' b c → MovedTuple t (ty.Tuple from) (ty.Tuple to) (results_sides d debug) src dst c e → MovedResults t d debug given results args a e
-results_by d debug given results args from to address address' {src} {dst} {lift_flat} {lower_flat} {a} {b} {c} {e} first second is is' lift lower sx sy x y z = record {
+    → CheckedTuple t from (linear_of d.lift) 1 address a b → CheckedTuple t to (linear_of d.lower) 1 address' b c → MovedTuple t (ty.Tuple from) (ty.Tuple to) (results_sides d debug concurrency) src dst c e → MovedResults t d debug concurrency given results args a e
+results_by d debug concurrency given results args from to address address' {src} {dst} {lift_flat} {lower_flat} {a} {b} {c} {e} first second is is' lift lower sx sy x y z = record {
   grew = grew_on x.grew (grew_on y.grew z.grew);
   lift_size = λ qs ss h. x.size ss (sx qs ss h);
   lower_size = λ ps rs h. y.size rs (sy ps rs h);
@@ -127,39 +127,39 @@ results_by d debug given results args from to address address' {src} {dst} {lift
       (subst (λ n. Emits b c (ChecksTuple (linear_of d.lower) (taken_in b) g n (tuple_size (linear_of d.lower).memory64 rs) (tuple_align (linear_of d.lower).memory64 rs))) second (y.emits rs (sy ps rs h) can.to_counted)) in
       let source : src ≡ tuple_from (linear_of d.lift) f given = is ∙ ap (λ q. tuple_from (linear_of d.lift) q given) (lift (linear_of d.lift).memory64 ss (sx qs ss k) can.from_counted) in
       let target : dst ≡ tuple_to (linear_of d.lower) g results args = is' ∙ ap (λ q. tuple_to (linear_of d.lower) q results args) (lower (linear_of d.lower).memory64 rs (sy ps rs h) can.to_counted) in
-      let three : Emits c e (MovesTuple (results_sides d debug) (tuple_from (linear_of d.lift) f given) (tuple_to (linear_of d.lower) g results args) (taken_in a) (tuple_of ss) (tuple_of rs)) =
-      subst (λ taken. Emits c e (MovesTuple (results_sides d debug) (tuple_from (linear_of d.lift) f given) (tuple_to (linear_of d.lower) g results args) taken (tuple_of ss) (tuple_of rs))) from_c
-      (subst (λ dst. Emits c e (MovesTuple (results_sides d debug) (tuple_from (linear_of d.lift) f given) dst (taken_in c) (tuple_of ss) (tuple_of rs))) target
-      (subst (λ src. Emits c e (MovesTuple (results_sides d debug) src dst (taken_in c) (tuple_of ss) (tuple_of rs))) source
+      let three : Emits c e (MovesTuple (results_sides d debug concurrency) (tuple_from (linear_of d.lift) f given) (tuple_to (linear_of d.lower) g results args) (taken_in a) (tuple_of ss) (tuple_of rs)) =
+      subst (λ taken. Emits c e (MovesTuple (results_sides d debug concurrency) (tuple_from (linear_of d.lift) f given) (tuple_to (linear_of d.lower) g results args) taken (tuple_of ss) (tuple_of rs))) from_c
+      (subst (λ dst. Emits c e (MovesTuple (results_sides d debug concurrency) (tuple_from (linear_of d.lift) f given) dst (taken_in c) (tuple_of ss) (tuple_of rs))) target
+      (subst (λ src. Emits c e (MovesTuple (results_sides d debug concurrency) src dst (taken_in c) (tuple_of ss) (tuple_of rs))) source
       (z.emits (tuple_of ss) (tuple_of rs) (sx qs ss k) (sy ps rs h) (tt, can.from_counted) (tt, can.to_counted) can.members))) in
       emits_then
       {P = ChecksTuple (linear_of d.lift) (taken_in a) f (last_local given) (tuple_size (linear_of d.lift).memory64 ss) (tuple_align (linear_of d.lift).memory64 ss)}
       {Q = λ M p locals k. (c2 : List Instr) × (c3 : List Instr) × (k ≡ c2 ++ c3)
       × ChecksTuple (linear_of d.lower) (taken_in a) g (last_local args) (tuple_size (linear_of d.lower).memory64 rs) (tuple_align (linear_of d.lower).memory64 rs) M p locals c2
-      × MovesTuple (results_sides d debug) (tuple_from (linear_of d.lift) f given) (tuple_to (linear_of d.lower) g results args) (taken_in a) (tuple_of ss) (tuple_of rs) M p locals c3}
+      × MovesTuple (results_sides d debug concurrency) (tuple_from (linear_of d.lift) f given) (tuple_to (linear_of d.lower) g results args) (taken_in a) (tuple_of ss) (tuple_of rs) M p locals c3}
       (λ M p locals c1 k q r. record { lift_check = c1; lower_check = r.0; move = r.1; is = ap (λ k. c1 ++ k) r.2; checks_lift = q; checks_lower = r.3; moves = r.4 })
       one
       (emits_then (λ M p locals c2 c3 q r. (c2, c3, refl, q, r)) two three);
 }
 
-pub moved_results : {t : Tables} (d : AdapterData) (debug : Bool) {sides : Sides} → sides ≡ results_sides d debug → (given results args : List Slot) (from to : Id TypeTuples) (address address' : ℕ) {src : From} {dst : To} {lift_flat lower_flat : Bool} {a b c e : Writer} → address ≡ last_local given → address' ≡ last_local args
+pub moved_results : {t : Tables} (d : AdapterData) (debug concurrency : Bool) {sides : Sides} → sides ≡ results_sides d debug concurrency → (given results args : List Slot) (from to : Id TypeTuples) (address address' : ℕ) {src : From} {dst : To} {lift_flat lower_flat : Bool} {a b c e : Writer} → address ≡ last_local given → address' ≡ last_local args
     → src ≡ tuple_from sides.from lift_flat given → dst ≡ tuple_to sides.to lower_flat results args
     → ((memory64 : Bool) (ss : List Shape) → HasShape t (ty.Tuple from) (tuple_of ss) → AreCounted (tuple_members ss) → lift_flat ≡ is_some (flat_values memory64 1 ss))
     → ((memory64 : Bool) (ss : List Shape) → HasShape t (ty.Tuple to) (tuple_of ss) → AreCounted (tuple_members ss) → lower_flat ≡ is_some (flat_values memory64 1 ss))
     → ((qs ss : List Shape) → HasSignature t d.lift.ty qs ss → HasShape t (ty.Tuple from) (tuple_of ss)) → ((ps rs : List Shape) → HasSignature t d.lower.ty ps rs → HasShape t (ty.Tuple to) (tuple_of rs))
-    → CheckedTuple t from sides.from 1 address a b → CheckedTuple t to sides.to 1 address' b c → MovedTuple t (ty.Tuple from) (ty.Tuple to) sides src dst c e → MovedResults t d debug given results args a e
-moved_results {t} d debug {sides} same given results args from to address address' {src} {dst} {lift_flat} {lower_flat} {a} {b} {c} {e} first second is is' lift lower sx sy x y z =
-    results_by d debug given results args from to address address' first second (subst (λ (s : Sides). src ≡ tuple_from s.from lift_flat given) same is) (subst (λ (s : Sides). dst ≡ tuple_to s.to lower_flat results args) same is')
+    → CheckedTuple t from sides.from 1 address a b → CheckedTuple t to sides.to 1 address' b c → MovedTuple t (ty.Tuple from) (ty.Tuple to) sides src dst c e → MovedResults t d debug concurrency given results args a e
+moved_results {t} d debug concurrency {sides} same given results args from to address address' {src} {dst} {lift_flat} {lower_flat} {a} {b} {c} {e} first second is is' lift lower sx sy x y z =
+    results_by d debug concurrency given results args from to address address' first second (subst (λ (s : Sides). src ≡ tuple_from s.from lift_flat given) same is) (subst (λ (s : Sides). dst ≡ tuple_to s.to lower_flat results args) same is')
     lift lower sx sy (subst (λ (s : Sides). CheckedTuple t from s.from 1 address a b) same x) (subst (λ (s : Sides). CheckedTuple t to s.to 1 address' b c) same y) (subst (λ s. MovedTuple t (ty.Tuple from) (ty.Tuple to) s src dst c e) same z)
 
 -- the check, the request and the move of parameters
-params_by : {t : Tables} (d : AdapterData) (debug : Bool) (params core : List Slot) (from to : Id TypeTuples) (address address' : ℕ) {src : From} {dst : To} {lower_flat lift_flat : Bool} {a b c e : Writer} → address ≡ last_local params → address' ≡ last_local core
+params_by : {t : Tables} (d : AdapterData) (debug concurrency : Bool) (params core : List Slot) (from to : Id TypeTuples) (address address' : ℕ) {src : From} {dst : To} {lower_flat lift_flat : Bool} {a b c e : Writer} → address ≡ last_local params → address' ≡ last_local core
     → src ≡ tuple_from (linear_of d.lower) lower_flat params → dst ≡ tuple_to (linear_of d.lift) lift_flat core core
     → ((memory64 : Bool) (ss : List Shape) → HasShape t (ty.Tuple from) (tuple_of ss) → AreCounted (tuple_members ss) → lower_flat ≡ is_some (flat_values memory64 16 ss))
     → ((memory64 : Bool) (ss : List Shape) → HasShape t (ty.Tuple to) (tuple_of ss) → AreCounted (tuple_members ss) → lift_flat ≡ is_some (flat_values memory64 16 ss))
     → ((ps rs : List Shape) → HasSignature t d.lower.ty ps rs → HasShape t (ty.Tuple from) (tuple_of ps)) → ((qs ss : List Shape) → HasSignature t d.lift.ty qs ss → HasShape t (ty.Tuple to) (tuple_of qs))
-    → CheckedTuple t from (linear_of d.lower) 16 address a b → AskedTuple t to (linear_of d.lift) address' b c → MovedTuple t (ty.Tuple from) (ty.Tuple to) (params_sides d debug) src dst c e → MovedParams t d debug params core a e
-params_by d debug params core from to address address' {src} {dst} {lower_flat} {lift_flat} {a} {b} {c} {e} first second is is' lower lift sx sy x y z = record {
+    → CheckedTuple t from (linear_of d.lower) 16 address a b → AskedTuple t to concurrency (linear_of d.lift) address' b c → MovedTuple t (ty.Tuple from) (ty.Tuple to) (params_sides d debug concurrency) src dst c e → MovedParams t d debug concurrency params core a e
+params_by d debug concurrency params core from to address address' {src} {dst} {lower_flat} {lift_flat} {a} {b} {c} {e} first second is is' lower lift sx sy x y z = record {
   grew = grew_on x.grew (grew_on y.grew z.grew);
   emits = λ ps rs qs ss h k can.
       let m = linear_of d.lower in
@@ -170,34 +170,34 @@ params_by d debug params core from to address address' {src} {dst} {lower_flat} 
       let from_c : taken_in c ≡ taken_in a = (λ j. λ i. (y.grew.still i) j) ∙ from_b in
       let one : Emits a b (ChecksTuple m (taken_in a) f (last_local params) (tuple_size m.memory64 ps) (tuple_align m.memory64 ps)) =
       subst (λ n. Emits a b (ChecksTuple m (taken_in a) f n (tuple_size m.memory64 ps) (tuple_align m.memory64 ps))) first (x.emits ps (sx ps rs h) can.from_counted) in
-      let two : Emits b c (AsksTuple m' (taken_in a) g (last_local core) (tuple_size m'.memory64 qs) (tuple_align m'.memory64 qs)) =
-      subst (λ taken. Emits b c (AsksTuple m' taken g (last_local core) (tuple_size m'.memory64 qs) (tuple_align m'.memory64 qs))) from_b
-      (subst (λ n. Emits b c (AsksTuple m' (taken_in b) g n (tuple_size m'.memory64 qs) (tuple_align m'.memory64 qs))) second (y.emits qs (sy qs ss k) can.to_counted)) in
+      let two : Emits b c (AsksTuple concurrency m' (taken_in a) g (last_local core) (tuple_size m'.memory64 qs) (tuple_align m'.memory64 qs)) =
+      subst (λ taken. Emits b c (AsksTuple concurrency m' taken g (last_local core) (tuple_size m'.memory64 qs) (tuple_align m'.memory64 qs))) from_b
+      (subst (λ n. Emits b c (AsksTuple concurrency m' (taken_in b) g n (tuple_size m'.memory64 qs) (tuple_align m'.memory64 qs))) second (y.emits qs (sy qs ss k) can.to_counted)) in
       let source : src ≡ tuple_from m f params = is ∙ ap (λ q. tuple_from m q params) (lower m.memory64 ps (sx ps rs h) can.from_counted) in
       let target : dst ≡ tuple_to m' g core core = is' ∙ ap (λ q. tuple_to m' q core core) (lift m'.memory64 qs (sy qs ss k) can.to_counted) in
-      let three : Emits c e (MovesTuple (params_sides d debug) (tuple_from m f params) (tuple_to m' g core core) (taken_in a) (tuple_of ps) (tuple_of qs)) =
-      subst (λ taken. Emits c e (MovesTuple (params_sides d debug) (tuple_from m f params) (tuple_to m' g core core) taken (tuple_of ps) (tuple_of qs))) from_c
-      (subst (λ dst. Emits c e (MovesTuple (params_sides d debug) (tuple_from m f params) dst (taken_in c) (tuple_of ps) (tuple_of qs))) target
-      (subst (λ src. Emits c e (MovesTuple (params_sides d debug) src dst (taken_in c) (tuple_of ps) (tuple_of qs))) source
+      let three : Emits c e (MovesTuple (params_sides d debug concurrency) (tuple_from m f params) (tuple_to m' g core core) (taken_in a) (tuple_of ps) (tuple_of qs)) =
+      subst (λ taken. Emits c e (MovesTuple (params_sides d debug concurrency) (tuple_from m f params) (tuple_to m' g core core) taken (tuple_of ps) (tuple_of qs))) from_c
+      (subst (λ dst. Emits c e (MovesTuple (params_sides d debug concurrency) (tuple_from m f params) dst (taken_in c) (tuple_of ps) (tuple_of qs))) target
+      (subst (λ src. Emits c e (MovesTuple (params_sides d debug concurrency) src dst (taken_in c) (tuple_of ps) (tuple_of qs))) source
       (z.emits (tuple_of ps) (tuple_of qs) (sx ps rs h) (sy qs ss k) (tt, can.from_counted) (tt, can.to_counted) can.members))) in
       let small = x.size ps (sx ps rs h) in
       let small' = y.size qs (sy qs ss k) in
       emits_then
       {P = ChecksTuple m (taken_in a) f (last_local params) (tuple_size m.memory64 ps) (tuple_align m.memory64 ps)}
       {Q = λ M p locals k. (c2 : List Instr) × (c3 : List Instr) × (k ≡ c2 ++ c3)
-      × AsksTuple m' (taken_in a) g (last_local core) (tuple_size m'.memory64 qs) (tuple_align m'.memory64 qs) M p locals c2
-      × MovesTuple (params_sides d debug) (tuple_from m f params) (tuple_to m' g core core) (taken_in a) (tuple_of ps) (tuple_of qs) M p locals c3}
+      × AsksTuple concurrency m' (taken_in a) g (last_local core) (tuple_size m'.memory64 qs) (tuple_align m'.memory64 qs) M p locals c2
+      × MovesTuple (params_sides d debug concurrency) (tuple_from m f params) (tuple_to m' g core core) (taken_in a) (tuple_of ps) (tuple_of qs) M p locals c3}
       (λ M p locals c1 k q r. record { lower_check = c1; lift_request = r.0; move = r.1; is = ap (λ k. c1 ++ k) r.2; lower_size = small; lift_size = small'; checks_lower = q; asks_lift = r.3; moves = r.4 })
       one
       (emits_then (λ M p locals c2 c3 q r. (c2, c3, refl, q, r)) two three);
 }
 
-pub moved_params : {t : Tables} (d : AdapterData) (debug : Bool) {sides : Sides} → sides ≡ params_sides d debug → (params core : List Slot) (from to : Id TypeTuples) (address address' : ℕ) {src : From} {dst : To} {lower_flat lift_flat : Bool} {a b c e : Writer} → address ≡ last_local params → address' ≡ last_local core
+pub moved_params : {t : Tables} (d : AdapterData) (debug concurrency : Bool) {sides : Sides} → sides ≡ params_sides d debug concurrency → (params core : List Slot) (from to : Id TypeTuples) (address address' : ℕ) {src : From} {dst : To} {lower_flat lift_flat : Bool} {a b c e : Writer} → address ≡ last_local params → address' ≡ last_local core
     → src ≡ tuple_from sides.from lower_flat params → dst ≡ tuple_to sides.to lift_flat core core
     → ((memory64 : Bool) (ss : List Shape) → HasShape t (ty.Tuple from) (tuple_of ss) → AreCounted (tuple_members ss) → lower_flat ≡ is_some (flat_values memory64 16 ss))
     → ((memory64 : Bool) (ss : List Shape) → HasShape t (ty.Tuple to) (tuple_of ss) → AreCounted (tuple_members ss) → lift_flat ≡ is_some (flat_values memory64 16 ss))
     → ((ps rs : List Shape) → HasSignature t d.lower.ty ps rs → HasShape t (ty.Tuple from) (tuple_of ps)) → ((qs ss : List Shape) → HasSignature t d.lift.ty qs ss → HasShape t (ty.Tuple to) (tuple_of qs))
-    → CheckedTuple t from sides.from 16 address a b → AskedTuple t to sides.to address' b c → MovedTuple t (ty.Tuple from) (ty.Tuple to) sides src dst c e → MovedParams t d debug params core a e
-moved_params {t} d debug {sides} same params core from to address address' {src} {dst} {lower_flat} {lift_flat} {a} {b} {c} {e} first second is is' lower lift sx sy x y z =
-    params_by d debug params core from to address address' first second (subst (λ (s : Sides). src ≡ tuple_from s.from lower_flat params) same is) (subst (λ (s : Sides). dst ≡ tuple_to s.to lift_flat core core) same is')
-    lower lift sx sy (subst (λ (s : Sides). CheckedTuple t from s.from 16 address a b) same x) (subst (λ (s : Sides). AskedTuple t to s.to address' b c) same y) (subst (λ s. MovedTuple t (ty.Tuple from) (ty.Tuple to) s src dst c e) same z)
+    → CheckedTuple t from sides.from 16 address a b → AskedTuple t to concurrency sides.to address' b c → MovedTuple t (ty.Tuple from) (ty.Tuple to) sides src dst c e → MovedParams t d debug concurrency params core a e
+moved_params {t} d debug concurrency {sides} same params core from to address address' {src} {dst} {lower_flat} {lift_flat} {a} {b} {c} {e} first second is is' lower lift sx sy x y z =
+    params_by d debug concurrency params core from to address address' first second (subst (λ (s : Sides). src ≡ tuple_from s.from lower_flat params) same is) (subst (λ (s : Sides). dst ≡ tuple_to s.to lift_flat core core) same is')
+    lower lift sx sy (subst (λ (s : Sides). CheckedTuple t from s.from 16 address a b) same x) (subst (λ (s : Sides). AskedTuple t to concurrency s.to address' b c) same y) (subst (λ s. MovedTuple t (ty.Tuple from) (ty.Tuple to) s src dst c e) same z)

@@ -9,10 +9,10 @@ use Rattle.fact_types.specs.Signatures.{address, flat_values, flat_params, unles
 use Rattle.fact_types.specs.Tables.{Tables}
 use Rattle.fact_types.specs.declared.signature.Signature.{Signature}
 use Rattle.fact_machine.specs.Trace.{Grows}
-use Rattle.fact_moves.specs.Adapters.{AdapterTunables, sync, lower_signature_of, lift_signature_of}
+use Rattle.fact_machine.specs.declared.types.CoreValue.{CoreValue}
+use Rattle.fact_moves.specs.Adapters.{AdapterTunables, lower_signature_of, lift_signature_of}
 use Rattle.fact_moves.specs.Running.{ImportPlaces}
-use Rattle.fact_pieces.specs.Does.{Onward, Does}
-use Rattle.fact_pieces.specs.PieceLaws.{HaveResultTypes}
+use Rattle.fact_pieces.specs.Does.{Locals, held_types}
 use Rattle.fact_pieces.specs.Places.{Slot, AreHeld, AreLocals, AreUsed}
 use Rattle.fact_pieces.specs.Typed.{OnStack, IsTyped}
 use Rattle.fact_emit.specs.Brought.{Brought}
@@ -26,11 +26,13 @@ use Rattle.fact_emit.proofs.BroughtLaws.{brought_between}
 use Rattle.fact_emit.proofs.ImportLaws.{grown_get, grows_none, grows_on}
 use Rattle.fact_emit.proofs.Locals.{get_map}
 use Rattle.fact_compound.specs.Described.{DescribesAdapter, KnowsAdapterData}
-use Rattle.fact_compound.specs.Functions.{slots_from, AddedSyncLocals, PutBody, DoesBody, WroteBody, places_with, sync_types, added_slots, unless_passed}
-use Rattle.fact_compound.specs.Syncs.{lower_type_of}
+use Rattle.fact_compound.specs.Functions.{slots_from, AddedSyncLocals, PutBody, DoesBody, WroteBody, places_with, sync_types, params_among, added_slots, context_types, unless_passed}
+use Rattle.fact_compound.specs.Events.{AreCallOptions}
+use Rattle.fact_compound.specs.Syncs.{DoesSync, EmitsSync, EndsAsSync}
+use Rattle.fact_compound.specs.declared.syncs.CallOptions.{CallOptions}
 use Rattle.fact_compound.specs.Code.{slot_types}
 use Rattle.fact_compound.specs.PassedOn.{ArePassedOn}
-use Rattle.fact_compound.specs.Written.{CoreLocals, HasLocals, all_slots, kept_slots}
+use Rattle.fact_compound.specs.Written.{CoreLocals, HasLocals, all_slots, kept_slots, outs_slots}
 use Rattle.fact_types.specs.Functions.{HasSignature}
 use Rattle.fact_compound.proofs.Runs.{numbers_append, numbers_front, numbers_behind}
 use Rattle.fact_compound.specs.declared.adapters.AdapterData.{AdapterData}
@@ -51,23 +53,38 @@ no_slots : (ss : List Slot) → slot_types ss ≡ [] → ss ≡ []
 no_slots [] e = refl
 no_slots (s ∷ ss) e = cc
 
-slots_are_added : (b : Bool) (l : AdapterLocals) (lift : Signature) (params : List Slot) → slot_types (slots_of_locals l.core.items) ≡ unless_passed b lift.params → all_slots (places_with b l params) ≡ added_slots l
-slots_are_added false l lift params e = refl
-slots_are_added true l lift params e =
-    ap (λ cs. kept_slots (places_with true l params) ++ (cs ++ (slots_of_locals l.given.items ++ slots_of_locals l.results.items))) (sym (no_slots (slots_of_locals l.core.items) e))
+slots_are_added : (b context : Bool) (l : AdapterLocals) (lift : Signature) (params : List Slot) → slot_types (slots_of_locals l.core.items) ≡ unless_passed b lift.params → all_slots context (places_with b l params) ≡ added_slots context l
+slots_are_added false context l lift params e = refl
+slots_are_added true context l lift params e =
+    ap (λ cs. kept_slots (places_with true l params) ++ (cs ++ outs_slots context (places_with true l params))) (sym (no_slots (slots_of_locals l.core.items) e))
 
 -- types of numbers without those of the callee's parameters
-numbers_less : (b : Bool) (lower lift : Signature) → AreNumberTypes (sync_types false lower lift) → AreNumberTypes (sync_types b lower lift)
+numbers_less : (b : Bool) (lower lift : Signature) → AreNumberTypes (sync_types false false lower lift) → AreNumberTypes (sync_types b false lower lift)
 numbers_less false lower lift h = h
 numbers_less true lower lift h =
     let front : List ValType = lower.params ++ val.I32 ∷ val.I32 ∷ [] in
-    let rest : List ValType = lift.results ++ lower.results in
+    let rest : List ValType = lift.results ++ (lower.results ++ []) in
     numbers_append front rest (numbers_front front (lift.params ++ rest) h) (numbers_behind lift.params rest (numbers_behind front (lift.params ++ rest) h))
 
-module _ {t : Tables} {d : AdapterData} {debug : Bool} (passed : Bool) (are : passed ≡ true → (ps rs qs ss : List Shape) → HasSignature t d.lower.ty ps rs → HasSignature t d.lift.ty qs ss → ArePassedOn ps qs)
-    {lower lift : Signature} {a0 b c : Writer} {l : AdapterLocals} (no_code : a0.code.items ≡ []) (no_locals : a0.locals.items ≡ []) (x : AddedSyncLocals passed a0 b lower lift l) (y : PutBody t d debug passed l b c) where
+-- and with those for the slots of the context
+numbers_context : (b context : Bool) (lower lift : Signature) → AreNumberTypes (sync_types false false lower lift) → AreNumberTypes (sync_types b context lower lift)
+numbers_context b false lower lift h = numbers_less b lower lift h
+numbers_context b true lower lift h =
+    let less = numbers_less b lower lift h in
+    let front : List ValType = lower.params ++ val.I32 ∷ val.I32 ∷ [] in
+    let core : List ValType = unless_passed b lift.params in
+    let two : List ValType = val.I32 ∷ val.I32 ∷ [] in
+    let behind = numbers_behind front (core ++ (lift.results ++ (lower.results ++ []))) less in
+    let outs = numbers_behind core (lift.results ++ (lower.results ++ [])) behind in
+    let results = numbers_front lower.results [] (numbers_behind lift.results (lower.results ++ []) outs) in
+    numbers_append front (core ++ (lift.results ++ (two ++ (lower.results ++ two)))) (numbers_front front (core ++ (lift.results ++ (lower.results ++ []))) less)
+    (numbers_append core (lift.results ++ (two ++ (lower.results ++ two))) (numbers_front core (lift.results ++ (lower.results ++ [])) behind)
+    (numbers_append lift.results (two ++ (lower.results ++ two)) (numbers_front lift.results (lower.results ++ []) outs) (numbers_append two (lower.results ++ two) refl (numbers_append lower.results two results refl))))
+
+module _ {t : Tables} {d : AdapterData} {debug : Bool} {o : CallOptions} (passed : Bool) (are : passed ≡ true → (ps rs qs ss : List Shape) → HasSignature t d.lower.ty ps rs → HasSignature t d.lift.ty qs ss → ArePassedOn ps qs)
+    {lower lift : Signature} {a0 b c : Writer} {l : AdapterLocals} (no_code : a0.code.items ≡ []) (no_locals : a0.locals.items ≡ []) (x : AddedSyncLocals passed o.context a0 b lower lift l) (y : PutBody t d debug o passed l b c) where
   abbrev types : List ValType
-  types = sync_types passed lower lift
+  types = sync_types passed o.context lower lift
 
   added_locals : b.locals.items ≡ map used_local_of types
   added_locals = x.added.locals ∙ ap (λ ls. ls ++ map used_local_of types) no_locals
@@ -78,30 +95,30 @@ module _ {t : Tables} {d : AdapterData} {debug : Bool} (passed : Bool) (are : pa
   start : length a0.locals.items ≡ 0
   start = ap length no_locals
 
-  all_are : all_slots (places_with passed l y.params) ≡ slots_from 0 types
-  all_are = slots_are_added passed l lift y.params x.core_types ∙ x.added.slots_are ∙ ap (λ k. slots_from k types) start
+  all_are : all_slots o.context (places_with passed l y.params) ≡ slots_from 0 types
+  all_are = slots_are_added passed o.context l lift y.params x.core_types ∙ x.added.slots_are ∙ ap (λ k. slots_from k types) start
 
   args_are : slots_of_locals l.args.items ≡ slots_from 0 lower.params
   args_are = x.args ∙ ap (λ k. slots_from k lower.params) start
 
-  all_typed : AreLocals (types_of_locals c) (all_slots (places_with passed l y.params))
+  all_typed : AreLocals (types_of_locals c) (all_slots o.context (places_with passed l y.params))
   all_typed = subst (λ ss. AreLocals (types_of_locals c) ss) (sym all_are) (locals_from (types_of_locals c) 0 types (λ i u e. ap (slice_get (types_of_locals c)) (same_place i) ∙ grown_get y.put.grew.locals i u (ap (λ ts. slice_get ts i) types_are ∙ e)))
 
-  all_used : AreUsed (taken_in b) (all_slots (places_with passed l y.params))
+  all_used : AreUsed (taken_in b) (all_slots o.context (places_with passed l y.params))
   all_used =
       subst (λ ss. AreUsed (taken_in b) ss) (sym all_are) (used_from (taken_in b) 0 types (λ i u e.
       ap (taken_in b) (same_place i) ∙ ap (λ ls. is_local_in_use (slice_get ls i)) added_locals ∙ ap is_local_in_use (get_map used_local_of types i u e)))
 
-  all_distinct : AreDistinctSlots (all_slots (places_with passed l y.params))
+  all_distinct : AreDistinctSlots (all_slots o.context (places_with passed l y.params))
   all_distinct = subst (λ ss. AreDistinctSlots ss) (sym all_are) (distinct_from 0 types)
 
-  module _ {u : AdapterTunables} {a : LinkedAdapter} (h : DescribesAdapter t d debug u a) (lower_is : lower ≡ lower_signature_of a) (lift_is : lift ≡ lift_signature_of a) where
+  module _ {u : AdapterTunables} {a : LinkedAdapter} (h : DescribesAdapter t d debug u a) (asks : AreCallOptions o u a) (lower_is : lower ≡ lower_signature_of a) (lift_is : lift ≡ lift_signature_of a) where
     pointed : IsSplit (flat_values (is_wide a.lower.memory) 1 a.lower.results) (address (is_wide a.lower.memory)) (flat_params (is_wide a.lower.memory) 16 a.lower.params) (slots_of_locals l.args.items) y.params
     pointed =
         split (flat_values (is_wide a.lower.memory) 1 a.lower.results) (address (is_wide a.lower.memory)) (flat_params (is_wide a.lower.memory) 16 a.lower.params) (slots_of_locals l.args.items) y.params
         (args_are ∙ ap (slots_from 0) (ap (λ (s : Signature). s.params) lower_is ∙ lower_params_are a h.lower.sync)) (y.split a.lower.params a.lower.results h.lower.signature h.results.to_counted (is_wide a.lower.memory))
 
-    room : HasLocals a (places_with passed l y.params) (taken_in b) (types_of_locals c)
+    room : HasLocals a o.context (places_with passed l y.params) (taken_in b) (types_of_locals c)
     room = record {
       rest = pointed.rest;
       args = pointed.args_are;
@@ -117,28 +134,28 @@ module _ {t : Tables} {d : AdapterData} {debug : Bool} (passed : Bool) (are : pa
 
     body_does : (M : WasmModule) (p : ImportPlaces) → Serves M p c.imports → KnowsAdapterData M p d a → DoesBody u a M p (types_of_locals c) c.code.items
     body_does M p serves links =
-        let e = y.put.emits u a h in
+        let e = y.put.emits u a h asks in
         let later : Later c M p (types_of_locals c) = record { serves = serves; begin = grows_none refl } in
         let m = e.does M p (types_of_locals c) later in
         let code : c.code.items ≡ e.grew.added = e.grew.code ∙ ap (λ k. k ++ e.grew.added) (x.added.code ∙ no_code) in
         let there : slots_of_locals l.args.items ≡ slots_from 0 (lower_signature_of a).params = args_are ∙ ap (λ (s : Signature). slots_from 0 s.params) lower_is in
         record {
-          does = λ args ls held h'. subst (λ k. Does M p Onward 900 0 [] ls k (sync u a args) reverse (HaveResultTypes (lower_type_of a))) (sym code) (m.does links room args ls held (subst (λ ss. AreHeld ls ss args) (sym there) h'));
+          does = λ args ls held h'. subst (λ k. EndsAsSync u a M p args ls k) (sym code) (m.does links room args ls held (subst (λ ss. AreHeld ls ss args) (sym there) h'));
           typed = subst (λ k. IsTyped M (types_of_locals c) [] k [] (OnStack (reverse (lower_signature_of a).results))) (sym code) (m.typed links room);
         }
 
   -- The body was written, with its locals.
-  pub wrote_body : WroteBody t d debug lower lift a0 c
+  pub wrote_body : WroteBody t d debug o lower lift a0 c
   wrote_body =
       let g = y.put.grew in
       let body : c.code.items ≡ g.added = g.code ∙ ap (λ k. k ++ g.added) (x.added.code ∙ no_code) in
       let first : Grows lower.params (lower.params ++ val.I32 ∷ val.I32 ∷ []) = record { more = val.I32 ∷ val.I32 ∷ []; is = refl } in
-      let second : Grows (lower.params ++ val.I32 ∷ val.I32 ∷ []) types = record { more = unless_passed passed lift.params ++ (lift.results ++ lower.results); is = refl } in
+      let second : Grows (lower.params ++ val.I32 ∷ val.I32 ∷ []) types = record { more = unless_passed passed lift.params ++ (lift.results ++ (context_types o.context ++ (lower.results ++ context_types o.context))); is = refl } in
       record {
         imports = subst (λ s. Extended s c.imports) x.added.imports y.put.grew.imports;
         once = λ o. y.put.grew.once (subst AreOnce (sym x.added.imports) o);
         brought = brought_between x.added.imports refl (subst (Brought b.imports c.imports) (sym body) y.put.grew.brought);
         params = grows_on first (grows_on second (subst (λ ts. Grows ts (types_of_locals c)) types_are y.put.grew.locals));
-        numbers = λ n. y.put.grew.numbers (subst (λ ts. AreNumberTypes ts) (sym types_are) (numbers_less passed lower lift n));
-        is = λ u a h lower_is lift_is M p serves links. body_does h lower_is lift_is M p serves links;
+        numbers = λ n. y.put.grew.numbers (subst (λ ts. AreNumberTypes ts) (sym types_are) (numbers_context passed o.context lower lift n));
+        is = λ u a h asks lower_is lift_is M p serves links. body_does h asks lower_is lift_is M p serves links;
       }

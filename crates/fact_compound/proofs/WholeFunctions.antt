@@ -26,10 +26,9 @@ use Rattle.fact_machine.specs.Exits.{entry_locals}
 use Rattle.fact_machine.specs.Machine.{locals_of}
 use Rattle.fact_machine.specs.Typing.{is_number, local_types}
 use Rattle.fact_machine.proofs.Tests.{both}
-use Rattle.fact_moves.specs.Adapters.{AdapterTunables, sync, lower_signature_of, lift_signature_of}
+use Rattle.fact_moves.specs.Adapters.{AdapterTunables, lower_signature_of, lift_signature_of}
 use Rattle.fact_moves.specs.Running.{ImportPlaces}
-use Rattle.fact_pieces.specs.Does.{Onward, held_types, Does}
-use Rattle.fact_pieces.specs.PieceLaws.{HaveResultTypes}
+use Rattle.fact_pieces.specs.Does.{held_types}
 use Rattle.fact_pieces.specs.Typed.{OperandsBehind, OnStack, IsTyped}
 use Rattle.fact_pieces.proofs.TypedShapes.{typed_body}
 use Rattle.fact_emit.specs.Brought.{Brought}
@@ -44,7 +43,10 @@ use Rattle.fact_emit.proofs.ImportLaws.{extended_on, grown_get}
 use Rattle.fact_emit.proofs.ServingLaws.{serves_sooner}
 use Rattle.fact_compound.specs.Described.{DescribesAdapter, KnowsAdapterData}
 use Rattle.fact_compound.specs.Functions.{sync_types, DoesBody, WroteBody, WroteFunction, CompiledSync}
-use Rattle.fact_compound.specs.Syncs.{IsSyncFunction, lower_type_of}
+use Rattle.fact_compound.specs.Events.{AreCallOptions, AsksCalls}
+use Rattle.fact_compound.specs.Syncs.{EndsAsSync, IsSyncFunction, lower_type_of}
+use Rattle.fact_compound.specs.declared.syncs.CallOptions.{CallOptions}
+use Rattle.fact_compound.proofs.CallOptions.{asks_calls}
 use Rattle.fact_compound.specs.declared.adapters.AdapterData.{AdapterData}
 use Rattle.fact_compound.proofs.Flats.{are_flat}
 use Rattle.fact_compound.proofs.Runs.{numbers_append, numbers_behind, declares_all}
@@ -83,17 +85,17 @@ lower_is_sync a sync = ap (λ b. lower_by b (is_wide a.lower.memory) a.lower.par
 lift_is_sync : (a : LinkedAdapter) → a.lift.async_side ≡ false → lift_signature_of a ≡ sync_lift (is_wide a.lift.memory) a.lift.params a.lift.results
 lift_is_sync a sync = ap (λ b. lift_by b (is_some a.lift.callback) (is_wide a.lift.memory) a.lift.params a.lift.results) sync
 
-sync_numbers : (m n : Bool) (ps rs qs ss : List Shape) → AreNumberTypes (sync_types false (sync_lower m ps rs) (sync_lift n qs ss))
+sync_numbers : (m n : Bool) (ps rs qs ss : List Shape) → AreNumberTypes (sync_types false false (sync_lower m ps rs) (sync_lift n qs ss))
 sync_numbers m n ps rs qs ss =
     let params : List ValType = flat_params m 16 ps in
     let pointer : List ValType = unless_flat (address m ∷ []) (flat_values m 1 rs) in
     let core : List ValType = flat_params n 16 qs in
     let given : List ValType = flat_or (address n ∷ []) (flat_values n 1 ss) in
     let results : List ValType = flat_or [] (flat_values m 1 rs) in
-    numbers_append ((params ++ pointer) ++ val.I32 ∷ val.I32 ∷ []) (core ++ (given ++ results))
+    numbers_append ((params ++ pointer) ++ val.I32 ∷ val.I32 ∷ []) (core ++ (given ++ (results ++ [])))
     (numbers_append (params ++ pointer) (val.I32 ∷ val.I32 ∷ []) (numbers_append params pointer (flats_numbers m 16 ps (address m ∷ []) (address_numbers m)) (unless_numbers (flat_values m 1 rs) (address m ∷ []) (address_numbers m))) refl)
-    (numbers_append core (given ++ results) (flats_numbers n 16 qs (address n ∷ []) (address_numbers n))
-    (numbers_append given results (flats_numbers n 1 ss (address n ∷ []) (address_numbers n)) (flats_numbers m 1 rs [] refl)))
+    (numbers_append core (given ++ (results ++ [])) (flats_numbers n 16 qs (address n ∷ []) (address_numbers n))
+    (numbers_append given (results ++ []) (flats_numbers n 1 ss (address n ∷ []) (address_numbers n)) (numbers_append results [] (flats_numbers m 1 rs [] refl) refl)))
 
 -- ---- the function
 
@@ -110,7 +112,7 @@ drop_long (x ∷ xs) ys = drop_long xs ys
 typed_within : {M : WasmModule} {locals : List ValType} {labels : List (List ValType)} {code : List Instr} {outs : OperandsBehind} → IsTyped M locals [] code [] outs → IsTyped M locals labels code [] outs
 typed_within {labels = labels} x = record { by = λ outer below. x.by (labels ++ outer) below }
 
-module _ {t : Tables} {d : AdapterData} {debug : Bool} {lower lift : Signature} {ty : ℕ} {a0 c : Writer} (w : WroteBody t d debug lower lift a0 c) {old new : ModuleSoFar} (before : a0.imports ≡ old) (after : new ≡ c.imports) (f : WasmFunc)
+module _ {t : Tables} {d : AdapterData} {debug : Bool} {o : CallOptions} {lower lift : Signature} {ty : ℕ} {a0 c : Writer} (w : WroteBody t d debug o lower lift a0 c) {old new : ModuleSoFar} (before : a0.imports ≡ old) (after : new ≡ c.imports) (f : WasmFunc)
     (ty_is : f.ty ≡ ty) (body_is : f.body ≡ c.code.items) (locals_are : local_types f.locals ≡ map (λ (l : Local). l.ty) (drop (length lower.params) c.locals.items)) where
   declared : local_types f.locals ≡ w.params.more
   declared = locals_are ∙ drop_mapped (λ (l : Local). l.ty) (length lower.params) c.locals.items ∙ ap (drop (length lower.params)) w.params.is ∙ drop_long lower.params w.params.more
@@ -118,17 +120,17 @@ module _ {t : Tables} {d : AdapterData} {debug : Bool} {lower lift : Signature} 
   all_types : types_of_locals c ≡ lower.params ++ local_types f.locals
   all_types = w.params.is ∙ ap (λ ts. lower.params ++ ts) (sym declared)
 
-  module _ {u : AdapterTunables} {a : LinkedAdapter} (h : DescribesAdapter t d debug u a) (lower_is : lower ≡ lower_signature_of a) (lift_is : lift ≡ lift_signature_of a) {M : WasmModule} {p : ImportPlaces} (serves : Serves M p new) (links : KnowsAdapterData M p d a) where
+  module _ {u : AdapterTunables} {a : LinkedAdapter} (h : DescribesAdapter t d debug u a) (asks : AreCallOptions o u a) (lower_is : lower ≡ lower_signature_of a) (lift_is : lift ≡ lift_signature_of a) {M : WasmModule} {p : ImportPlaces} (serves : Serves M p new) (links : KnowsAdapterData M p d a) where
     body : DoesBody u a M p (types_of_locals c) c.code.items
-    body = w.is u a h lower_is lift_is M p (subst (λ s. Serves M p s) after serves) links
+    body = w.is u a h asks lower_is lift_is M p (subst (λ s. Serves M p s) after serves) links
 
     locals_is : types_of_locals c ≡ (lower_signature_of a).params ++ local_types f.locals
     locals_is = all_types ∙ ap (λ (s : Signature). s.params ++ local_types f.locals) lower_is
 
-    numbers_are : AreNumberTypes (sync_types false lower lift)
+    numbers_are : AreNumberTypes (sync_types false false lower lift)
     numbers_are =
-        subst (λ s. AreNumberTypes (sync_types false s lift)) (sym (lower_is ∙ lower_is_sync a h.lower.sync))
-        (subst (λ s. AreNumberTypes (sync_types false (sync_lower (is_wide a.lower.memory) a.lower.params a.lower.results) s)) (sym (lift_is ∙ lift_is_sync a h.lift.sync))
+        subst (λ s. AreNumberTypes (sync_types false false s lift)) (sym (lower_is ∙ lower_is_sync a h.lower.sync))
+        (subst (λ s. AreNumberTypes (sync_types false false (sync_lower (is_wide a.lower.memory) a.lower.params a.lower.results) s)) (sym (lift_is ∙ lift_is_sync a h.lift.sync))
         (sync_numbers (is_wide a.lower.memory) (is_wide a.lift.memory) a.lower.params a.lower.results a.lift.params a.lift.results))
 
     declared_numbers : AreNumberTypes (local_types f.locals)
@@ -138,7 +140,7 @@ module _ {t : Tables} {d : AdapterData} {debug : Bool} {lower lift : Signature} 
     is_function = record {
       does = λ args h'.
           let held : held_types (entry_locals f args) ≡ types_of_locals c = held_entry args (lower_signature_of a).params f.locals h' ∙ sym locals_is in
-          subst (λ k. Does M p Onward 900 0 [] (entry_locals f args) k (sync u a args) reverse (HaveResultTypes (lower_type_of a))) (sym body_is)
+          subst (λ k. EndsAsSync u a M p args (entry_locals f args) k) (sym body_is)
           (body.does args (entry_locals f args) held (args_held args (lower_signature_of a).params (locals_of f.locals) h'));
       typed = λ there.
           typed_body f (lower_type_of a) there (declares_all f.locals declared_numbers)
@@ -147,19 +149,19 @@ module _ {t : Tables} {d : AdapterData} {debug : Bool} {lower lift : Signature} 
     }
 
   -- The function of the body was written.
-  pub wrote_function : WroteFunction t d debug lower lift ty old new f
+  pub wrote_function : WroteFunction t d debug o lower lift ty old new f
   wrote_function = record {
     ty = ty_is;
     imports = subst (λ s. Extended s new) before (subst (λ s. Extended a0.imports s) (sym after) w.imports);
     once = λ o. subst AreOnce (sym after) (w.once (subst AreOnce (sym before) o));
     brought = subst (Brought old new) (sym body_is) (brought_between before (sym after) w.brought);
-    is = λ u a h lower_is lift_is M p serves links. is_function h lower_is lift_is serves links;
+    is = λ u a h asks lower_is lift_is M p serves links. is_function h asks lower_is lift_is serves links;
   }
 
 -- ---- the module
 
 -- what is imported is the same
-once_same : {a b : ModuleSoFar} → functions_of b ≡ functions_of a → memories_of b ≡ memories_of a → globals_of b ≡ globals_of a → AreOnce a → AreOnce b
+pub once_same : {a b : ModuleSoFar} → functions_of b ≡ functions_of a → memories_of b ≡ memories_of a → globals_of b ≡ globals_of a → AreOnce a → AreOnce b
 once_same f m g o = record { functions = subst StandsOnce (sym f) o.functions; memories = subst StandsOnce (sym m) o.memories; globals = subst StandsOnce (sym g) o.globals }
 
 -- what the core signature of a sync side hangs on
@@ -181,9 +183,9 @@ module _ {t : Tables} {d : AdapterData} {debug : Bool} {lower lift : Signature} 
       lift_are a.lift.params a.lift.results (subst (λ i. HasSignature t i a.lift.params a.lift.results) (sym of_lift.ty_is) h.lift.signature)
       ∙ (λ i. lift_by (of_lift.sync i) lift_side.callback ((of_lift.wide ∙ sym h.lift.wide) i) a.lift.params a.lift.results) ∙ sym (lift_is_sync a h.lift.sync)
 
-  pub compiled : {s0 s1 s2 s3 s4 : ModuleSoFar} {n k : ℕ} {f : WasmFunc} → slice_get s1.types n ≡ Some (signature lower.params lower.results) → HasType s0 s1 (signature lower.params lower.results) → Extended s0 s1 → (AreOnce s0 → AreOnce s1)
-      → WroteFunction t d debug lower lift n s1 s2 f → k ≡ length s2.functions → s3 ≡ record s2 { functions = s2.functions ++ f ∷ [] } → s4 ≡ record s3 { exports = s3.exports ++ export_as d.name (func.Defined k) ∷ [] } → CompiledSync t d debug s0 s4
-  compiled {s0} {s1} {s2} {s3} {s4} {n} {k} {f} place has keeps once w number defined exported =
+  pub compiled : {o : CallOptions} {concurrency exceptions : Bool} {s0 s1 s2 s3 s4 : ModuleSoFar} {n k : ℕ} {f : WasmFunc} → slice_get s1.types n ≡ Some (signature lower.params lower.results) → HasType s0 s1 (signature lower.params lower.results) → Extended s0 s1 → (AreOnce s0 → AreOnce s1)
+      → WroteFunction t d debug o lower lift n s1 s2 f → AsksCalls t d concurrency exceptions o → k ≡ length s2.functions → s3 ≡ record s2 { functions = s2.functions ++ f ∷ [] } → s4 ≡ record s3 { exports = s3.exports ++ export_as d.name (func.Defined k) ∷ [] } → CompiledSync t d debug concurrency exceptions s0 s4
+  compiled {o} {concurrency} {exceptions} {s0} {s1} {s2} {s3} {s4} {n} {k} {f} place has keeps once w asks number defined exported =
       let same : s4 ≡ record s2 { functions = s2.functions ++ f ∷ []; exports = s2.exports ++ export_as d.name (func.Defined k) ∷ [] } = exported ∙ ap (λ (s : ModuleSoFar). record s { exports = s.exports ++ export_as d.name (func.Defined k) ∷ [] }) defined in
       let before : KeepsDefined s0 s1 = defined_type has in
       let kept : KeepsDefined s1 s2 = defined_brought w.brought in
@@ -205,6 +207,6 @@ module _ {t : Tables} {d : AdapterData} {debug : Bool} {lower lift : Signature} 
             ap (slice_get s4.types) w.ty ∙ at ∙ ap (λ (s : Signature). Some (signature s.params s.results)) (lower_of h);
         writes = record {
           imports = extended_on keeps (extended_on w.imports last);
-          is = λ u a h M p serves links. w.is u a h (lower_of h) (lift_of h) M p (serves_sooner last serves) links;
+          is = λ u a h set M p serves links. w.is u a h (asks_calls asks h set) (lower_of h) (lift_of h) M p (serves_sooner last serves) links;
         };
       }

@@ -1,8 +1,9 @@
 -- What the data that a sync adapter's code is written by say of the adapter, and what that code asks of a module.
-use Rattle.std.specs.Prelude.{◌≡◌, ℕ, Bool, true, false, List, Option, Some, None, option_map}
+use Rattle.std.specs.Prelude.{◌≡◌, ℕ, Bool, true, false, List, [], Option, Some, None, is_some, option_map}
 use Rattle.fact_wasm.specs.declared.module.WasmModule.{WasmModule}
 use Rattle.fact_wasm.specs.declared.types.ValType.{ValType}
 use Rattle.fact_entity.specs.declared.id.Id.{Id}
+use Rattle.fact_entity.specs.declared.table.Funcs.{Funcs}
 use Rattle.fact_entity.specs.declared.table.Memories.{Memories}
 use Rattle.fact_types.specs.Adapters.{Side, LinkedAdapter, is_wide}
 use Rattle.fact_types.specs.FlatShapes.{AreCounted}
@@ -13,7 +14,8 @@ use Rattle.fact_types.specs.Signatures.{flat_values}
 use Rattle.fact_types.specs.Tables.{Tables}
 use Rattle.fact_types.specs.Tuples.{tuple_members}
 use Rattle.fact_types.specs.declared.import.Import.TheVariants as import
-use Rattle.fact_moves.specs.Adapters.{AdapterTunables, enters, lift_signature_of}
+use Rattle.fact_types.specs.declared.outside.CoreDef.{CoreDef}
+use Rattle.fact_moves.specs.Adapters.{AdapterTunables, lift_signature_of}
 use Rattle.fact_moves.specs.Running.{ImportPlaces}
 use Rattle.fact_moves.specs.Sides.{LiftLowerOptions, options_of}
 use Rattle.fact_pieces.specs.Knows.{KnowsFunction, KnowsFlags}
@@ -65,14 +67,15 @@ pub record CanMoveTuple (from to : List Shape) : Type 0 where
   pub to_counted : AreCounted (tuple_members to)
   pub members : CanMoveFields (tuple_members from) (tuple_members to)
 
--- An adapter of the form that is written: both sides are sync, the runtime is not told of its calls, and it has no post-return.
+-- An adapter of the form that is written: both sides are sync, and its function types are not marked as async.
 pub record DescribesAdapter (t : Tables) (d : AdapterData) (debug : Bool) (u : AdapterTunables) (a : LinkedAdapter) : Type 0 where
   pub lift : DescribesSide t d.lift a.lift
   pub lower : DescribesSide t d.lower a.lower
   pub same_debug : u.debug ≡ debug
-  pub alone : u.concurrency ≡ false
-  pub untold : enters u a ≡ false
-  pub no_post_return : a.lift.post_return ≡ None
+  pub unmarked : a.lift.async_type ≡ false
+  pub instance : d.lift.instance.number ≡ a.lift.instance
+  pub transparent : d.transparent ≡ a.transparent
+  pub post_return : is_some d.lift.post_return ≡ is_some a.lift.post_return
   pub params : CanMoveTuple a.lower.params a.lift.params
   pub results : CanMoveTuple a.lift.results a.lower.results
 
@@ -83,8 +86,7 @@ abbrev pub HasTupleMemory : WasmModule → ImportPlaces → AdapterOptions → S
 HasTupleMemory M p o s (Some flats) = Unit {0}
 HasTupleMemory M p o s None = IsLinearMemoryOf M p (options_of s) (linear_of o)
 
--- The memory and the realloc of a side that takes values, where they are not flat. The slots of the context are not saved around its
--- calls.
+-- the memory and the realloc of a side that takes values, where they are not flat
 abbrev pub HasNewTupleMemory : WasmModule → ImportPlaces → AdapterOptions → Side → Option (List ValType) → Type 0
 HasNewTupleMemory M p o s (Some flats) = Unit {0}
 HasNewTupleMemory M p o s None = IsLinearMemoryOf M p (options_of s) (linear_of o) × IsReallocOf M p (options_of s) (linear_of o)
@@ -95,9 +97,15 @@ pub record KnowsSideData (M : WasmModule) (p : ImportPlaces) (o : AdapterOptions
 
 -- Where values of these source types are or hold lists, maps or strings, both memories and the destination's realloc are there.
 abbrev pub HasListsOf : WasmModule → ImportPlaces → (from to : LinearMemory) → (a b : LiftLowerOptions) → List Shape → Type 0
-HasListsOf M p from to a b types = have_pointer_pair (tuple_members types) ≡ true → ServesLists from to M p a b false
+HasListsOf M p from to a b types = have_pointer_pair (tuple_members types) ≡ true → ServesLists from to M p a b
 
--- Flags, memories, reallocs and the callee have the places that the data say.
+-- the post-return takes what the callee gives
+abbrev pub KnowsPostReturn : WasmModule → ImportPlaces → List ValType → Option (Id Funcs) → Option CoreDef → Type 0
+KnowsPostReturn M p given None None = Unit {0}
+KnowsPostReturn M p given (Some n) (Some f) = KnowsFunction M p (import.CoreDef f) n.number given []
+KnowsPostReturn M p given _ _ = ⊥
+
+-- Flags, memories, reallocs, the callee and the post-return have the places that the data say.
 pub record KnowsAdapterData (M : WasmModule) (p : ImportPlaces) (d : AdapterData) (a : LinkedAdapter) : Type 0 where
   pub lift : KnowsSideData M p d.lift a.lift
   pub lower : KnowsSideData M p d.lower a.lower
@@ -106,3 +114,4 @@ pub record KnowsAdapterData (M : WasmModule) (p : ImportPlaces) (d : AdapterData
   pub params_lists : HasListsOf M p (linear_of d.lower) (linear_of d.lift) (options_of a.lower) (options_of a.lift) a.lower.params
   pub results_lists : HasListsOf M p (linear_of d.lift) (linear_of d.lower) (options_of a.lift) (options_of a.lower) a.lift.results
   pub callee : KnowsFunction M p (import.CoreDef a.callee) d.callee.number (lift_signature_of a).params (lift_signature_of a).results
+  pub post_return : KnowsPostReturn M p (lift_signature_of a).results d.lift.post_return a.lift.post_return

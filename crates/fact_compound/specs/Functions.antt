@@ -1,5 +1,5 @@
 -- Whole functions of adapters, as they are put into a module.
-use Rattle.std.specs.Prelude.{◌≡◌, ℕ, suc, ◌-◌, Bool, true, false, List, [], ◌∷◌, ◌++◌, is_some, length, map, reverse, take, Some, slice_get}
+use Rattle.std.specs.Prelude.{◌≡◌, ◌≢◌, ℕ, suc, ◌-◌, Bool, true, false, List, [], ◌∷◌, ◌++◌, is_some, length, map, reverse, take, Some, slice_get}
 use Rattle.fact_wasm.specs.declared.instr.FuncName.TheVariants as func
 use Rattle.fact_wasm.specs.declared.instr.Instr.{Instr}
 use Rattle.fact_wasm.specs.declared.module.WasmFunc.{WasmFunc}
@@ -9,7 +9,7 @@ use Rattle.fact_wasm.specs.declared.types.ValType.{ValType}
 use Rattle.fact_wasm.specs.declared.types.ValType.TheVariants as val
 use Rattle.fact_machine.specs.Trace.{Grows}
 use Rattle.fact_machine.specs.declared.types.CoreValue.{CoreValue}
-use Rattle.fact_moves.specs.Adapters.{AdapterTunables, sync, lower_signature_of, lift_signature_of}
+use Rattle.fact_moves.specs.Adapters.{AdapterTunables, lower_signature_of, lift_signature_of}
 use Rattle.fact_moves.specs.Running.{ImportPlaces}
 use Rattle.fact_types.specs.Adapters.{LinkedAdapter}
 use Rattle.fact_types.specs.FlatShapes.{AreCounted}
@@ -19,8 +19,7 @@ use Rattle.fact_types.specs.Signatures.{flat_values}
 use Rattle.fact_types.specs.Tables.{Tables}
 use Rattle.fact_types.specs.Tuples.{tuple_members}
 use Rattle.fact_types.specs.declared.signature.Signature.{Signature}
-use Rattle.fact_pieces.specs.Does.{Locals, Onward, held_types, Does}
-use Rattle.fact_pieces.specs.PieceLaws.{HaveResultTypes}
+use Rattle.fact_pieces.specs.Does.{Locals, held_types}
 use Rattle.fact_pieces.specs.Places.{Slot, AreHeld}
 use Rattle.fact_pieces.specs.Typed.{OnStack, IsTyped}
 use Rattle.fact_emit.specs.Brought.{Brought}
@@ -31,10 +30,14 @@ use Rattle.fact_emit.specs.Writers.{AreNumberTypes, types_of_locals, used_local_
 use Rattle.fact_emit.specs.declared.writer.Writer.{Writer}
 use Rattle.fact_compound.specs.Code.{slot_types}
 use Rattle.fact_compound.specs.Described.{DescribesAdapter, KnowsAdapterData}
-use Rattle.fact_compound.specs.Syncs.{IsSyncFunction, EmitsSync, WritesSync, lower_type_of}
-use Rattle.fact_compound.specs.Written.{SyncPlaces}
+use Rattle.fact_compound.specs.Events.{AreCallOptions}
+use Rattle.fact_compound.specs.SameInstance.{CompiledSameInstance}
+use Rattle.fact_compound.specs.Syncs.{IsSyncFunction, EmitsSync, EndsAsSync, WritesSync, lower_type_of}
+use Rattle.fact_compound.specs.Written.{SyncPlaces, context_slots}
 use Rattle.fact_compound.specs.declared.adapters.AdapterData.{AdapterData}
 use Rattle.fact_compound.specs.declared.functions.AdapterLocals.{AdapterLocals}
+use Rattle.fact_compound.specs.declared.syncs.CallOptions.{CallOptions}
+use Rattle.fact_emit.specs.declared.context.ContextLocals.{ContextLocals}
 
 -- ---- the locals
 
@@ -59,13 +62,25 @@ abbrev pub core_slots : (passed : Bool) → (params core : List Slot) → List S
 core_slots false params core = core
 core_slots true params core = params
 
--- the locals of a sync adapter: of its arguments, of the saved flags of both sides, of the callee's parameters and results, and of
--- the adapter's results
-abbrev pub sync_types : (passed : Bool) → (lower lift : Signature) → List ValType
-sync_types passed lower lift = (lower.params ++ val.I32 ∷ val.I32 ∷ []) ++ (unless_passed passed lift.params ++ (lift.results ++ lower.results))
+-- the types of locals for the slots of the context, where these are looked at
+abbrev pub context_types : (context : Bool) → List ValType
+context_types false = []
+context_types true = val.I32 ∷ val.I32 ∷ []
 
-abbrev pub added_slots : AdapterLocals → List Slot
-added_slots l = (slots_of_locals l.args.items ++ (l.saved, val.I32) ∷ (l.lift_saved, val.I32) ∷ []) ++ (slots_of_locals l.core.items ++ (slots_of_locals l.given.items ++ slots_of_locals l.results.items))
+-- locals were added for the slots of the context, where these are looked at
+pub record AddedContext (context : Bool) (old new : Writer) (c : ContextLocals) : Type 0 where
+  pub added : AddedLocals old new (context_types context) (context_slots context c)
+
+-- the locals of a sync adapter: of its arguments, of the saved flags of both sides, of the callee's parameters and results, of the
+-- context that the callee leaves, of the adapter's results, and of its own context
+abbrev pub sync_types : (passed context : Bool) → (lower lift : Signature) → List ValType
+sync_types passed context lower lift =
+    (lower.params ++ val.I32 ∷ val.I32 ∷ []) ++ (unless_passed passed lift.params ++ (lift.results ++ (context_types context ++ (lower.results ++ context_types context))))
+
+abbrev pub added_slots : (context : Bool) → AdapterLocals → List Slot
+added_slots context l =
+    (slots_of_locals l.args.items ++ (l.saved, val.I32) ∷ (l.lift_saved, val.I32) ∷ [])
+    ++ (slots_of_locals l.core.items ++ (slots_of_locals l.given.items ++ (context_slots context l.callee_context ++ (slots_of_locals l.results.items ++ context_slots context l.own_context))))
 
 abbrev pub places_with : (passed : Bool) → AdapterLocals → (params : List Slot) → SyncPlaces
 places_with passed l params = record {
@@ -77,10 +92,12 @@ places_with passed l params = record {
   core = core_slots passed params (slots_of_locals l.core.items);
   given = slots_of_locals l.given.items;
   results = slots_of_locals l.results.items;
+  callee_context = l.callee_context;
+  own_context = l.own_context;
 }
 
-pub record AddedSyncLocals (passed : Bool) (old new : Writer) (lower lift : Signature) (l : AdapterLocals) : Type 0 where
-  pub added : AddedLocals old new (sync_types passed lower lift) (added_slots l)
+pub record AddedSyncLocals (passed context : Bool) (old new : Writer) (lower lift : Signature) (l : AdapterLocals) : Type 0 where
+  pub added : AddedLocals old new (sync_types passed context lower lift) (added_slots context l)
   pub args : slots_of_locals l.args.items ≡ slots_from (length old.locals.items) lower.params
   pub core_types : slot_types (slots_of_locals l.core.items) ≡ unless_passed passed lift.params
   pub given_types : slot_types (slots_of_locals l.given.items) ≡ lift.results
@@ -92,44 +109,44 @@ params_among true args = args
 params_among false args = take (length args - 1) args
 
 -- The code of a sync adapter was written over these locals, whatever the results of the lower side are.
-pub record PutBody (t : Tables) (d : AdapterData) (debug passed : Bool) (l : AdapterLocals) (old new : Writer) : Type 0 where
+pub record PutBody (t : Tables) (d : AdapterData) (debug : Bool) (o : CallOptions) (passed : Bool) (l : AdapterLocals) (old new : Writer) : Type 0 where
   pub params : List Slot
-  pub put : EmitsSync t d debug (places_with passed l params) old new
+  pub put : EmitsSync t d debug o (places_with passed l params) old new
   pub split : (ps rs : List Shape) → HasSignature t d.lower.ty ps rs → AreCounted (tuple_members rs) → (memory64 : Bool) → params ≡ params_among (is_some (flat_values memory64 1 rs)) (slots_of_locals l.args.items)
 
 -- ---- the body
 
--- Code of a function whose first locals hold the arguments: it does the adapter's action, and is typed.
+-- Code of a function whose first locals hold the arguments: it comes to what the adapter comes to, and is typed.
 pub record DoesBody (u : AdapterTunables) (a : LinkedAdapter) (M : WasmModule) (p : ImportPlaces) (locals : List ValType) (code : List Instr) : Type 0 where
-  pub does : (args : List CoreValue) (ls : Locals) → held_types ls ≡ locals → AreHeld ls (slots_from 0 (lower_signature_of a).params) args → Does M p Onward 900 0 [] ls code (sync u a args) reverse (HaveResultTypes (lower_type_of a))
+  pub does : (args : List CoreValue) (ls : Locals) → held_types ls ≡ locals → AreHeld ls (slots_from 0 (lower_signature_of a).params) args → EndsAsSync u a M p args ls code
   pub typed : IsTyped M locals [] code [] (OnStack (reverse (lower_signature_of a).results))
 
 -- The body of a function was written, with its locals, by the core signatures of the two sides: it is that of every adapter that
--- the data describe and that has these signatures.
-pub record WroteBody (t : Tables) (d : AdapterData) (debug : Bool) (lower lift : Signature) (old new : Writer) : Type 0 where
+-- the data describe and that has these signatures and asks for these calls.
+pub record WroteBody (t : Tables) (d : AdapterData) (debug : Bool) (o : CallOptions) (lower lift : Signature) (old new : Writer) : Type 0 where
   pub imports : Extended old.imports new.imports
   pub once : AreOnce old.imports → AreOnce new.imports
   pub brought : Brought old.imports new.imports new.code.items
   pub params : Grows lower.params (types_of_locals new)
-  pub numbers : AreNumberTypes (sync_types false lower lift) → AreNumberTypes (types_of_locals new)
-  pub is : (u : AdapterTunables) (a : LinkedAdapter) → DescribesAdapter t d debug u a → lower ≡ lower_signature_of a → lift ≡ lift_signature_of a
+  pub numbers : AreNumberTypes (sync_types false false lower lift) → AreNumberTypes (types_of_locals new)
+  pub is : (u : AdapterTunables) (a : LinkedAdapter) → DescribesAdapter t d debug u a → AreCallOptions o u a → lower ≡ lower_signature_of a → lift ≡ lift_signature_of a
       → (M : WasmModule) (p : ImportPlaces) → Serves M p new.imports → KnowsAdapterData M p d a → DoesBody u a M p (types_of_locals new) new.code.items
 
 -- ---- the function
 
 -- A function of this type was written.
-pub record WroteFunction (t : Tables) (d : AdapterData) (debug : Bool) (lower lift : Signature) (type_at : ℕ) (old new : ModuleSoFar) (f : WasmFunc) : Type 0 where
+pub record WroteFunction (t : Tables) (d : AdapterData) (debug : Bool) (o : CallOptions) (lower lift : Signature) (type_at : ℕ) (old new : ModuleSoFar) (f : WasmFunc) : Type 0 where
   pub ty : f.ty ≡ type_at
   pub imports : Extended old new
   pub once : AreOnce old → AreOnce new
   pub brought : Brought old new f.body
-  pub is : (u : AdapterTunables) (a : LinkedAdapter) → DescribesAdapter t d debug u a → lower ≡ lower_signature_of a → lift ≡ lift_signature_of a
+  pub is : (u : AdapterTunables) (a : LinkedAdapter) → DescribesAdapter t d debug u a → AreCallOptions o u a → lower ≡ lower_signature_of a → lift ≡ lift_signature_of a
       → (M : WasmModule) (p : ImportPlaces) → Serves M p new → KnowsAdapterData M p d a → IsSyncFunction u a M p f
 
 -- The function of a sync adapter stands behind the module's functions, and its export, under the adapter's name, behind the
--- exports. Before that its type was declared, and its code brought in traps. It has the core type of every adapter that the data
+-- exports. Before that its type was declared, and its code brought in functions of the runtime. It has the core type of every adapter that the data
 -- describe, and is its function.
-pub record CompiledSync (t : Tables) (d : AdapterData) (debug : Bool) (old new : ModuleSoFar) : Type 0 where
+pub record CompiledSync (t : Tables) (d : AdapterData) (debug concurrency exceptions : Bool) (old new : ModuleSoFar) : Type 0 where
   pub function : WasmFunc
   pub ty : FuncType
   pub declared : ModuleSoFar
@@ -141,4 +158,10 @@ pub record CompiledSync (t : Tables) (d : AdapterData) (debug : Bool) (old new :
   pub exports : new.exports ≡ old.exports ++ export_as d.name (func.Defined (length old.functions)) ∷ []
   pub once : AreOnce old → AreOnce new
   pub typed : (u : AdapterTunables) (a : LinkedAdapter) → DescribesAdapter t d debug u a → slice_get new.types function.ty ≡ Some (lower_type_of a)
-  pub writes : WritesSync t d debug old new function
+  pub writes : WritesSync t d debug concurrency exceptions old new function
+
+-- An adapter was compiled: its function traps at each call where both sides have one instance, and is that of a sync adapter where
+-- they have two.
+pub record Compiled (t : Tables) (d : AdapterData) (debug concurrency exceptions : Bool) (old new : ModuleSoFar) : Type 0 where
+  pub within : d.lift.instance.number ≡ d.lower.instance.number → CompiledSameInstance t d old new
+  pub between : d.lift.instance.number ≢ d.lower.instance.number → CompiledSync t d debug concurrency exceptions old new

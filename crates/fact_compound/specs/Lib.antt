@@ -1,9 +1,11 @@
 pub mod Code
 pub mod Described
+pub mod Events
 pub mod Functions
 pub mod Passed
 pub mod PassedOn
 pub mod Passing
 pub mod Placed
+pub mod SameInstance
 pub mod Syncs
 pub mod Written

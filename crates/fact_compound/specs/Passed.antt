@@ -25,14 +25,14 @@ use Rattle.fact_compound.specs.Passing.{last_local, tuple_from, tuple_to, tuple_
 use Rattle.fact_compound.specs.declared.adapters.AdapterData.{AdapterData}
 
 -- the two sides of parameters, and those of results
-abbrev pub params_sides : AdapterData → (debug : Bool) → Sides
-params_sides d debug = record { from = (linear_of d.lower); to = (linear_of d.lift); debug = debug }
+abbrev pub params_sides : AdapterData → (debug concurrency : Bool) → Sides
+params_sides d debug concurrency = record { from = (linear_of d.lower); to = (linear_of d.lift); debug = debug; concurrency = concurrency }
 
-abbrev pub results_sides : AdapterData → (debug : Bool) → Sides
-results_sides d debug = record { from = (linear_of d.lift); to = (linear_of d.lower); debug = debug }
+abbrev pub results_sides : AdapterData → (debug concurrency : Bool) → Sides
+results_sides d debug concurrency = record { from = (linear_of d.lift); to = (linear_of d.lower); debug = debug; concurrency = concurrency }
 
 -- the check of the lower side's area, the request of the lift side's, and the move
-pub record MovesParams (d : AdapterData) (debug : Bool) (params core : List Slot) (taken : ℕ → Bool) (from to : List Shape) (M : WasmModule) (p : ImportPlaces) (locals : List ValType) (code : List Instr) : Type 0 where
+pub record MovesParams (d : AdapterData) (debug concurrency : Bool) (params core : List Slot) (taken : ℕ → Bool) (from to : List Shape) (M : WasmModule) (p : ImportPlaces) (locals : List ValType) (code : List Instr) : Type 0 where
   pub lower_check : List Instr
   pub lift_request : List Instr
   pub move : List Instr
@@ -40,23 +40,23 @@ pub record MovesParams (d : AdapterData) (debug : Bool) (params core : List Slot
   pub lower_size : tuple_size (linear_of d.lower).memory64 from ≤ 4294967295
   pub lift_size : tuple_size (linear_of d.lift).memory64 to ≤ 4294967295
   pub checks_lower : ChecksTuple (linear_of d.lower) taken (is_some (flat_values (linear_of d.lower).memory64 16 from)) (last_local params) (tuple_size (linear_of d.lower).memory64 from) (tuple_align (linear_of d.lower).memory64 from) M p locals lower_check
-  pub asks_lift : AsksTuple (linear_of d.lift) taken (is_some (flat_values (linear_of d.lift).memory64 16 to)) (last_local core) (tuple_size (linear_of d.lift).memory64 to) (tuple_align (linear_of d.lift).memory64 to) M p locals lift_request
-  pub moves : MovesTuple (params_sides d debug) (tuple_from (linear_of d.lower) (is_some (flat_values (linear_of d.lower).memory64 16 from)) params) (tuple_to (linear_of d.lift) (is_some (flat_values (linear_of d.lift).memory64 16 to)) core core) taken (tuple_of from) (tuple_of to) M p locals move
+  pub asks_lift : AsksTuple concurrency (linear_of d.lift) taken (is_some (flat_values (linear_of d.lift).memory64 16 to)) (last_local core) (tuple_size (linear_of d.lift).memory64 to) (tuple_align (linear_of d.lift).memory64 to) M p locals lift_request
+  pub moves : MovesTuple (params_sides d debug concurrency) (tuple_from (linear_of d.lower) (is_some (flat_values (linear_of d.lower).memory64 16 from)) params) (tuple_to (linear_of d.lift) (is_some (flat_values (linear_of d.lift).memory64 16 to)) core core) taken (tuple_of from) (tuple_of to) M p locals move
 
 -- Code was written that moves parameters, whatever the results are.
-pub record MovedParams (t : Tables) (d : AdapterData) (debug : Bool) (params core : List Slot) (old new : Writer) : Type 0 where
+pub record MovedParams (t : Tables) (d : AdapterData) (debug concurrency : Bool) (params core : List Slot) (old new : Writer) : Type 0 where
   pub grew : Grew old new
-  pub emits : (ps rs qs ss : List Shape) → HasSignature t d.lower.ty ps rs → HasSignature t d.lift.ty qs ss → CanMoveTuple ps qs → Emits old new (MovesParams d debug params core (taken_in old) ps qs)
+  pub emits : (ps rs qs ss : List Shape) → HasSignature t d.lower.ty ps rs → HasSignature t d.lift.ty qs ss → CanMoveTuple ps qs → Emits old new (MovesParams d debug concurrency params core (taken_in old) ps qs)
 
 -- the move of parameters, or no code where they are handed on as they are
-abbrev pub ParamsCode : (passed : Bool) → AdapterData → (debug : Bool) → (params core : List Slot) → (ℕ → Bool) → (ps qs : List Shape) → WasmModule → ImportPlaces → List ValType → List Instr → Type 0
-ParamsCode false d debug params core taken ps qs M p locals code = MovesParams d debug params core taken ps qs M p locals code
-ParamsCode true d debug params core taken ps qs M p locals code = code ≡ []
+abbrev pub ParamsCode : (passed : Bool) → AdapterData → (debug concurrency : Bool) → (params core : List Slot) → (ℕ → Bool) → (ps qs : List Shape) → WasmModule → ImportPlaces → List ValType → List Instr → Type 0
+ParamsCode false d debug concurrency params core taken ps qs M p locals code = MovesParams d debug concurrency params core taken ps qs M p locals code
+ParamsCode true d debug concurrency params core taken ps qs M p locals code = code ≡ []
 
 -- It was written, whatever the results are.
-pub record PassedParams (t : Tables) (d : AdapterData) (debug passed : Bool) (params core : List Slot) (old new : Writer) : Type 0 where
+pub record PassedParams (t : Tables) (d : AdapterData) (debug concurrency passed : Bool) (params core : List Slot) (old new : Writer) : Type 0 where
   pub grew : Grew old new
-  pub emits : (ps rs qs ss : List Shape) → HasSignature t d.lower.ty ps rs → HasSignature t d.lift.ty qs ss → CanMoveTuple ps qs → Emits old new (ParamsCode passed d debug params core (taken_in old) ps qs)
+  pub emits : (ps rs qs ss : List Shape) → HasSignature t d.lower.ty ps rs → HasSignature t d.lift.ty qs ss → CanMoveTuple ps qs → Emits old new (ParamsCode passed d debug concurrency params core (taken_in old) ps qs)
 
 -- The area of a tuple is checked, where its values are more than so many core values. It has at most 4,294,967,295 bytes.
 pub record CheckedTuple (t : Tables) (tuple : Id TypeTuples) (m : LinearMemory) (limit address : ℕ) (old new : Writer) : Type 0 where
@@ -66,25 +66,25 @@ pub record CheckedTuple (t : Tables) (tuple : Id TypeTuples) (m : LinearMemory) 
       → Emits old new (ChecksTuple m (taken_in old) (is_some (flat_values m.memory64 limit ss)) address (tuple_size m.memory64 ss) (tuple_align m.memory64 ss))
 
 -- A new area is asked for, where the values of a tuple are more than 16 core values.
-pub record AskedTuple (t : Tables) (tuple : Id TypeTuples) (m : LinearMemory) (address : ℕ) (old new : Writer) : Type 0 where
+pub record AskedTuple (t : Tables) (tuple : Id TypeTuples) (concurrency : Bool) (m : LinearMemory) (address : ℕ) (old new : Writer) : Type 0 where
   pub grew : Grew old new
   pub size : (ss : List Shape) → HasShape t (ty.Tuple tuple) (tuple_of ss) → tuple_size m.memory64 ss ≤ 4294967295
   pub emits : (ss : List Shape) → HasShape t (ty.Tuple tuple) (tuple_of ss) → AreCounted (tuple_members ss)
-      → Emits old new (AsksTuple m (taken_in old) (is_some (flat_values m.memory64 16 ss)) address (tuple_size m.memory64 ss) (tuple_align m.memory64 ss))
+      → Emits old new (AsksTuple concurrency m (taken_in old) (is_some (flat_values m.memory64 16 ss)) address (tuple_size m.memory64 ss) (tuple_align m.memory64 ss))
 
 -- the checks of both areas, the callee's first, and the move
-pub record MovesResults (d : AdapterData) (debug : Bool) (given results args : List Slot) (taken : ℕ → Bool) (from to : List Shape) (M : WasmModule) (p : ImportPlaces) (locals : List ValType) (code : List Instr) : Type 0 where
+pub record MovesResults (d : AdapterData) (debug concurrency : Bool) (given results args : List Slot) (taken : ℕ → Bool) (from to : List Shape) (M : WasmModule) (p : ImportPlaces) (locals : List ValType) (code : List Instr) : Type 0 where
   pub lift_check : List Instr
   pub lower_check : List Instr
   pub move : List Instr
   pub is : code ≡ lift_check ++ (lower_check ++ move)
   pub checks_lift : ChecksTuple (linear_of d.lift) taken (is_some (flat_values (linear_of d.lift).memory64 1 from)) (last_local given) (tuple_size (linear_of d.lift).memory64 from) (tuple_align (linear_of d.lift).memory64 from) M p locals lift_check
   pub checks_lower : ChecksTuple (linear_of d.lower) taken (is_some (flat_values (linear_of d.lower).memory64 1 to)) (last_local args) (tuple_size (linear_of d.lower).memory64 to) (tuple_align (linear_of d.lower).memory64 to) M p locals lower_check
-  pub moves : MovesTuple (results_sides d debug) (tuple_from (linear_of d.lift) (is_some (flat_values (linear_of d.lift).memory64 1 from)) given) (tuple_to (linear_of d.lower) (is_some (flat_values (linear_of d.lower).memory64 1 to)) results args) taken (tuple_of from) (tuple_of to) M p locals move
+  pub moves : MovesTuple (results_sides d debug concurrency) (tuple_from (linear_of d.lift) (is_some (flat_values (linear_of d.lift).memory64 1 from)) given) (tuple_to (linear_of d.lower) (is_some (flat_values (linear_of d.lower).memory64 1 to)) results args) taken (tuple_of from) (tuple_of to) M p locals move
 
 -- Code was written that moves results, whatever the parameters are. The tuples of the results have at most 4,294,967,295 bytes.
-pub record MovedResults (t : Tables) (d : AdapterData) (debug : Bool) (given results args : List Slot) (old new : Writer) : Type 0 where
+pub record MovedResults (t : Tables) (d : AdapterData) (debug concurrency : Bool) (given results args : List Slot) (old new : Writer) : Type 0 where
   pub grew : Grew old new
   pub lift_size : (qs ss : List Shape) → HasSignature t d.lift.ty qs ss → tuple_size (linear_of d.lift).memory64 ss ≤ 4294967295
   pub lower_size : (ps rs : List Shape) → HasSignature t d.lower.ty ps rs → tuple_size (linear_of d.lower).memory64 rs ≤ 4294967295
-  pub emits : (ps rs qs ss : List Shape) → HasSignature t d.lower.ty ps rs → HasSignature t d.lift.ty qs ss → CanMoveTuple ss rs → Emits old new (MovesResults d debug given results args (taken_in old) ss rs)
+  pub emits : (ps rs qs ss : List Shape) → HasSignature t d.lower.ty ps rs → HasSignature t d.lift.ty qs ss → CanMoveTuple ss rs → Emits old new (MovesResults d debug concurrency given results args (taken_in old) ss rs)

@@ -47,9 +47,9 @@ ChecksTuple m taken true address size align M p locals code = code ≡ []
 ChecksTuple m taken false address size align M p locals code = ChecksArea m taken address size align M p locals code
 
 -- no code where values are flat, and else code that asks for a new area for them
-abbrev pub AsksTuple : LinearMemory → (ℕ → Bool) → (flat : Bool) → (address size align : ℕ) → WasmModule → ImportPlaces → List ValType → List Instr → Type 0
-AsksTuple m taken true address size align M p locals code = code ≡ []
-AsksTuple m taken false address size align M p locals code = AsksArea m taken address size align M p locals code
+abbrev pub AsksTuple : (concurrency : Bool) → LinearMemory → (ℕ → Bool) → (flat : Bool) → (address size align : ℕ) → WasmModule → ImportPlaces → List ValType → List Instr → Type 0
+AsksTuple concurrency m taken true address size align M p locals code = code ≡ []
+AsksTuple concurrency m taken false address size align M p locals code = AsksArea concurrency m taken address size align M p locals code
 
 -- the flags of an instance are kept in a local, with a trap where they are 0
 pub record ChecksMayLeave (flags saved : ℕ) (M : WasmModule) (p : ImportPlaces) (locals : List ValType) (code : List Instr) : Type 0 where

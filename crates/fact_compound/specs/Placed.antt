@@ -1,5 +1,5 @@
 -- The data of an adapter whose core definitions have these places in a module.
-use Rattle.std.specs.Prelude.{◌≡◌, true, Some, None}
+use Rattle.std.specs.Prelude.{◌≡◌, true, Some, None, is_some}
 use Rattle.fact_types.specs.Adapters.{Side, LinkedAdapter, is_wide}
 use Rattle.fact_types.specs.PointerPairs.{have_pointer_pair}
 use Rattle.fact_types.specs.Signatures.{flat_values}
@@ -9,12 +9,14 @@ use Rattle.fact_types.specs.declared.outside.MemoryOption.{MemoryOption}
 use Rattle.fact_emit.specs.AdapterLinks.{AdapterLinks, SideLinks}
 use Rattle.fact_emit.specs.ImportSection.{custom_page_size}
 use Rattle.fact_compound.specs.Described.{linear_of}
+use Rattle.fact_compound.specs.Events.{function_place}
 use Rattle.fact_compound.specs.declared.adapters.AdapterOptions.{AdapterOptions}
 use Rattle.fact_compound.specs.declared.adapters.AdapterData.{AdapterData}
 
--- The options of a side: the places of its flags, of its memory and of its realloc, the width of its addresses, and the memory's page
--- size.
+-- The options of a side: its instance, the places of its flags, of its memory and of its realloc, the width of its addresses, and the
+-- memory's page size.
 pub record AreOptionsOf (s : Side) (at : SideLinks) (o : AdapterOptions) : Type 0 where
+  pub instance : o.instance.number ≡ s.instance
   pub flags : o.flags.number ≡ at.flags
   pub wide : is_wide s.memory ≡ o.options.linear.memory64
   pub memory : (m : MemoryOption) → s.memory ≡ Some m → at.memory ≡ Some (linear_of o).memory
@@ -38,8 +40,11 @@ pub record HasMemoriesFor (a : LinkedAdapter) : Type 0 where
   pub params_lists : have_pointer_pair (tuple_members a.lower.params) ≡ true → HasMemoryOption a.lower × HasMemoryOption a.lift × HasReallocOption a.lift
   pub results_lists : have_pointer_pair (tuple_members a.lift.results) ≡ true → HasMemoryOption a.lift × HasMemoryOption a.lower × HasReallocOption a.lower
 
--- those of both sides, and the callee
+-- those of both sides, the callee and the post-return, and the adapter's mark
 pub record IsDataOf (a : LinkedAdapter) (at : AdapterLinks) (d : AdapterData) : Type 0 where
   pub lift : AreOptionsOf a.lift at.lift d.lift
   pub lower : AreOptionsOf a.lower at.lower d.lower
   pub callee : d.callee.number ≡ at.callee
+  pub post_return : function_place d.lift.post_return ≡ at.post_return
+  pub has_post_return : is_some d.lift.post_return ≡ is_some a.lift.post_return
+  pub transparent : d.transparent ≡ a.transparent

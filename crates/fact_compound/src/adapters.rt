@@ -93,24 +93,26 @@ impl AdapterOptions {
 
 impl AdapterData {
     /// The sides of parameters: from the lower side to the lift side.
-    pub fn params_sides(&self, debug: bool) -> Sides
-        ensures { result ≡ sides_of_params self.now debug }
+    pub fn params_sides(&self, debug: bool, concurrency: bool) -> Sides
+        ensures { result ≡ sides_of_params self.now debug concurrency }
     {
         Sides {
             from: self.lower.linear(),
             to: self.lift.linear(),
             debug,
+            concurrency,
         }
     }
 
     /// The sides of results: from the lift side to the lower side.
-    pub fn results_sides(&self, debug: bool) -> Sides
-        ensures { result ≡ sides_of_results self.now debug }
+    pub fn results_sides(&self, debug: bool, concurrency: bool) -> Sides
+        ensures { result ≡ sides_of_results self.now debug concurrency }
     {
         Sides {
             from: self.lift.linear(),
             to: self.lower.linear(),
             debug,
+            concurrency,
         }
     }
 }

@@ -1,23 +1,27 @@
 //! Whole functions of adapters.
 
-ghost use Rattle.std.specs.Prelude.{IfOk, OnOk, ◌≡◌, ◌-◌, ◌<◌, ◌++◌, ◌∷◌, [], false, drop, length, map, take};
+ghost use Rattle.std.specs.Prelude.{IfOk, IfSome, OnOk, ◌≡◌, ◌-◌, ◌<◌, ◌++◌, ◌&&◌, ◌||◌, ◌∷◌, [], false, drop, length, map, take};
 ghost use Rattle.fact_machine.specs.Typing.{local_types};
 ghost use Rattle.fact_emit.specs.Places.{slots_of_locals};
 ghost use Rattle.fact_emit.specs.Settings.{OnlySectionsChanged};
 ghost use Rattle.fact_emit.specs.States.{functions_of};
 ghost use Rattle.fact_emit.specs.declared.writer.Local as local_is;
+ghost use Rattle.fact_entity.specs.declared.id.Id as id;
 ghost use Rattle.fact_compound.specs.Described.{AreReallocsImported};
-ghost use Rattle.fact_compound.specs.Functions.{AddedLocals, AddedSyncLocals, core_slots, unless_passed, PutBody, WroteBody, WroteFunction, CompiledSync, params_among};
+ghost use Rattle.fact_compound.specs.Events.{AsksCalls};
+ghost use Rattle.fact_compound.specs.Functions.{AddedContext, AddedLocals, AddedSyncLocals, core_slots, unless_passed, PutBody, WroteBody, WroteFunction, CompiledSync, params_among, Compiled};
 
 use crate::adapters::{AdapterData, AdapterOptions};
 use crate::passing::are_passed_on;
-use crate::syncs::{SyncLocals, put_sync};
+use crate::same_instance::compile_same_instance;
+use crate::syncs::{CallOptions, SyncLocals, put_sync};
 use crate::tuples::{are_flat_values, tuples_of};
 use fact_builder::ComponentTypesBuilder;
+use fact_emit::context::ContextLocals;
 use fact_emit::places::TypedLocal;
 use fact_emit::state::{ModuleSections, ModuleState};
 use fact_emit::writer::{Local, Writer};
-use fact_types::{ComponentTypes, SideSig, Signature};
+use fact_types::{ComponentTypes, InterfaceType, SideSig, Signature};
 use fact_wasm::{FuncName, Instr, OutOfMemory, Seq, ValType, WasmFunc};
 use std::alloc::Global;
 use std::mem;
@@ -30,7 +34,9 @@ pub struct AdapterLocals {
     pub lift_saved: u32,
     pub core: Vec<TypedLocal>,
     pub given: Vec<TypedLocal>,
+    pub callee_context: ContextLocals,
     pub results: Vec<TypedLocal>,
+    pub own_context: ContextLocals,
 }
 
 /// Adds a local of each of these types behind the others.
@@ -52,28 +58,49 @@ fn core_types(types: &[ValType], passed: bool) -> &[ValType]
     if passed { &types[..0] } else { types }
 }
 
+/// Where the slots of the context are looked at, adds locals for them.
+fn add_context(w: &mut Writer, context: bool) -> Result<ContextLocals, OutOfMemory>
+    ensures { IfOk result (λ locals. AddedContext context w.old w.new locals) }
+{
+    if context {
+        let first = w.add_local(ValType::I32)?;
+        let second = w.add_local(ValType::I32)?;
+        Ok(ContextLocals { first, second })
+    } else {
+        Ok(ContextLocals {
+            first: 0,
+            second: 0,
+        })
+    }
+}
+
 /// Adds the locals of a sync adapter, by the core signatures of its sides.
 fn add_sync_locals(
     w: &mut Writer,
     lower: &Signature,
     lift: &Signature,
     passed: bool,
+    context: bool,
 ) -> Result<AdapterLocals, OutOfMemory>
-    ensures { IfOk result (λ l. AddedSyncLocals passed w.old w.new lower.now lift.now l) }
+    ensures { IfOk result (λ l. AddedSyncLocals passed context w.old w.new lower.now lift.now l) }
 {
     let args = add_locals(w, lower.params.as_slice())?;
     let saved = w.add_local(ValType::I32)?;
     let lift_saved = w.add_local(ValType::I32)?;
     let core = add_locals(w, core_types(lift.params.as_slice(), passed))?;
     let given = add_locals(w, lift.results.as_slice())?;
+    let callee_context = add_context(w, context)?;
     let results = add_locals(w, lower.results.as_slice())?;
+    let own_context = add_context(w, context)?;
     Ok(AdapterLocals {
         args,
         saved,
         lift_saved,
         core,
         given,
+        callee_context,
         results,
+        own_context,
     })
 }
 
@@ -104,6 +131,7 @@ fn put_body(
     w: &mut Writer,
     adapter: &AdapterData,
     debug: bool,
+    options: CallOptions,
     passed: bool,
     locals: &AdapterLocals,
 ) -> Result<(), OutOfMemory>
@@ -111,7 +139,8 @@ fn put_body(
     requires lift_live { adapter.now.lift.ty.number < length types.now.functions }
     requires callee { adapter.now.callee.number < length (functions_of w.old.imports) }
     requires reallocs { AreReallocsImported adapter.now w.old.imports }
-    ensures { OnOk result (PutBody types.now adapter.now debug passed locals.now w.old w.new) }
+    requires post_return { IfSome adapter.now.lift.post_return (λ (f : id.Id _). f.number < length (functions_of w.old.imports)) }
+    ensures { OnOk result (PutBody types.now adapter.now debug options passed locals.now w.old w.new) }
 {
     let (_, results) = tuples_of(types, adapter.lower.ty);
     let flat = are_flat_values(types, results, 1);
@@ -125,8 +154,10 @@ fn put_body(
         core: core_of(passed, params, locals.core.as_slice()),
         given: locals.given.as_slice(),
         results: locals.results.as_slice(),
+        callee_context: locals.callee_context,
+        own_context: locals.own_context,
     };
-    put_sync(types, w, adapter, debug, places)?;
+    put_sync(types, w, adapter, debug, options, places)?;
     Ok(())
 }
 
@@ -136,6 +167,7 @@ fn write_body(
     w: &mut Writer,
     adapter: &AdapterData,
     debug: bool,
+    options: CallOptions,
     lower: &Signature,
     lift: &Signature,
 ) -> Result<(), OutOfMemory>
@@ -143,13 +175,14 @@ fn write_body(
     requires lift_live { adapter.now.lift.ty.number < length types.now.functions }
     requires callee { adapter.now.callee.number < length (functions_of w.old.imports) }
     requires reallocs { AreReallocsImported adapter.now w.old.imports }
+    requires post_return { IfSome adapter.now.lift.post_return (λ (f : id.Id _). f.number < length (functions_of w.old.imports)) }
     requires no_code { w.old.code.items ≡ [] }
     requires no_locals { w.old.locals.items ≡ [] }
-    ensures { OnOk result (WroteBody types.now adapter.now debug lower.now lift.now w.old w.new) }
+    ensures { OnOk result (WroteBody types.now adapter.now debug options lower.now lift.now w.old w.new) }
 {
     let passed = are_passed_on(types, adapter.lower.ty, adapter.lift.ty);
-    let locals = add_sync_locals(w, lower, lift, passed)?;
-    put_body(types, w, adapter, debug, passed, &locals)?;
+    let locals = add_sync_locals(w, lower, lift, passed, options.context)?;
+    put_body(types, w, adapter, debug, options, passed, &locals)?;
     Ok(())
 }
 
@@ -215,12 +248,13 @@ fn function_of(
     }
 }
 
-/// Writes the function of a sync adapter, of the type of a number, over a module, to which it may add traps.
+/// Writes the function of a sync adapter, of the type of a number, over a module, to which it may add imports of functions of the runtime.
 fn write_function(
     types: &ComponentTypes,
     sections: &mut ModuleSections,
     adapter: &AdapterData,
     debug: bool,
+    options: CallOptions,
     lower: &Signature,
     lift: &Signature,
     ty: u32,
@@ -229,11 +263,12 @@ fn write_function(
     requires lift_live { adapter.now.lift.ty.number < length types.now.functions }
     requires callee { adapter.now.callee.number < length (functions_of sections.old) }
     requires reallocs { AreReallocsImported adapter.now sections.old }
-    ensures { IfOk result (λ f. WroteFunction types.now adapter.now debug lower.now lift.now ty sections.old sections.new f) }
+    requires post_return { IfSome adapter.now.lift.post_return (λ (f : id.Id _). f.number < length (functions_of sections.old)) }
+    ensures { IfOk result (λ f. WroteFunction types.now adapter.now debug options lower.now lift.now ty sections.old sections.new f) }
 {
     let alloc = sections.alloc();
     let mut w = Writer::over(alloc, mem::replace(sections, ModuleSections::new(alloc)));
-    let said = write_body(types, &mut w, adapter, debug, lower, lift);
+    let said = write_body(types, &mut w, adapter, debug, options, lower, lift);
     let (imports, code, locals) = w.into_parts();
     drop(mem::replace(sections, imports));
     match said {
@@ -263,41 +298,93 @@ fn sync_side(side: &AdapterOptions) -> SideSig
     }
 }
 
+/// Whether both hold.
+fn both(first: bool, second: bool) -> bool
+    ensures { result ≡ (first && second) }
+{
+    first && second
+}
+
+/// Whether one of two holds.
+fn either(first: bool, second: bool) -> bool
+    ensures { result ≡ (first || second) }
+{
+    first || second
+}
+
+/// What the code of an adapter asks of the runtime.
+fn call_options(
+    types: &ComponentTypesBuilder,
+    adapter: &AdapterData,
+    concurrency: bool,
+    exceptions: bool,
+) -> CallOptions
+    requires { adapter.now.lower.ty.number < length types.now.tables.functions }
+    ensures { AsksCalls types.now.tables adapter.now concurrency exceptions result }
+{
+    let tables = types.component_types();
+    let (params, _) = tuples_of(tables, adapter.lower.ty);
+    let lends = types.ty_contains_borrow_resource(&InterfaceType::Tuple(params));
+    let posts = adapter.lift.post_return.is_some();
+    let entered = both(concurrency, !adapter.transparent);
+    CallOptions {
+        concurrency,
+        told: either(entered, lends),
+        context: both(concurrency, posts),
+        barrier: exceptions,
+    }
+}
+
 /// Compiles a sync adapter over the types of a builder: see `compile`.
 fn compile_sync(
     types: &ComponentTypesBuilder,
     sections: &mut ModuleSections,
     adapter: &AdapterData,
     debug: bool,
+    concurrency: bool,
+    exceptions: bool,
 ) -> Result<(), OutOfMemory>
     requires lower_live { adapter.now.lower.ty.number < length types.now.tables.functions }
     requires lift_live { adapter.now.lift.ty.number < length types.now.tables.functions }
     requires callee { adapter.now.callee.number < length (functions_of sections.old) }
     requires reallocs { AreReallocsImported adapter.now sections.old }
-    ensures { OnOk result (CompiledSync types.now.tables adapter.now debug sections.old sections.new) }
+    requires post_return { IfSome adapter.now.lift.post_return (λ (f : id.Id _). f.number < length (functions_of sections.old)) }
+    ensures { OnOk result (CompiledSync types.now.tables adapter.now debug concurrency exceptions sections.old sections.new) }
 {
     let lower = types.lower_signature(&sync_side(&adapter.lower))?;
     let lift = types.lift_signature(&sync_side(&adapter.lift))?;
     let ty = sections.function(lower.params.as_slice(), lower.results.as_slice())?;
     let tables = types.component_types();
-    let function = write_function(tables, sections, adapter, debug, &lower, &lift, ty)?;
+    let options = call_options(types, adapter, concurrency, exceptions);
+    let function = write_function(tables, sections, adapter, debug, options, &lower, &lift, ty)?;
     let number = sections.define(function)?;
     sections.export(adapter.name.as_str(), FuncName::Defined(number))?;
     Ok(())
 }
 
-/// Compiles an adapter over the types and the tunables of a module: its function comes behind those of the module, its export
-/// under the adapter's name behind the exports, and the traps that it calls behind the imports, where they are new. The types are
-/// live, and the data's numbers are those of imports of the module. After a want of memory the module may have types and traps
-/// that nothing uses, and the function without its export.
+/// Compiles an adapter over the types, the tunables and the features of a module: its function comes behind those of the module, its
+/// export under the adapter's name behind the exports, and the functions of the runtime that it calls behind the imports, where they
+/// are new. An adapter within one instance traps at each call; any other one is sync. The types are live, and the data's numbers are
+/// those of imports of the module. After a want of memory the module may have types and imports that nothing uses, and the function
+/// without its export.
 pub fn compile(state: &mut ModuleState<'_>, adapter: &AdapterData) -> Result<(), OutOfMemory>
     requires lower_live { adapter.now.lower.ty.number < length state.old.builder.now.tables.functions }
     requires lift_live { adapter.now.lift.ty.number < length state.old.builder.now.tables.functions }
     requires callee { adapter.now.callee.number < length (functions_of state.old.sections) }
     requires reallocs { AreReallocsImported adapter.now state.old.sections }
-    ensures compiled { OnOk result (CompiledSync state.old.builder.now.tables adapter.now state.old.tunables.now.debug_adapter_modules state.old.sections state.new.sections) }
+    requires post_return { IfSome adapter.now.lift.post_return (λ (f : id.Id _). f.number < length (functions_of state.old.sections)) }
+    ensures compiled { OnOk result (Compiled state.old.builder.now.tables adapter.now state.old.tunables.now.debug_adapter_modules state.old.tunables.now.concurrency_support state.old.features.exceptions state.old.sections state.new.sections) }
     ensures keeps { OnlySectionsChanged state.old state.new }
 {
+    let types = state.builder;
     let debug = state.tunables.debug_adapter_modules;
-    compile_sync(state.builder, &mut state.sections, adapter, debug)
+    let concurrency = state.tunables.concurrency_support;
+    let exceptions = state.features.exceptions;
+    let sections = &mut state.sections;
+    if adapter.lift.instance == adapter.lower.instance {
+        compile_same_instance(types, sections, adapter)?;
+    } else {
+        compile_sync(types, sections, adapter, debug, concurrency, exceptions)?;
+    }
+    Ok(())
 }

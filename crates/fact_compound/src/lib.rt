@@ -5,6 +5,7 @@
 pub mod adapters;
 pub mod functions;
 pub mod passing;
+pub mod same_instance;
 pub mod steps;
 pub mod syncs;
 pub mod tuples;

@@ -6,11 +6,19 @@ ghost use Rattle.fact_emit.specs.Emits.{Emits};
 ghost use Rattle.fact_emit.specs.Places.{slots_of_locals};
 ghost use Rattle.fact_emit.specs.Writers.{Wrote};
 ghost use Rattle.fact_compound.specs.Code.{pushed_code, popped_code, saved_code, call_code};
+ghost use Rattle.std.specs.Prelude.{◌<◌, IfSome, length};
+ghost use Rattle.fact_emit.specs.States.{functions_of};
+ghost use Rattle.fact_entity.specs.declared.id.Id as id;
+ghost use Rattle.fact_compound.specs.Events.{EntersCall, ExitsCall, FinishesCall, ReturnsPost};
 ghost use Rattle.fact_compound.specs.Passing.{ChecksMayLeave};
 
+use fact_emit::calls::call_runtime;
 use fact_emit::checks::put_guard;
+use fact_emit::context::{ContextLocals, read_context, restore_context};
+use fact_emit::imported::RuntimeFunction;
 use fact_emit::places::TypedLocal;
 use fact_emit::writer::Writer;
+use fact_entity::FuncIndex;
 use fact_types::Trap;
 use fact_wasm::{FuncName, Instr, OutOfMemory};
 
@@ -88,5 +96,69 @@ pub fn call_callee(
     restore_flags(w, flags, saved)?;
     w.put(Instr::Call(FuncName::Import(function)))?;
     pop_locals(w, results)?;
+    Ok(())
+}
+
+/// Where the runtime is told of a call, tells it that an instance is entered by a function whose type is not marked as async.
+pub fn enter_call(w: &mut Writer, told: bool, instance: u32) -> Result<(), OutOfMemory>
+    ensures { OnOk result (Emits w.old w.new (EntersCall told instance)) }
+{
+    if told {
+        w.put(Instr::I32Const(0))?;
+        w.put(Instr::I32Const(instance))?;
+        call_runtime(w, RuntimeFunction::EnterSyncCall)?;
+    }
+    Ok(())
+}
+
+/// Tells it that the instance is left again.
+pub fn exit_call(w: &mut Writer, told: bool) -> Result<(), OutOfMemory>
+    ensures { OnOk result (Emits w.old w.new (ExitsCall told)) }
+{
+    if told {
+        call_runtime(w, RuntimeFunction::ExitSyncCall)?;
+    }
+    Ok(())
+}
+
+/// Calls a post-return with what the callee gave. Where the slots of the context are looked at, the callee's are set before the
+/// call, and the adapter's own are set back behind it.
+fn call_post_return(
+    w: &mut Writer,
+    function: u32,
+    context: bool,
+    callee: ContextLocals,
+    own: ContextLocals,
+    given: &[TypedLocal],
+) -> Result<(), OutOfMemory>
+    requires { function < length (functions_of w.old.imports) }
+    ensures { OnOk result (Emits w.old w.new (ReturnsPost function context callee own (slots_of_locals given.now))) }
+{
+    read_context(w, context, own)?;
+    restore_context(w, context, callee)?;
+    push_locals(w, given)?;
+    w.put(Instr::Call(FuncName::Import(function)))?;
+    restore_context(w, context, own)?;
+    Ok(())
+}
+
+/// Calls the post-return, where there is one.
+pub fn finish_call(
+    w: &mut Writer,
+    post_return: Option<FuncIndex>,
+    context: bool,
+    callee: ContextLocals,
+    own: ContextLocals,
+    given: &[TypedLocal],
+) -> Result<(), OutOfMemory>
+    requires { IfSome post_return (λ (f : id.Id _). f.number < length (functions_of w.old.imports)) }
+    ensures { OnOk result (Emits w.old w.new (FinishesCall post_return context callee own (slots_of_locals given.now))) }
+{
+    match post_return {
+        Some(function) => {
+            call_post_return(w, function.number, context, callee, own, given)?;
+        }
+        None => (),
+    }
     Ok(())
 }

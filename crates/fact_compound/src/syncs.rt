@@ -1,24 +1,39 @@
 //! The code of sync adapters between two instances.
 
-ghost use Rattle.std.specs.Prelude.{OnOk, ◌<◌, length};
+ghost use Rattle.std.specs.Prelude.{OnOk, IfSome, ◌<◌, length};
+ghost use Rattle.fact_entity.specs.declared.id.Id as id;
 ghost use Rattle.fact_emit.specs.States.{functions_of};
 ghost use Rattle.fact_compound.specs.Described.{AreReallocsImported};
 ghost use Rattle.fact_compound.specs.Syncs.{EmitsSync};
-ghost use Rattle.fact_compound.specs.Written.{sync_places};
+ghost use Rattle.fact_compound.specs.Written.{WrittenBarred, WrittenCall, WrittenReturn, WrittenSteps, sync_places};
 
 use crate::adapters::AdapterData;
 use crate::steps::{
-    call_callee, check_may_leave, clear_flags, push_locals, restore_flags, save_flags,
+    call_callee, check_may_leave, clear_flags, enter_call, exit_call, finish_call, push_locals,
+    restore_flags, save_flags,
 };
 use crate::tuples::{move_results, pass_params};
+use fact_emit::barriers::put_barrier;
+use fact_emit::context::{ContextLocals, read_context};
 use fact_emit::places::TypedLocal;
 use fact_emit::writer::Writer;
 use fact_types::ComponentTypes;
 use fact_wasm::OutOfMemory;
 
+/// What a sync adapter asks of the runtime: whether the slots of the context are saved around calls of realloc, whether the runtime is
+/// told of the call, whether the slots are looked at around the post-return, and whether what is thrown becomes a trap.
+#[derive(Clone, Copy)]
+pub struct CallOptions {
+    pub concurrency: bool,
+    pub told: bool,
+    pub context: bool,
+    pub barrier: bool,
+}
+
 /// The locals of a sync adapter: those of all arguments, of which the parameters are the first; those of the saved flags of the
 /// lower and of the lift side; and those of the callee's parameters, of its results, and of the adapter's results. Where the
-/// parameters are handed on as they are, `passed`, the callee's are the adapter's own.
+/// parameters are handed on as they are, `passed`, the callee's are the adapter's own. Where the slots of the context are looked at,
+/// there are locals for what the callee left in them, and for the adapter's own.
 #[derive(Clone, Copy)]
 pub struct SyncLocals<'a> {
     pub passed: bool,
@@ -29,23 +44,27 @@ pub struct SyncLocals<'a> {
     pub core: &'a [TypedLocal],
     pub given: &'a [TypedLocal],
     pub results: &'a [TypedLocal],
+    pub callee_context: ContextLocals,
+    pub own_context: ContextLocals,
 }
 
-/// Writes what a sync adapter does, whose callee is imported, and leaves its results on the operand stack.
-pub fn put_sync(
+/// Writes the steps of a sync adapter up to the call of its callee, which is imported.
+fn put_call(
     types: &ComponentTypes,
     w: &mut Writer,
     adapter: &AdapterData,
     debug: bool,
+    options: CallOptions,
     locals: SyncLocals<'_>,
 ) -> Result<(), OutOfMemory>
     requires lower_live { adapter.now.lower.ty.number < length types.now.functions }
     requires lift_live { adapter.now.lift.ty.number < length types.now.functions }
     requires callee { adapter.now.callee.number < length (functions_of w.old.imports) }
     requires reallocs { AreReallocsImported adapter.now w.old.imports }
-    ensures { OnOk result (EmitsSync types.now adapter.now debug (sync_places locals.entry) w.old w.new) }
+    ensures { OnOk result (WrittenCall types.now adapter.now debug options (sync_places locals.entry) w.old w.new) }
 {
     check_may_leave(w, adapter.lower.flags.number, locals.saved)?;
+    enter_call(w, options.told, adapter.lift.instance.number)?;
     save_flags(w, adapter.lift.flags.number, locals.lift_saved)?;
     clear_flags(w, adapter.lift.flags.number)?;
     pass_params(
@@ -53,6 +72,7 @@ pub fn put_sync(
         w,
         adapter,
         debug,
+        options.concurrency,
         locals.passed,
         locals.params,
         locals.core,
@@ -65,17 +85,116 @@ pub fn put_sync(
         adapter.callee.number,
         locals.given,
     )?;
+    Ok(())
+}
+
+/// Writes the steps behind that call. The results stay in their locals.
+fn put_return(
+    types: &ComponentTypes,
+    w: &mut Writer,
+    adapter: &AdapterData,
+    debug: bool,
+    options: CallOptions,
+    locals: SyncLocals<'_>,
+) -> Result<(), OutOfMemory>
+    requires lower_live { adapter.now.lower.ty.number < length types.now.functions }
+    requires lift_live { adapter.now.lift.ty.number < length types.now.functions }
+    requires reallocs { AreReallocsImported adapter.now w.old.imports }
+    requires post_return { IfSome adapter.now.lift.post_return (λ (f : id.Id _). f.number < length (functions_of w.old.imports)) }
+    ensures { OnOk result (WrittenReturn types.now adapter.now debug options (sync_places locals.entry) w.old w.new) }
+{
+    let post_return = adapter.lift.post_return;
+    let callee = locals.callee_context;
+    let own = locals.own_context;
+    read_context(w, options.context, callee)?;
+    exit_call(w, options.told)?;
     clear_flags(w, adapter.lower.flags.number)?;
     move_results(
         types,
         w,
         adapter,
         debug,
+        options.concurrency,
         locals.given,
         locals.results,
         locals.args,
     )?;
     restore_flags(w, adapter.lower.flags.number, locals.saved)?;
+    finish_call(w, post_return, options.context, callee, own, locals.given)?;
+    Ok(())
+}
+
+/// Writes all steps of a sync adapter, whose callee and post-return are imported.
+fn put_steps(
+    types: &ComponentTypes,
+    w: &mut Writer,
+    adapter: &AdapterData,
+    debug: bool,
+    options: CallOptions,
+    locals: SyncLocals<'_>,
+) -> Result<(), OutOfMemory>
+    requires lower_live { adapter.now.lower.ty.number < length types.now.functions }
+    requires lift_live { adapter.now.lift.ty.number < length types.now.functions }
+    requires callee { adapter.now.callee.number < length (functions_of w.old.imports) }
+    requires reallocs { AreReallocsImported adapter.now w.old.imports }
+    requires post_return { IfSome adapter.now.lift.post_return (λ (f : id.Id _). f.number < length (functions_of w.old.imports)) }
+    ensures { OnOk result (WrittenSteps types.now adapter.now debug options (sync_places locals.entry) w.old w.new) }
+{
+    put_call(types, w, adapter, debug, options, locals)?;
+    put_return(types, w, adapter, debug, options, locals)?;
+    Ok(())
+}
+
+/// Writes all steps, in a barrier.
+fn put_barred(
+    types: &ComponentTypes,
+    w: &mut Writer,
+    adapter: &AdapterData,
+    debug: bool,
+    options: CallOptions,
+    locals: SyncLocals<'_>,
+) -> Result<(), OutOfMemory>
+    requires lower_live { adapter.now.lower.ty.number < length types.now.functions }
+    requires lift_live { adapter.now.lift.ty.number < length types.now.functions }
+    requires callee { adapter.now.callee.number < length (functions_of w.old.imports) }
+    requires reallocs { AreReallocsImported adapter.now w.old.imports }
+    requires post_return { IfSome adapter.now.lift.post_return (λ (f : id.Id _). f.number < length (functions_of w.old.imports)) }
+    ensures { OnOk result (WrittenBarred types.now adapter.now debug options (sync_places locals.entry) w.old w.new) }
+{
+    let before = w.begin();
+    let said = put_steps(types, w, adapter, debug, options, locals);
+    let body = w.end(before);
+    match said {
+        Ok(()) => put_barrier(w, body)?,
+        Err(error) => {
+            drop(body);
+            return Err(error);
+        }
+    }
+    Ok(())
+}
+
+/// Writes what a sync adapter does, whose callee and post-return are imported, and leaves its results on the operand stack.
+pub fn put_sync(
+    types: &ComponentTypes,
+    w: &mut Writer,
+    adapter: &AdapterData,
+    debug: bool,
+    options: CallOptions,
+    locals: SyncLocals<'_>,
+) -> Result<(), OutOfMemory>
+    requires lower_live { adapter.now.lower.ty.number < length types.now.functions }
+    requires lift_live { adapter.now.lift.ty.number < length types.now.functions }
+    requires callee { adapter.now.callee.number < length (functions_of w.old.imports) }
+    requires reallocs { AreReallocsImported adapter.now w.old.imports }
+    requires post_return { IfSome adapter.now.lift.post_return (λ (f : id.Id _). f.number < length (functions_of w.old.imports)) }
+    ensures { OnOk result (EmitsSync types.now adapter.now debug options (sync_places locals.entry) w.old w.new) }
+{
+    if options.barrier {
+        put_barred(types, w, adapter, debug, options, locals)?;
+    } else {
+        put_steps(types, w, adapter, debug, options, locals)?;
+    }
     push_locals(w, locals.results)?;
     Ok(())
 }

@@ -72,21 +72,22 @@ pub fn move_params(
     w: &mut Writer,
     adapter: &AdapterData,
     debug: bool,
+    concurrency: bool,
     params: &[TypedLocal],
     core: &[TypedLocal],
 ) -> Result<(), OutOfMemory>
     requires lower_live { adapter.now.lower.ty.number < length types.now.functions }
     requires lift_live { adapter.now.lift.ty.number < length types.now.functions }
     requires realloc { IsReallocImported (linear_of adapter.now.lift) w.old.imports }
-    ensures { OnOk result (MovedParams types.now adapter.now debug (slots_of_locals params.now) (slots_of_locals core.now) w.old w.new) }
+    ensures { OnOk result (MovedParams types.now adapter.now debug concurrency (slots_of_locals params.now) (slots_of_locals core.now) w.old w.new) }
 {
-    let sides = adapter.params_sides(debug);
+    let sides = adapter.params_sides(debug, concurrency);
     let (from, _) = tuples_of(types, adapter.lower.ty);
     let (to, _) = tuples_of(types, adapter.lift.ty);
     let source = tuple_source(are_flat_values(types, from, 16), params);
     let target = tuple_target(are_flat_values(types, to, 16), core, core);
     check_tuple_area(types, w, sides.from, from, 16, last_of(params))?;
-    ask_tuple_area(types, w, sides.to, to, last_of(core))?;
+    ask_tuple_area(types, w, concurrency, sides.to, to, last_of(core))?;
     move_tuple(types, w, sides, from, to, source, target)?;
     Ok(())
 }
@@ -97,6 +98,7 @@ pub fn pass_params(
     w: &mut Writer,
     adapter: &AdapterData,
     debug: bool,
+    concurrency: bool,
     passed: bool,
     params: &[TypedLocal],
     core: &[TypedLocal],
@@ -104,10 +106,10 @@ pub fn pass_params(
     requires lower_live { adapter.now.lower.ty.number < length types.now.functions }
     requires lift_live { adapter.now.lift.ty.number < length types.now.functions }
     requires realloc { IsReallocImported (linear_of adapter.now.lift) w.old.imports }
-    ensures { OnOk result (PassedParams types.now adapter.now debug passed (slots_of_locals params.now) (slots_of_locals core.now) w.old w.new) }
+    ensures { OnOk result (PassedParams types.now adapter.now debug concurrency passed (slots_of_locals params.now) (slots_of_locals core.now) w.old w.new) }
 {
     if !passed {
-        move_params(types, w, adapter, debug, params, core)?;
+        move_params(types, w, adapter, debug, concurrency, params, core)?;
     }
     Ok(())
 }
@@ -140,20 +142,21 @@ fn check_tuple_area(
 fn ask_tuple_area(
     types: &ComponentTypes,
     w: &mut Writer,
+    concurrency: bool,
     linear: LinearMemory,
     tuple: TypeTupleIndex,
     address: u32,
 ) -> Result<(), OutOfMemory>
     requires live { IsLive types.now (ty.Tuple tuple) }
     requires realloc { IsReallocImported linear w.old.imports }
-    ensures { OnOk result (AskedTuple types.now tuple linear address w.old w.new) }
+    ensures { OnOk result (AskedTuple types.now tuple concurrency linear address w.old w.new) }
 {
     let abi = types.canonical_abi(&InterfaceType::Tuple(tuple));
     if !are_flat_values(types, tuple, 16) {
         if linear.memory64 {
-            ask_area(w, linear, address, abi.size64, abi.align64)?;
+            ask_area(w, concurrency, linear, address, abi.size64, abi.align64)?;
         } else {
-            ask_area(w, linear, address, abi.size32, abi.align32)?;
+            ask_area(w, concurrency, linear, address, abi.size32, abi.align32)?;
         }
     }
     Ok(())
@@ -193,6 +196,7 @@ pub fn move_results(
     w: &mut Writer,
     adapter: &AdapterData,
     debug: bool,
+    concurrency: bool,
     given: &[TypedLocal],
     results: &[TypedLocal],
     args: &[TypedLocal],
@@ -200,9 +204,9 @@ pub fn move_results(
     requires lower_live { adapter.now.lower.ty.number < length types.now.functions }
     requires lift_live { adapter.now.lift.ty.number < length types.now.functions }
     requires realloc { IsReallocImported (linear_of adapter.now.lower) w.old.imports }
-    ensures { OnOk result (MovedResults types.now adapter.now debug (slots_of_locals given.now) (slots_of_locals results.now) (slots_of_locals args.now) w.old w.new) }
+    ensures { OnOk result (MovedResults types.now adapter.now debug concurrency (slots_of_locals given.now) (slots_of_locals results.now) (slots_of_locals args.now) w.old w.new) }
 {
-    let sides = adapter.results_sides(debug);
+    let sides = adapter.results_sides(debug, concurrency);
     let (_, from) = tuples_of(types, adapter.lift.ty);
     let (_, to) = tuples_of(types, adapter.lower.ty);
     let source = tuple_source(are_flat_values(types, from, 1), given);

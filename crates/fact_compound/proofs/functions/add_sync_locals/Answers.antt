@@ -10,4 +10,4 @@ returns c =
     let core = rw types at c.in_ok-core.ensures in
     let given = rw c.as_slice-3.ensures at c.in_ok-given.ensures in
     let results = rw c.as_slice-4.ensures at c.in_ok-results.ensures in
-    added_sync args c.in_ok-saved.ensures c.in_ok-lift_saved.ensures core given results
+    added_sync args c.in_ok-saved.ensures c.in_ok-lift_saved.ensures core given c.in_ok-callee_context.ensures results c.in_ok-own_context.ensures

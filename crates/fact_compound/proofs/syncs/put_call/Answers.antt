@@ -1,0 +1,15 @@
+use Rattle.fact_emit.proofs.Emitting.{grew_on}
+use Rattle.fact_compound.proofs.ReallocsKept.{realloc_behind}
+use Rattle.fact_compound.specs.Written.{sync_places}
+use Rattle.fact_compound.proofs.SyncWritten.{written_call}
+use Rattle.fact_compound.proofs.syncs.put_call.Goals as goal
+
+pub returns : goal.returns
+returns c = written_call c.args.adapter.now c.args.debug c.args.options (sync_places c.args.locals) c.requires.callee c.in_ok-check_may_leave.ensures c.in_ok-enter_call.ensures c.in_ok-save_flags.ensures c.in_ok-clear_flags.ensures c.in_ok-pass_params.ensures c.in_ok-call_callee.ensures
+
+pub pass_params-requires : goal.pass_params-requires
+pass_params-requires c = record {
+  lower_live = c.requires.lower_live;
+  lift_live = c.requires.lift_live;
+  realloc = realloc_behind (grew_on c.in_ok-check_may_leave.ensures.grew c.in_ok-enter_call.ensures.grew) c.in_ok-save_flags.ensures c.in_ok-clear_flags.ensures c.requires.reallocs.lift;
+}

@@ -1,0 +1,18 @@
+use Rattle.fact_emit.proofs.Emitting.{grew_on}
+use Rattle.fact_compound.specs.Written.{sync_places}
+use Rattle.fact_compound.proofs.ReallocsKept.{realloc_then}
+use Rattle.fact_compound.proofs.SyncWritten.{finish_there, written_return}
+use Rattle.fact_compound.proofs.syncs.put_return.Goals as goal
+
+pub move_results-requires : goal.move_results-requires
+move_results-requires c = record {
+  lower_live = c.requires.lower_live;
+  lift_live = c.requires.lift_live;
+  realloc = realloc_then (grew_on c.in_ok-read_context.ensures.grew c.in_ok-exit_call.ensures.grew) c.in_ok-clear_flags.ensures c.requires.reallocs.lower;
+}
+
+pub finish_call-requires : goal.finish_call-requires
+finish_call-requires c = finish_there _ c.in_ok-read_context.ensures c.in_ok-exit_call.ensures c.in_ok-clear_flags.ensures c.in_ok-move_results.ensures.grew c.in_ok-restore_flags.ensures c.requires.post_return
+
+pub returns : goal.returns
+returns c = written_return c.args.adapter.now c.args.debug c.args.options (sync_places c.args.locals) c.in_ok-read_context.ensures c.in_ok-exit_call.ensures c.in_ok-clear_flags.ensures c.in_ok-move_results.ensures c.in_ok-restore_flags.ensures c.in_ok-finish_call.ensures
