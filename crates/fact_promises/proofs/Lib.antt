@@ -1,10 +1,12 @@
 pub mod Behaviour
 pub mod FewCalls
 pub mod Fronts
+pub mod FunctionRuns
 pub mod ImportNumbers
 pub mod LoggedImports
 pub mod Outcomes
 pub mod OwnWrites
 pub mod Rooms
+pub mod Traps
 pub mod TrapsLast
 pub mod TypedCalls

@@ -51,13 +51,13 @@ module _ (m : WasmModule) (f : ℕ) (args : List CoreValue) (before : MachineSta
   trace_in : {r : Reached} (n : ℕ) → run_reach m f args before answers n ≡ r → trace_of m f args before answers n ≡ r.world.trace
   trace_in n e = ap (λ (r : Reached). r.world.trace) e
 
-  pub has_traced : (e : Ended (List CoreValue)) → RunsAs m f args before answers 900 0 (λ (vs : List CoreValue). vs) e → HasTraced m f args before answers (world_in e)
-  has_traced (Gave n cs vs w) r = record { steps = r.steps; trace = trace_in r.steps (r.comes.reaches r.steps (omega arith)) }
-  has_traced (Halted n cs s w) r = record { steps = r.steps; trace = trace_in r.steps (r.comes.reaches r.steps (omega arith)) }
-  has_traced (Strayed n cs w) r = record { steps = r.steps; trace = ap (λ (x : World). x.trace) r.reaches }
+  pub has_traced : (extra : ℕ) (e : Ended (List CoreValue)) → RunsAs m f args before answers extra 0 (λ (vs : List CoreValue). vs) e → HasTraced m f args before answers (world_in e)
+  has_traced extra (Gave n cs vs w) r = record { steps = r.steps; trace = trace_in r.steps (r.comes.reaches r.steps (omega arith)) }
+  has_traced extra (Halted n cs s w) r = record { steps = r.steps; trace = trace_in r.steps (r.comes.reaches r.steps (omega arith)) }
+  has_traced extra (Strayed n cs w) r = record { steps = r.steps; trace = ap (λ (x : World). x.trace) r.reaches }
 
   -- where the action did not go astray, the trace is at each number of steps a front of that
-  pub traces_grow : (e : Ended (List CoreValue)) → IsStraight e → RunsAs m f args before answers 900 0 (λ (vs : List CoreValue). vs) e → (n : ℕ) → Grows (trace_of m f args before answers n) (world_in e).trace
-  traces_grow (Gave n cs vs w) s r = r.comes.front
-  traces_grow (Halted n cs t w) s r = r.comes.front
-  traces_grow (Strayed n cs w) s r = absurd s
+  pub traces_grow : (extra : ℕ) (e : Ended (List CoreValue)) → IsStraight e → RunsAs m f args before answers extra 0 (λ (vs : List CoreValue). vs) e → (n : ℕ) → Grows (trace_of m f args before answers n) (world_in e).trace
+  traces_grow extra (Gave n cs vs w) s r = r.comes.front
+  traces_grow extra (Halted n cs t w) s r = r.comes.front
+  traces_grow extra (Strayed n cs w) s r = absurd s

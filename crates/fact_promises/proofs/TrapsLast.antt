@@ -1,5 +1,6 @@
--- A call of a trap is the last of a run without a barrier: where a sync adapter gave something or lacks an answer, it has called none.
-use Rattle.std.proofs.Common.{◌≡◌, ℕ, ◌+◌, Bool, true, false, List, [], ◌∷◌, ◌++◌, Option, Some, None, refl, sym, ◌∙◌, subst, length, slice_get, nat_le, nat_eq, not, is_some, ◌&&◌}
+-- A call of a trap is the last of a run: where a sync adapter gave something or lacks an answer, and each call returned, it has called
+-- none.
+use Rattle.std.proofs.Common.{◌≡◌, ℕ, ◌+◌, Bool, true, false, List, [], ◌∷◌, ◌++◌, Option, Some, None, refl, sym, ◌∙◌, inl, subst, length, slice_get, nat_le, nat_eq, not, is_some, ◌&&◌}
 use Rattle.std.specs.Prelude.{if◌then◌else◌}
 use Rattle.std.proofs.lemmas.List.Elements.{filter-append}
 use Rattle.fact_wasm.specs.declared.types.ValType.{ValType}
@@ -14,17 +15,21 @@ use Rattle.fact_types.specs.declared.import.Import.{Import}
 use Rattle.fact_types.specs.declared.import.Import.TheVariants as import
 use Rattle.fact_types.specs.declared.outside.CoreDef.{CoreDef}
 use Rattle.fact_types.specs.declared.outside.Trap.{Trap as Reason}
-use Rattle.fact_types.specs.declared.outside.Trap.TheVariants.{CannotLeaveComponent}
+use Rattle.fact_types.specs.declared.outside.Trap.TheVariants.{CannotLeaveComponent, UncaughtException}
 use Rattle.fact_types.specs.Adapters.{LinkedAdapter}
-use Rattle.fact_moves.specs.Actions.{Action, Give, Write, SetFlags, Ask, Unreachable, ◌>>=◌}
+use Rattle.fact_moves.specs.Actions.{Action, Give, Write, SetFlags, Ask, Unreachable, ◌>>=◌, trap}
 use Rattle.fact_moves.specs.Adapters.{AdapterTunables, Slotted, cleared, enters, finish_call, get_flags, last_bits, lift_signature_of, make_call, none, params_transfer, results_transfer, sync, when_due}
 use Rattle.fact_moves.specs.Order.{IsValueCall}
+use Rattle.fact_moves.specs.Plain.{ended_sync, guarded_if}
 use Rattle.fact_moves.specs.Running.{ImportPlaces, Call, Ended, Gave, Halted, Strayed, calls_in, heavier, later, then_ended, or_strayed, ended, if_typed, is_answer, call_of, with_answer, run}
 use Rattle.fact_moves.specs.Sides.{LiftLowerOptions, Transfer, address_value, check_region, first_bits, get_slots, reallocate, set_slots, type_of_addresses}
 use Rattle.fact_moves.proofs.Binds.{binds_run}
 use Rattle.fact_moves.proofs.Kept.{IsKept, IsPlain, region_kept, unless_kept}
 use Rattle.fact_moves.proofs.Passed.{params_kept, results_kept}
 use Rattle.fact_carry.specs.Faithful.{GivesOrLacks}
+use Rattle.fact_carry.proofs.Ending.{calls_behind}
+use Rattle.fact_carry.proofs.Stopping.{AreReturned, Stopping}
+use Rattle.fact_texts.proofs.Thrown.{Unthrown, never_thrown, none_before, none_threw}
 use Rattle.fact_promises.specs.Runs.{CallNoTrap, is_trap_import}
 
 -- ---- ends
@@ -214,6 +219,17 @@ module _ (u : AdapterTunables) (a : LinkedAdapter) where
       binds_last 0 0 0 _ _ _ _ (cleared_last a.lower.instance saved 0 _ _ (results_kept u a (last_kept (results_transfer u a)) given (last_bits args))) (λ results.
       binds_last 0 0 0 _ _ _ _ (finish_last u.concurrency a.lift.post_return given context) (λ r. gives_last 0 _ results))))))))))
 
-  -- where a run without a barrier gave something or lacks an answer, it has called no trap
-  pub no_trap_called : (p : ImportPlaces) (args : List CoreValue) (w : World) → GivesOrLacks (run p (sync u a args) w) → CallNoTrap (calls_in (run p (sync u a args) w))
-  no_trap_called p args w h = ((sync_last args).at p w).called h
+  -- Where it gave something or lacks an answer, and each call returned, no trap was called: the barrier calls one only where something
+  -- was thrown.
+  guarded_last : (p : ImportPlaces) (b : Bool) (e : Ended (List CoreValue)) → NoTrap e → Stopping e Unthrown → AreReturned (calls_in (guarded_if b p e)) → GivesOrLacks (guarded_if b p e) → CallNoTrap (calls_in (guarded_if b p e))
+  guarded_last p false e h thrown returned x = h.called x
+  guarded_last p true (Gave n cs vs w) h thrown returned x = h.called x
+  guarded_last p true (Halted n cs Lack w) h thrown returned x = h.called x
+  guarded_last p true (Halted n cs Trap w) h thrown returned x = absurd x
+  guarded_last p true (Halted n cs Throw w) h thrown returned x =
+      let e = run p (trap {A = List CoreValue} UncaughtException) w in
+      absurd (thrown (none_before cs (calls_in e) (none_threw AreReturned (λ ds r. r) (cs ++ calls_in e) (inl (subst AreReturned (calls_behind n cs e) returned)))) tt)
+  guarded_last p true (Strayed n cs w) h thrown returned x = absurd x
+
+  pub no_trap_called : (p : ImportPlaces) (args : List CoreValue) (w : World) → AreReturned (calls_in (ended_sync p u a args w)) → GivesOrLacks (ended_sync p u a args w) → CallNoTrap (calls_in (ended_sync p u a args w))
+  no_trap_called p args w returned x = guarded_last p u.exceptions (run p (sync u a args) w) ((sync_last args).at p w) (never_thrown p (sync u a args) w) returned x

@@ -15,7 +15,7 @@ use Rattle.fact_machine.specs.declared.types.Event.{Event}
 use Rattle.fact_machine.specs.declared.types.MachineState.{MachineState}
 use Rattle.fact_types.specs.declared.import.Import.{Import}
 use Rattle.fact_types.specs.declared.import.Import.TheVariants as known
-use Rattle.fact_types.specs.ImportTypes.{trap_type}
+use Rattle.fact_types.specs.declared.outside.UnsafeIntrinsic.TheVariants as slot
 use Rattle.fact_moves.specs.Laws.{call_event}
 use Rattle.fact_moves.specs.Running.{Call}
 use Rattle.fact_moves.specs.TypedAnswers.{HasTypedAnswer, HaveTypedAnswers, result_types}
@@ -38,15 +38,32 @@ module _ (m : WasmModule) (is : List Import) where
   are_places = record { memories = refl; globals = refl }
 
   module _ (ms : List Mention) (named : AreNamed m.types ms [] m.imports is) where
+    -- an import of a type gives the results of that type
+    by_type : (entry : WasmImport) (s t : FuncType) (n : ℕ) → imported_type m.types entry.ty ≡ Some s → entry.ty ≡ import.Func n → slice_get m.types n ≡ Some t → s.results ≡ t.results
+    by_type entry s t n typed at there =
+        let same : Some s ≡ Some t = sym typed ∙ ap (imported_type m.types) at ∙ there in
+        let is : s ≡ t = cc in
+        ap (λ (s : FuncType). s.results) is
+
     -- what an import gives is what the type says under which it is imported
     results_by : (i : Import) (before : List WasmImport) (entry : WasmImport) (n : ℕ) (t : FuncType) → IsNamed m.types ms before entry i → entry.ty ≡ import.Func n → slice_get m.types n ≡ Some t
         → type_of_import m ((places_in m is).function i) ≡ Some t → result_types (core_results m is) [] i ≡ t.results
     results_by (known.CoreDef d) before entry n t named_so at there typed = ap (λ o. elim o as (λ (x : Option FuncType). List ValType) [ None ↦ [] | Some s ↦ s.results ]) typed
-    results_by (known.Trap r) before entry n t named_so at there typed =
-        let same : Some trap_type ≡ Some t = sym named_so.is_typed ∙ ap (imported_type m.types) at ∙ there in
-        let is : trap_type ≡ t = cc in
-        ap (λ (s : FuncType). s.results) is
-    results_by i before entry n t named_so at there typed = absurd named_so
+    results_by (known.Trap r) before entry n t named_so at there typed = by_type entry _ t n named_so.is_typed at there
+    results_by known.ResourceTransferOwn before entry n t named_so at there typed = by_type entry _ t n named_so.is_typed at there
+    results_by known.ResourceTransferBorrow before entry n t named_so at there typed = by_type entry _ t n named_so.is_typed at there
+    results_by known.FutureTransfer before entry n t named_so at there typed = by_type entry _ t n named_so.is_typed at there
+    results_by known.StreamTransfer before entry n t named_so at there typed = by_type entry _ t n named_so.is_typed at there
+    results_by known.ErrorContextTransfer before entry n t named_so at there typed = by_type entry _ t n named_so.is_typed at there
+    results_by known.EnterSyncCall before entry n t named_so at there typed = by_type entry _ t n named_so.is_typed at there
+    results_by known.ExitSyncCall before entry n t named_so at there typed = by_type entry _ t n named_so.is_typed at there
+    results_by (known.UnsafeIntrinsic slot.ContextGetI32_0) before entry n t named_so at there typed = by_type entry _ t n named_so.is_typed at there
+    results_by (known.UnsafeIntrinsic slot.ContextGetI32_1) before entry n t named_so at there typed = by_type entry _ t n named_so.is_typed at there
+    results_by (known.UnsafeIntrinsic slot.ContextSetI32_0) before entry n t named_so at there typed = by_type entry _ t n named_so.is_typed at there
+    results_by (known.UnsafeIntrinsic slot.ContextSetI32_1) before entry n t named_so at there typed = by_type entry _ t n named_so.is_typed at there
+    results_by (known.Transcode a b c d e) before entry n t named_so at there typed = absurd named_so
+    results_by (known.PrepareCall a) before entry n t named_so at there typed = absurd named_so
+    results_by (known.StartCall a b) before entry n t named_so at there typed = absurd named_so
 
     knows_import : (i : Import) (t : FuncType) → type_of_import m ((places_in m is).function i) ≡ Some t
         → KnowsFunction m (places_in m is) i ((places_in m is).function i) t.params (result_types (core_results m is) [] i)

@@ -1,5 +1,5 @@
--- What is known of the function of a sync adapter between two instances, and of the module in which it stands.
-use Rattle.std.specs.Prelude.{◌≡◌, ℕ, false, List, [], None, Some, slice_get}
+-- What is known of the functions of adapters, and of the module in which they stand.
+use Rattle.std.specs.Prelude.{◌≡◌, ℕ, List, [], None, Some, slice_get}
 use Rattle.fact_wasm.specs.declared.module.WasmFunc.{WasmFunc}
 use Rattle.fact_wasm.specs.declared.module.WasmModule.{WasmModule}
 use Rattle.fact_types.specs.declared.import.Import.{Import}
@@ -12,12 +12,15 @@ use Rattle.fact_moves.specs.Adapters.{AdapterTunables}
 use Rattle.fact_moves.specs.TypedAnswers.{HasPlaces, HaveCoreTypes}
 use Rattle.fact_carry.specs.FaithfulLaws.{IsCheckedAdapter, HasSyncSides}
 use Rattle.fact_emit.specs.ImportSection.{NamesImports}
+use Rattle.fact_compound.specs.SameInstance.{IsSameInstanceFunction}
 use Rattle.fact_compound.specs.Syncs.{IsSyncFunction, lower_type_of}
 use Rattle.fact_promises.specs.Names.{places_in}
 
 -- what the core functions that a module imports give, by the types under which it imports them
 abbrev pub core_results : WasmModule → List Import → CoreDef → List ValType
 core_results m is d = elim (type_of_import m ((places_in m is).function (import.CoreDef d))) [ None ↦ [] | Some t ↦ t.results ]
+
+-- ---- sync adapters between two instances
 
 -- The function of this number does the adapter's action, in a module that names its imports and has what the adapter names; and the
 -- adapter is one that the checks of plans let through.
@@ -28,9 +31,19 @@ pub record IsAdapterFunction (m : WasmModule) (is : List Import) (u : AdapterTun
   pub does : IsSyncFunction u a m (places_in m is) function
   -- the core type of the lower side is its signature
   pub core_type : a.lower.core_type ≡ lower_type_of a
-  pub no_barrier : u.exceptions ≡ false
   pub sync_sides : HasSyncSides a
   pub names : NamesImports m is adapters
   pub places : HasPlaces (places_in m is) a
   pub core_types : HaveCoreTypes (core_results m is) a
   pub checked : IsCheckedAdapter (places_in m is) a
+
+-- ---- adapters within one instance
+
+-- The function of this number only traps, in a module that names its imports and has what the adapter names.
+pub record IsTrapFunction (m : WasmModule) (is : List Import) (a : LinkedAdapter) (adapters : List LinkedAdapter) (f : ℕ) : Type 0 where
+  pub function : WasmFunc
+  pub function_is : slice_get m.funcs f ≡ Some function
+  pub type_is : slice_get m.types function.ty ≡ Some (lower_type_of a)
+  pub does : IsSameInstanceFunction a m (places_in m is) function
+  pub core_type : a.lower.core_type ≡ lower_type_of a
+  pub names : NamesImports m is adapters

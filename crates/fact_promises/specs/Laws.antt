@@ -12,15 +12,19 @@ use Rattle.fact_moves.specs.Calls.{is_call_of}
 use Rattle.fact_moves.specs.Running.{ImportPlaces, Call}
 use Rattle.fact_carry.specs.Faithful.{IsFaithful, IsInLimits, whole_weight}
 use Rattle.fact_emit.specs.ImportSection.{NamesImports}
-use Rattle.fact_promises.specs.Functions.{IsAdapterFunction}
+use Rattle.fact_promises.specs.Functions.{IsAdapterFunction, IsTrapFunction}
 use Rattle.fact_promises.specs.Names.{places_in, AreCalls, IsNamedLog}
-use Rattle.fact_promises.specs.Runs.{Behaves, CallNoTrap, IsHonestSoFar, IsOver}
+use Rattle.fact_promises.specs.Runs.{Behaves, CallNoTrap, IsHonestSoFar, IsOver, OnlyTraps}
 
 -- A function that does its adapter's action behaves.
 abbrev pub FunctionsBehave : Type 0
 FunctionsBehave =
     (m : WasmModule) (is : List Import) (u : AdapterTunables) (a : LinkedAdapter) (adapters : List LinkedAdapter) (f : ℕ)
     → IsAdapterFunction m is u a adapters f → Behaves m is u a f
+
+-- A function of an adapter within one instance only traps.
+abbrev pub TrapFunctionsTrap : Type 0
+TrapFunctionsTrap = (m : WasmModule) (is : List Import) (a : LinkedAdapter) (adapters : List LinkedAdapter) (f : ℕ) → IsTrapFunction m is a adapters f → OnlyTraps m is a f
 
 -- In a module that names its imports each event of a run is a call of one of them, whatever function runs and whatever is answered.
 abbrev pub EventsAreNamed : Type 0

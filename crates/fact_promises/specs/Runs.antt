@@ -1,5 +1,5 @@
 -- What is promised of the runs of an adapter's function in the machine: what they do, and what they carry.
-use Rattle.std.specs.Prelude.{◌≡◌, ◌≢◌, ◌⊎◌, ℕ, ◌+◌, ◌*◌, ◌≤◌, Bool, true, false, List, [], All, filter, length}
+use Rattle.std.specs.Prelude.{◌≡◌, ◌≢◌, ◌⊎◌, ℕ, ◌+◌, ◌*◌, ◌≤◌, Bool, true, false, List, [], ◌∷◌, All, filter, length}
 use Rattle.std.specs.List.{AllZip}
 use Rattle.fact_wasm.specs.declared.module.WasmModule.{WasmModule}
 use Rattle.fact_machine.specs.declared.types.CoreValue.{CoreValue}
@@ -7,6 +7,8 @@ use Rattle.fact_machine.specs.declared.types.CoreValue.TheVariants.{I32}
 use Rattle.fact_machine.specs.declared.types.MachineState.{MachineState}
 use Rattle.fact_machine.specs.declared.types.Answer.{Answer}
 use Rattle.fact_machine.specs.declared.types.Event.{Event}
+use Rattle.fact_machine.specs.declared.types.TraceEntry.{TraceEntry}
+use Rattle.fact_machine.specs.declared.types.TraceEntry.TheVariants as entry
 use Rattle.fact_machine.specs.declared.types.Outcome.{Outcome}
 use Rattle.fact_machine.specs.declared.types.End.{End}
 use Rattle.fact_machine.specs.declared.types.End.TheVariants.{Returned, Trapped, Thrown, Lacks, Going, Stuck}
@@ -16,7 +18,9 @@ use Rattle.fact_machine.specs.Typed.{IsValue, TypedState, TypedAnswer}
 use Rattle.fact_types.specs.declared.import.Import.{Import}
 use Rattle.fact_types.specs.declared.import.Import.TheVariants as import
 use Rattle.fact_types.specs.Adapters.{LinkedAdapter}
+use Rattle.fact_types.specs.declared.outside.Trap.TheVariants.{CannotEnterComponent}
 use Rattle.fact_moves.specs.Adapters.{AdapterTunables}
+use Rattle.fact_moves.specs.AdapterLaws.{begins}
 use Rattle.fact_moves.specs.Confined.{AreOwnWrites, AreRangedSync, HaveHonestTranscoders, room_in}
 use Rattle.fact_moves.specs.Honest.{AreHonestSync}
 use Rattle.fact_moves.specs.Order.{AreOrderedCalls, flag_in}
@@ -148,3 +152,29 @@ pub record Behaves (m : WasmModule) (is : List Import) (u : AdapterTunables) (a 
       → (h : (steps : ℕ) → IsHonestSoFar m is a args before (run_of m f args before answers steps).log)
       → ((steps : ℕ) → IsInLimits (places_in m is) a args before (h steps).calls)
       → (steps : ℕ) × EndsSoon m is a args before (run_of m f args before answers steps)
+
+-- ---- what every run of an adapter within one instance does
+
+-- One outside call of the trap that says that the instance may not be entered, in the state in which the run began. The end is
+-- Trapped where the answer returns or traps, Thrown where it throws, and Lacks where there is none.
+abbrev pub same_instance_outcome : MachineState → List Answer → NamedOutcome
+same_instance_outcome before answers = begins (import.Trap CannotEnterComponent) [] before answers (λ results after more. record { end = Trapped; state = after; log = [] })
+
+-- whether an entry of a trace is a write to a memory or to a global
+abbrev pub is_write : TraceEntry → Bool
+is_write (entry.Called e) = false
+is_write (entry.Stored memory address length value) = true
+is_write (entry.GlobalSet index value) = true
+
+pub record OnlyTraps (m : WasmModule) (is : List Import) (a : LinkedAdapter) (f : ℕ) : Type 0 where
+  -- Where all that comes from outside is typed, the run comes to this.
+  pub plain : (args : List CoreValue) (before : MachineState) (answers : List Answer)
+      → ((steps : ℕ) → IsTypedRun m a args before (run_of m f args before answers steps).log)
+      → IsNamedPlainRun m is f args before answers (same_instance_outcome before answers)
+  -- So long as it is typed, it is not stuck, and changes nothing itself.
+  pub not_stuck : (args : List CoreValue) (before : MachineState) (answers : List Answer) (steps : ℕ)
+      → IsTypedRun m a args before (run_of m f args before answers steps).log
+      → (run_of m f args before answers steps).end ≢ Stuck
+  pub writes_nothing : (args : List CoreValue) (before : MachineState) (answers : List Answer) (steps : ℕ)
+      → IsTypedRun m a args before (run_of m f args before answers steps).log
+      → filter is_write (trace_of m f args before answers steps) ≡ []

@@ -1,10 +1,11 @@
 //! Laws of the runs of adapters.
 
-ghost use Rattle.fact_promises.specs.Laws.{FunctionsBehave, EventsAreNamed, NoSecondCall, RunsStayShort};
+ghost use Rattle.fact_promises.specs.Laws.{FunctionsBehave, EventsAreNamed, NoSecondCall, RunsStayShort, TrapFunctionsTrap};
 
 /// What holds of the runs of adapters' functions. The call does nothing: its contract is the laws.
 pub fn laws_of_functions()
     ensures functions_behave { FunctionsBehave }
+    ensures trap_functions_trap { TrapFunctionsTrap }
     ensures events_are_named { EventsAreNamed }
     ensures no_second_call { NoSecondCall }
     ensures runs_stay_short { RunsStayShort }

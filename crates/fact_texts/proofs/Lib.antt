@@ -35,7 +35,7 @@ mod Spelled
 mod Stages
 mod States
 mod TextLaw
-mod Thrown
+pub mod Thrown
 mod Trails
 mod Trapped
 mod Transfers

@@ -4,11 +4,13 @@ use Rattle.fact_promises.proofs.Behaviour.{functions_behave}
 use Rattle.fact_promises.proofs.FewCalls.{no_second_call, runs_stay_short}
 use Rattle.fact_promises.proofs.ImportNumbers.{named_log}
 use Rattle.fact_promises.proofs.LoggedImports.{run_told}
+use Rattle.fact_promises.proofs.Traps.{trap_functions_trap}
 use Rattle.fact_promises.proofs.laws.laws_of_functions.Goals as goal
 
 pub returns : goal.returns
 returns c = record {
   functions_behave = functions_behave;
+  trap_functions_trap = trap_functions_trap;
   events_are_named = λ m is adapters f args before answers steps names. named_log m is (mentions adapters) names.named (run_of m f args before answers steps).log (run_told m f args before answers steps);
   no_second_call = no_second_call;
   runs_stay_short = runs_stay_short;
