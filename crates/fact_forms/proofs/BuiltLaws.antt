@@ -12,7 +12,7 @@ use Rattle.fact_type_rules.proofs.ListLaws.{any-none, any-here, any-there, any-c
 use Rattle.fact_checks.specs.Linked.{IsLinked}
 use Rattle.fact_checks.specs.declared.sides.Candidate.{Candidate}
 use Rattle.fact_forms.specs.Built.{IsBuiltAdapter, IsBuiltSide}
-use Rattle.fact_forms.specs.Parts.{IsPlainCrossing, IsPlainSide}
+use Rattle.fact_forms.specs.Parts.{IsSyncSide, IsWithinOneInstance}
 
 -- ---- types
 
@@ -28,11 +28,11 @@ each_built (s ∷ ss) h = (λ x. h (any-here (AnyIn IsUnbuiltShape) s ss x), eac
 -- ---- a side
 
 -- two tests make a side one that is built
-pub built_side : (plain unbuilt : Bool) (s : Side) → (IsTrue plain ↔ IsPlainSide s) → (IsTrue unbuilt ↔ HasUnbuiltTypes s.params s.results) → (IsTrue (plain && not unbuilt) ↔ IsBuiltSide s)
-built_side false unbuilt s p u = (λ e. absurd (true≢false (sym e)), λ x. absurd (true≢false (sym (p.1 (plain_of x)))))
+pub built_side : (sync unbuilt : Bool) (s : Side) → (IsTrue sync ↔ IsSyncSide s) → (IsTrue unbuilt ↔ HasUnbuiltTypes s.params s.results) → (IsTrue (sync && not unbuilt) ↔ IsBuiltSide s)
+built_side false unbuilt s p u = (λ e. absurd (true≢false (sym e)), λ x. absurd (true≢false (sym (p.1 (sync_of x)))))
   where
-    plain_of : IsBuiltSide s → IsPlainSide s
-    plain_of x = record { sync_type = x.sync_type; sync_side = x.sync_side; callback = x.callback; post_return = x.post_return }
+    sync_of : IsBuiltSide s → IsSyncSide s
+    sync_of x = record { sync_type = x.sync_type; sync_side = x.sync_side }
 built_side true true s p u =
     (λ e. absurd (true≢false (sym e)), λ x. absurd (elim (u.0 refl) [ inl q ↦ none_unbuilt s.params x.params q | inr q ↦ none_unbuilt s.results x.results q ]))
 built_side true false s p u = (
@@ -41,8 +41,6 @@ built_side true false s p u = (
     results = each_built s.results (λ q. true≢false (sym (u.1 (inr q))));
     sync_type = (p.0 refl).sync_type;
     sync_side = (p.0 refl).sync_side;
-    callback = (p.0 refl).callback;
-    post_return = (p.0 refl).post_return;
   },
   λ x. refl,
 )
@@ -53,24 +51,14 @@ pub both_built : (first second : Bool) (P Q : Type 0) → (IsTrue first ↔ P) �
 both_built false second P Q p q = (λ e. absurd (true≢false (sym e)), λ x. absurd (true≢false (sym (p.1 x.0))))
 both_built true second P Q p q = (λ e. (p.0 refl, q.0 e), λ x. q.1 x.1)
 
-module _ (b : Builder) (c : Candidate) (concurrency exceptions : Bool) (a : LinkedAdapter) (h : IsLinked b c a) where
-  pub built_adapter : (IsBuiltSide a.lift × IsBuiltSide a.lower) × IsPlainCrossing concurrency exceptions c → IsBuiltAdapter concurrency exceptions a
-  built_adapter (sides, x) = record {
-    lift = sides.0;
-    lower = sides.1;
-    opaque = h.transparent ∙ x.opaque;
-    apart = λ same. x.apart (sym h.sides.lift.instance ∙ same ∙ h.sides.lower.instance);
-    no_concurrency = x.no_concurrency;
-    no_exceptions = x.no_exceptions;
-  }
+-- an adapter within one instance is built,
+pub within_built : (b : Builder) (c : Candidate) (a : LinkedAdapter) → IsLinked b c a → IsWithinOneInstance c.adapter.now → (IsTrue true ↔ IsBuiltAdapter a)
+within_built b c a h same = (λ e. inl (h.sides.lift.instance ∙ same ∙ sym h.sides.lower.instance), λ x. refl)
 
-  pub adapter_parts : IsBuiltAdapter concurrency exceptions a → (IsBuiltSide a.lift × IsBuiltSide a.lower) × IsPlainCrossing concurrency exceptions c
-  adapter_parts x = (
-    (x.lift, x.lower),
-    record {
-      opaque = sym h.transparent ∙ x.opaque;
-      apart = λ same. x.apart (h.sides.lift.instance ∙ same ∙ sym h.sides.lower.instance);
-      no_concurrency = x.no_concurrency;
-      no_exceptions = x.no_exceptions;
-    },
-  )
+-- and one between two where its sides are
+pub crossing_built : (b : Builder) (c : Candidate) (a : LinkedAdapter) (sides : Bool) → IsLinked b c a → (IsWithinOneInstance c.adapter.now → ⊥) → (IsTrue sides ↔ (IsBuiltSide a.lift × IsBuiltSide a.lower)) → (IsTrue sides ↔ IsBuiltAdapter a)
+crossing_built b c a sides h apart exact = (λ e. inr (exact.0 e), to)
+  where
+    to : IsBuiltAdapter a → IsTrue sides
+    to (inl same) = absurd (apart (sym h.sides.lift.instance ∙ same ∙ h.sides.lower.instance))
+    to (inr x) = exact.1 x

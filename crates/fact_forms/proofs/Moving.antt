@@ -1,14 +1,16 @@
 -- Values of types that agree with types that are built can be moved to these.
-use Rattle.std.proofs.Common.{◌≡◌, ℕ, suc, ◌≤◌, Bool, true, false, ◌||◌, List, [], ◌∷◌, length, Option, Some, None, refl, sym, ap, ◌∙◌, subst, arith, inl, inr}
-use Rattle.std.specs.List.{AllByRecursion, list_any}
+use Rattle.std.proofs.Common.{◌≡◌, ℕ, suc, ◌≤◌, Bool, true, false, List, [], ◌∷◌, length, Option, Some, None, refl, sym, ap, ◌∙◌, subst, arith, inl, inr}
+use Rattle.std.specs.List.{AllByRecursion}
 use Rattle.std.specs.Str.{bytes_eq}
 use Rattle.std.proofs.lemmas.Bool.{false≢true}
+use Rattle.fact_entity.specs.declared.id.Id.{Id}
+use Rattle.fact_entity.specs.declared.table.TypeComponentLocalErrorContextTables.{TypeComponentLocalErrorContextTables}
+use Rattle.fact_entity.specs.declared.table.TypeResourceTables.{TypeResourceTables}
 use Rattle.fact_types.specs.declared.interface.InterfaceType.{InterfaceType}
 use Rattle.fact_types.specs.declared.interface.InterfaceType.TheVariants as ty
 use Rattle.fact_types.specs.Agrees.{Agrees, AgreesPlain, AgreesBy, AgreesFields, AgreesCase, AgreesPlaces, BothThere, chosen, named, names_of}
 use Rattle.fact_types.specs.Fields.{field_of}
 use Rattle.fact_types.specs.FlatShapes.{AreCounted}
-use Rattle.fact_types.specs.Handles.{is_borrow, has_borrow, have_borrow, borrow_by}
 use Rattle.fact_types.specs.Shapes.{Kind, k_record, k_variant, k_list, k_tuple, k_map, k_flags, k_enum, k_option, k_result, k_fixed, k_future, k_stream, Shape, s_plain, s_node, Members, no_members, bare, typed, layouts_of}
 use Rattle.fact_types.specs.Layout.{extent, payloads, record_layout}
 use Rattle.fact_types.specs.Sound.{TakesBytes}
@@ -31,7 +33,7 @@ use Rattle.fact_carry.proofs.Membered.{fields_agree, members_formed, members_val
 use Rattle.fact_carry.proofs.Theorem.{AreValid, case_valid, members_valid, places_names, valid_found}
 use Rattle.fact_carry.proofs.Tuples.{places_fields}
 use Rattle.fact_carry.proofs.Variants.{case_formed}
-use Rattle.fact_type_rules.specs.Forms.{IsBuiltShape, IsUnbuiltKind, IsUnbuiltShape, IsUnbuiltType}
+use Rattle.fact_type_rules.specs.Forms.{IsBuiltShape, IsUnbuiltShape, IsUnbuiltType}
 use Rattle.fact_type_rules.specs.TypeFaults.{AnyAmong}
 use Rattle.fact_emit.specs.Scalars.{is_scalar}
 use Rattle.fact_translate.specs.Movable.{CanMove, CanMovePlain, CanMoveFields, CanMoveCase, CanMoveCases, CanMoveElements, CanMoveFlags}
@@ -39,38 +41,48 @@ use Rattle.fact_compound.specs.Described.{CanMoveTuple}
 
 -- ---- one type
 
--- a plain type that is built has one number
-scalar_built : (q : InterfaceType) → (IsUnbuiltType q → ⊥) → HasValues (plain_of q) → is_scalar q ≡ true
-scalar_built ty.Bool b g = refl
-scalar_built ty.S8 b g = refl
-scalar_built ty.U8 b g = refl
-scalar_built ty.S16 b g = refl
-scalar_built ty.U16 b g = refl
-scalar_built ty.S32 b g = refl
-scalar_built ty.U32 b g = refl
-scalar_built ty.S64 b g = refl
-scalar_built ty.U64 b g = refl
-scalar_built ty.Float32 b g = refl
-scalar_built ty.Float64 b g = refl
-scalar_built ty.Char b g = refl
-scalar_built (ty.Record i) b g = absurd g
-scalar_built (ty.Variant i) b g = absurd g
-scalar_built (ty.List i) b g = absurd g
-scalar_built (ty.FixedLengthList i) b g = absurd g
-scalar_built (ty.Tuple i) b g = absurd g
-scalar_built (ty.Map i) b g = absurd g
-scalar_built (ty.Flags i) b g = absurd g
-scalar_built (ty.Enum i) b g = absurd g
-scalar_built (ty.Option i) b g = absurd g
-scalar_built (ty.Result i) b g = absurd g
-scalar_built _ b g = absurd (b tt)
+-- a handle can be moved to one of its kind
+own_moves : (j : Id TypeResourceTables) (s : Shape) → AgreesPlain (ty.Own j) s → CanMovePlain s (ty.Own j)
+own_moves j (s_plain (ty.Own i)) a = inr tt
+own_moves j (s_plain p) a = cc
+own_moves j (s_node k ms) a = absurd a
+
+borrow_moves : (j : Id TypeResourceTables) (s : Shape) → AgreesPlain (ty.Borrow j) s → CanMovePlain s (ty.Borrow j)
+borrow_moves j (s_plain (ty.Borrow i)) a = inr tt
+borrow_moves j (s_plain p) a = cc
+borrow_moves j (s_node k ms) a = absurd a
+
+error_moves : (j : Id TypeComponentLocalErrorContextTables) (s : Shape) → AgreesPlain (ty.ErrorContext j) s → CanMovePlain s (ty.ErrorContext j)
+error_moves j (s_plain (ty.ErrorContext i)) a = inr tt
+error_moves j (s_plain p) a = cc
+error_moves j (s_node k ms) a = absurd a
 
 scalar_moves : (q : InterfaceType) (s : Shape) → is_scalar q ≡ true → AgreesPlain q s → CanMovePlain s q
 scalar_moves (ty.Own j) s h a = absurd (false≢true h)
 scalar_moves (ty.Borrow j) s h a = absurd (false≢true h)
 scalar_moves (ty.ErrorContext j) s h a = absurd (false≢true h)
-scalar_moves q (s_plain p) h a = (a, ap is_scalar a ∙ h)
+scalar_moves q (s_plain p) h a = inl (a, ap is_scalar a ∙ h)
 scalar_moves q (s_node k ms) h a = absurd a
+
+-- a plain type that is built is a scalar or a handle
+plain_moves : (q : InterfaceType) (s : Shape) → (IsUnbuiltType q → ⊥) → HasValues (plain_of q) → AgreesPlain q s → CanMovePlain s q
+plain_moves ty.Bool s b g a = scalar_moves ty.Bool s refl a
+plain_moves ty.S8 s b g a = scalar_moves ty.S8 s refl a
+plain_moves ty.U8 s b g a = scalar_moves ty.U8 s refl a
+plain_moves ty.S16 s b g a = scalar_moves ty.S16 s refl a
+plain_moves ty.U16 s b g a = scalar_moves ty.U16 s refl a
+plain_moves ty.S32 s b g a = scalar_moves ty.S32 s refl a
+plain_moves ty.U32 s b g a = scalar_moves ty.U32 s refl a
+plain_moves ty.S64 s b g a = scalar_moves ty.S64 s refl a
+plain_moves ty.U64 s b g a = scalar_moves ty.U64 s refl a
+plain_moves ty.Float32 s b g a = scalar_moves ty.Float32 s refl a
+plain_moves ty.Float64 s b g a = scalar_moves ty.Float64 s refl a
+plain_moves ty.Char s b g a = scalar_moves ty.Char s refl a
+plain_moves ty.String s b g a = absurd (b tt)
+plain_moves (ty.Own j) s b g a = own_moves j s a
+plain_moves (ty.Borrow j) s b g a = borrow_moves j s a
+plain_moves (ty.ErrorContext j) s b g a = error_moves j s a
+plain_moves _ s b g a = absurd g
 
 -- the payload of a case, where it has one, is of a valid type
 abbrev IsSoundPayload : CaseType → Type 0
@@ -107,25 +119,25 @@ module _ (ms ns : Members) (v : AreValid ms) (f : AreWellFormed ms) (go : (c : C
   paired_moves a e d = each_moves (λ n c h. places_agree ms ns n c a e d h)
 
 node_moves : (k : Kind) (t : Shape) (ns : Members) → AgreesBy k t ns (λ ms. AgreesFields ms ns) (λ x p. AgreesCase x p ns) (λ ms. AgreesPlaces ms ns)
-    → (IsUnbuiltKind k → ⊥) → FollowsRules k ns → IsValid t → AreValid ns → IsWellFormed t → IsWellFormedBy k ns
+    → FollowsRules k ns → IsValid t → AreValid ns → IsWellFormed t → IsWellFormedBy k ns
     → ((ms : Members) → AgreesFields ms ns → AreValid ms → AreWellFormed ms → CanMoveFields ms ns)
     → ((c : CaseType) → AgreesCase c.name c.payload ns → IsSoundPayload c → CanMoveCase c ns) → CanMove t (s_node k ns)
-node_moves k_record (s_node k_record ms) ns a b r v w f g go case = go ms a.fields (members_valid k_record ms v) f.1
-node_moves k_tuple (s_node k_tuple ms) ns a b r v w f g go case = go ms (places_fields ms ns a (places_names 0 ms ns a f.0.0 g.0) r.distinct f.0.1) (members_valid k_tuple ms v) f.1
-node_moves k_list (s_node k_list ms) ns a b r v w f g go case =
+node_moves k_record (s_node k_record ms) ns a r v w f g go case = go ms a.fields (members_valid k_record ms v) f.1
+node_moves k_tuple (s_node k_tuple ms) ns a r v w f g go case = go ms (places_fields ms ns a (places_names 0 ms ns a f.0.0 g.0) r.distinct f.0.1) (members_valid k_tuple ms v) f.1
+node_moves k_list (s_node k_list ms) ns a r v w f g go case =
     elements_move [] [] ms ns f.0 g (members_valid k_list ms v) w (go ms (places_fields ms ns a (f.0.0 ∙ sym g.0) r.distinct f.0.1) (members_valid k_list ms v) f.1)
-node_moves k_map (s_node k_map ms) ns a b r v w f g go case =
+node_moves k_map (s_node k_map ms) ns a r v w f g go case =
     elements_move (0 ∷ []) ((1 ∷ []) ∷ []) ms ns f.0 g (members_valid k_map ms v) w (go ms (places_fields ms ns a (f.0.0 ∙ sym g.0) r.distinct f.0.1) (members_valid k_map ms v) f.1)
-node_moves (k_fixed n) (s_node (k_fixed m) ms) ns a b r v w f g go case =
+node_moves (k_fixed n) (s_node (k_fixed m) ms) ns a r v w f g go case =
     (a.0, elements_move [] [] ms ns f.0 g (members_valid (k_fixed m) ms v) w (go ms (places_fields ms ns a.1 (f.0.0 ∙ sym g.0) r.distinct f.0.1) (members_valid (k_fixed m) ms v) f.1))
-node_moves k_flags (s_node k_flags ms) ns a b r v w f g go case = flags_move ms ns a r.enough
-node_moves k_variant (s_node k_variant ms) ns a b r v w f g go case = each_moves ms ns (members_valid k_variant ms v) f.1 case (λ n c h. each_agrees ms ns n c a h)
-node_moves k_enum (s_node k_enum ms) ns a b r v w f g go case = count_names ns ∙ ap length (sym a) ∙ sym (count_names ms)
-node_moves k_option (s_node k_option ms) ns a b r v w f g go case = paired_moves ms ns (members_valid k_option ms v) f.1 case a (f.0 ∙ sym g) r.distinct
-node_moves k_result (s_node k_result ms) ns a b r v w f g go case = paired_moves ms ns (members_valid k_result ms v) f.1 case a (f.0 ∙ sym g) r.distinct
-node_moves (k_future u i) t ns a b r v w f g go case = absurd (b tt)
-node_moves (k_stream u i) t ns a b r v w f g go case = absurd (b tt)
-node_moves k t ns a b r v w f g go case = absurd a
+node_moves k_flags (s_node k_flags ms) ns a r v w f g go case = flags_move ms ns a r.enough
+node_moves k_variant (s_node k_variant ms) ns a r v w f g go case = each_moves ms ns (members_valid k_variant ms v) f.1 case (λ n c h. each_agrees ms ns n c a h)
+node_moves k_enum (s_node k_enum ms) ns a r v w f g go case = count_names ns ∙ ap length (sym a) ∙ sym (count_names ms)
+node_moves k_option (s_node k_option ms) ns a r v w f g go case = paired_moves ms ns (members_valid k_option ms v) f.1 case a (f.0 ∙ sym g) r.distinct
+node_moves k_result (s_node k_result ms) ns a r v w f g go case = paired_moves ms ns (members_valid k_result ms v) f.1 case a (f.0 ∙ sym g) r.distinct
+node_moves (k_future u i) (s_node (k_future t j) ms) ns a r v w f g go case = tt
+node_moves (k_stream u i) (s_node (k_stream t j) ms) ns a r v w f g go case = tt
+node_moves k t ns a r v w f g go case = absurd a
 
 -- the source member that a destination member is moved from
 field_there : (x : List ℕ) (ms : Members) (u : Shape) (q : Option Shape) → named x ms ≡ q → BothThere q (λ s. Agrees s u) → AreValid ms → AreWellFormed ms
@@ -147,10 +159,10 @@ chosen_as false A B C D f g x = g x
 
 mutual
   pub moves : (u t : Shape) → IsBuiltShape u → Agrees t u → IsValid t → IsValid u → IsWellFormed t → IsWellFormed u → CanMove t u
-  moves (s_plain q) t b a v w f g = scalar_moves q t (scalar_built q b g) a
+  moves (s_plain q) t b a v w f g = plain_moves q t b g a
   moves (s_node k ns) t b a v w f g =
       let valid = members_valid k ns w in
-      node_moves k t ns a (λ x. b (inl x)) w.ruled.0 v valid f g.0 (λ ms agree v formed. fields_move ns ms (λ x. b (inr x)) agree v valid formed g.1) (λ c agree sound. case_moves ns c (λ x. b (inr x)) agree sound valid g.1)
+      node_moves k t ns a w.ruled.0 v valid f g.0 (λ ms agree v formed. fields_move ns ms (λ x. b (inr x)) agree v valid formed g.1) (λ c agree sound. case_moves ns c (λ x. b (inr x)) agree sound valid g.1)
 
   fields_move : (ns ms : Members) → (AnyAmong IsUnbuiltShape ns → ⊥) → AgreesFields ms ns → AreValid ms → AreValid ns → AreWellFormed ms → AreWellFormed ns → CanMoveFields ms ns
   fields_move no_members ms b a v w f g = tt
@@ -182,33 +194,3 @@ tuple_moves ss ds built agree s d = record {
   to_counted = counted_from 0 ds d.valid;
   members = fields_move (tuple_members ds) (tuple_members ss) (built_from 0 ds built) (fields_agree ss ds agree) (tuple_valid 0 ss s.valid) (tuple_valid 0 ds d.valid) (members_formed 0 ss s.formed) (members_formed 0 ds d.formed);
 }
-
--- ---- borrows
-
-lends_not : (q : InterfaceType) → (IsUnbuiltType q → ⊥) → is_borrow q ≡ false
-lends_not (ty.Borrow i) b = absurd (b tt)
-lends_not _ b = refl
-
-kind_lends_not : (k : Kind) (b : Bool) → b ≡ false → borrow_by k b ≡ false
-kind_lends_not (k_future u i) b h = refl
-kind_lends_not (k_stream u i) b h = refl
-kind_lends_not k b h = h
-
-neither : (a b : Bool) → a ≡ false → b ≡ false → a || b ≡ false
-neither false b h g = g
-neither true b h g = h
-
-mutual
-  no_borrow : (s : Shape) → IsBuiltShape s → has_borrow s ≡ false
-  no_borrow (s_plain q) b = lends_not q b
-  no_borrow (s_node k ms) b = kind_lends_not k (have_borrow ms) (no_borrows ms (λ x. b (inr x)))
-
-  no_borrows : (ms : Members) → (AnyAmong IsUnbuiltShape ms → ⊥) → have_borrow ms ≡ false
-  no_borrows no_members b = refl
-  no_borrows (bare n ms) b = no_borrows ms b
-  no_borrows (typed n s ms) b = neither (has_borrow s) (have_borrow ms) (no_borrow s (λ x. b (inl x))) (no_borrows ms (λ x. b (inr x)))
-
--- types that are built lend nothing
-pub none_borrowed : (ss : List Shape) → AllByRecursion IsBuiltShape ss → list_any has_borrow ss ≡ false
-none_borrowed [] h = refl
-none_borrowed (s ∷ ss) h = neither (has_borrow s) (list_any has_borrow ss) (no_borrow s h.0) (none_borrowed ss h.1)

@@ -24,10 +24,10 @@ same_some x y e = cc
 
 -- an adapter of a plan is built where it is as it was made over the types of the plan
 pub built_in : (p : FusePlan) (b : Builder) (x : PlanAdapter) (c : Candidate) (found : Bool) → LinksAdapter p b x c.adapter.now → c.name.now ≡ x.name → c.transparent ≡ x.transparent
-    → ((a : LinkedAdapter) → IsLinked b c a → (IsTrue found ↔ IsBuiltAdapter p.tunables.concurrency p.tunables.exceptions a)) → (IsTrue found ↔ IsBuiltIn p x)
+    → ((a : LinkedAdapter) → IsLinked b c a → (IsTrue found ↔ IsBuiltAdapter a)) → (IsTrue found ↔ IsBuiltIn p x)
 built_in p b x c found links name mark exact =
     let mine = exact links.linked (record { sides = links.stands; name = links.name ∙ sym name; transparent = links.transparent ∙ sym mark }) in (
-      λ e a is. subst (IsBuiltAdapter p.tunables.concurrency p.tunables.exceptions) (same_some links.linked a (sym links.is_adapter ∙ is)) (mine.0 e),
+      λ e a is. subst IsBuiltAdapter (same_some links.linked a (sym links.is_adapter ∙ is)) (mine.0 e),
       λ h. mine.1 (h links.linked links.is_adapter),
     )
 
@@ -67,7 +67,7 @@ module _ {X Y : Type 0} (f : X → Option Y) (P : Y → Type 0) where
       by (Some w) g more (suc k) e = more (all_rest w (filter_map f xs) (rw g at all)).1 k e
 
 pub built_at : (p : FusePlan) → IsBuiltPlan p → (j : ℕ) (x : PlanAdapter) → slice_get p.adapters j ≡ Some x → IsBuiltIn p x
-built_at p h j x e a is = each_given (adapter_of p) (IsBuiltAdapter p.tunables.concurrency p.tunables.exceptions) p.adapters h j x e a is
+built_at p h j x e a is = each_given (adapter_of p) IsBuiltAdapter p.adapters h j x e a is
 
 -- ---- one after another
 
@@ -94,6 +94,6 @@ module _ (p : FusePlan) (k : ℕ) (x : PlanAdapter) (found : Bool) (there : slic
 -- all are
 pub all_built : (p : FusePlan) (k : ℕ) → length p.adapters ≤ k → ((j : ℕ) (y : PlanAdapter) → j < k → slice_get p.adapters j ≡ Some y → IsBuiltIn p y) → (IsTrue true ↔ IsBuiltPlan p)
 all_built p k over all = (
-  λ e. all_given (adapter_of p) (IsBuiltAdapter p.tunables.concurrency p.tunables.exceptions) p.adapters (λ j x at a is. all j x (omega (arith, over, slice_get_within p.adapters j x at)) at a is),
+  λ e. all_given (adapter_of p) IsBuiltAdapter p.adapters (λ j x at a is. all j x (omega (arith, over, slice_get_within p.adapters j x at)) at a is),
   λ h. refl,
 )

@@ -1,10 +1,8 @@
 -- What adapters that are built have for the code that is written for them.
-use Rattle.std.proofs.Common.{◌≡◌, ◌&&◌, ◌||◌, false, Option, Some, None, refl, sym, ap, ◌∙◌}
+use Rattle.std.proofs.Common.{◌≡◌, true, false, inl, inr, Option, Some, None, refl, sym, ap, ◌∙◌}
 use Rattle.std.specs.Prelude.{not}
-use Rattle.std.specs.List.{list_any}
-use Rattle.std.proofs.lemmas.Bool.{ne_eqb}
-use Rattle.fact_types.specs.Adapters.{LinkedAdapter, Side, is_wide}
-use Rattle.fact_types.specs.Handles.{has_borrow}
+use Rattle.std.proofs.lemmas.Bool.{eq-eqb, false≢true}
+use Rattle.fact_types.specs.Adapters.{LinkedAdapter, Side, is_crossing, is_wide}
 use Rattle.fact_types.specs.Signatures.{flat_values, lift_results_limit, lower_limit}
 use Rattle.fact_types.specs.declared.outside.CoreDef.{CoreDef}
 use Rattle.fact_types.specs.declared.outside.MemoryOption.{MemoryOption}
@@ -14,9 +12,10 @@ use Rattle.fact_carry.specs.Law.{HasRealloc}
 use Rattle.fact_carry.specs.Places.{HasSideMemory}
 use Rattle.fact_carry.proofs.Grounding.{members_have_pointers}
 use Rattle.fact_compound.specs.Placed.{HasMemoriesFor, HasMemoryOption, HasReallocOption}
+use Rattle.fact_forms.specs.Built.{IsBuiltAdapter, IsBuiltSide}
 use Rattle.fact_forms.specs.Sound.{IsSoundAdapter}
 use Rattle.fact_forms.specs.Writable.{BuiltAreWritable, BuiltCrossInSync}
-use Rattle.fact_forms.proofs.Moving.{counted_from, none_borrowed, tuple_moves}
+use Rattle.fact_forms.proofs.Moving.{counted_from, tuple_moves}
 
 -- ---- memories and reallocs
 
@@ -50,22 +49,31 @@ memories_for a h lift_sync lower_sync = record {
 
 -- ---- adapters that are built
 
+-- between two instances both sides are
+sides_built : (a : LinkedAdapter) → IsBuiltAdapter a → is_crossing a ≡ true → IsBuiltSide a.lift × IsBuiltSide a.lower
+sides_built a (inl same) crossing = absurd (false≢true (sym (ap not (eq-eqb a.lift.instance a.lower.instance same)) ∙ crossing))
+sides_built a (inr sides) crossing = sides
+
 pub built_are_writable : BuiltAreWritable
-built_are_writable concurrency exceptions a built h = record {
-  sync = record { lower = built.lower.sync_side; lift = built.lift.sync_side };
-  counted = record {
-    lower_params = counted_from 0 a.lower.params h.lower_params.valid;
-    lower_results = counted_from 0 a.lower.results h.lower_results.valid;
-    lift_params = counted_from 0 a.lift.params h.lift_params.valid;
-    lift_results = counted_from 0 a.lift.results h.lift_results.valid;
-  };
-  untold = λ u off. ap (λ c. (c && not a.transparent) || list_any has_borrow a.lower.params) off ∙ none_borrowed a.lower.params built.lower.params;
-  no_post_return = built.lift.post_return;
-  params = tuple_moves a.lower.params a.lift.params built.lift.params h.params_agree h.lower_params h.lift_params;
-  results = tuple_moves a.lift.results a.lower.results built.lower.results h.results_agree h.lift_results h.lower_results;
-  memories = memories_for a h built.lift.sync_side built.lower.sync_side;
-}
+built_are_writable a built crossing h =
+    let sides = sides_built a built crossing in
+    let lift = sides.0 in
+    let lower = sides.1 in
+    record {
+      sync = record { lower = lower.sync_side; lift = lift.sync_side };
+      unmarked = lift.sync_type;
+      counted = record {
+        lower_params = counted_from 0 a.lower.params h.lower_params.valid;
+        lower_results = counted_from 0 a.lower.results h.lower_results.valid;
+        lift_params = counted_from 0 a.lift.params h.lift_params.valid;
+        lift_results = counted_from 0 a.lift.results h.lift_results.valid;
+      };
+      params = tuple_moves a.lower.params a.lift.params lift.params h.params_agree h.lower_params h.lift_params;
+      results = tuple_moves a.lift.results a.lower.results lower.results h.results_agree h.lift_results h.lower_results;
+      memories = memories_for a h lift.sync_side lower.sync_side;
+    }
 
 pub built_cross_in_sync : BuiltCrossInSync
-built_cross_in_sync concurrency exceptions a h =
-    (rw (h.lift.sync_side, h.lower.sync_side, h.lift.sync_type, h.lower.sync_type) refl, ap not (ne_eqb a.lift.instance a.lower.instance h.apart))
+built_cross_in_sync a built crossing =
+    let sides = sides_built a built crossing in
+    rw (sides.0.sync_side, sides.1.sync_side, sides.0.sync_type, sides.1.sync_type) refl

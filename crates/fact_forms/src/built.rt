@@ -7,7 +7,7 @@ ghost use Rattle.fact_plan_types.specs.TypeRules.{most_entries};
 ghost use Rattle.fact_checks.specs.FirstFault.{IsFaultlessPlan};
 ghost use Rattle.fact_checks.specs.Linked.{HasSides, IsLinked, IsSideOf, NamesTypesOf};
 ghost use Rattle.fact_forms.specs.Built.{IsBuiltAdapter, IsBuiltPlan, IsBuiltSide};
-ghost use Rattle.fact_forms.specs.Parts.{IsBuiltIn, IsPlainCrossing, IsPlainSide};
+ghost use Rattle.fact_forms.specs.Parts.{IsBuiltIn, IsSyncSide, IsWithinOneInstance};
 
 use fact_builder::ComponentTypesBuilder;
 use fact_checks::{Adapter, AdapterOptionsDfg, Candidate, FuseError, candidate_of, linked_adapter};
@@ -25,20 +25,17 @@ fn both(first: bool, second: bool) -> bool
     first && second
 }
 
-/// Whether a live function and the options of its side are sync, and the options name no callback and no post-return.
-fn is_plain_side(
+/// Whether a live function and the options of its side are sync.
+fn is_sync_side(
     builder: &ComponentTypesBuilder,
     ty: TypeFuncIndex,
     options: &AdapterOptionsDfg,
 ) -> bool
     requires { ty.number < length builder.now.tables.functions }
-    ensures { (s : Side) → IsSideOf builder.now ty options.now s → (IsTrue result ↔ IsPlainSide s) }
+    ensures { (s : Side) → IsSideOf builder.now ty options.now s → (IsTrue result ↔ IsSyncSide s) }
 {
     builder.reveal();
-    !builder[ty].async_
-        && !options.async_
-        && options.callback.is_none()
-        && options.post_return.is_none()
+    !builder[ty].async_ && !options.async_
 }
 
 /// Whether a side is built, whose types are in the builder.
@@ -53,9 +50,9 @@ fn is_built_side(
     ensures unchanged { types.new ≡ types.old }
     ensures exact { IfOk result (λ built. (s : Side) → IsSideOf builder.now ty options.now s → (IsTrue built ↔ IsBuiltSide s)) }
 {
-    let plain = is_plain_side(builder, ty, options);
+    let sync = is_sync_side(builder, ty, options);
     let unbuilt = types.has_unbuilt(ty)?;
-    Ok(both(plain, !unbuilt))
+    Ok(both(sync, !unbuilt))
 }
 
 /// Whether both sides of an adapter are built, whose types are in the builder.
@@ -74,34 +71,29 @@ fn are_sides_built(
     Ok(both(lift, lower))
 }
 
-/// Whether an adapter joins two instances and is not transparent, without concurrency and exceptions.
-fn is_plain_crossing(concurrency: bool, exceptions: bool, candidate: &Candidate<'_>) -> bool
-    ensures { IsTrue result ↔ IsPlainCrossing concurrency exceptions candidate.now }
+/// Whether both sides of an adapter have one instance.
+fn is_within_one_instance(adapter: &Adapter) -> bool
+    ensures { IsTrue result ↔ IsWithinOneInstance adapter.now }
 {
-    let adapter = candidate.adapter;
-    !candidate.transparent
-        && adapter.lift_options.instance != adapter.lower_options.instance
-        && !concurrency
-        && !exceptions
+    adapter.lift_options.instance == adapter.lower_options.instance
 }
 
-/// Whether an adapter, whose types are in the builder, is built, with concurrency and exceptions or without them. The types are
-/// looked at over that builder; each type is looked at once.
+/// Whether an adapter, whose types are in the builder, is built. The types are looked at over that builder; each type is looked at
+/// once.
 pub fn is_built(
     types: &mut FunctionTypes<'_>,
     builder: &ComponentTypesBuilder,
-    concurrency: bool,
-    exceptions: bool,
     candidate: &Candidate<'_>,
 ) -> Result<bool, OutOfMemory>
     requires same { types.old ≡ builder.now }
     requires named { NamesTypesOf builder.now candidate.now.adapter.now }
     ensures unchanged { types.new ≡ types.old }
-    ensures exact { IfOk result (λ built. (a : LinkedAdapter) → IsLinked builder.now candidate.now a → (IsTrue built ↔ IsBuiltAdapter concurrency exceptions a)) }
+    ensures exact { IfOk result (λ built. (a : LinkedAdapter) → IsLinked builder.now candidate.now a → (IsTrue built ↔ IsBuiltAdapter a)) }
 {
-    let sides = are_sides_built(types, builder, candidate.adapter)?;
-    let crossing = is_plain_crossing(concurrency, exceptions, candidate);
-    Ok(both(sides, crossing))
+    if is_within_one_instance(candidate.adapter) {
+        return Ok(true);
+    }
+    are_sides_built(types, builder, candidate.adapter)
 }
 
 /// Whether the adapter at a place of a plan without faults is built.
@@ -124,14 +116,7 @@ fn is_built_in(
     plan_types.builder.component_types().reveal();
     let linked = linked_adapter(plan, plan_types, k, adapter)?;
     let candidate = candidate_of(adapter, &linked);
-    let tunables = &plan.tunables;
-    let built = is_built(
-        types,
-        &plan_types.builder,
-        tunables.concurrency,
-        tunables.exceptions,
-        &candidate,
-    );
+    let built = is_built(types, &plan_types.builder, &candidate);
     drop(linked);
     Ok(built?)
 }

@@ -12,7 +12,7 @@ use Rattle.fact_wasm.specs.Ranges.{AreRanged, IsPoint, Named, Otherwise, Placed,
 use Rattle.fact_wasm.proofs.Ranged.{together}
 use Rattle.fact_types.specs.declared.import.Import.{Import}
 use Rattle.fact_types.specs.declared.import.Import.TheVariants as known
-use Rattle.fact_emit.specs.ImportSection.{AreNamed, IsNamed, Mention, a_function, imports_of, is_of, same_sort}
+use Rattle.fact_emit.specs.ImportSection.{AreNamed, IsNamed, Mention, a_function, imported_type, imports_of, is_of, same_sort}
 use Rattle.fact_emit.specs.NamedFunctions.{added_once, all_added_once, functions_named, name_at}
 use Rattle.fact_emit.proofs.Named.{function-sort, named-at}
 use Rattle.fact_emit.proofs.Mentions.{of-a-kind}
@@ -54,10 +54,24 @@ module _ (p : ℕ → Bool) where
 abbrev pub is_other : List Import → ℕ → Bool
 is_other all n = not (is_definition (slice_get all n))
 
+-- an import of a function is of the functions
+function_kind : {A : Type 0} (types : List FuncType) (w : WasmImport) {t : FuncType} → imported_type types w.ty ≡ Some t → is_of a_function w ≡ false → A
+function_kind types w typed e = let same : is_of a_function w ≡ true = ap (same_sort a_function) (function-sort types w.ty _ typed) in absurd (true≢false (sym same ∙ e))
+
 no_function : (types : List FuncType) (ms : List Mention) (before : List WasmImport) (w : WasmImport) (n : ℕ) (i : Import) → IsNamed types ms before w i → is_of a_function w ≡ false → other_number (item_of n i) ≡ None
 no_function types ms before w n (known.CoreDef d) h e = refl
-no_function types ms before w n (known.Trap t) h e = let same : is_of a_function w ≡ true = ap (same_sort a_function) (function-sort types w.ty _ h.is_typed) in absurd (true≢false (sym same ∙ e))
-no_function types ms before w n i h e = absurd h
+no_function types ms before w n (known.Trap t) h e = function_kind types w h.is_typed e
+no_function types ms before w n known.ResourceTransferOwn h e = function_kind types w h.is_typed e
+no_function types ms before w n known.ResourceTransferBorrow h e = function_kind types w h.is_typed e
+no_function types ms before w n known.FutureTransfer h e = function_kind types w h.is_typed e
+no_function types ms before w n known.StreamTransfer h e = function_kind types w h.is_typed e
+no_function types ms before w n known.ErrorContextTransfer h e = function_kind types w h.is_typed e
+no_function types ms before w n known.EnterSyncCall h e = function_kind types w h.is_typed e
+no_function types ms before w n known.ExitSyncCall h e = function_kind types w h.is_typed e
+no_function types ms before w n (known.UnsafeIntrinsic s) h e = function_kind types w h.is_typed e
+no_function types ms before w n (known.Transcode a b c d e) h g = absurd h
+no_function types ms before w n (known.PrepareCall a) h g = absurd h
+no_function types ms before w n (known.StartCall a b) h g = absurd h
 
 one_number : (n : ℕ) (i : Import) (ns : List ℕ) → cons_option (other_number (item_of n i)) ns ≡ cond (not (is_definition (Some i))) (n ∷ ns) ns
 one_number n (known.CoreDef d) ns = refl
@@ -91,7 +105,17 @@ numbers_others all types ms n before (w ∷ ws) (i ∷ is) h at =
 named_prepares_none : (types : List FuncType) (ms : List Mention) (before : List WasmImport) (w : WasmImport) (i : Import) → IsNamed types ms before w i → is_prepare_call (Some i) ≡ false
 named_prepares_none types ms before w (known.CoreDef d) h = refl
 named_prepares_none types ms before w (known.Trap t) h = refl
-named_prepares_none types ms before w i h = absurd h
+named_prepares_none types ms before w known.ResourceTransferOwn h = refl
+named_prepares_none types ms before w known.ResourceTransferBorrow h = refl
+named_prepares_none types ms before w known.FutureTransfer h = refl
+named_prepares_none types ms before w known.StreamTransfer h = refl
+named_prepares_none types ms before w known.ErrorContextTransfer h = refl
+named_prepares_none types ms before w known.EnterSyncCall h = refl
+named_prepares_none types ms before w known.ExitSyncCall h = refl
+named_prepares_none types ms before w (known.UnsafeIntrinsic s) h = refl
+named_prepares_none types ms before w (known.Transcode a b c d e) h = absurd h
+named_prepares_none types ms before w (known.PrepareCall a) h = absurd h
+named_prepares_none types ms before w (known.StartCall a b) h = absurd h
 
 pub prepares_none : (types : List FuncType) (ms : List Mention) (ws : List WasmImport) (is : List Import) → AreNamed types ms [] ws is → (n : ℕ) (i : Import) → slice_get (imports_of a_function ws is) n ≡ Some i → is_prepare_call (Some i) ≡ false
 prepares_none types ms ws is h n i e =

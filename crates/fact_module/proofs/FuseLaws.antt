@@ -93,7 +93,7 @@ module _ (p : FusePlan) (b : Builder) (old : Collected) (k : ℕ) (x : PlanAdapt
   may-take built none a taken =
       let h = subst (λ (d : Builder). IsLinked d c a) at.is_for.builder (is-linked old.builder c a taken) in
       let same = same-adapter b c.adapter.now links.linked a links.stands h.sides (links.name ∙ sym name ∙ sym h.name) (links.transparent ∙ sym mark ∙ sym h.transparent) in
-      rw (at.is_for.tunables, at.is_for.features) (subst (IsBuiltAdapter p.tunables.concurrency p.tunables.exceptions) same (built_at p built k x there links.linked links.is_adapter))
+      subst IsBuiltAdapter same (built_at p built k x there links.linked links.is_adapter)
 
   -- its types are valid, as all types of the plan are
   pub valid-here : (t : PlanTypes) → AreTypesOf p t → b ≡ t.builder → (a : LinkedAdapter) → IsLinked old.builder c a → HasValidSides a

@@ -104,7 +104,7 @@ module _ (c : Collected) (k : ℕ) (candidate : Candidate) (types : HasSoundType
 
   -- an adapter without a fault may be taken where it is built
   pub built-adapt : (built : Bool) → c.whole ≡ true → IsFaultlessFor c k (taken_of candidate)
-      → ((a : LinkedAdapter) → IsLinked c.builder candidate a → (IsTrue built ↔ IsBuiltAdapter c.tunables.concurrency_support c.features.exceptions a))
+      → ((a : LinkedAdapter) → IsLinked c.builder candidate a → (IsTrue built ↔ IsBuiltAdapter a))
       → (IsTrue built ↔ MayAdapt c k (taken_of candidate))
   built-adapt built whole faultless exact = (
     λ is _ _ a taken. (exact a (is-linked c.builder candidate a taken)).0 is,
@@ -194,9 +194,9 @@ module _ (now old : Collected) (component : ComponentDfg) (id : Id Adapters) (na
   refused-may e fault h = let (x, first) = told-some e fault _ h in (λ _. may-old (refused-adapt now k (taken_of candidate) x.0 first.0), λ _. refl)
 
   pub built-may : (built : Bool) → id.number < length component.adapters → now.whole ≡ true → HasSoundTypes now.builder k candidate.adapter.now → IsFaultlessFor now k (taken_of candidate) → (later : Collected) → later ≡ now
-      → ((a : LinkedAdapter) → IsLinked later.builder candidate a → (IsTrue built ↔ IsBuiltAdapter later.tunables.concurrency_support later.features.exceptions a))
+      → ((a : LinkedAdapter) → IsLinked later.builder candidate a → (IsTrue built ↔ IsBuiltAdapter a))
       → (IsTrue built ↔ OfAdapter component id name (MayAdapt old id.number))
   built-may built live whole types faultless later stays exact =
-      let exact_now = subst (λ v. (a : LinkedAdapter) → IsLinked v.builder candidate a → (IsTrue built ↔ IsBuiltAdapter v.tunables.concurrency_support v.features.exceptions a)) stays exact in
+      let exact_now = subst (λ v. (a : LinkedAdapter) → IsLinked v.builder candidate a → (IsTrue built ↔ IsBuiltAdapter a)) stays exact in
       let (to, from) = built-adapt now k candidate types built whole faultless exact_now in
       (λ e. may-old (to e), λ m. from (may-now live m))

@@ -1,5 +1,6 @@
 pub mod Adding
 pub mod AlikeLaws
+pub mod CompiledLaws
 pub mod FirstNamed
 pub mod FuseLaws
 pub mod JudgeLaws

@@ -5,6 +5,7 @@ use Rattle.fact_entity.specs.declared.id.Id.{Id}
 use Rattle.fact_entity.specs.declared.table.Funcs.{Funcs}
 use Rattle.fact_entity.specs.declared.table.TypeFuncs.{TypeFuncs}
 use Rattle.fact_wasm.specs.declared.types.FuncType.{FuncType}
+use Rattle.fact_wasm.specs.declared.types.ValType.{ValType}
 use Rattle.fact_builder.specs.Builder.{Builder}
 use Rattle.fact_types.specs.Adapters.{LinkedAdapter, Side, is_wide}
 use Rattle.fact_types.specs.Functions.{HasSignature}
@@ -13,6 +14,7 @@ use Rattle.fact_types.specs.declared.import.Import.TheVariants as known
 use Rattle.fact_checks.specs.declared.adapter.AdapterOptionsDfg.{AdapterOptionsDfg}
 use Rattle.fact_checks.specs.declared.sides.Candidate.{Candidate}
 use Rattle.fact_checks.specs.Linked.{IsLinked, IsSideOf}
+use Rattle.fact_moves.specs.Adapters.{AdapterTunables}
 use Rattle.fact_emit.specs.AdapterLinks.{AdapterLinks, IsAdapterLinked, IsLinkedIfAny, IsSideLinked}
 use Rattle.fact_emit.specs.ImportSection.{Callee, PostReturn, Realloc}
 use Rattle.fact_emit.specs.Imports.{Extended}
@@ -21,11 +23,12 @@ use Rattle.fact_emit.specs.States.{ModuleSoFar, functions_of}
 use Rattle.fact_emit.proofs.ImportLaws.{grown_get}
 use Rattle.fact_emit.proofs.KnownLaws.{linked_at}
 use Rattle.fact_compound.specs.Described.{number_if_any}
-use Rattle.fact_compound.specs.Functions.{CompiledSync}
+use Rattle.fact_compound.specs.Functions.{Compiled}
 use Rattle.fact_compound.specs.declared.adapters.AdapterData.{AdapterData}
 use Rattle.fact_compound.specs.declared.adapters.AdapterOptions.{AdapterOptions}
-use Rattle.fact_module.specs.Adding.{Adds, HasSideData}
+use Rattle.fact_module.specs.Adding.{Adds, AddsFunction, HasSideData}
 use Rattle.fact_module.specs.Links.{IsDataOfCandidate, IsDataOfSide, NamesOf, links_of, page_size_log2_of}
+use Rattle.fact_module.proofs.CompiledLaws.{compiled-adds}
 
 -- ---- a side
 
@@ -34,7 +37,9 @@ names-of h = record { instance = h.instance; memory = h.memory; realloc = h.real
 
 side-data : {b : Builder} {ty : Id TypeFuncs} {o : AdapterOptionsDfg} {s : Side} {d : AdapterOptions} → IsSideOf b ty o s → IsDataOfSide ty o d → HasSideData b.tables s d
 side-data {b} {s = s} h fits = record {
+  instance = ap (λ i. i.number) fits.instance ∙ sym h.instance;
   signature = subst (λ ty. HasSignature b.tables ty s.params s.results) (sym fits.ty_is) h.signature;
+  async_side = fits.async_ ∙ sym h.async_side;
   memory64 = fits.memory64 ∙ ap is_wide (sym h.memory);
   page_size_log2 = fits.page_size_log2 ∙ ap page_size_log2_of (sym h.memory);
 }
@@ -52,6 +57,12 @@ realloc-below {new = new} {d} {place = place} {n} memory64 linked there is =
     let same : place ≡ n = cc in
     let below = slice_get_within (functions_of new) place (known.CoreDef d) (linked_at (Realloc memory64) linked) in
     omega (arith, below, same)
+
+-- So is a post-return.
+pub post-return-below : {old new : ModuleSoFar} {d : CoreDef} {n place : ℕ} (name : List ℕ) (results : List ValType) → IsDefLinked old new (PostReturn name results) d place → n ≡ place → n < length (functions_of new)
+post-return-below {new = new} {d} {place = place} name results linked there =
+    let below = slice_get_within (functions_of new) place (known.CoreDef d) (linked_at (PostReturn name results) linked) in
+    omega (arith, below, there)
 
 module _ {b : Builder} {c : Candidate} {a : LinkedAdapter} (is : IsLinked b c a) where
   -- What an adapter names is linked where what its options name is.
@@ -77,13 +88,20 @@ module _ {b : Builder} {c : Candidate} {a : LinkedAdapter} (is : IsLinked b c a)
       }
 
   -- A module with all that an adapter names, and then with the function that its data ask for, has the adapter added.
-  pub adapter-added : {debug : Bool} {old linked new : ModuleSoFar} (d : AdapterData) → IsDataOfCandidate c d → IsAdapterLinked old linked a (links_of d) → CompiledSync b.tables d debug linked new → Adds b.tables debug old new a
-  adapter-added {linked = linked} d fits links compiled = record {
-    «data» = d;
-    name = fits.name ∙ sym is.name;
-    lift = side-data is.sides.lift fits.lift;
-    lower = side-data is.sides.lower fits.lower;
-    linked = linked;
-    links = links;
-    compiled = compiled;
-  }
+  pub adapter-added : (u : AdapterTunables) {old linked new : ModuleSoFar} (d : AdapterData) → IsDataOfCandidate c d → IsAdapterLinked old linked a (links_of d)
+      → Compiled b.tables d u.debug u.concurrency u.exceptions linked new → Adds b.tables u old new a
+  adapter-added u {linked = linked} {new} d fits links compiled =
+      let (f, added) = compiled-adds d compiled in
+      let name : d.name ≡ a.name = fits.name ∙ sym is.name in
+      record {
+        «data» = d;
+        name = name;
+        transparent = fits.transparent ∙ sym is.transparent;
+        lift = side-data is.sides.lift fits.lift;
+        lower = side-data is.sides.lower fits.lower;
+        linked = linked;
+        links = links;
+        compiled = compiled;
+        function = f;
+        added = subst (λ n. AddsFunction n linked new f) name added;
+      }

@@ -1,5 +1,5 @@
 -- One adapter more in a module that is being made: what it mentions is imported, the type of its function is declared, its code
--- brings in traps, and its function is put behind the others.
+-- brings in functions of the runtime, and its function is put behind the others.
 use Rattle.std.proofs.Common.{◌≡◌, ℕ, ◌+◌, ◌<◌, ◌≤◌, false, List, [], ◌∷◌, ◌++◌, Some, None, Option, refl, sym, ap, ◌∙◌, subst, arith, length, length-append, map, slice_get, append-nil, append_assoc, inl, inr}
 use Rattle.std.specs.Prelude.{count_by, filter, nat_le}
 use Rattle.std.specs.List.{AllByRecursion, filter_map, flat_map, range_with_len}
@@ -20,20 +20,23 @@ use Rattle.fact_machine.specs.Trace.{Grows}
 use Rattle.fact_machine.proofs.Tests.{get_append}
 use Rattle.fact_types.specs.declared.import.Import.{Import}
 use Rattle.fact_types.specs.declared.import.Import.TheVariants as known
-use Rattle.fact_types.specs.declared.outside.Trap.{Trap}
 use Rattle.fact_types.specs.Adapters.{LinkedAdapter}
 use Rattle.fact_plan_types.proofs.HandleLaws.{there as get-within}
-use Rattle.fact_emit.specs.Brought.{AreTrapsImported, Brought}
+use Rattle.fact_emit.specs.Brought.{AreRuntimeImported, Brought}
+use Rattle.fact_emit.specs.declared.imported.RuntimeFunction.{RuntimeFunction}
+use Rattle.fact_emit.specs.declared.imported.RuntimeFunction.TheVariants as runtime
+use Rattle.fact_emit.specs.Runtime.{import_of}
 use Rattle.fact_emit.specs.ImportSection.{Mention, NamesImports, a_function, adapter_mentions, imports_of, is_of, mentions, same_sort, sort_of, with_mention, with_mentions}
 use Rattle.fact_emit.specs.Known.{AreUsedAlike}
 use Rattle.fact_emit.specs.Linked.{HasTypeIfAny}
 use Rattle.fact_emit.specs.Listed.{AreLinkedInTurn, ListsMentions}
 use Rattle.fact_emit.specs.NamedFunctions.{all_added_once, imported_named}
-use Rattle.fact_emit.specs.States.{HasType, IsImported, ModuleSoFar, functions_of, module_of, nothing_so_far, with_exported, with_import}
-use Rattle.fact_emit.proofs.BroughtLaws.{IsEven, even_import, even_trap, even_type}
+use Rattle.fact_emit.specs.States.{HasType, IsImported, KeepsDefined, ModuleSoFar, functions_of, module_of, nothing_so_far, with_exported, with_import}
+use Rattle.fact_emit.proofs.BroughtLaws.{IsEven, even_import, even_runtime, even_type}
+use Rattle.fact_emit.proofs.DefinedKept.{defined_all, defined_import, defined_on, defined_same, defined_type}
 use Rattle.fact_emit.proofs.ImportLaws.{grown_get, grows_none, grows_on}
 use Rattle.fact_emit.proofs.ImportLists.{count-of, imports-append}
-use Rattle.fact_emit.proofs.ListedLaws.{IsMentionStep, alike_first, alike_more, linked_step, listed_all, listed_even, listed_linked, listed_traps, listed_type}
+use Rattle.fact_emit.proofs.ListedLaws.{IsMentionStep, alike_first, alike_more, linked_step, listed_all, listed_even, listed_linked, listed_all_runtime, listed_type}
 use Rattle.fact_emit.proofs.Mentions.{mentions-push}
 use Rattle.fact_emit.proofs.NamedLaws.{ranged_named}
 use Rattle.fact_module.specs.Exports.{exported_functions_of}
@@ -47,37 +50,13 @@ items_so_far s = items 0 s.section s.imports
 
 -- ---- the functions and exports stay
 
-pub record KeepsFunctions (old new : ModuleSoFar) : Type 0 where
-  pub functions : new.functions ≡ old.functions
-  pub exports : new.exports ≡ old.exports
+kept_if_any : (old new : ModuleSoFar) (ty : Option FuncType) → HasTypeIfAny old new ty → KeepsDefined old new
+kept_if_any old new None same = defined_same same
+kept_if_any old new (Some ty) has = defined_type has
 
-kept_same : {old new : ModuleSoFar} → new ≡ old → KeepsFunctions old new
-kept_same e = record { functions = ap (λ (s : ModuleSoFar). s.functions) e; exports = ap (λ (s : ModuleSoFar). s.exports) e }
-
-kept_on : {a b c : ModuleSoFar} → KeepsFunctions a b → KeepsFunctions b c → KeepsFunctions a c
-kept_on x y = record { functions = y.functions ∙ x.functions; exports = y.exports ∙ x.exports }
-
-kept_type : {old new : ModuleSoFar} {ty : FuncType} → HasType old new ty → KeepsFunctions old new
-kept_type (inl same) = kept_same same
-kept_type (inr anew) = record { functions = ap (λ (s : ModuleSoFar). s.functions) anew.1; exports = ap (λ (s : ModuleSoFar). s.exports) anew.1 }
-
-kept_if_any : (old new : ModuleSoFar) (ty : Option FuncType) → HasTypeIfAny old new ty → KeepsFunctions old new
-kept_if_any old new None same = kept_same same
-kept_if_any old new (Some ty) has = kept_type has
-
-kept_import : {old new : ModuleSoFar} {w : WasmImport} {i : Import} {place : ℕ} → IsImported old new w i place → KeepsFunctions old new
-kept_import h = elim h.step [
-  | inl there ↦ kept_same there.0
-  | inr anew ↦ record { functions = ap (λ (s : ModuleSoFar). s.functions) anew.0; exports = ap (λ (s : ModuleSoFar). s.exports) anew.0 }
-]
-
-kept_linked : (rs : List Mention) (old new : ModuleSoFar) → AreLinkedInTurn old new rs → KeepsFunctions old new
-kept_linked [] old new l = kept_same l
-kept_linked (r ∷ rs) old new l = kept_on (kept_if_any old l.2.typed _ l.2.types) (kept_on (kept_import l.2.imported) (kept_linked rs l.0 new l.3))
-
-kept_traps : (ts : List Trap) (old new : ModuleSoFar) → AreTrapsImported old new ts → KeepsFunctions old new
-kept_traps [] old new h = kept_same h
-kept_traps (t ∷ ts) old new h = kept_on (kept_type h.2.types) (kept_on (kept_import h.2.imported) (kept_traps ts h.0 new h.3))
+kept_linked : (rs : List Mention) (old new : ModuleSoFar) → AreLinkedInTurn old new rs → KeepsDefined old new
+kept_linked [] old new l = defined_same l
+kept_linked (r ∷ rs) old new l = defined_on (kept_if_any old l.2.typed _ l.2.types) (defined_on (defined_import l.2.imported) (kept_linked rs l.0 new l.3))
 
 -- ---- core definitions
 
@@ -121,24 +100,36 @@ defines_all (r ∷ rs) old new ms l alike h =
           ∙ append_assoc (items_so_far old) _ _ ∙ ap (λ l. items_so_far old ++ l) (sym (map-append (λ (q : Mention). Definition q.def) one.defs rest.defs));
     }
 
--- ---- traps
+-- ---- functions of the runtime
 
 -- Functions that are no core definitions are imported behind the others.
 record AddsOthers (old new : ModuleSoFar) : Type 0 where
   others : List ℕ
   items_are : items_so_far new ≡ items_so_far old ++ map Other others
 
-trap_added : {old new : ModuleSoFar} {w : WasmImport} {t : Trap} {place : ℕ} → IsEven old → IsImported old new w (known.Trap t) place → AddsOthers old new
-trap_added {old} {new} {w} {t} e h = elim h.step [
+-- none of them is a core definition
+runtime_item : (n : ℕ) (f : RuntimeFunction) → item_of n (import_of f) ≡ Other n
+runtime_item n (runtime.Trap t) = refl
+runtime_item n runtime.ResourceTransferOwn = refl
+runtime_item n runtime.ResourceTransferBorrow = refl
+runtime_item n runtime.FutureTransfer = refl
+runtime_item n runtime.StreamTransfer = refl
+runtime_item n runtime.ErrorContextTransfer = refl
+runtime_item n runtime.EnterSyncCall = refl
+runtime_item n runtime.ExitSyncCall = refl
+runtime_item n (runtime.UnsafeIntrinsic s) = refl
+
+runtime_added : {old new : ModuleSoFar} {w : WasmImport} (f : RuntimeFunction) {place : ℕ} → IsEven old → IsImported old new w (import_of f) place → AddsOthers old new
+runtime_added {old} {new} {w} f e h = elim h.step [
   | inl there ↦ record { others = []; items_are = ap items_so_far there.0 ∙ sym (append-nil (items_so_far old)) }
-  | inr anew ↦ record { others = length (functions_of old) ∷ []; items_are = ap items_so_far anew.0 ∙ one_more old w (known.Trap t) e }
+  | inr anew ↦ record { others = length (functions_of old) ∷ []; items_are = ap items_so_far anew.0 ∙ one_more old w (import_of f) e ∙ ap (λ i. items_so_far old ++ i ∷ []) (runtime_item (length (functions_of old)) f) }
 ]
 
-traps_added : (ts : List Trap) (old new : ModuleSoFar) → IsEven old → AreTrapsImported old new ts → AddsOthers old new
-traps_added [] old new e h = record { others = []; items_are = ap items_so_far h ∙ sym (append-nil (items_so_far old)) }
-traps_added (t ∷ ts) old new e h =
-    let one = trap_added (even_type h.2.types e) h.2.imported in
-    let rest = traps_added ts h.0 new (even_trap h.2 e) h.3 in
+runtime_all_added : (fs : List RuntimeFunction) (old new : ModuleSoFar) → IsEven old → AreRuntimeImported old new fs → AddsOthers old new
+runtime_all_added [] old new e h = record { others = []; items_are = ap items_so_far h ∙ sym (append-nil (items_so_far old)) }
+runtime_all_added (f ∷ fs) old new e h =
+    let one = runtime_added f (even_type h.2.types e) h.2.imported in
+    let rest = runtime_all_added fs h.0 new (even_runtime h.2 e) h.3 in
     record {
       others = one.others ++ rest.others;
       items_are = rest.items_are ∙ ap (λ l. l ++ map Other rest.others) (one.items_are ∙ ap (λ l. l ++ map Other one.others) (items_type h.2.types))
@@ -161,9 +152,9 @@ functions_if_any : (old new : ModuleSoFar) (ty : Option FuncType) → HasTypeIfA
 functions_if_any old new None same = ap functions_of same
 functions_if_any old new (Some ty) has = functions_typed has
 
-traps_grow : (ts : List Trap) (old new : ModuleSoFar) → IsEven old → AreTrapsImported old new ts → Grows (functions_of old) (functions_of new)
-traps_grow [] old new e h = grows_none (ap functions_of h)
-traps_grow (t ∷ ts) old new e h = grows_on (grows_none (functions_typed h.2.types)) (grows_on (import_grows (even_type h.2.types e) h.2.imported) (traps_grow ts h.0 new (even_trap h.2 e) h.3))
+runtime_grows : (fs : List RuntimeFunction) (old new : ModuleSoFar) → IsEven old → AreRuntimeImported old new fs → Grows (functions_of old) (functions_of new)
+runtime_grows [] old new e h = grows_none (ap functions_of h)
+runtime_grows (f ∷ fs) old new e h = grows_on (grows_none (functions_typed h.2.types)) (grows_on (import_grows (even_type h.2.types e) h.2.imported) (runtime_grows fs h.0 new (even_runtime h.2 e) h.3))
 
 links_grow : (rs : List Mention) (old new : ModuleSoFar) → IsEven old → AreLinkedInTurn old new rs → Grows (functions_of old) (functions_of new)
 links_grow [] old new e l = grows_none (ap functions_of l)
@@ -203,23 +194,23 @@ module _ (old linked declared brought : ModuleSoFar) (ty : FuncType) (adapters :
   lists_declared = listed_type linked declared _ ty declares lists_linked
 
   lists_brought : ListsMentions brought (with_mentions (mentions adapters) (adapter_mentions a))
-  lists_brought = listed_traps b.traps declared brought _ b.imported lists_declared
+  lists_brought = listed_all_runtime b.runtime declared brought _ b.imported lists_declared
 
-  -- The imports of the module are those that the adapters mention, and traps.
+  -- The imports of the module are those that the adapters mention, and functions of the runtime.
   pub listed_adapter : ListsMentions new (mentions (adapters ++ a ∷ []))
   listed_adapter = subst (ListsMentions new) (sym (mentions-push adapters a)) (record { defs = lists_brought.defs; named = lists_brought.named; once = lists_brought.once; signatures = lists_brought.signatures })
 
   even : IsEven declared
   even = listed_even declared _ lists_declared
 
-  pub keeps : KeepsFunctions old brought
-  keeps = kept_on (kept_linked (adapter_mentions a) old linked links) (kept_on (kept_type declares) (kept_traps b.traps declared brought b.imported))
+  pub keeps : KeepsDefined old brought
+  keeps = defined_on (kept_linked (adapter_mentions a) old linked links) (defined_on (defined_type declares) (defined_all b.runtime b.imported))
 
   defines : DefinesMentions old linked (mentions adapters) (adapter_mentions a)
   defines = defines_all (adapter_mentions a) old linked (mentions adapters) links alike lists
 
   adds : AddsOthers declared brought
-  adds = traps_added b.traps declared brought even b.imported
+  adds = runtime_all_added b.runtime declared brought even b.imported
 
   -- ---- what its code names first
 
@@ -230,7 +221,7 @@ module _ (old linked declared brought : ModuleSoFar) (ty : FuncType) (adapters :
     declared-there : (k : ℕ) (i : Import) → slice_get (functions_of declared) k ≡ Some i → slice_get all (0 + k) ≡ Some i
     declared-there k i at =
         let same : 0 + k ≡ k = omega arith in
-        ap (slice_get all) same ∙ get_append (functions_of brought) more k i (grown_get (traps_grow b.traps declared brought even b.imported) k i at)
+        ap (slice_get all) same ∙ get_append (functions_of brought) more k i (grown_get (runtime_grows b.runtime declared brought even b.imported) k i at)
 
     brought-there : (k : ℕ) (i : Import) → slice_get (functions_of brought) k ≡ Some i → slice_get all (0 + k) ≡ Some i
     brought-there k i at = let same : 0 + k ≡ k = omega arith in ap (slice_get all) same ∙ get_append (functions_of brought) more k i at
@@ -267,7 +258,7 @@ module _ (old linked declared brought : ModuleSoFar) (ty : FuncType) (adapters :
 
   module _ (one : length (exported_functions_of a) ≡ 1) (in_parts : (more : List Import) → IsInParts old more adapters) where
     grown : Grows (functions_of old) (functions_of brought)
-    grown = grows_on (links_grow (adapter_mentions a) old linked (listed_even old (mentions adapters) lists) links) (grows_on (grows_none (functions_typed declares)) (traps_grow b.traps declared brought even b.imported))
+    grown = grows_on (links_grow (adapter_mentions a) old linked (listed_even old (mentions adapters) lists) links) (grows_on (grows_none (functions_typed declares)) (runtime_grows b.runtime declared brought even b.imported))
 
     part : ModulePart
     part = record { defs = defines.defs; others = adds.others; own = f ∷ []; helpers = [] }

@@ -40,14 +40,14 @@ use Rattle.fact_emit.specs.States.{ModuleSoFar, functions_of, module_of, nothing
 use Rattle.fact_forms.specs.Built.{IsBuiltAdapter}
 use Rattle.fact_forms.specs.Sound.{HasValidSides, IsSoundAdapter}
 use Rattle.fact_forms.proofs.Passed.{passed_are_sound}
-use Rattle.fact_forms.proofs.Written.{built_cross_in_sync}
 use Rattle.fact_module.specs.Adding.{Adds}
 use Rattle.fact_module.specs.Exports.{exported_as, exported_functions_of}
-use Rattle.fact_module.specs.Faithful.{Promised}
+use Rattle.fact_module.specs.Faithful.{Promised, adapter_tunables}
 use Rattle.fact_module.specs.Holding.{AreBuilt}
 use Rattle.fact_module.specs.Taking.{HasFaultBehind, IsFirstBehind, MayTake}
 use Rattle.fact_module.proofs.Adding.{exports-more, functions-more, grown-adds, holds-more, holds-nothing}
 use Rattle.fact_module.proofs.Whole.{whole-promised, whole-range}
+use Rattle.fact_module.proofs.WholeExports.{built-whole}
 
 -- ---- what a typed adapter names can be looked up
 
@@ -133,16 +133,16 @@ is-taken b c a h = record { sides = h.sides; name = h.name; transparent = h.tran
 pub is-linked : (b : Builder) (c : Candidate) (a : LinkedAdapter) → IsTakenAs b (taken_of c) a → IsLinked b c a
 is-linked b c a h = record { sides = h.sides; name = h.name; transparent = h.transparent }
 
-built-push : (concurrency exceptions : Bool) (adapters : List LinkedAdapter) (a : LinkedAdapter) → AreBuilt concurrency exceptions adapters → IsBuiltAdapter concurrency exceptions a → AreBuilt concurrency exceptions (adapters ++ a ∷ [])
-built-push concurrency exceptions [] a h b = (b, tt)
-built-push concurrency exceptions (x ∷ adapters) a h b = (h.0, built-push concurrency exceptions adapters a h.1 b)
+built-push : (adapters : List LinkedAdapter) (a : LinkedAdapter) → AreBuilt adapters → IsBuiltAdapter a → AreBuilt (adapters ++ a ∷ [])
+built-push [] a h b = (b, tt)
+built-push (x ∷ adapters) a h b = (h.0, built-push adapters a h.1 b)
 
 sound-push : (adapters : List LinkedAdapter) (a : LinkedAdapter) → All IsSoundAdapter adapters → IsSoundAdapter a → All IsSoundAdapter (adapters ++ a ∷ [])
 sound-push adapters a h s = all-more IsSoundAdapter adapters (adapters ++ a ∷ []) a refl h s
 
 -- an adapter that is built exports one function
-pub one-exported : (concurrency exceptions : Bool) (a : LinkedAdapter) → IsBuiltAdapter concurrency exceptions a → length (exported_functions_of a) ≡ 1
-one-exported concurrency exceptions a built = rw (built_cross_in_sync concurrency exceptions a built).0 refl
+pub one-exported : (a : LinkedAdapter) → IsBuiltAdapter a → length (exported_functions_of a) ≡ 1
+one-exported a built = rw (built-whole a built) refl
 
 -- ---- what is exported
 
@@ -175,7 +175,7 @@ module _ (old : Collected) (checks checks' : Checks) (s s' : ModuleSoFar) (candi
   bound-behind : (before : List LinkedAdapter) (a : LinkedAdapter) → AreTaken old before → IsLinked old.builder candidate a → AreBound checks'.bound (before ++ a ∷ [])
   bound-behind before a taken h = (checked before a (made.covers whole before taken).checked (under a h)).1
 
-  built-here : (before : List LinkedAdapter) (a : LinkedAdapter) → AreTaken old before → IsLinked old.builder candidate a → IsBuiltAdapter old.tunables.concurrency_support old.features.exceptions a
+  built-here : (before : List LinkedAdapter) (a : LinkedAdapter) → AreTaken old before → IsLinked old.builder candidate a → IsBuiltAdapter a
   built-here before a taken h = may none-linked a (is-taken old.builder candidate a h)
     where
       none-linked : (f : Fault) → HasLinkedFault old (taken_of candidate) f → ⊥
@@ -187,14 +187,14 @@ module _ (old : Collected) (checks checks' : Checks) (s s' : ModuleSoFar) (candi
       passed_are_sound old.builder candidate.adapter.now old.tunables.concurrency_support before a (record { sides = h.sides; types = valid a h; faultless = sound-behind before a taken h })
 
   one-here : (before : List LinkedAdapter) (a : LinkedAdapter) → AreTaken old before → IsLinked old.builder candidate a → length (exported_functions_of a) ≡ 1
-  one-here before a taken h = one-exported old.tunables.concurrency_support old.features.exceptions a (built-here before a taken h)
+  one-here before a taken h = one-exported a (built-here before a taken h)
 
   consistent-here : (before : List LinkedAdapter) (a : LinkedAdapter) → AreTaken old before → IsLinked old.builder candidate a → AreConsistent (flat_map uses_of (before ++ a ∷ []))
   consistent-here before a taken h = AreConsistent-covered _ _ (bound-behind before a taken h).uses
 
   -- with one adapter more its tree is extended
   pub extends-more : (before now : Collected) → before.tree ≡ module_of s → before.imports ≡ s.imports → now.tree ≡ module_of s' → now.imports ≡ s'.imports
-      → ((a : LinkedAdapter) → IsLinked old.builder candidate a → Adds old.builder.tables old.tunables.debug_adapter_modules s s' a) → Extends before now
+      → ((a : LinkedAdapter) → IsLinked old.builder candidate a → Adds old.builder.tables (adapter_tunables old.tunables old.features) s s' a) → Extends before now
   unfolding linked some
   extends-more before now tree imports tree' imports' adds =
       let h = (linked-of old.builder sound candidate typed).1 in
@@ -203,24 +203,24 @@ module _ (old : Collected) (checks checks' : Checks) (s s' : ModuleSoFar) (candi
       let consistent = consistent-here some linked made.some.1 h in
       let holds = (made.covers whole some made.some.1).holds in
       let t = old.builder.tables in
-      let debug = old.tunables.debug_adapter_modules in
-      let g : Extended s s' = grown-adds t debug s s' some linked one consistent holds add in
+      let u = adapter_tunables old.tunables old.features in
+      let g : Extended s s' = grown-adds t u s s' some linked one consistent holds add in
       record {
         types = record { more = g.types.more; is = ap (λ (m : WasmModule). m.types) tree' ∙ g.types.is ∙ ap (λ (m : WasmModule). m.types ++ g.types.more) (sym tree) };
         section = record { more = g.section.more; is = ap (λ (m : WasmModule). m.imports) tree' ∙ g.section.is ∙ ap (λ (m : WasmModule). m.imports ++ g.section.more) (sym tree) };
         imports = record { more = g.imports.more; is = imports' ∙ g.imports.is ∙ ap (λ is. is ++ g.imports.more) (sym imports) };
         functions = record {
-          more = add.compiled.function ∷ [];
-          is = ap (λ (m : WasmModule). m.funcs) tree' ∙ functions-more t debug s s' some linked one consistent holds add ∙ ap (λ (m : WasmModule). m.funcs ++ add.compiled.function ∷ []) (sym tree);
+          more = add.function ∷ [];
+          is = ap (λ (m : WasmModule). m.funcs) tree' ∙ functions-more t u s s' some linked one consistent holds add ∙ ap (λ (m : WasmModule). m.funcs ++ add.function ∷ []) (sym tree);
         };
         exports = λ name f e.
-            ap (λ (m : WasmModule). exported_as name m.exports) tree' ∙ ap (exported_as name) (exports-more t debug s s' some linked one consistent holds add)
+            ap (λ (m : WasmModule). exported_as name m.exports) tree' ∙ ap (exported_as name) (exports-more t u s s' some linked one consistent holds add)
             ∙ exported-on name s.exports _ f (ap (λ (m : WasmModule). exported_as name m.exports) (sym tree) ∙ e);
       }
 
   -- the module of all of them
   pub made-more : (new : Collected) → new.builder ≡ old.builder → new.tunables ≡ old.tunables → new.features ≡ old.features → new.taken ≡ old.taken ++ taken_of candidate ∷ [] → checks'.builder ≡ checks.builder → checks'.concurrency ≡ checks.concurrency
-      → ((a : LinkedAdapter) → IsLinked old.builder candidate a → Adds old.builder.tables old.tunables.debug_adapter_modules s s' a)
+      → ((a : LinkedAdapter) → IsLinked old.builder candidate a → Adds old.builder.tables (adapter_tunables old.tunables old.features) s s' a)
       → IsMade new checks' s'
   unfolding linked some
   made-more new builder tunables features taken same_builder same_concurrency adds = record {
@@ -232,11 +232,11 @@ module _ (old : Collected) (checks checks' : Checks) (s s' : ModuleSoFar) (candi
         let h = is-linked old.builder candidate a this in
         let covers = made.covers whole before those in
         let bound = bound-behind before a those h in
-        let built = built-push old.tunables.concurrency_support old.features.exceptions before a covers.built (built-here before a those h) in
+        let built = built-push before a covers.built (built-here before a those h) in
         let sound_all = sound-push before a covers.sound (sound-here before a those h) in
         rw (is, builder, tunables, features) (record {
           checked = bound;
-          holds = holds-more old.builder.tables old.tunables.debug_adapter_modules s s' before a (one-here before a those h) (consistent-here before a those h) covers.holds (adds a h);
+          holds = holds-more old.builder.tables (adapter_tunables old.tunables old.features) s s' before a (one-here before a those h) (consistent-here before a those h) covers.holds (adds a h);
           built = built;
           sound = sound_all;
         });
@@ -270,7 +270,7 @@ module _ (b : Builder) (t : Tunables) (f : WasmFeatures) where
   unfolding no_collected no_checks
   covers-none [] h = record {
     checked = record { memories = Covers-nothing; reallocs = Covers-nothing; uses = Covers-nothing; names = refl; distinct = λ i j d below within. absurd (omega arith) };
-    holds = holds-nothing b.tables t.debug_adapter_modules;
+    holds = holds-nothing b.tables (adapter_tunables t f);
     built = tt;
     sound = λ k d within. absurd (omega (arith, within));
   }

@@ -1,32 +1,28 @@
 -- What the module of adapters that are built exports.
 use Rattle.std.proofs.Common.{◌≡◌, ◌≢◌, ℕ, zero, suc, ◌+◌, ◌≤◌, Bool, true, false, List, [], ◌∷◌, ◌++◌, Some, Contains, AllPairs, refl, sym, ap, ◌∙◌, subst, arith, length, map, slice_get, append-nil, inl, inr}
-use Rattle.std.specs.Prelude.{All, cond}
+use Rattle.std.specs.Prelude.{All, ◌&&◌, cond}
 use Rattle.std.specs.List.{AllByRecursion, AllZip, flat_map}
-use Rattle.std.proofs.lemmas.Bool.{cases_lt}
+use Rattle.std.proofs.lemmas.Bool.{and_right, cases_lt}
 use Rattle.std.proofs.lemmas.List.Elements.{Contains-append_left, Contains-append_right}
 use Rattle.std.proofs.lemmas.Option.{get_or_from_slice_get, slice_get_within}
 use Rattle.std.proofs.lemmas.Slice.Eq.{bytes_eq-Decides}
 use Rattle.std.specs.Str.{bytes_eq}
 use Rattle.fact_wasm.specs.declared.instr.FuncName.TheVariants as func
 use Rattle.fact_wasm.specs.Ranges.{AreExportsNamed}
-use Rattle.fact_types.specs.Adapters.{LinkedAdapter, is_async}
+use Rattle.fact_types.specs.Adapters.{LinkedAdapter, is_async, is_crossing}
 use Rattle.fact_types.specs.Tables.{Tables}
 use Rattle.fact_checks.specs.AdapterRules.{export_names}
+use Rattle.fact_moves.specs.Adapters.{AdapterTunables}
 use Rattle.fact_emit.specs.States.{ModuleSoFar, module_of}
 use Rattle.fact_emit.proofs.ImportLaws.{grown_get}
 use Rattle.fact_emit.proofs.ImportLists.{get-map}
-use Rattle.fact_compound.specs.Described.{DescribesAdapter}
 use Rattle.fact_compound.specs.Syncs.{lower_type_of}
-use Rattle.fact_compound.specs.declared.adapters.AdapterData.{AdapterData}
 use Rattle.fact_forms.specs.Built.{IsBuiltAdapter}
 use Rattle.fact_forms.specs.Sound.{IsSoundAdapter}
-use Rattle.fact_forms.proofs.Written.{built_are_writable, built_cross_in_sync}
-use Rattle.fact_module.specs.Adding.{HasSideData}
+use Rattle.fact_forms.proofs.Written.{built_cross_in_sync}
 use Rattle.fact_module.specs.Exports.{IsExportOf, Whole, callee_of, exported, exported_as, exported_functions_of}
-use Rattle.fact_module.specs.Faithful.{adapter_tunables}
 use Rattle.fact_module.specs.Holding.{AreBuilt, Holds, numbered}
-use Rattle.fact_emit.specs.declared.tunables.Tunables.{Tunables}
-use Rattle.fact_emit.specs.declared.tunables.WasmFeatures.{WasmFeatures}
+use Rattle.fact_module.proofs.CompiledLaws.{type-added}
 
 -- ---- lists
 
@@ -72,63 +68,49 @@ numbered-within imports funcs n (a ∷ adapters) h = (omega (arith, h), numbered
 
 -- ---- adapters that are built have one export each
 
-module _ (concurrency exceptions : Bool) where
-  pub built-at : (adapters : List LinkedAdapter) → AreBuilt concurrency exceptions adapters → (k : ℕ) (a : LinkedAdapter) → slice_get adapters k ≡ Some a → IsBuiltAdapter concurrency exceptions a
-  built-at [] h k a e = cc
-  built-at (x ∷ xs) h zero a e = let same : x ≡ a = cc in subst (IsBuiltAdapter concurrency exceptions) same h.0
-  built-at (x ∷ xs) h (suc k) a e = built-at xs h.1 k a e
+pub built-at : (adapters : List LinkedAdapter) → AreBuilt adapters → (k : ℕ) (a : LinkedAdapter) → slice_get adapters k ≡ Some a → IsBuiltAdapter a
+built-at [] h k a e = cc
+built-at (x ∷ xs) h zero a e = let same : x ≡ a = cc in subst IsBuiltAdapter same h.0
+built-at (x ∷ xs) h (suc k) a e = built-at xs h.1 k a e
 
-  built-sync : (a : LinkedAdapter) → IsBuiltAdapter concurrency exceptions a → is_async a ≡ false
-  built-sync a h = (built_cross_in_sync concurrency exceptions a h).0
+-- between two instances it is sync
+pub built-whole : (a : LinkedAdapter) → IsBuiltAdapter a → (is_async a && is_crossing a) ≡ false
+built-whole a h = step (is_crossing a) refl
+  where
+    step : (b : Bool) → is_crossing a ≡ b → (is_async a && b) ≡ false
+    step true crosses = ap (λ c. c && true) (built_cross_in_sync a h crosses)
+    step false within = and_right (is_async a) false refl
 
-  pub built-exports : (adapters : List LinkedAdapter) → AreBuilt concurrency exceptions adapters → flat_map export_names adapters ≡ map (λ a. a.name) adapters
-  built-exports [] h = refl
-  built-exports (a ∷ adapters) h = rw (built-sync a h.0) (ap (λ names. a.name ∷ names) (built-exports adapters h.1))
+pub built-exports : (adapters : List LinkedAdapter) → AreBuilt adapters → flat_map export_names adapters ≡ map (λ a. a.name) adapters
+built-exports [] h = refl
+built-exports (a ∷ adapters) h = rw (built-whole a h.0) (ap (λ names. a.name ∷ names) (built-exports adapters h.1))
 
-  functions-are : (adapters : List LinkedAdapter) → AreBuilt concurrency exceptions adapters → flat_map exported_functions_of adapters ≡ map (λ a. Whole a.name a.lower.core_type) adapters
-  functions-are [] h = refl
-  functions-are (a ∷ adapters) h = rw (built-sync a h.0) (ap (λ es. Whole a.name a.lower.core_type ∷ es) (functions-are adapters h.1))
+functions-are : (adapters : List LinkedAdapter) → AreBuilt adapters → flat_map exported_functions_of adapters ≡ map (λ a. Whole a.name a.lower.core_type) adapters
+functions-are [] h = refl
+functions-are (a ∷ adapters) h = rw (built-whole a h.0) (ap (λ es. Whole a.name a.lower.core_type ∷ es) (functions-are adapters h.1))
 
-  callees-are : (adapters : List LinkedAdapter) → AreBuilt concurrency exceptions adapters → flat_map callee_of adapters ≡ []
-  callees-are [] h = refl
-  callees-are (a ∷ adapters) h = rw (built-sync a h.0) (callees-are adapters h.1)
+callees-are : (adapters : List LinkedAdapter) → AreBuilt adapters → flat_map callee_of adapters ≡ []
+callees-are [] h = refl
+callees-are (a ∷ adapters) h = rw (built-whole a h.0) (callees-are adapters h.1)
 
-  pub exported-are : (adapters : List LinkedAdapter) → AreBuilt concurrency exceptions adapters → exported adapters ≡ map (λ a. Whole a.name a.lower.core_type) adapters
-  exported-are adapters h = (λ k. functions-are adapters h k ++ callees-are adapters h k) ∙ append-nil _
+pub exported-are : (adapters : List LinkedAdapter) → AreBuilt adapters → exported adapters ≡ map (λ a. Whole a.name a.lower.core_type) adapters
+exported-are adapters h = (λ k. functions-are adapters h k ++ callees-are adapters h k) ∙ append-nil _
 
-  -- two adapters of one name are one
-  pub one-name : (adapters : List LinkedAdapter) → AreBuilt concurrency exceptions adapters → AllPairs (λ x y. x ≢ y) (flat_map export_names adapters)
-      → (i j : ℕ) (a b : LinkedAdapter) → slice_get adapters i ≡ Some a → slice_get adapters j ≡ Some b → a.name ≡ b.name → i ≡ j
-  one-name adapters h distinct i j a b at to same = one-place (map (λ a. a.name) adapters) (subst (AllPairs (λ x y. x ≢ y)) (built-exports adapters h) distinct) i j a.name (get-map (λ (a : LinkedAdapter). a.name) adapters i a at) (get-map (λ (a : LinkedAdapter). a.name) adapters j b to ∙ ap Some (sym same))
-
--- ---- the data of an adapter describe it
-
-pub describes : (t : Tables) (tunables : Tunables) (features : WasmFeatures) (a : LinkedAdapter) (d : AdapterData)
-    → IsBuiltAdapter tunables.concurrency_support features.exceptions a → IsSoundAdapter a → HasSideData t a.lift d.lift → HasSideData t a.lower d.lower
-    → DescribesAdapter t d tunables.debug_adapter_modules (adapter_tunables tunables features) a
-describes t tunables features a d built sound lift lower =
-    let w = built_are_writable tunables.concurrency_support features.exceptions a built sound in
-    record {
-      lift = record { signature = lift.signature; wide = sym lift.memory64; sync = w.sync.lift };
-      lower = record { signature = lower.signature; wide = sym lower.memory64; sync = w.sync.lower };
-      same_debug = refl;
-      alone = built.no_concurrency;
-      untold = w.untold (adapter_tunables tunables features) built.no_concurrency;
-      no_post_return = w.no_post_return;
-      params = w.params;
-      results = w.results;
-    }
+-- two adapters of one name are one
+pub one-name : (adapters : List LinkedAdapter) → AreBuilt adapters → AllPairs (λ x y. x ≢ y) (flat_map export_names adapters)
+    → (i j : ℕ) (a b : LinkedAdapter) → slice_get adapters i ≡ Some a → slice_get adapters j ≡ Some b → a.name ≡ b.name → i ≡ j
+one-name adapters h distinct i j a b at to same =
+    one-place (map (λ a. a.name) adapters) (subst (AllPairs (λ x y. x ≢ y)) (built-exports adapters h) distinct) i j a.name
+    (get-map (λ (a : LinkedAdapter). a.name) adapters i a at) (get-map (λ (a : LinkedAdapter). a.name) adapters j b to ∙ ap Some (sym same))
 
 -- ---- the exports of the module
 
-module _ (t : Tables) (tunables : Tunables) (features : WasmFeatures) (s : ModuleSoFar) (adapters : List LinkedAdapter) (h : Holds t tunables.debug_adapter_modules s adapters)
-    (built : AreBuilt tunables.concurrency_support features.exceptions adapters) (sound : All IsSoundAdapter adapters) where
+module _ (t : Tables) (u : AdapterTunables) (s : ModuleSoFar) (adapters : List LinkedAdapter) (h : Holds t u s adapters) (built : AreBuilt adapters) (sound : All IsSoundAdapter adapters) where
   -- the type of an adapter's function stands in the module
-  pub type-placed : (k : ℕ) (a : LinkedAdapter) (e : slice_get adapters k ≡ Some a) → slice_get s.types (h.placed k a e).adds.compiled.function.ty ≡ Some (lower_type_of a)
+  pub type-placed : (k : ℕ) (a : LinkedAdapter) (e : slice_get adapters k ≡ Some a) → slice_get s.types (h.placed k a e).adds.function.ty ≡ Some (lower_type_of a)
   type-placed k a e =
       let placed = h.placed k a e in
-      let is_built = built-at tunables.concurrency_support features.exceptions adapters built k a e in
-      grown_get placed.later.types _ _ (placed.adds.compiled.typed (adapter_tunables tunables features) a (describes t tunables features a _ is_built (all-at IsSoundAdapter adapters sound k a e) placed.adds.lift placed.adds.lower))
+      grown_get placed.later.types _ _ (type-added placed.adds (built-at adapters built k a e) (all-at IsSoundAdapter adapters sound k a e))
 
   exports-from : (n : ℕ) (rest : List LinkedAdapter) → ((j : ℕ) (a : LinkedAdapter) → slice_get rest j ≡ Some a → slice_get adapters (n + j) ≡ Some a)
       → AllZip (IsExportOf (module_of s) s.imports) (numbered n rest) (map (λ a. Whole a.name a.lower.core_type) rest)
@@ -142,4 +124,4 @@ module _ (t : Tables) (tunables : Tunables) (features : WasmFeatures) (s : Modul
 
   -- the exports are exactly the adapters' names
   pub exports-are : AllZip (IsExportOf (module_of s) s.imports) s.exports (exported adapters)
-  exports-are = rw (h.exports, exported-are tunables.concurrency_support features.exceptions adapters built) (exports-from 0 adapters (λ j a e. ap (slice_get adapters) (omega arith) ∙ e))
+  exports-are = rw (h.exports, exported-are adapters built) (exports-from 0 adapters (λ j a e. ap (slice_get adapters) (omega arith) ∙ e))

@@ -22,16 +22,12 @@ use Rattle.fact_types.specs.declared.outside.MemoryOption.{MemoryOption}
 use Rattle.fact_plan_types.proofs.HandleLaws.{there as get-within}
 use Rattle.fact_checks.specs.AdapterRules.{export_names}
 use Rattle.fact_moves.specs.Adapters.{AdapterTunables}
-use Rattle.fact_moves.specs.Running.{ImportPlaces}
 use Rattle.fact_emit.specs.ImportSection.{AreNamed, Callback, Callee, Flags, IsNamed, Mention, PostReturn, Realloc, Role, StandsFor, Storage, adapter_mentions, custom_page_size, imported_type, memory_mention, mention, mentions, side_mentions}
 use Rattle.fact_emit.specs.States.{ModuleSoFar, module_of}
 use Rattle.fact_emit.proofs.Mentions.{in-mentions}
 use Rattle.fact_emit.proofs.ImportLists.{get-map}
-use Rattle.fact_compound.specs.Syncs.{IsSyncFunction, lower_type_of}
 use Rattle.fact_forms.specs.Sound.{HasUsualPages, IsSoundAdapter}
 use Rattle.fact_module.specs.Holding.{AreBuilt, Holds, numbered}
-use Rattle.fact_emit.specs.declared.tunables.Tunables.{Tunables}
-use Rattle.fact_emit.specs.declared.tunables.WasmFeatures.{WasmFeatures}
 use Rattle.fact_module.proofs.WholeExports.{all-at, all-by-place, built-exports, one-place}
 
 -- ---- lists
@@ -120,7 +116,17 @@ module _ (M : WasmModule) where
     typed-import : (before : List WasmImport) (w : WasmImport) (i : Import) → IsNamed M.types ms before w i → is_typed_import M w ≡ true
     typed-import before w (known.CoreDef d) h = typed-role before h.0 w (usual (record { def = d; role = h.0 }) h.1) h.2
     typed-import before w (known.Trap t) h = typed-function-import w _ h.is_typed
-    typed-import before w _ h = absurd h
+    typed-import before w known.ResourceTransferOwn h = typed-function-import w _ h.is_typed
+    typed-import before w known.ResourceTransferBorrow h = typed-function-import w _ h.is_typed
+    typed-import before w known.FutureTransfer h = typed-function-import w _ h.is_typed
+    typed-import before w known.StreamTransfer h = typed-function-import w _ h.is_typed
+    typed-import before w known.ErrorContextTransfer h = typed-function-import w _ h.is_typed
+    typed-import before w known.EnterSyncCall h = typed-function-import w _ h.is_typed
+    typed-import before w known.ExitSyncCall h = typed-function-import w _ h.is_typed
+    typed-import before w (known.UnsafeIntrinsic s) h = typed-function-import w _ h.is_typed
+    typed-import before w (known.Transcode a b c d e) h = absurd h
+    typed-import before w (known.PrepareCall a) h = absurd h
+    typed-import before w (known.StartCall a b) h = absurd h
 
     typed-imports : (before ws : List WasmImport) (is : List Import) → AreNamed M.types ms before ws is → list_all (is_typed_import M) ws ≡ true
     typed-imports before [] is h = refl
@@ -166,21 +172,18 @@ distinct-names n (a ∷ adapters) h = both (ap not (none-named a.name (suc n) ad
 
 -- ---- the module
 
--- The function is that of a sync adapter in the module, and has its type there.
-pub record IsTypedSync (M : WasmModule) (f : WasmFunc) : Type 0 where
-  pub u : AdapterTunables
-  pub a : LinkedAdapter
-  pub p : ImportPlaces
-  pub is : IsSyncFunction u a M p f
-  pub type_is : slice_get M.types f.ty ≡ Some (lower_type_of a)
+-- The function has a type in the module, and is typed.
+pub record HasTypedFunction (M : WasmModule) (f : WasmFunc) : Type 0 where
+  pub ty : FuncType
+  pub type_is : slice_get M.types f.ty ≡ Some ty
+  pub typed : is_typed_function M f ≡ true
 
-module _ (t : Tables) (tunables : Tunables) (features : WasmFeatures) (s : ModuleSoFar) (adapters : List LinkedAdapter) (h : Holds t tunables.debug_adapter_modules s adapters)
-    (built : AreBuilt tunables.concurrency_support features.exceptions adapters) (sound : All IsSoundAdapter adapters) (distinct : AllPairs (λ x y. x ≢ y) (flat_map export_names adapters))
-    (syncs : (k : ℕ) (f : WasmFunc) → slice_get s.functions k ≡ Some f → IsTypedSync (module_of s) f) where
+module _ (t : Tables) (u : AdapterTunables) (s : ModuleSoFar) (adapters : List LinkedAdapter) (h : Holds t u s adapters) (built : AreBuilt adapters) (sound : All IsSoundAdapter adapters)
+    (distinct : AllPairs (λ x y. x ≢ y) (flat_map export_names adapters)) (each : (k : ℕ) (f : WasmFunc) → slice_get s.functions k ≡ Some f → HasTypedFunction (module_of s) f) where
   have-types : HaveTypes (module_of s) 0 adapters
   have-types k within =
       let (f, e) = get-within s.functions k (omega (arith, within, h.count)) in
-      (f, _, ap (slice_get s.functions) (omega arith) ∙ e, (syncs k f e).type_is)
+      (f, _, ap (slice_get s.functions) (omega arith) ∙ e, (each k f e).type_is)
 
   pub typed-module : typed_module (module_of s) ≡ true
   typed-module =
@@ -188,7 +191,6 @@ module _ (t : Tables) (tunables : Tunables) (features : WasmFeatures) (s : Modul
       let imports : list_all (is_typed_import M) s.section ≡ true = typed-imports M (mentions adapters) (usual-mentions adapters sound) [] s.section s.imports h.lists.named in
       let exports : list_all (is_typed_export M) s.exports ≡ true = subst (λ es. list_all (is_typed_export M) es ≡ true) (sym h.exports) (typed-exports M 0 adapters have-types) in
       let names : are_distinct s.exports ≡ true =
-      subst (λ es. are_distinct es ≡ true) (sym h.exports)
-      (distinct-names 0 adapters (subst (AllPairs (λ x y. x ≢ y)) (built-exports tunables.concurrency_support features.exceptions adapters built) distinct)) in
-      let functions : list_all (is_typed_function M) s.functions ≡ true = each-passes (is_typed_function M) s.functions (λ k f e. let x = syncs k f e in x.is.typed x.type_is) in
+      subst (λ es. are_distinct es ≡ true) (sym h.exports) (distinct-names 0 adapters (subst (AllPairs (λ x y. x ≢ y)) (built-exports adapters built) distinct)) in
+      let functions : list_all (is_typed_function M) s.functions ≡ true = each-passes (is_typed_function M) s.functions (λ k f e. (each k f e).typed) in
       both imports (both exports (both names functions))

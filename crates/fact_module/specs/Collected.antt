@@ -19,7 +19,7 @@ use Rattle.fact_emit.specs.States.{ModuleSoFar}
 use Rattle.fact_forms.specs.Built.{IsBuiltAdapter}
 use Rattle.fact_forms.specs.Sound.{IsSoundAdapter}
 use Rattle.fact_module.specs.Exports.{exported_as}
-use Rattle.fact_module.specs.Faithful.{Promised}
+use Rattle.fact_module.specs.Faithful.{Promised, adapter_tunables}
 use Rattle.fact_module.specs.Holding.{AreBuilt, Holds}
 
 -- ---- a module
@@ -72,7 +72,7 @@ pub record HasLinkedFault (c : Collected) (t : TakenAdapter) (f : Fault) : Type 
 
 -- An adapter is built.
 abbrev pub IsBuiltFor : Collected → TakenAdapter → Type 0
-IsBuiltFor c t = (a : LinkedAdapter) → IsTakenAs c.builder t a → IsBuiltAdapter c.tunables.concurrency_support c.features.exceptions a
+IsBuiltFor c t = (a : LinkedAdapter) → IsTakenAs c.builder t a → IsBuiltAdapter a
 
 -- The list is the other with more behind it.
 pub record BeginsWith {A : Type 0} (list first : List A) : Type 0 where
@@ -99,8 +99,8 @@ pub record KeepsPromises (c : Collected) : Type 0 where
 -- The checks and the parts of the module are those of these adapters.
 pub record IsStateOf (c : Collected) (checks : Checks) (s : ModuleSoFar) (adapters : List LinkedAdapter) : Type 0 where
   pub checked : AreChecked checks adapters
-  pub holds : Holds c.builder.tables c.tunables.debug_adapter_modules s adapters
-  pub built : AreBuilt c.tunables.concurrency_support c.features.exceptions adapters
+  pub holds : Holds c.builder.tables (adapter_tunables c.tunables c.features) s adapters
+  pub built : AreBuilt adapters
   pub sound : All IsSoundAdapter adapters
 
 pub record IsMade (c : Collected) (checks : Checks) (s : ModuleSoFar) : Type 0 where

@@ -130,8 +130,9 @@ pub fn may_fuse(alloc: Global, plan: &FusePlan) -> Result<bool, FuseError>
 }
 
 /// The module that joins the two sides of each adapter of a plan, each of which is built so far. Its imports and exports
-/// are those of the plan ([`Import`], and each adapter's name), and its functions carry values unchanged. A plan that has a
-/// fault is refused with its first one, as by `check_plan`, whether its adapters are built or not.
+/// are those of the plan ([`Import`], and each adapter's name), and its functions carry values unchanged; that of an adapter
+/// within one instance traps at each call. A plan that has a fault is refused with its first one, as by `check_plan`, whether
+/// its adapters are built or not.
 pub fn fuse(alloc: Global, plan: &FusePlan) -> Result<Fused, FuseError>
     requires built { MayFuse plan.now }
     requires fuel { 1 ≤ plan.now.tunables.fuel }

@@ -1,6 +1,7 @@
 //! The imports of what an adapter names, and the data that its code is written by.
 
-ghost use Rattle.std.specs.Prelude.{◌≡◌, ◌<◌, ℕ, IfOk, Some, length};
+ghost use Rattle.std.specs.Prelude.{◌≡◌, ◌<◌, ℕ, IfOk, IfSome, Some, length};
+ghost use Rattle.fact_entity.specs.declared.id.Id as id;
 ghost use Rattle.fact_types.specs.Adapters.{LinkedAdapter, Side, is_wide};
 ghost use Rattle.fact_emit.specs.AdapterLinks.{IsAdapterLinked, IsLinkedIfAny, IsMemoryLinked, IsSideLinked};
 ghost use Rattle.fact_emit.specs.ImportSection.{Callback, PostReturn, Realloc};
@@ -88,6 +89,7 @@ fn link_post_return(
     post_return: &Option<CoreDef>,
 ) -> Result<Option<FuncIndex>, OutOfMemory>
     ensures linked { IfOk result (λ place. IsLinkedIfAny sections.old sections.new (PostReturn name.now results.now) post_return.now (number_if_any place)) }
+    ensures below { IfOk result (λ place. IfSome place (λ (f : id.Id _). f.number < length (functions_of sections.new))) }
     ensures keeps { Extended sections.old sections.new }
 {
     let Some(post_return) = post_return else {
@@ -144,6 +146,7 @@ pub fn link_adapter(
     ensures linked { IfOk result (λ d. (a : LinkedAdapter) → IsLinked builder.now candidate.now a → IsAdapterLinked sections.old sections.new a (links_of d)) }
     ensures callee { IfOk result (λ d. d.callee.number < length (functions_of sections.new)) }
     ensures reallocs { IfOk result (λ d. AreReallocsImported d sections.new) }
+    ensures post_return { IfOk result (λ d. IfSome d.lift.post_return (λ (f : id.Id _). f.number < length (functions_of sections.new))) }
     ensures described { IfOk result (λ d. IsDataOfCandidate candidate.now d) }
 {
     let adapter = candidate.adapter;

@@ -11,7 +11,7 @@ ghost use Rattle.fact_module.specs.Collected.{AreTaken, Extends, HasTaken, Keeps
 ghost use Rattle.fact_types.specs.Adapters.{LinkedAdapter};
 ghost use Rattle.fact_forms.specs.Sound.{HasValidSides};
 ghost use Rattle.fact_module.specs.Adding.{Adds};
-ghost use Rattle.fact_module.specs.Faithful.{Promised};
+ghost use Rattle.fact_module.specs.Faithful.{Promised, adapter_tunables};
 ghost use Rattle.fact_emit.specs.ImportSection.{NamesImports};
 ghost use Rattle.fact_emit.specs.Settings.{OnlySectionsChanged};
 ghost use Rattle.fact_module.specs.Order.{IsOrdered};
@@ -91,7 +91,7 @@ pub(crate) fn is_memory(error: FuseError) -> bool
 /// Imports what an adapter names, and adds its function.
 fn add_adapter(state: &mut ModuleState<'_>, candidate: &Candidate<'_>) -> Result<(), OutOfMemory>
     requires typed { NamesTypesOf state.old.builder.now candidate.now.adapter.now }
-    ensures added { OnOk result ((a : LinkedAdapter) → IsLinked state.old.builder.now candidate.now a → Adds state.old.builder.now.tables state.old.tunables.now.debug_adapter_modules state.old.sections state.new.sections a) }
+    ensures added { OnOk result ((a : LinkedAdapter) → IsLinked state.old.builder.now candidate.now a → Adds state.old.builder.now.tables (adapter_tunables state.old.tunables.now state.old.features) state.old.sections state.new.sections a) }
     ensures keeps { OnlySectionsChanged state.old state.new }
 {
     let linked = link_adapter(&mut state.sections, state.builder, candidate)?;
@@ -128,7 +128,7 @@ fn emit(
 ) -> Result<(), OutOfMemory>
     requires typed { NamesTypesOf state.old.builder.now candidate.now.adapter.now }
     ensures taken { OnOk result (taken.new.items ≡ taken.old.items ++ taken_of candidate.now ∷ []) }
-    ensures emitted { OnOk result ((a : LinkedAdapter) → IsLinked state.old.builder.now candidate.now a → Adds state.old.builder.now.tables state.old.tunables.now.debug_adapter_modules state.old.sections state.new.sections a) }
+    ensures emitted { OnOk result ((a : LinkedAdapter) → IsLinked state.old.builder.now candidate.now a → Adds state.old.builder.now.tables (adapter_tunables state.old.tunables.now state.old.features) state.old.sections state.new.sections a) }
     ensures keeps { OnlySectionsChanged state.old state.new }
     ensures refused { OnErr result (taken.new.items ≡ taken.old.items) }
 {
@@ -268,13 +268,7 @@ impl<'a> Module<'a> {
             }
             return Ok(true);
         }
-        Ok(is_built(
-            &mut self.types,
-            self.state.builder,
-            self.state.tunables.concurrency_support,
-            self.state.features.exceptions,
-            &candidate,
-        )?)
+        Ok(is_built(&mut self.types, self.state.builder, &candidate)?)
     }
 
     /// A copy of the module of the adapters so far. `OutOfMemory` is the one refusal; it comes for good once [`Module::adapt`]

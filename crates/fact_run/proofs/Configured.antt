@@ -14,7 +14,7 @@ use Rattle.fact_run.specs.Run.{Prints, configured, page}
 
 -- a plan that is built stays so, whatever they ask for
 pub built-configured : (o : CommandOptions) (p : FusePlan) → IsBuiltPlan p → IsBuiltPlan (configured o p)
-built-configured o p h = subst (All (IsBuiltAdapter p.tunables.concurrency p.tunables.exceptions)) (sym (same_adapters p (configured o p).tunables)) h
+built-configured o p h = subst (All IsBuiltAdapter) (sym (same_adapters p (configured o p).tunables)) h
 
 -- what prints the module of such a plan
 pub printed-page : {E : Type 0} (o : CommandOptions) (p : FusePlan) (f : Fused) (r : Result (String Global) E) → IsFused f (configured o p) → ((m : WasmModule) → InRange m → Spells f.bytes m → m ≡ f.«module»)

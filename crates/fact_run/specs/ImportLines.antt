@@ -13,7 +13,7 @@ use Rattle.fact_types.specs.declared.outside.UnsafeIntrinsic.{UnsafeIntrinsic}
 use Rattle.fact_types.specs.declared.outside.UnsafeIntrinsic.TheVariants as slot
 use Rattle.fact_types.specs.declared.import.Import.{Import}
 use Rattle.fact_types.specs.declared.import.Import.TheVariants as known
-use Rattle.fact_emit.specs.ImportSection.{trap_number}
+use Rattle.fact_emit.specs.Runtime.{trap_number}
 
 -- a core definition: an export by its instance and its name in lower-case hex
 abbrev pub def_text : CoreDef → List ℕ

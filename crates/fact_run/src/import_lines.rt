@@ -2,7 +2,7 @@
 
 ghost use Rattle.std.specs.Prelude.{◌≡◌, ◌++◌, IfOk, codes, string_bytes};
 ghost use Rattle.fact_run.specs.ImportLines.{def_text, encoding_text, import_lines, import_text, intrinsic_text, memory_text, optional_text, transcode_text, width_text};
-ghost use Rattle.fact_emit.specs.ImportSection.{trap_number};
+ghost use Rattle.fact_emit.specs.Runtime.{trap_number};
 
 use fact_entity::EntityRef;
 use fact_module::{CoreDef, FixedEncoding, Import, Transcode, Trap, UnsafeIntrinsic};

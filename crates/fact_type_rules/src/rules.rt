@@ -48,31 +48,7 @@ impl Rules {
 fn is_unbuilt(ty: InterfaceType) -> bool
     ensures { IsTrue result ↔ IsUnbuiltType ty }
 {
-    match ty {
-        InterfaceType::Bool
-        | InterfaceType::S8
-        | InterfaceType::U8
-        | InterfaceType::S16
-        | InterfaceType::U16
-        | InterfaceType::S32
-        | InterfaceType::U32
-        | InterfaceType::S64
-        | InterfaceType::U64
-        | InterfaceType::Float32
-        | InterfaceType::Float64
-        | InterfaceType::Char
-        | InterfaceType::Record(_)
-        | InterfaceType::Variant(_)
-        | InterfaceType::List(_)
-        | InterfaceType::FixedLengthList(_)
-        | InterfaceType::Tuple(_)
-        | InterfaceType::Map(_)
-        | InterfaceType::Flags(_)
-        | InterfaceType::Enum(_)
-        | InterfaceType::Option(_)
-        | InterfaceType::Result(_) => false,
-        _ => true,
-    }
+    matches!(ty, InterfaceType::String)
 }
 
 /// Whether the shape of a type is.

@@ -1,10 +1,20 @@
-use Rattle.fact_forms.specs.Built.{IsBuiltSide}
-use Rattle.fact_forms.specs.Parts.{IsPlainCrossing}
-use Rattle.fact_forms.proofs.BuiltLaws.{adapter_parts, both_built, built_adapter}
+use Rattle.std.proofs.Common.{sym, ◌∙◌, IsTrue}
+use Rattle.std.specs.Prelude.{◌↔◌}
+use Rattle.std.proofs.lemmas.Bool.{false≢true}
+use Rattle.std.proofs.lemmas.Result.{IfOk-weaker}
+use Rattle.fact_types.specs.Adapters.{LinkedAdapter}
+use Rattle.fact_checks.specs.Linked.{HasSides, IsLinked}
+use Rattle.fact_forms.specs.Built.{IsBuiltAdapter, IsBuiltSide}
+use Rattle.fact_forms.proofs.BuiltLaws.{crossing_built, within_built}
 use Rattle.fact_forms.proofs.built.is_built.Goals as goal
 
+pub returns-then-is_within_one_instance-clause-exact : goal.returns-then-is_within_one_instance-clause-exact
+returns-then-is_within_one_instance-clause-exact c = λ a h.
+    within_built c.args.builder.now c.args.candidate.now a h (c.is_within_one_instance.ensures.0 c.if-is_within_one_instance.true)
+
 pub returns-clause-exact : goal.returns-clause-exact
-returns-clause-exact c = λ a h.
-    let parts = both_built c.in_ok-sides.sides c.is_plain_crossing-crossing.result (IsBuiltSide a.lift × IsBuiltSide a.lower) (IsPlainCrossing c.args.concurrency c.args.exceptions c.args.candidate.now)
-    (c.in_ok-sides.ensures.exact a h.sides) c.is_plain_crossing-crossing.ensures in
-    rw c.both.ensures (λ e. built_adapter _ _ _ _ a h (parts.0 e), λ x. parts.1 (adapter_parts _ _ _ _ a h x))
+returns-clause-exact c =
+    IfOk-weaker c.are_sides_built.result (λ built. (a : LinkedAdapter) → HasSides c.args.builder.now c.args.candidate.now.adapter.now a → (IsTrue built ↔ (IsBuiltSide a.lift × IsBuiltSide a.lower)))
+    (λ built. (a : LinkedAdapter) → IsLinked c.args.builder.now c.args.candidate.now a → (IsTrue built ↔ IsBuiltAdapter a))
+    (λ built exact a h. crossing_built c.args.builder.now c.args.candidate.now a built h (λ same. false≢true (sym c.if-is_within_one_instance.false ∙ c.is_within_one_instance.ensures.1 same)) (exact a h.sides))
+    c.are_sides_built.ensures.exact

@@ -2,6 +2,7 @@ use Rattle.std.proofs.Common.{◌<◌, length, sym, subst}
 use Rattle.std.proofs.lemmas.Result.{on_ok_weaker}
 use Rattle.fact_entity.specs.declared.id.Id.{Id}
 use Rattle.fact_entity.specs.declared.table.TypeFuncs.{TypeFuncs}
+use Rattle.fact_module.specs.Faithful.{adapter_tunables}
 use Rattle.fact_module.proofs.LinkingLaws.{adapter-added}
 use Rattle.fact_module.proofs.module.add_adapter.Goals as goal
 
@@ -12,7 +13,7 @@ pub compile-compiled-requires-clause-lift_live : goal.compile-compiled-requires-
 compile-compiled-requires-clause-lift_live c = subst (λ (ty : Id TypeFuncs). ty.number < length c.args.state.now.builder.now.tables.functions) (sym c.in_ok-linked.ensures.described.lift.ty_is) c.requires.typed.lift
 
 pub returns-clause-added : goal.returns-clause-added
-returns-clause-added c = on_ok_weaker c.compile-compiled.result (λ compiled a is. adapter-added is _ c.in_ok-linked.ensures.described (c.in_ok-linked.ensures.linked a is) compiled) c.compile-compiled.ensures.compiled
+returns-clause-added c = on_ok_weaker c.compile-compiled.result (λ compiled a is. adapter-added is (adapter_tunables c.args.state.now.tunables.now c.args.state.now.features) _ c.in_ok-linked.ensures.described (c.in_ok-linked.ensures.linked a is) compiled) c.compile-compiled.ensures.compiled
 
 pub returns-clause-keeps : goal.returns-clause-keeps
 returns-clause-keeps c =
