@@ -32,6 +32,8 @@ mod parts;
 #[cfg(test)]
 mod questions;
 #[cfg(test)]
+mod resources;
+#[cfg(test)]
 mod signatures;
 #[cfg(test)]
 mod source;

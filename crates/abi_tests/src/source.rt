@@ -66,7 +66,7 @@ fn module_is_found(alloc: Global, types: &mut SourceTypes) -> Result<bool, PushE
 }
 
 /// The export of a resource under the name r.
-fn resource_export(
+pub(crate) fn resource_export(
     alloc: Global,
     resource: ResourceId,
 ) -> Result<Seq<(Text, SourceItem)>, OutOfMemory>

@@ -124,14 +124,17 @@ fn are_words_copied(alloc: Global) -> bool {
     texts && bytes && transcodes && traps && intrinsics
 }
 
-/// Whether layouts, options and results are cloned.
-fn are_sums_cloned(alloc: Global) -> bool {
-    let layouts = is_cloned(alloc, ZERO, CanonicalAbiInfo::SCALAR1);
+/// Whether layouts are cloned.
+fn are_layouts_cloned(alloc: Global) -> bool {
     let moved = VariantInfo {
         payload_offset64: 8,
         ..INFO
     };
-    let places = is_cloned(alloc, INFO, moved);
+    is_cloned(alloc, ZERO, CanonicalAbiInfo::SCALAR1) && is_cloned(alloc, INFO, moved)
+}
+
+/// Whether options are cloned.
+fn are_options_cloned(alloc: Global) -> bool {
     let option = TypeOption {
         ty: InterfaceType::U8,
         abi: ZERO,
@@ -141,27 +144,34 @@ fn are_sums_cloned(alloc: Global) -> bool {
         ty: InterfaceType::Char,
         ..option
     };
-    let options = is_cloned(alloc, option, other);
+    is_cloned(alloc, option, other)
+}
+
+/// Whether results are cloned.
+fn are_results_cloned(alloc: Global) -> bool {
     let result = TypeResult {
         ok: Some(InterfaceType::U8),
         err: None,
         abi: ZERO,
         info: INFO,
     };
-    let results = is_cloned(alloc, result, TypeResult { ok: None, ..result });
-    layouts && places && options && results
+    is_cloned(alloc, result, TypeResult { ok: None, ..result })
 }
 
-/// Whether lists and maps are cloned.
+/// Whether lists are cloned.
 fn are_lists_cloned(alloc: Global) -> bool {
     let element = InterfaceType::U8;
     let other = TypeList {
         element: InterfaceType::Char,
     };
-    let lists = is_cloned(alloc, TypeList { element }, other);
+    is_cloned(alloc, TypeList { element }, other)
+}
+
+/// Whether maps are cloned.
+fn are_maps_cloned(alloc: Global) -> bool {
     let map = TypeMap {
-        key: element,
-        value: element,
+        key: InterfaceType::U8,
+        value: InterfaceType::U8,
         entry_abi: ZERO,
         value_offset32: 1,
         value_offset64: 1,
@@ -170,48 +180,50 @@ fn are_lists_cloned(alloc: Global) -> bool {
         value: InterfaceType::Char,
         ..map
     };
-    let maps = is_cloned(alloc, map, other);
+    is_cloned(alloc, map, other)
+}
+
+/// Whether lists of fixed length are cloned.
+fn are_fixed_lists_cloned(alloc: Global) -> bool {
     let bytes = TypeFixedLengthList {
-        element,
+        element: InterfaceType::U8,
         size: 2,
         abi: ZERO,
     };
-    let fixed = is_cloned(alloc, bytes, TypeFixedLengthList { size: 3, ..bytes });
-    lists && maps && fixed
+    is_cloned(alloc, bytes, TypeFixedLengthList { size: 3, ..bytes })
 }
 
-/// Whether futures, streams and the tables of them in an instance are cloned.
+/// Whether futures and streams are cloned.
 fn are_ends_cloned(alloc: Global) -> bool {
     let payload = Some(InterfaceType::U8);
-    let instance = RuntimeComponentInstanceIndex::from_u32(0);
-    let other = RuntimeComponentInstanceIndex::from_u32(1);
-    let futures = is_cloned(alloc, TypeFuture { payload }, TypeFuture { payload: None });
-    let streams = is_cloned(alloc, TypeStream { payload }, TypeStream { payload: None });
+    is_cloned(alloc, TypeFuture { payload }, TypeFuture { payload: None })
+        && is_cloned(alloc, TypeStream { payload }, TypeStream { payload: None })
+}
+
+/// Whether tables of futures in an instance are cloned.
+fn are_future_tables_cloned(alloc: Global) -> bool {
     let table = TypeFutureTable {
         ty: TypeFutureIndex::from_u32(0),
-        instance,
+        instance: RuntimeComponentInstanceIndex::from_u32(0),
     };
-    let of_futures = is_cloned(
-        alloc,
-        table,
-        TypeFutureTable {
-            instance: other,
-            ..table
-        },
-    );
+    let other = TypeFutureTable {
+        instance: RuntimeComponentInstanceIndex::from_u32(1),
+        ..table
+    };
+    is_cloned(alloc, table, other)
+}
+
+/// Whether tables of streams in an instance are cloned.
+fn are_stream_tables_cloned(alloc: Global) -> bool {
     let table = TypeStreamTable {
         ty: TypeStreamIndex::from_u32(0),
-        instance,
+        instance: RuntimeComponentInstanceIndex::from_u32(0),
     };
-    let of_streams = is_cloned(
-        alloc,
-        table,
-        TypeStreamTable {
-            instance: other,
-            ..table
-        },
-    );
-    futures && streams && of_futures && of_streams
+    let other = TypeStreamTable {
+        instance: RuntimeComponentInstanceIndex::from_u32(1),
+        ..table
+    };
+    is_cloned(alloc, table, other)
 }
 
 /// Whether tables of error contexts and of resources are cloned.
@@ -229,15 +241,31 @@ fn are_tables_cloned(alloc: Global) -> bool {
     errors && is_cloned(alloc, concrete, general)
 }
 
+/// Whether types of members and of cases are cloned.
+fn are_types_cloned(alloc: Global) -> bool {
+    are_layouts_cloned(alloc)
+        && are_options_cloned(alloc)
+        && are_results_cloned(alloc)
+        && are_lists_cloned(alloc)
+        && are_maps_cloned(alloc)
+        && are_fixed_lists_cloned(alloc)
+}
+
+/// Whether handles and their tables are cloned.
+fn are_handles_cloned(alloc: Global) -> bool {
+    are_ends_cloned(alloc)
+        && are_future_tables_cloned(alloc)
+        && are_stream_tables_cloned(alloc)
+        && are_tables_cloned(alloc)
+}
+
 #[test]
 fn plain_values_are_copied(rt: HostRuntime) {
     assert!(rt; are_keys_copied(rt.alloc()));
     assert!(rt; are_types_copied(rt.alloc()));
     assert!(rt; are_words_copied(rt.alloc()));
-    assert!(rt; are_sums_cloned(rt.alloc()));
-    assert!(rt; are_lists_cloned(rt.alloc()));
-    assert!(rt; are_ends_cloned(rt.alloc()));
-    assert!(rt; are_tables_cloned(rt.alloc()));
+    assert!(rt; are_types_cloned(rt.alloc()));
+    assert!(rt; are_handles_cloned(rt.alloc()));
 }
 
 /// Puts names into a set, in this order.

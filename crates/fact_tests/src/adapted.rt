@@ -281,12 +281,14 @@ fn is_page(alloc: Global, made: &mut Module<'_>, wanted: &str) -> Result<bool, F
     is
 }
 
-/// A page by its name: without adapters; with the worked one; with two that share all but their names; and with two that share
-/// nothing but the trap. `any` is none of them.
+/// A page by its name: without adapters; with the worked one, and with the one of which the runtime is told with concurrency; with two that
+/// share all but their names; and with two that share nothing but the trap. `any` is none of them.
 fn page_named(name: &str) -> &'static str {
     match name {
         "one" =>
             "0061736d0100000001080260017f0060000002430405666c61677309696e7374616e636531037f0105666c61677309696e7374616e636530037f010663616c6c656502663000000772756e74696d6505747261703000010302010007060102663000020a2a012801027f0240230122010d001001000b2300210241002400200020022400100041002401200124010b [CoreDef(InstanceFlags(Id { number: 1, .. })), CoreDef(InstanceFlags(Id { number: 0, .. })), CoreDef(Export { instance: Id { number: 0, .. }, name: Text { text: \"run\" } }), Trap(CannotLeaveComponent)]",
+        "told" =>
+            "0061736d01000000010d0360017f0060000060027f7f0002720605666c61677309696e7374616e636531037f0105666c61677309696e7374616e636530037f010663616c6c656502663000000772756e74696d650574726170300001056173796e630f656e7465722d73796e632d63616c6c0002056173796e630e657869742d73796e632d63616c6c00010302010007060102663000040a32013001027f0240230122010d001001000b41004101100223002102410024002000200224001000100341002401200124010b [CoreDef(InstanceFlags(Id { number: 1, .. })), CoreDef(InstanceFlags(Id { number: 0, .. })), CoreDef(Export { instance: Id { number: 0, .. }, name: Text { text: \"run\" } }), Trap(CannotLeaveComponent), EnterSyncCall, ExitSyncCall]",
         "two" =>
             "0061736d0100000001080260017f0060000002430405666c61677309696e7374616e636531037f0105666c61677309696e7374616e636530037f010663616c6c656502663000000772756e74696d6505747261703000010303020000070b02026630000202663100030a53022801027f0240230122010d001001000b2300210241002400200020022400100041002401200124010b2801027f0240230122010d001001000b2300210241002400200020022400100041002401200124010b [CoreDef(InstanceFlags(Id { number: 1, .. })), CoreDef(InstanceFlags(Id { number: 0, .. })), CoreDef(Export { instance: Id { number: 0, .. }, name: Text { text: \"run\" } }), Trap(CannotLeaveComponent)]",
         "apart" =>
@@ -355,18 +357,25 @@ const STEPS: &str = "
 plain: f0 = taken, one; f1 = taken, two
 plain: f0 = taken, one; f1 types:1,1 core:1,1 instances:3,2 callee:walk = taken, apart
 plain: f0 = taken, one; f0 callee:walk = duplicate name, one; f1 types:1,1 core:1,1 instances:3,2 callee:walk = taken, apart
-plain: f0 = taken, one; f1 callee:walk transparent = not built, one; f1 types:1,1 core:1,1 instances:3,2 callee:walk = taken, apart
-concurrency: f0 = not built, empty
+plain: f0 = taken, one; f1 callee:walk types:2,2 core:2,2 lift-memory:m,16 lift-realloc:r lower-memory:n,16 = not built, one; f1 types:1,1 core:1,1 instances:3,2 callee:walk = taken, apart
+concurrency: f0 = taken, told
+concurrency: f0 lift-async = not built, empty; f0 = taken, told
+concurrency: f0 transparent = taken, one; f1 transparent = taken, two
 debug: f0 = taken, one; f1 types:1,1 core:1,1 instances:3,2 callee:walk = taken, apart
-exceptions: f0 = not built, empty
+exceptions: f0 = taken, any; f1 lift-post-return:free = taken, any
 plain: f0 = taken, one; f1 lower-memory:memory,0 = taken, any
+plain: f0 = taken, one; f1 types:3,3 = taken, any
+plain: f0 = taken, one; f1 instances:1,1 = taken, any; f2 instances:2147483647,2147483647 = taken, any
+plain: f0 = taken, one; f1 transparent = taken, two
+plain: f0 = taken, one; f1 lift-post-return:free = taken, any
+plain: f0 = taken, one; f1 lift-callback:resume = taken, any
 ";
 
 /// What the module that took the worked adapter answers to a second one. The greatest number of an instance is 2,147,483,647.
 const ANSWERS: &str = "
 unknown index: types:6,0
 unknown index: types:4,6
-unknown index: core:2,0
+unknown index: core:3,0
 unknown index: core:0,4294967295
 bad type: types:4,0
 bad type: types:5,4
@@ -385,15 +394,12 @@ bad memory: lift-memory:m,0 lower-memory:m,0
 bad signature: core:1,0
 bad signature: core:0,1
 import conflict: types:1,1 core:1,1
+import conflict: types:2,2 core:2,2 lift-memory:m,16 lift-realloc:r lower-memory:n,16
 import conflict: lift-post-return:run
 import conflict: lift-callback:run
 import conflict: lower-memory:run,16
-not built: types:3,3
-not built: instances:1,1
-not built: instances:2147483647,2147483647
-not built: transparent
-not built: lift-post-return:free
-not built: lift-callback:resume
+not built: callee:walk types:2,2 core:2,2 lift-memory:m,16 lift-realloc:r lower-memory:n,16
+not built: callee:walk types:2,2 core:2,2 lift-memory:m,16 lift-realloc:r lower-memory:n,16 transparent
 ";
 
 /// Types, each as its kind, its number of names and the options around it; and the answers and the pages where one side has it, and

@@ -114,7 +114,7 @@ fn are_lines(bytes: &[u8], lines: &str) -> bool {
 }
 
 /// Whether these bytes are lines, each with its newline; or what stands before `..`; or nothing.
-fn is_written(bytes: &[u8], wanted: &str) -> bool {
+pub fn is_written(bytes: &[u8], wanted: &str) -> bool {
     match (wanted.strip_suffix(".."), bytes.split_last()) {
         (Some(front), _) => bytes == front.as_bytes(),
         (None, None) => wanted.is_empty(),
@@ -151,10 +151,32 @@ fn ends_told(alloc: Global, given: &Given, kind: &str, fault: &str) -> Result<bo
     ends
 }
 
-/// Whether a run over a plan ends as a row says: `sound`, in a plan that is not built so far; with the page of the worked plan,
-/// or of the one without entries; with a page that stands in the row, and the lines of its imports; or with a fault of this
+/// Whether these bytes begin as each module in hex does.
+fn is_module(bytes: &[u8]) -> bool {
+    bytes.len() > 16
+        && bytes
+            .iter()
+            .zip(b"0061736d01000000")
+            .all(|(byte, sign)| *byte == *sign)
+}
+
+/// Whether a run ends with some module, and tells nothing.
+fn ends_built(alloc: Global, given: &Given) -> Result<bool, AllocError> {
+    let seen = run_on(alloc, given)?;
+    let is = seen.status.number() == 0
+        && is_module(seen.out.written())
+        && seen.err.written().is_empty();
+    drop(seen);
+    Ok(is)
+}
+
+/// Whether a run over a plan ends as a row says: `sound`, in a plan that is not built so far; `built`, with some module; with the page of
+/// the worked plan, or of the one without entries; with a page that stands in the row, and the lines of its imports; or with a fault of this
 /// kind.
 pub fn ends_so(alloc: Global, given: &Given, kind: &str, end: &str) -> Result<bool, AllocError> {
+    if end == "built" {
+        return ends_built(alloc, given);
+    }
     let (number, out, told) = match end {
         "sound" => (10, "", "not built"),
         "worked" => (0, PAGE, ""),

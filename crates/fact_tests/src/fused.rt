@@ -1,20 +1,23 @@
 //! Which plans may be fused, and what comes of them: a module, or their first fault, also where an adapter before it is not built.
 
+use crate::machine::{fused_if_built, plan_in};
 use crate::plans::edited;
-use fact_module::{FuseError, FusePlan, Fused, fuse, may_fuse};
-use fact_plan::{plan_of, read_value};
+use fact_module::{FuseError, FusePlan};
 use std::alloc::{AllocError, Global};
 use std::process::Abort;
 
-/// Two adapters of functions of one u32 parameter. The first has one instance on both sides, and is not built so far.
+/// Two adapters of functions of one u32 parameter. The first has one instance on both sides.
 const PAIR: &str =
     r#"{"instances":2,"types":[],"tables":[],"funcs":[{"params":[["x","u32"]],"results":[]}],"core_types":[{"params":["i32"],"results":[]}],"core_defs":[{"export":[0,"run"]},{"export":[0,"start"]}],"adapters":[{"name":"f0","func":0,"lift":{"ty":0,"instance":1,"core_type":0},"lower":{"ty":0,"instance":1,"core_type":0}},{"name":"f1","func":1,"lift":{"ty":0,"instance":1,"core_type":0},"lower":{"ty":0,"instance":0,"core_type":0}}]}"#;
 
 /// What comes of a plan, and the edits that make it of that one.
 const ROWS: &str = r#"
 fused: "lower":{"ty":0,"instance":1 => "lower":{"ty":0,"instance":0
-not built: "f0" => "f2"
-not built: "f0" => "f2" | "lower":{"ty":0,"instance":0 => "lower":{"ty":0,"instance":1
+fused: "f0" => "f2"
+fused: "f0" => "f2" | "lower":{"ty":0,"instance":0 => "lower":{"ty":0,"instance":1
+not built: "lift":{"ty":0,"instance":1,"core_type":0} => "lift":{"ty":0,"instance":1,"core_type":0,"async":true} | "lower":{"ty":0,"instance":1 => "lower":{"ty":0,"instance":0 | }}]} => }}],"tunables":{"concurrency":true}}
+duplicate name at Adapter(1): "f1" => "f0" | "lift":{"ty":0,"instance":1,"core_type":0} => "lift":{"ty":0,"instance":1,"core_type":0,"async":true} | "lower":{"ty":0,"instance":1 => "lower":{"ty":0,"instance":0 | }}]} => }}],"tunables":{"concurrency":true}}
+unknown index at Adapter(1): "func":1 => "func":2 | "lift":{"ty":0,"instance":1,"core_type":0} => "lift":{"ty":0,"instance":1,"core_type":0,"async":true} | "lower":{"ty":0,"instance":1 => "lower":{"ty":0,"instance":0 | }}]} => }}],"tunables":{"concurrency":true}}
 duplicate name at Adapter(1): "f1" => "f0"
 unknown index at Adapter(1): "func":1 => "func":2
 unknown index at Adapter(0): "func":0 => "func":2
@@ -24,33 +27,22 @@ bad type at TypeEntry(0): "types":[] => "types":[{"record":[]}]
 duplicate name at Adapter(1): "f1" => "f0" | "lower":{"ty":0,"instance":1 => "lower":{"ty":0,"instance":0
 "#;
 
-/// What came of a plan that might be fused.
-fn told(alloc: Global, fused: Result<Fused, FuseError>) -> Result<String, AllocError> {
-    match fused {
-        Ok(fused) => {
+/// What comes of a plan.
+fn end_of(rt: &impl Abort, alloc: Global, plan: &FusePlan) -> Result<String, AllocError> {
+    match fused_if_built(rt, alloc, plan) {
+        Ok(Some(fused)) => {
             drop(fused);
             String::from_str(alloc, "fused")
         }
+        Ok(None) => String::from_str(alloc, "not built"),
+        Err(FuseError::OutOfMemory) => Err(AllocError),
         Err(error) => format!(in alloc; "{error}"),
-    }
-}
-
-/// What comes of a plan.
-fn end_of(rt: &impl Abort, alloc: Global, plan: &FusePlan) -> Result<String, AllocError> {
-    assert!(rt; plan.tunables.fuel >= 1);
-    match may_fuse(alloc, plan) {
-        Ok(true) => told(alloc, fuse(alloc, plan)),
-        Ok(false) => String::from_str(alloc, "not built"),
-        Err(_) => Err(AllocError),
     }
 }
 
 /// Whether this comes of the plan in a text.
 fn ends_so(rt: &impl Abort, alloc: Global, text: &str, wanted: &str) -> Result<bool, AllocError> {
-    let value = read_value(alloc, text.as_bytes())?.expect(rt, "a value");
-    let plan = plan_of(alloc, &value);
-    drop(value);
-    let plan = plan.ok().expect(rt, "a plan");
+    let plan = plan_in(rt, alloc, text)?;
     let end = end_of(rt, alloc, &plan);
     drop(plan);
     let end = end?;

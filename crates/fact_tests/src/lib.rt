@@ -1,4 +1,4 @@
-//! Tests of code that is written, run on the machine; of modules that take adapters one after another; and tests that cross the
+//! Tests of modules that are made, run on the machine; of modules that take adapters one after another; and tests that cross the
 //! crates: the worked rows, each allocating call once with ample memory, and the real streams.
 #![tactic(auto)]
 
@@ -11,17 +11,19 @@ mod ends;
 #[cfg(test)]
 mod entry_faults;
 #[cfg(test)]
+mod events;
+#[cfg(test)]
 mod faults;
 #[cfg(test)]
 mod fused;
+#[cfg(test)]
+mod handles;
 #[cfg(test)]
 mod lists;
 #[cfg(test)]
 mod machine;
 #[cfg(test)]
 mod many;
-#[cfg(test)]
-mod moved;
 #[cfg(test)]
 mod near;
 #[cfg(test)]

@@ -47,7 +47,7 @@ fn input_of(word: &str) -> &'static [u8] {
         "plan" => PLAN.as_bytes(),
         "empty" => EMPTY.as_bytes(),
         "unbuilt" =>
-            b"{\"instances\":2,\"types\":[],\"tables\":[],\"funcs\":[{\"params\":[[\"x\",\"u32\"]],\"results\":[]}],\"core_types\":[{\"params\":[\"i32\"],\"results\":[]}],\"core_defs\":[{\"export\":[0,\"run\"]}],\"adapters\":[{\"name\":\"f0\",\"func\":0,\"lift\":{\"ty\":0,\"instance\":0,\"core_type\":0},\"lower\":{\"ty\":0,\"instance\":0,\"core_type\":0}}]}",
+            b"{\"instances\":2,\"types\":[],\"tables\":[],\"funcs\":[{\"params\":[[\"x\",\"u32\"]],\"results\":[]}],\"core_types\":[{\"params\":[\"i32\"],\"results\":[]}],\"core_defs\":[{\"export\":[0,\"run\"]}],\"adapters\":[{\"name\":\"f0\",\"func\":0,\"lift\":{\"ty\":0,\"instance\":1,\"core_type\":0,\"async\":true},\"lower\":{\"ty\":0,\"instance\":0,\"core_type\":0}}],\"tunables\":{\"concurrency\":true}}",
         "faulty" =>
             b"{\"instances\":0,\"types\":[{\"tuple\":[]}],\"tables\":[],\"funcs\":[],\"core_types\":[],\"core_defs\":[],\"adapters\":[]}",
         "object" => b"{}",

@@ -234,11 +234,12 @@ fn add_row(
     add_func(rt, alloc, builder, takes, gives.trim())
 }
 
-/// Adds the functions, and two core types.
+/// Adds the functions, and three core types.
 pub fn fill(rt: &impl Abort, alloc: Global, builder: &mut Builder) -> Result<(), PushError> {
     for row in FUNCS.trim().lines() {
         add_row(rt, alloc, builder, row)?;
     }
     add_core_type(alloc, builder, &[ValType::I32], &[])?;
-    add_core_type(alloc, builder, &[ValType::I64], &[ValType::I32])
+    add_core_type(alloc, builder, &[ValType::I64], &[ValType::I32])?;
+    add_core_type(alloc, builder, &[ValType::I32, ValType::I32], &[])
 }

@@ -106,6 +106,14 @@ fn memories_end_by_the_rules(rt: HostRuntime) -> Result<(), Fail> {
     suite_holds(&rt, rt.alloc(), UNCHECKED, &BOTH, UNCHECKED_ROWS, STEPS)
 }
 
+/// The module that these digits spell.
+fn module_of(alloc: Global, digits: &str) -> Result<WasmModule, Fail> {
+    let bytes = hex::decode(alloc, digits)?;
+    let module = decode(alloc, bytes.as_slice());
+    drop(bytes);
+    Ok(module?)
+}
+
 /// Takes the last function and the imports off a module.
 fn shorten(alloc: Global, module: &mut WasmModule) {
     let last = module.funcs.pop();
@@ -116,8 +124,7 @@ fn shorten(alloc: Global, module: &mut WasmModule) {
 #[test]
 fn missing_functions_are_stuck(rt: HostRuntime) -> Result<(), Fail> {
     let alloc = rt.alloc();
-    let bytes = hex::decode(alloc, UNCHECKED)?;
-    let mut module = decode(alloc, bytes.as_slice())?;
+    let mut module = module_of(alloc, UNCHECKED)?;
     shorten(alloc, &mut module);
     let said = rows_hold(&rt, alloc, &module, &NOTHING, UNCHECKED_SHORTENED, STEPS);
     drop(module);
@@ -150,8 +157,7 @@ fn say_log_of(rt: &impl Abort, alloc: Global, module: &WasmModule) -> Result<(),
 #[test]
 fn outside_calls_are_logged(rt: HostRuntime) -> Result<(), Fail> {
     let alloc = rt.alloc();
-    let bytes = hex::decode(alloc, CATCHES)?;
-    let module = decode(alloc, bytes.as_slice())?;
+    let module = module_of(alloc, CATCHES)?;
     let said = say_log_of(&rt, alloc, &module);
     drop(module);
     said
@@ -174,8 +180,7 @@ fn copy_holds(
 #[test]
 fn copies_end_as_what_they_are_copies_of(rt: HostRuntime) -> Result<(), Fail> {
     let alloc = rt.alloc();
-    let bytes = hex::decode(alloc, CONTROLS)?;
-    let module = decode(alloc, bytes.as_slice())?;
+    let module = module_of(alloc, CONTROLS)?;
     let said = copy_holds(&rt, alloc, &module, &COUNT, CONTROLS_ROWS);
     drop(module);
     said

@@ -106,42 +106,39 @@ fn answers_of(alloc: Global, words: &str, state: &MachineState) -> Result<Vec<An
     Ok(answers)
 }
 
-/// A value as its word.
-fn word_of(alloc: Global, value: CoreValue) -> Result<String, AllocError> {
+/// Adds a value as its word.
+fn add_word(text: &mut String, value: CoreValue) -> Result<(), AllocError> {
     match value {
-        CoreValue::I32(bits) => format!(in alloc; "i32:{bits:x}"),
-        CoreValue::I64(bits) => format!(in alloc; "i64:{bits:x}"),
-        CoreValue::F32(bits) => format!(in alloc; "f32:{bits:x}"),
-        CoreValue::F64(bits) => format!(in alloc; "f64:{bits:x}"),
-        CoreValue::Func(FuncName::Import(n)) => format!(in alloc; "import:{n:x}"),
-        CoreValue::Func(FuncName::Defined(n)) => format!(in alloc; "defined:{n:x}"),
+        CoreValue::I32(bits) => write!(text, "i32:{bits:x}"),
+        CoreValue::I64(bits) => write!(text, "i64:{bits:x}"),
+        CoreValue::F32(bits) => write!(text, "f32:{bits:x}"),
+        CoreValue::F64(bits) => write!(text, "f64:{bits:x}"),
+        CoreValue::Func(FuncName::Import(n)) => write!(text, "import:{n:x}"),
+        CoreValue::Func(FuncName::Defined(n)) => write!(text, "defined:{n:x}"),
     }
 }
 
-/// The words of results.
-fn results_text(alloc: Global, results: &[CoreValue]) -> Result<String, AllocError> {
+/// Adds the words of results, or that there are none.
+fn add_results(text: &mut String, results: &[CoreValue]) -> Result<(), AllocError> {
     if results.is_empty() {
-        return String::from_str(alloc, "nothing");
+        return text.push_str("nothing");
     }
-    let mut text = String::new(alloc);
     for (place, value) in results.iter().enumerate() {
-        if place > 0 {
-            text.push(' ')?;
-        }
-        text.push_str(word_of(alloc, *value)?.as_str())?;
+        text.push_str(if place > 0 { " " } else { "" })?;
+        add_word(text, *value)?;
     }
-    Ok(text)
+    Ok(())
 }
 
-/// An end as a row says it.
-fn end_text(alloc: Global, end: &End) -> Result<String, AllocError> {
+/// Adds an end as a row says it.
+fn add_end(text: &mut String, end: &End) -> Result<(), AllocError> {
     match end {
-        End::Returned(results) => results_text(alloc, results.as_slice()),
-        End::Trapped => String::from_str(alloc, "trapped"),
-        End::Thrown => String::from_str(alloc, "thrown"),
-        End::Lacks => String::from_str(alloc, "lacks"),
-        End::Going => String::from_str(alloc, "going"),
-        End::Stuck => String::from_str(alloc, "stuck"),
+        End::Returned(results) => add_results(text, results.as_slice()),
+        End::Trapped => text.push_str("trapped"),
+        End::Thrown => text.push_str("thrown"),
+        End::Lacks => text.push_str("lacks"),
+        End::Going => text.push_str("going"),
+        End::Stuck => text.push_str("stuck"),
     }
 }
 
@@ -174,6 +171,13 @@ fn run_with(
     Ok(outcome?)
 }
 
+/// The number of the function that a call names, its arguments and the answers.
+fn parts_of<'a>(module: &WasmModule, call: &'a str) -> Option<(u32, &'a str, &'a str)> {
+    let (name, rest) = call.split_once("(")?;
+    let (args, answers) = rest.split_once(")")?;
+    Some((number_of(module, name)?, args, answers))
+}
+
 /// Runs a call, written as `NAME(ARGUMENTS) ANSWERS`, for at most so many steps.
 pub fn run_call(
     alloc: Global,
@@ -182,17 +186,21 @@ pub fn run_call(
     call: &str,
     steps: u64,
 ) -> Result<Outcome, Fail> {
-    let (name, rest) = call.split_once("(").ok_or("no arguments")?;
-    let (args, answers) = rest.split_once(")").ok_or("no end of arguments")?;
-    let func = number_of(module, name).ok_or("no such function")?;
+    let (func, args, answers) = parts_of(module, call).ok_or("no call of a function")?;
     let args = values_of(alloc, args)?;
-    run_with(alloc, module, func, args.as_slice(), state, answers, steps)
+    let outcome = run_with(alloc, module, func, args.as_slice(), state, answers, steps);
+    drop(args);
+    outcome
 }
 
 /// Whether an end is the one in words.
 fn is_end(alloc: Global, end: &End, words: &str) -> Result<bool, AllocError> {
-    let text = end_text(alloc, end)?;
-    Ok(text.as_str() == words)
+    let mut text = String::new(alloc);
+    let added = add_end(&mut text, end);
+    let is = text.as_str() == words;
+    drop(text);
+    added?;
+    Ok(is)
 }
 
 /// Whether a row holds, which is a call, `=` and its end. The state becomes the one that the run left.
@@ -249,6 +257,22 @@ pub fn rows_hold(
     said
 }
 
+/// Runs the rows of a module, given by its bytes.
+fn bytes_hold(
+    rt: &impl Abort,
+    alloc: Global,
+    bytes: &[u8],
+    outside: &Outside,
+    rows: &str,
+    steps: u64,
+) -> Result<(), Fail> {
+    assert!(rt; verdict(alloc, bytes)? == MODULE);
+    let module = decode(alloc, bytes)?;
+    let said = rows_hold(rt, alloc, &module, outside, rows, steps);
+    drop(module);
+    said
+}
+
 /// Runs the rows of a module, given by its digits.
 pub fn suite_holds(
     rt: &impl Abort,
@@ -259,9 +283,7 @@ pub fn suite_holds(
     steps: u64,
 ) -> Result<(), Fail> {
     let bytes = hex::decode(alloc, digits)?;
-    assert!(rt; verdict(alloc, bytes.as_slice())? == MODULE);
-    let module = decode(alloc, bytes.as_slice())?;
-    let said = rows_hold(rt, alloc, &module, outside, rows, steps);
-    drop(module);
+    let said = bytes_hold(rt, alloc, bytes.as_slice(), outside, rows, steps);
+    drop(bytes);
     said
 }
