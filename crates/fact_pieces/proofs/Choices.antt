@@ -33,7 +33,7 @@ use Rattle.fact_pieces.specs.Knows.{KnowsFunction}
 use Rattle.fact_pieces.specs.Typed.{OnStack, IsTyped}
 use Rattle.fact_pieces.proofs.Rules.{within}
 use Rattle.fact_pieces.proofs.Blocks.{cases}
-use Rattle.fact_pieces.proofs.Sums.{case_within, case_past, closed_append, in_table, label_there, last_of, numbers_below, past_table, typed_sum}
+use Rattle.fact_pieces.proofs.Sums.{case_past, in_table, label_there, last_of, numbers_below, past_table, typed_sum}
 use Rattle.fact_pieces.proofs.TypedRows.{takes_plain}
 use Rattle.fact_pieces.proofs.TypedShapes.{IsClosedCode, typed_cases}
 use Rattle.fact_pieces.proofs.TypingLaws.{typed_then, typed_next, typed_one}

@@ -30,6 +30,14 @@ pub mod Rules
 pub mod Runs
 pub mod Scalars
 pub mod Slots
+pub mod StringAmounts
+pub mod StringMoves
+pub mod StringNumbers
+pub mod StringPasses
+pub mod StringPaths
+pub mod StringPoints
+pub mod StringRegions
+pub mod StringTyped
 pub mod SumMoves
 pub mod Sums
 pub mod Temporaries

@@ -6,6 +6,7 @@ use Rattle.std.proofs.lemmas.Bool.{ltb-true}
 use Rattle.std.proofs.Math.Nat.{mod-eq_of_lt}
 use Rattle.fact_wasm.specs.declared.types.ValType.{ValType}
 use Rattle.fact_wasm.specs.declared.types.ValType.TheVariants as val
+use Rattle.fact_wasm.specs.declared.instr.FuncName.TheVariants as func
 use Rattle.fact_wasm.specs.declared.instr.Instr.{Instr}
 use Rattle.fact_wasm.specs.declared.instr.Instr.TheVariants as I
 use Rattle.fact_wasm.specs.declared.module.WasmModule.{WasmModule}
@@ -39,15 +40,22 @@ use Rattle.fact_pieces.specs.Tests.{pointer}
 use Rattle.fact_machine.specs.Exits.{Falls}
 use Rattle.fact_machine.specs.Typed.{is_value, are_values}
 use Rattle.fact_machine.proofs.Tests.{first_of, second_of, both}
-use Rattle.fact_pieces.specs.Lists.{const_code, add_code, bump_code, count_code, left_code, ask_code, put_code}
+use Rattle.fact_pieces.specs.Lists.{const_code, add_code, bump_code, count_code, left_code, address_code, ask_code, put_code}
 
 -- ---- the action
 
--- a new region is asked for, with the slots of the context saved around the call
+-- what realloc is told: the old pointer, the old size, the alignment and the new size
+abbrev pub realloc_args : (memory64 : Bool) → (old size align bytes : ℕ) → List CoreValue
+realloc_args memory64 old size align bytes = address_operand memory64 old ∷ address_operand memory64 size ∷ address_operand memory64 align ∷ address_operand memory64 bytes ∷ []
+
+-- realloc is called, with the slots of the context saved around the call
+abbrev pub realloc_action : {A : Type 0} (concurrency memory64 : Bool) (realloc : CoreDef) (args : List CoreValue) → (List CoreValue → Action A) → Action A
+realloc_action concurrency memory64 realloc args k =
+    get_slots concurrency (λ a b. set_slots concurrency (I32 0 ∷ []) (I32 0 ∷ []) (Ask (import.CoreDef realloc) args (address_type memory64 ∷ []) (λ rs. set_slots concurrency a b (k rs))))
+
+-- a new region is asked for
 abbrev pub region_action : {A : Type 0} (concurrency memory64 : Bool) (realloc : CoreDef) (align bytes : ℕ) → (List CoreValue → Action A) → Action A
-region_action concurrency memory64 realloc align bytes k =
-    get_slots concurrency (λ a b. set_slots concurrency (I32 0 ∷ []) (I32 0 ∷ [])
-    (Ask (import.CoreDef realloc) (address_operand memory64 0 ∷ address_operand memory64 0 ∷ address_operand memory64 align ∷ address_operand memory64 bytes ∷ []) (address_type memory64 ∷ []) (λ rs. set_slots concurrency a b (k rs))))
+region_action concurrency memory64 realloc align bytes k = realloc_action concurrency memory64 realloc (realloc_args memory64 0 0 align bytes) k
 
 -- what a list's move does, over the places of its pointer and its length
 abbrev pub list_action : (debug concurrency w1 w2 : Bool) (o1 o2 : LiftLowerOptions) (realloc : CoreDef) (e1 a1 e2 a2 : ℕ) → (Source → Target → Action (List CoreValue)) → (pointer1 length1 : Source) (pointer2 length2 : Target) → Action (List CoreValue)
@@ -108,7 +116,7 @@ counts {M = M} {ls = ls} local k lt h t go =
 pub pushes_left : {M : WasmModule} {ls : Locals} (local k : ℕ) → slice_get ls local ≡ Some (Some (I64 k)) → PushesValue M 2 ls (left_code local) (I32 (ieqz k))
 pushes_left local k h = record { by = λ w vs. leaves_next (leaves_local_get h) leaves_i64_eqz }
 
-one_value : (memory64 : Bool) (v : CoreValue) → is_value v (address_type memory64) ≡ true → has_type v (address_type memory64) ≡ true → (v ≡ address_operand memory64 (bits_of v)) × (bits_of v < limit_of (pointer memory64))
+pub one_value : (memory64 : Bool) (v : CoreValue) → is_value v (address_type memory64) ≡ true → has_type v (address_type memory64) ≡ true → (v ≡ address_operand memory64 (bits_of v)) × (bits_of v < limit_of (pointer memory64))
 one_value true (I64 n) h t = (refl, ltb-true n (2 ^ 64) h)
 one_value false (I32 n) h t = (refl, ltb-true n (2 ^ 32) h)
 one_value _ _ h t = cc
@@ -122,40 +130,59 @@ answer_is memory64 (v ∷ []) h =
     (ap (λ u. u ∷ []) one.0, one.1)
 answer_is memory64 (v ∷ u ∷ rs) h = let no : false ≡ true = second_of (is_value v (address_type memory64)) false h in cc
 
+-- Realloc is called: code pushes the old pointer and the old size, and a local holds the new size.
+pub asks_realloc : {M : WasmModule} {p : ImportPlaces} {ls : Locals} {a b : List Instr} {s t : ℕ} (memory64 : Bool) (realloc : CoreDef) (place old size align local bytes : ℕ) → bytes < limit_of (pointer memory64) → slice_get ls local ≡ Some (Some (I64 bytes))
+    → PushesValue M s ls a (address_operand memory64 old) → PushesValue M t ls b (address_operand memory64 size)
+    → KnowsFunction M p (import.CoreDef realloc) place (address_type memory64 ∷ address_type memory64 ∷ address_type memory64 ∷ address_type memory64 ∷ []) (address_type memory64 ∷ [])
+    → Does M p Onward (s + (t + 4)) 0 [] ls (a ++ (b ++ (const_code memory64 align ∷ (address_code memory64 local ++ I.Call (func.Import place) ∷ [])))) (Ask (import.CoreDef realloc) (realloc_args memory64 old size align bytes) (address_type memory64 ∷ []) (λ rs. Give rs))
+    reverse (λ rs l. (are_values rs (address_type memory64 ∷ []) ≡ true) × (l ≡ ls))
+asks_realloc memory64 realloc place old size align local bytes small hb pushed pushed' h =
+    let types = both (address_typed memory64 old) (both (address_typed memory64 size) (both (address_typed memory64 align) (both (address_typed memory64 bytes) refl))) in
+    pushing pushed (pushing pushed' (within (omega arith) (pushing (pushes_const memory64 align) (gets_address memory64 local bytes small hb
+    (ask (realloc_args memory64 old size align bytes) h types (λ rs v. done (sym (append-nil (reverse rs))) (v, refl)))))))
+
 asks_region : {M : WasmModule} {p : ImportPlaces} {ls : Locals} (memory64 : Bool) (realloc : CoreDef) (place align local bytes : ℕ) → bytes < limit_of (pointer memory64) → slice_get ls local ≡ Some (Some (I64 bytes))
     → KnowsFunction M p (import.CoreDef realloc) place (address_type memory64 ∷ address_type memory64 ∷ address_type memory64 ∷ address_type memory64 ∷ []) (address_type memory64 ∷ [])
     → Does M p Onward 6 0 [] ls (ask_code memory64 align local place) (Ask (import.CoreDef realloc) (address_operand memory64 0 ∷ address_operand memory64 0 ∷ address_operand memory64 align ∷ address_operand memory64 bytes ∷ []) (address_type memory64 ∷ []) (λ rs. Give rs))
     reverse (λ rs l. (are_values rs (address_type memory64 ∷ []) ≡ true) × (l ≡ ls))
-asks_region memory64 realloc place align local bytes small hb h =
-    let types = both (address_typed memory64 0) (both (address_typed memory64 0) (both (address_typed memory64 align) (both (address_typed memory64 bytes) refl))) in
-    within (omega arith) (pushing (pushes_const memory64 0) (pushing (pushes_const memory64 0) (pushing (pushes_const memory64 align) (gets_address memory64 local bytes small hb
-    (ask (address_operand memory64 0 ∷ address_operand memory64 0 ∷ address_operand memory64 align ∷ address_operand memory64 bytes ∷ []) h types (λ rs v. done (sym (append-nil (reverse rs))) (v, refl)))))))
+asks_region memory64 realloc place align local bytes small hb h = asks_realloc memory64 realloc place 0 0 align local bytes small hb (pushes_const memory64 0) (pushes_const memory64 0) h
 
-slots_then : {A : Type 0} (concurrency memory64 : Bool) (realloc : CoreDef) (align bytes : ℕ) (k : List CoreValue → Action A)
-    → (in_slots concurrency (Ask (import.CoreDef realloc) (address_operand memory64 0 ∷ address_operand memory64 0 ∷ address_operand memory64 align ∷ address_operand memory64 bytes ∷ []) (address_type memory64 ∷ []) (λ rs. Give rs)) >>= k) ≡ region_action concurrency memory64 realloc align bytes k
-slots_then false memory64 realloc align bytes k = refl
-slots_then true memory64 realloc align bytes k = refl
+slots_then : {A : Type 0} (concurrency memory64 : Bool) (realloc : CoreDef) (args : List CoreValue) (k : List CoreValue → Action A)
+    → (in_slots concurrency (Ask (import.CoreDef realloc) args (address_type memory64 ∷ []) (λ rs. Give rs)) >>= k) ≡ realloc_action concurrency memory64 realloc args k
+slots_then false memory64 realloc args k = refl
+slots_then true memory64 realloc args k = refl
 
--- a region is asked for: the answer is an address, which a temporary keeps
+-- realloc is called: the answer is an address, which a temporary keeps
 module _ {locals : List ValType} {used : ℕ → Bool} {count : ℕ} {temp : ℕ → ℕ} {type : ℕ → ValType} (t : Temporaries locals used count temp type) {first ls : Locals} (e : held_types first ≡ locals) {fs : Facts} (s : Standing used count temp first ls fs)
     (concurrency : Bool) (slots : ContextSlots) {A : Type 0} {M : WasmModule} {p : ImportPlaces} {way : Way} {extra spare : ℕ} {c : List Instr} {out : A → List CoreValue} {Holds : A → Locals → Type 0} where
+  -- by any code that calls it, whatever the locals of the slots hold
+  pub calls_realloc : {k : List CoreValue → Action A} {code : List Instr} {n : ℕ} → HasSlotsIf concurrency M p slots → slots.saved0 ≢ slots.saved1 → slice_get locals slots.saved0 ≡ Some val.I32 → slice_get locals slots.saved1 ≡ Some val.I32
+      → ((i : ℕ) → used i ≡ true → others slots i ≡ true) → AllByRecursion (λ f. others slots (temp f.0) ≡ true) fs
+      → (memory64 : Bool) (realloc : CoreDef) (args : List CoreValue) (j : ℕ) → j < count → type j ≡ val.I64
+      → ((ls' : Locals) → KeepsLocals (others slots) ls ls' → Does M p Onward n 0 [] ls' code (Ask (import.CoreDef realloc) args (address_type memory64 ∷ []) (λ rs. Give rs)) reverse (λ rs l. (are_values rs (address_type memory64 ∷ []) ≡ true) × (l ≡ ls')))
+      → ((rs : List CoreValue) → first_bits rs < limit_of (pointer memory64) → (ls' : Locals) → Standing used count temp first ls' ((j, I64 (first_bits rs)) ∷ without j fs) → Does M p way extra spare [] ls' c (k rs) out Holds)
+      → Does M p way (14 + n + extra) spare [] ls (((save_code concurrency slots ++ (code ++ restore_code concurrency slots)) ++ (widen (pointer memory64) val.I64 ++ I.LocalSet (temp j) ∷ [])) ++ c) (realloc_action concurrency memory64 realloc args k) out Holds
+  calls_realloc {k} {code} {n} has apart t0 t1 outside free memory64 realloc args j lt wide called go =
+      let keep = widen (pointer memory64) val.I64 ++ I.LocalSet (temp j) ∷ [] in
+      let around = save_code concurrency slots ++ (code ++ restore_code concurrency slots) in
+      let types : held_types ls ≡ locals = s.keeps.types ∙ e in
+      let asked = slots_do concurrency slots has apart (ap (λ l. slice_get l slots.saved0) types ∙ t0) (ap (λ l. slice_get l slots.saved1) types ∙ t1) called in
+      let all = in_turn asked (λ rs ls' r.
+      let a = answer_is memory64 rs r.0 in
+      let stack : stacked (pointer memory64) (first_bits rs) ∷ [] ≡ reverse rs = ap (λ u. u ∷ []) (address_is memory64 (first_bits rs)) ∙ ap reverse (sym a.0) in
+      subst (λ us. Does M p way (2 + extra) spare us ls' (keep ++ c) (k rs) out Holds) stack (keep_number t e (standing_kept s r.1 outside free) memory64 j (first_bits rs) lt wide (λ l st. go rs a.1 l st))) in
+      subst (λ r. Does M p way (14 + n + extra) spare [] ls r (realloc_action concurrency memory64 realloc args k) out Holds) (sym (append_assoc around keep c))
+      (subst (λ q. Does M p way (14 + n + extra) spare [] ls (around ++ (keep ++ c)) q out Holds) (slots_then concurrency memory64 realloc args k) (within (omega arith) all))
+
+  -- a new region is asked for
   pub reallocates : {k : List CoreValue → Action A} → HasSlotsIf concurrency M p slots → slots.saved0 ≢ slots.saved1 → slice_get locals slots.saved0 ≡ Some val.I32 → slice_get locals slots.saved1 ≡ Some val.I32
       → ((i : ℕ) → used i ≡ true → others slots i ≡ true) → AllByRecursion (λ f. others slots (temp f.0) ≡ true) fs
       → (memory64 : Bool) (realloc : CoreDef) (place align b j bytes : ℕ) → j < count → type j ≡ val.I64 → bytes < limit_of (pointer memory64) → slice_get ls (temp b) ≡ Some (Some (I64 bytes)) → others slots (temp b) ≡ true
       → KnowsFunction M p (import.CoreDef realloc) place (address_type memory64 ∷ address_type memory64 ∷ address_type memory64 ∷ address_type memory64 ∷ []) (address_type memory64 ∷ [])
       → ((rs : List CoreValue) → first_bits rs < limit_of (pointer memory64) → (ls' : Locals) → Standing used count temp first ls' ((j, I64 (first_bits rs)) ∷ without j fs) → Does M p way extra spare [] ls' c (k rs) out Holds)
       → Does M p way (20 + extra) spare [] ls (realloc_code concurrency slots memory64 align (temp b) (temp j) place ++ c) (region_action concurrency memory64 realloc align bytes k) out Holds
-  reallocates {k} has apart t0 t1 outside free memory64 realloc place align b j bytes lt wide small hb hb' h go =
-      let keep = widen (pointer memory64) val.I64 ++ I.LocalSet (temp j) ∷ [] in
-      let code = save_code concurrency slots ++ (ask_code memory64 align (temp b) place ++ restore_code concurrency slots) in
-      let types : held_types ls ≡ locals = s.keeps.types ∙ e in
-      let asked = slots_do concurrency slots has apart (ap (λ l. slice_get l slots.saved0) types ∙ t0) (ap (λ l. slice_get l slots.saved1) types ∙ t1) (λ ls' k'. asks_region memory64 realloc place align (temp b) bytes small (k'.same (temp b) hb' ∙ hb) h) in
-      let all = in_turn asked (λ rs ls' r.
-      let a = answer_is memory64 rs r.0 in
-      let stack : stacked (pointer memory64) (first_bits rs) ∷ [] ≡ reverse rs = ap (λ u. u ∷ []) (address_is memory64 (first_bits rs)) ∙ ap reverse (sym a.0) in
-      subst (λ us. Does M p way (2 + extra) spare us ls' (keep ++ c) (k rs) out Holds) stack (keep_number t e (standing_kept s r.1 outside free) memory64 j (first_bits rs) lt wide (λ l st. go rs a.1 l st))) in
-      subst (λ r. Does M p way (20 + extra) spare [] ls r (region_action concurrency memory64 realloc align bytes k) out Holds) (sym (append_assoc code keep c))
-      (subst (λ q. Does M p way (20 + extra) spare [] ls (code ++ (keep ++ c)) q out Holds) (slots_then concurrency memory64 realloc align bytes k) (within (omega arith) all))
+  reallocates has apart t0 t1 outside free memory64 realloc place align b j bytes lt wide small hb hb' h go =
+      calls_realloc has apart t0 t1 outside free memory64 realloc (realloc_args memory64 0 0 align bytes) j lt wide (λ ls' k'. asks_region memory64 realloc place align (temp b) bytes small (k'.same (temp b) hb' ∙ hb) h) go
 
 -- the same without slots of the context
 module _ {locals : List ValType} {used : ℕ → Bool} {count : ℕ} {temp : ℕ → ℕ} {type : ℕ → ValType} (t : Temporaries locals used count temp type) {first ls : Locals} (e : held_types first ≡ locals) {fs : Facts} (s : Standing used count temp first ls fs)

@@ -102,19 +102,19 @@ elements_code S l =
     address_code S.from64 (l.temp 0) ++ (I.LocalSet (l.temp 6) ∷ (address_code S.to64 (l.temp 3) ++ (I.LocalSet (l.temp 7) ∷ I.LocalGet (l.temp 1) ∷ I.LocalSet (l.temp 5)
     ∷ (counted_code (left_code (l.temp 5)) (turn_body S.from64 S.to64 l.size1 l.size2 l.temp l.code) ++ pair_code S l))))
 
-abbrev pub target_code : Setting → ListMove → Option ℕ → List Instr
-target_code S l log2 =
+abbrev pub list_target_code : Setting → ListMove → Option ℕ → List Instr
+list_target_code S l log2 =
     bytes_code (l.temp 1) l.size2 ++ (I.LocalSet (l.temp 2) ∷ (realloc_code S.concurrency (slots_of l) S.to64 l.align2 (l.temp 2) (l.temp 3) l.realloc_at
     ++ (region_code l.memory2 S.to64 log2 l.align2 (l.temp 3) (l.temp 2) (l.temp 4) l.unaligned l.outside ++ elements_code S l)))
 
-abbrev pub source_code : Setting → ListMove → Option ℕ → Option ℕ → List Instr
-source_code S l log1 log2 =
-    bytes_code (l.temp 1) l.size1 ++ (I.LocalSet (l.temp 2) ∷ (region_code l.memory1 S.from64 log1 l.align1 (l.temp 0) (l.temp 2) (l.temp 4) l.unaligned l.outside ++ target_code S l log2))
+abbrev pub list_source_code : Setting → ListMove → Option ℕ → Option ℕ → List Instr
+list_source_code S l log1 log2 =
+    bytes_code (l.temp 1) l.size1 ++ (I.LocalSet (l.temp 2) ∷ (region_code l.memory1 S.from64 log1 l.align1 (l.temp 0) (l.temp 2) (l.temp 4) l.unaligned l.outside ++ list_target_code S l log2))
 
 abbrev pub list_code : Setting → ListMove → Option ℕ → Option ℕ → List Instr
 list_code S l log1 log2 =
     read_into S.checks S.from64 l.pointer1 (l.temp 0) ++ (read_into S.checks S.from64 l.length1 (l.temp 1)
-    ++ (few_guard (is_few S.from64 l.size1) (l.temp 1) l.size1 l.outside ++ (few_guard (is_few S.to64 l.size2) (l.temp 1) l.size2 l.outside ++ source_code S l log1 log2)))
+    ++ (few_guard (is_few S.from64 l.size1) (l.temp 1) l.size1 l.outside ++ (few_guard (is_few S.to64 l.size2) (l.temp 1) l.size2 l.outside ++ list_source_code S l log1 log2)))
 
 -- ---- what it does
 
@@ -133,7 +133,7 @@ below_product n (suc s) b h lt = omega arith
 pub less_used : {used more : ℕ → Bool} {ls ls' : Locals} → ((i : ℕ) → used i ≡ true → more i ≡ true) → KeepsLocals more ls ls' → KeepsLocals used ls ls'
 less_used h k = record { same = λ i u. k.same i (h i u); types = k.types }
 
-apart : {locals : List ValType} {used : ℕ → Bool} {temp : ℕ → ℕ} {type : ℕ → ValType} → Temporaries locals used 10 temp type → (i j : ℕ) → (nat_lt i 10 && nat_lt j 10) ≡ true → nat_eq i j ≡ false → temp i ≢ temp j
+pub apart : {locals : List ValType} {used : ℕ → Bool} {temp : ℕ → ℕ} {type : ℕ → ValType} → Temporaries locals used 10 temp type → (i j : ℕ) → (nat_lt i 10 && nat_lt j 10) ≡ true → nat_eq i j ≡ false → temp i ≢ temp j
 apart t i j h ne same =
     eqb-false i j ne (t.distinct i j (ltb-true i 10 (first_of (nat_lt i 10) (nat_lt j 10) h)) (ltb-true j 10 (second_of (nat_lt i 10) (nat_lt j 10) h)) same)
 
@@ -141,14 +141,21 @@ apart t i j h ne same =
 other_than : (s : ContextSlots) (i : ℕ) → i ≢ s.saved0 → i ≢ s.saved1 → others s i ≡ true
 other_than s i h h' = ap (λ b. if b then false else (if nat_eq i s.saved1 then false else true)) (ne_eqb i s.saved0 h) ∙ ap (λ b. if b then false else true) (ne_eqb i s.saved1 h')
 
+module _ {locals : List ValType} {used : ℕ → Bool} {temp : ℕ → ℕ} {type : ℕ → ValType} (t : Temporaries locals used 10 temp type) (s : ContextSlots) (is0 : s.saved0 ≡ temp 8) (is1 : s.saved1 ≡ temp 9) where
+  pub slots_apart : (j : ℕ) → nat_lt j 8 ≡ true → others s (temp j) ≡ true
+  slots_apart j lt =
+      let less : j < 8 = ltb-true j 8 lt in
+      other_than s (temp j) (λ same. let e : j ≡ 8 = t.distinct j 8 (omega arith) (omega arith) (same ∙ is0) in absurd (omega arith)) (λ same. let e : j ≡ 9 = t.distinct j 9 (omega arith) (omega arith) (same ∙ is1) in absurd (omega arith))
+
+  pub slots_unused : (i : ℕ) → used i ≡ true → others s i ≡ true
+  slots_unused i u =
+      other_than s i (λ same. let no : false ≡ true = sym (t.free 8 (omega arith)) ∙ ap used (sym (same ∙ is0)) ∙ u in cc) (λ same. let no : false ≡ true = sym (t.free 9 (omega arith)) ∙ ap used (sym (same ∙ is1)) ∙ u in cc)
+
 saved_apart : {S : Setting} {used inner used1 used2 : ℕ → Bool} {l : ListMove} → IsListMove S used inner used1 used2 l → (j : ℕ) → nat_lt j 8 ≡ true → others (slots_of l) (l.temp j) ≡ true
-saved_apart {l = l} h j lt =
-    let less : j < 8 = ltb-true j 8 lt in
-    other_than (slots_of l) (l.temp j) (λ same. let e : j ≡ 8 = h.temps.distinct j 8 (omega arith) (omega arith) same in absurd (omega arith)) (λ same. let e : j ≡ 9 = h.temps.distinct j 9 (omega arith) (omega arith) same in absurd (omega arith))
+saved_apart {l = l} h j lt = slots_apart h.temps (slots_of l) refl refl j lt
 
 unsaved : {S : Setting} {used inner used1 used2 : ℕ → Bool} {l : ListMove} → IsListMove S used inner used1 used2 l → (i : ℕ) → used i ≡ true → others (slots_of l) i ≡ true
-unsaved {used = used} {l = l} h i u =
-    other_than (slots_of l) i (λ same. let no : false ≡ true = sym (h.temps.free 8 (omega arith)) ∙ ap used (sym same) ∙ u in cc) (λ same. let no : false ≡ true = sym (h.temps.free 9 (omega arith)) ∙ ap used (sym same) ∙ u in cc)
+unsaved {l = l} h i u = slots_unused h.temps (slots_of l) refl refl i u
 
 module _ {S : Setting} {used inner used1 used2 : ℕ → Bool} {l : ListMove} (h : IsListMove S used inner used1 used2 l) (first : Locals) (e : held_types first ≡ S.locals) where
   -- what holds behind a list: its two numbers stand in their places, and the locals in use are as they were

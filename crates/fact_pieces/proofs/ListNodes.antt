@@ -100,19 +100,19 @@ pub record ListPlaces : Type 0 where
   pub set0 : ℕ
   pub set1 : ℕ
 
-used_more : (used : ℕ → Bool) (other : ℕ) (to : PairTo) → ToUsed used (all_to to) → ToUsed (with_local used other) (first_to to)
+pub used_more : (used : ℕ → Bool) (other : ℕ) (to : PairTo) → ToUsed used (all_to to) → ToUsed (with_local used other) (first_to to)
 used_more used other (PairToLocals a b) u = tt
 used_more used other (PairToMemory memory base offset) u = local_more used other base u
 
-used_behind : (used : ℕ → Bool) (bytes : ℕ) (to : PairTo) → ToUsed used (all_to to) → ToUsed (behind_first used to) (second_to bytes to)
+pub used_behind : (used : ℕ → Bool) (bytes : ℕ) (to : PairTo) → ToUsed used (all_to to) → ToUsed (behind_first used to) (second_to bytes to)
 used_behind used bytes (PairToLocals a b) u = tt
 used_behind used bytes (PairToMemory memory base offset) u = u
 
-behind_more : (used : ℕ → Bool) (to : PairTo) (i : ℕ) → used i ≡ true → behind_first used to i ≡ true
+pub behind_more : (used : ℕ → Bool) (to : PairTo) (i : ℕ) → used i ≡ true → behind_first used to i ≡ true
 behind_more used (PairToLocals a b) i u = local_more used a.0 i u
 behind_more used (PairToMemory memory base offset) i u = u
 
-wide_is : {M : WasmModule} {p : ImportPlaces} {o : LiftLowerOptions} {memory64 : Bool} {memory : ℕ} → SideMemory M p o memory64 memory → is_wide o.memory ≡ memory64
+pub wide_is : {M : WasmModule} {p : ImportPlaces} {o : LiftLowerOptions} {memory64 : Bool} {memory : ℕ} → SideMemory M p o memory64 memory → is_wide o.memory ≡ memory64
 wide_is h = ap is_wide h.is ∙ h.wide
 
 module _ (S : Setting) (used : ℕ → Bool) (b : ListPlaces) (ms ns : Members) (code : List Instr) (element : Source → Target → Action (List CoreValue)) where

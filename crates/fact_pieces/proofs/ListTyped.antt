@@ -7,7 +7,7 @@ use Rattle.fact_wasm.specs.declared.instr.Instr.TheVariants as I
 use Rattle.fact_wasm.specs.declared.instr.Instr.TheOpen as o
 use Rattle.fact_wasm.specs.declared.module.WasmModule.{WasmModule}
 use Rattle.fact_types.specs.declared.outside.CoreDef.{CoreDef}
-use Rattle.fact_types.specs.declared.outside.Trap.TheVariants.{ListOutOfBounds}
+use Rattle.fact_types.specs.declared.outside.Trap.{Trap}
 use Rattle.fact_types.specs.declared.import.Import.TheVariants as import
 use Rattle.fact_moves.specs.Running.{ImportPlaces}
 use Rattle.fact_moves.specs.Sides.{LiftLowerOptions}
@@ -73,11 +73,11 @@ module _ {M : WasmModule} {locals : List ValType} {labels : List (List ValType)}
       typed_next (takes_const memory64 0) (typed_next (takes_const memory64 0) (typed_next (takes_const memory64 align) (typed_then (typed_as_address memory64 bytes hb) (typed_one (takes_import ins h)))))
 
 module _ (S : Setting) {labels : List (List ValType)} {ins : List ValType} where
-  typed_read_into : (p : ImportPlaces) (side : LiftLowerOptions) (memory64 : Bool) (from : From) (i : ℕ) → Readable S.whole p S.checks side memory64 (pointer memory64) from → FromTyped S.locals memory64 from → slice_get S.locals i ≡ Some val.I64 → IsTyped S.whole S.locals labels (read_into S.checks memory64 from i) ins (OnStack ins)
+  pub typed_read_into : (p : ImportPlaces) (side : LiftLowerOptions) (memory64 : Bool) (from : From) (i : ℕ) → Readable S.whole p S.checks side memory64 (pointer memory64) from → FromTyped S.locals memory64 from → slice_get S.locals i ≡ Some val.I64 → IsTyped S.whole S.locals labels (read_into S.checks memory64 from i) ins (OnStack ins)
   typed_read_into p side memory64 from i h t local = typed_then (typed_read p S.checks side memory64 (pointer memory64) from h t) (typed_keep memory64 i local)
 
-  typed_region : (p : ImportPlaces) (side : LiftLowerOptions) (memory64 : Bool) (memory align : ℕ) (d : SideMemory S.whole p side memory64 memory) (pointer bytes length unaligned outside : ℕ) → slice_get S.locals pointer ≡ Some val.I64 → slice_get S.locals bytes ≡ Some val.I64
-      → slice_get S.locals length ≡ Some val.I64 → HasUnaligned (nat_eq align 1) S.whole p unaligned → KnowsFunction S.whole p (import.Trap ListOutOfBounds) outside [] []
+  pub typed_region : {t : Trap} (p : ImportPlaces) (side : LiftLowerOptions) (memory64 : Bool) (memory align : ℕ) (d : SideMemory S.whole p side memory64 memory) (pointer bytes length unaligned outside : ℕ) → slice_get S.locals pointer ≡ Some val.I64 → slice_get S.locals bytes ≡ Some val.I64
+      → slice_get S.locals length ≡ Some val.I64 → HasUnaligned (nat_eq align 1) S.whole p unaligned → KnowsFunction S.whole p (import.Trap t) outside [] []
       → IsTyped S.whole S.locals labels (region_code memory memory64 d.log2 align pointer bytes length unaligned outside) ins (OnStack ins)
   typed_region p side memory64 memory align d pointer bytes length unaligned outside hp hb hl h1 h2 =
       takes_aligned p (nat_eq align 1) pointer align unaligned h1 hp (typed_then (typed_length memory64 d.has) (typed_next (takes_local_set hl) (takes_guard {c = []} h2 (typed_bounds pointer bytes length hp hb hl) typed_done)))
@@ -89,7 +89,7 @@ module _ (S : Setting) {labels : List (List ValType)} {ins : List ValType} where
   typed_realloc p concurrency slots memory64 align bytes address place realloc hs t0 t1 hb ha h =
       typed_then (typed_slots p concurrency slots hs t0 t1 (typed_ask p memory64 align bytes place realloc hb h)) (typed_keep_address memory64 address ha)
 
-typed_put : (S : Setting) {labels : List (List ValType)} {ins : List ValType} (p : ImportPlaces) (side : LiftLowerOptions) (memory64 : Bool) (local : ℕ) (to : To) → Writable S.whole p side memory64 (pointer memory64) to → ToTyped S.locals memory64 to → slice_get S.locals local ≡ Some val.I64
+pub typed_put : (S : Setting) {labels : List (List ValType)} {ins : List ValType} (p : ImportPlaces) (side : LiftLowerOptions) (memory64 : Bool) (local : ℕ) (to : To) → Writable S.whole p side memory64 (pointer memory64) to → ToTyped S.locals memory64 to → slice_get S.locals local ≡ Some val.I64
     → IsTyped S.whole S.locals labels (put_code memory64 local to) ins (OnStack ins)
 typed_put S p side memory64 local to h t l = typed_then (typed_before memory64 to t) (typed_then (typed_address memory64 local l) (typed_behind p side memory64 (pointer memory64) to h t))
 

@@ -9,12 +9,10 @@ use Rattle.fact_wasm.specs.declared.instr.Instr.{Instr}
 use Rattle.fact_wasm.specs.declared.instr.Instr.TheVariants as I
 use Rattle.fact_wasm.specs.declared.instr.Instr.TheOpen as o
 use Rattle.fact_wasm.specs.declared.module.WasmModule.{WasmModule}
-use Rattle.fact_types.specs.declared.outside.UnsafeIntrinsic.TheVariants as slot
 use Rattle.fact_machine.specs.declared.types.CoreValue.{CoreValue}
 use Rattle.fact_machine.specs.declared.types.CoreValue.TheVariants.{I32}
 use Rattle.fact_machine.specs.Machine.{have_types}
 use Rattle.fact_machine.proofs.RowLaws.{leaves_i32_const}
-use Rattle.fact_types.specs.declared.import.Import.TheVariants as import
 use Rattle.fact_types.specs.declared.import.Import.{Import}
 use Rattle.fact_moves.specs.Actions.{Action, Give, Ask, ◌>>=◌}
 use Rattle.fact_moves.specs.Running.{ImportPlaces}
@@ -51,7 +49,7 @@ one_i32 [] h = cc
 one_i32 (v ∷ u ∷ rs) h = let no : false ≡ true = second_of (is_value v val.I32) false h in cc
 one_i32 (v ∷ []) h = let no = value_type v val.I32 (first_of (is_value v val.I32) true h) in cc
 
-no_values : (rs : List CoreValue) → are_values rs [] ≡ true → rs ≡ []
+pub no_values : (rs : List CoreValue) → are_values rs [] ≡ true → rs ≡ []
 no_values [] h = refl
 no_values (v ∷ rs) h = cc
 
@@ -99,14 +97,14 @@ slots_do {M} {p} {ls} {extra} {spare} {code} {q} {ts} true s h apart t0 t1 inner
 
 -- ---- its types
 
-typed_save : {M : WasmModule} {locals : List ValType} {labels : List (List ValType)} (p : ImportPlaces) (concurrency : Bool) (s : ContextSlots) → HasSlotsIf concurrency M p s → slice_get locals s.saved0 ≡ Some val.I32 → slice_get locals s.saved1 ≡ Some val.I32
+pub typed_save : {M : WasmModule} {locals : List ValType} {labels : List (List ValType)} (p : ImportPlaces) (concurrency : Bool) (s : ContextSlots) → HasSlotsIf concurrency M p s → slice_get locals s.saved0 ≡ Some val.I32 → slice_get locals s.saved1 ≡ Some val.I32
     → {ins : List ValType} → IsTyped M locals labels (save_code concurrency s) ins (OnStack ins)
 typed_save p false s h t0 t1 = typed_done
 typed_save p true s h t0 t1 {ins} =
     typed_next (takes_import ins h.reads.gets0) (typed_next (takes_local_set t0) (typed_next (takes_import ins h.reads.gets1) (typed_next (takes_local_set t1)
     (typed_next (takes_plain (o.I32Const 0) (I.outs-I32Const 0) refl) (typed_next (takes_import ins h.writes.sets0) (typed_next (takes_plain (o.I32Const 0) (I.outs-I32Const 0) refl) (typed_one (takes_import ins h.writes.sets1))))))))
 
-typed_restore : {M : WasmModule} {locals : List ValType} {labels : List (List ValType)} (p : ImportPlaces) (concurrency : Bool) (s : ContextSlots) → HasSlotsIf concurrency M p s → slice_get locals s.saved0 ≡ Some val.I32 → slice_get locals s.saved1 ≡ Some val.I32
+pub typed_restore : {M : WasmModule} {locals : List ValType} {labels : List (List ValType)} (p : ImportPlaces) (concurrency : Bool) (s : ContextSlots) → HasSlotsIf concurrency M p s → slice_get locals s.saved0 ≡ Some val.I32 → slice_get locals s.saved1 ≡ Some val.I32
     → {ins : List ValType} → IsTyped M locals labels (restore_code concurrency s) ins (OnStack ins)
 typed_restore p false s h t0 t1 = typed_done
 typed_restore p true s h t0 t1 {ins} =

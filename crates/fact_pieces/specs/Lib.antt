@@ -10,5 +10,7 @@ pub mod PieceLaws
 pub mod Places
 pub mod Rows
 pub mod Runs
+pub mod StringCode
+pub mod StringNeeds
 pub mod Tests
 pub mod Typed
