@@ -25,6 +25,7 @@ mod Limited
 mod PartAsks
 mod Means
 mod Passes
+mod PastLimits
 mod RangeLaw
 mod Ranging
 mod Reading
@@ -39,6 +40,7 @@ pub mod Thrown
 mod Trails
 mod Trapped
 mod Transfers
+mod Trapping
 mod Unread
 mod WalkAsks
 mod Walked

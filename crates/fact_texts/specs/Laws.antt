@@ -1,29 +1,40 @@
 -- Laws of texts in adapters: where transcoders alone answer honestly, in honest runs, and in those that are honest until a trap.
-use Rattle.std.specs.Prelude.{◌≡◌, ◌≢◌, ℕ, true, false, List, [], ◌∷◌, Some}
+use Rattle.std.specs.Prelude.{◌≡◌, ◌≢◌, ℕ, ◌/◌, ◌<◌, true, false, List, [], ◌∷◌, Some}
 use Rattle.fact_types.specs.Adapters.{LinkedAdapter}
 use Rattle.fact_machine.specs.declared.types.CoreValue.{CoreValue}
 use Rattle.fact_types.specs.declared.import.Import.TheVariants as import
 use Rattle.fact_types.specs.declared.outside.CoreDef.{CoreDef}
+use Rattle.fact_types.specs.declared.outside.StringEncoding.{StringEncoding}
+use Rattle.fact_types.specs.declared.outside.Trap.TheVariants.{StringOutOfBounds}
 use Rattle.fact_machine.specs.declared.types.Answer.TheVariants.{Traps}
 use Rattle.fact_machine.specs.declared.types.CoreValue.TheVariants.{I32}
 use Rattle.fact_machine.specs.declared.types.MachineState.{MachineState}
 use Rattle.fact_machine.specs.Trace.{Grows}
 use Rattle.fact_machine.specs.World.{World, Stop}
+use Rattle.fact_abi.specs.Limits.{most_units}
+use Rattle.fact_abi.specs.Places.{Pair}
+use Rattle.fact_abi.specs.Texts.{AreSpelled, form_of, units_of_text}
+use Rattle.fact_moves.specs.Actions.{trap}
 use Rattle.fact_moves.specs.Adapters.{AdapterTunables, params_transfer, results_transfer, move_params, move_results, async_start, async_return}
 use Rattle.fact_moves.specs.Calls.{HasOwnCallee}
 use Rattle.fact_moves.specs.Confined.{HaveHonestTranscoders, AreRangedSync, AreRangedStart, AreRangedReturn}
 use Rattle.fact_moves.specs.Honest.{AreHonest, IsStraight, IsHonestRun}
 use Rattle.fact_moves.specs.Order.{flag_in}
+use Rattle.fact_moves.specs.Paths.{TextForm, path}
 use Rattle.fact_moves.specs.Plain.{ended_sync}
-use Rattle.fact_moves.specs.Regions.{Position, Landing, params_landing, results_landing}
+use Rattle.fact_moves.specs.Regions.{Region, Position, Landing, params_landing, results_landing}
 use Rattle.fact_moves.specs.Requests.{request_of, parts_requests, is_transcode, answers_in}
 use Rattle.fact_moves.specs.Running.{ImportPlaces, Call, Ended, Halted, calls_in, is_state, moved_weight, run}
-use Rattle.fact_moves.specs.Sides.{options_of}
+use Rattle.fact_moves.specs.Sides.{Source, Target, Transfer, options_of}
+use Rattle.fact_moves.specs.Strings.{PathPoint, form_in, most_string_bytes, move_string, walk}
 use Rattle.fact_carry.specs.Faithful.{IsFaithful, WhereGiven, IsInLimits, ComesToEnd, whole_weight}
 use Rattle.fact_carry.specs.FaithfulLaws.{IsCheckedAdapter, HasSyncSides, TextsMove}
+use Rattle.fact_carry.specs.Law.{HasPointers}
 use Rattle.fact_carry.specs.Lawful.{Texts}
-use Rattle.fact_carry.specs.Places.{IsGrounded, HasKnownMemory}
+use Rattle.fact_carry.specs.Places.{HoldsMemories, IsGrounded, HasKnownMemory, IsSource}
 use Rattle.fact_carry.specs.Regions.{TransferSetting}
+use Rattle.fact_texts.specs.Parts.{pair_of_source}
+use Rattle.fact_texts.specs.PastLimits.{first_factor, greatest_factor, OutgrowsFirst, IsPastLimit, EndsAtTrap}
 use Rattle.fact_texts.specs.Premises.{KnowsMemories, HasMeans}
 use Rattle.fact_texts.specs.Requested.{AsksFor, params_parts, results_parts, AreRequested}
 use Rattle.fact_texts.specs.Trapped.{LastTraps, answers_so_far, IsHonestUntilTrap, IsHonestStartUntilTrap, IsHonestReturnUntilTrap}
@@ -95,6 +106,32 @@ AdaptersComeToEnd =
     → u.debug ≡ false → IsCheckedAdapter p a → HasSyncSides a → IsHonestRun p a args w.state (ended_sync p u a args w)
     → IsInLimits p a args w.state (calls_in (ended_sync p u a args w))
     → ComesToEnd p a args w.state (ended_sync p u a args w)
+
+-- ---- limits
+
+-- The most code units of a text within limits are those that the greatest factor of its path lets pass.
+abbrev pub LimitsAreThoseOfPaths : Type 0
+LimitsAreThoseOfPaths = (from to : StringEncoding) (count : ℕ) → most_units (form_of from count).encoding to ≡ most_string_bytes / greatest_factor (path (form_in from count) to)
+
+-- A walk traps at once where its source has more code units than its first limit lets pass, whatever stands there.
+abbrev pub LongWalksTrap : Type 0
+LongWalksTrap = (tr : Transfer) (form : TextForm) (to : StringEncoding) (v : PathPoint) → most_string_bytes / first_factor (path form to) < v.length → walk tr (path form to) v ≡ trap StringOutOfBounds
+
+-- From one code unit past the limits on, a text that its path's first pass does not move is not moved at all: where all but traps is
+-- honest, the run gives nothing, and its last call is that of the trap, or an answer lacks.
+abbrev pub TextsPastLimitsTrap : Type 0
+TextsPastLimitsTrap =
+    (c : TransferSetting) (s : Source) (d : Target) (q : Pair) (gs : List Region) (w : World) (m : List ℕ)
+    → IsGrounded c → HasPointers c.transfer.from c.transfer.to → HasKnownMemory c.places c.transfer.from.memory → HasKnownMemory c.places c.transfer.to.memory
+    → IsSource c 2 s → HoldsMemories c m w → pair_of_source c s ≡ Some q → IsPastLimit c q
+    → EndsAtTrap c StringOutOfBounds gs (run c.places (move_string c.transfer s d) w)
+
+-- There is such a text of each form and each length past the limits.
+abbrev pub SomeTextsOutgrow : Type 0
+SomeTextsOutgrow =
+    (from to : StringEncoding) (count : ℕ) → most_units (form_of from count).encoding to < (form_of from count).units
+    → (text : List ℕ) × AreSpelled (form_of from count).encoding text × (units_of_text (form_of from count).encoding text ≡ (form_of from count).units)
+    × OutgrowsFirst (form_in from count) to text (form_of from count).units
 
 -- ---- requests of realloc
 

@@ -1,5 +1,6 @@
 pub mod Laws
 pub mod Parts
+pub mod PastLimits
 pub mod Premises
 pub mod Requested
 pub mod Trapped

@@ -1,6 +1,7 @@
 use Rattle.fact_texts.proofs.AdapterRanges.{transcoders_are_ranged, start_transcoders_are_ranged, return_transcoders_are_ranged}
 use Rattle.fact_texts.proofs.Finished.{texts_are_moved, texts_move, adapters_are_faithful, adapters_weigh, adapters_come_to_end}
 use Rattle.fact_texts.proofs.Means.{transcoders_need_means}
+use Rattle.fact_texts.proofs.PastLimits.{limits_are_those_of_paths, long_walks_trap, texts_past_limits_trap, some_texts_outgrow}
 use Rattle.fact_texts.proofs.Requests.{requests_are_called_for}
 use Rattle.fact_texts.proofs.FirstRequest.{first_request_is_called_for}
 use Rattle.fact_texts.proofs.Trapped.{answers_are_so_far}
@@ -18,6 +19,10 @@ returns c = record {
   adapters_are_faithful = adapters_are_faithful;
   adapters_weigh = adapters_weigh;
   adapters_come_to_end = adapters_come_to_end;
+  limits_are_those_of_paths = limits_are_those_of_paths;
+  long_walks_trap = long_walks_trap;
+  texts_past_limits_trap = texts_past_limits_trap;
+  some_texts_outgrow = some_texts_outgrow;
   requests_are_called_for = requests_are_called_for;
   start_requests_are_called_for = start_requests_are_called_for;
   return_requests_are_called_for = return_requests_are_called_for;
