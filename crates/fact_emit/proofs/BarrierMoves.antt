@@ -1,14 +1,10 @@
 -- Functions that write a barrier around a body that was written aside.
 use Rattle.std.proofs.Common.{◌≡◌, ℕ, suc, List, [], ◌∷◌, ◌++◌, length, refl, sym, ap, ◌∙◌, subst, arith, append-nil}
 use Rattle.fact_wasm.specs.declared.instr.BlockType.TheVariants.{Empty}
-use Rattle.fact_wasm.specs.declared.instr.FuncName.TheVariants as func
 use Rattle.fact_wasm.specs.declared.instr.Instr.{Instr, the_lemmas}
 use Rattle.fact_wasm.specs.declared.instr.Instr.TheVariants as I
-use Rattle.fact_wasm.specs.declared.module.WasmModule.{WasmModule}
-use Rattle.fact_wasm.specs.declared.types.ValType.{ValType}
 use Rattle.fact_wasm.specs.Ranges.{AreRanged}
 use Rattle.fact_types.specs.declared.outside.Trap.TheVariants.{UncaughtException}
-use Rattle.fact_moves.specs.Running.{ImportPlaces}
 use Rattle.fact_pieces.specs.Code.{barrier_code, trap_code}
 use Rattle.fact_emit.specs.declared.writer.Writer.{Writer}
 use Rattle.fact_emit.specs.Barriers.{Barred, WroteBarrier}
@@ -20,7 +16,8 @@ use Rattle.fact_emit.specs.Writers.{Began, Ended, TookTrap, Wrote}
 use Rattle.fact_emit.specs.States.{ModuleSoFar, functions_of}
 use Rattle.fact_emit.specs.NamedFunctions.{all_added_once}
 use Rattle.std.specs.List.{range_with_len}
-use Rattle.fact_emit.proofs.BroughtLaws.{brought_between, brought_on, brought_runtime, runtime_count}
+use Rattle.fact_emit.specs.ImportSection.{a_function}
+use Rattle.fact_emit.proofs.BroughtLaws.{brought_between, brought_on, brought_runtime, brought_count}
 use Rattle.fact_emit.proofs.Emitting.{body_is, same_locals, same_still, same_types, serves_imported, sooner, still_numbers}
 use Rattle.fact_emit.proofs.ImportLaws.{extended_none, extended_on, grows_on}
 use Rattle.fact_emit.proofs.NamedLaws.{named_append, named_block, named_try_table, ranged_append, ranged_block, ranged_more, ranged_none, ranged_try_table}
@@ -61,9 +58,9 @@ barrier_brought : {a b c : ModuleSoFar} {body : List Instr} {place : ℕ} → Br
 barrier_brought {a} {b} {c} {body} {place} x y =
     let both = brought_on x y in
     record {
-      runtime = both.runtime;
+      called = both.called;
       imported = both.imported;
-      ranged = barrier_ranged (length (functions_of c)) body place (ranged_more (length (functions_of b)) (length (functions_of c)) (runtime_count y.runtime b c y.imported) body x.ranged) y.ranged;
+      ranged = barrier_ranged (length (functions_of c)) body place (ranged_more (length (functions_of b)) (length (functions_of c)) (brought_count a_function y) body x.ranged) y.ranged;
       order = λ e. ap (all_added_once (range_with_len 0 (length (functions_of a)))) (barrier_named body place) ∙ both.order e;
     }
 

@@ -1,6 +1,6 @@
 -- What pieces of code bring into a module, one after another.
-use Rattle.std.proofs.Common.{◌≡◌, ℕ, suc, ◌≤◌, ◌⊎◌, inl, inr, Bool, true, false, List, [], ◌∷◌, ◌++◌, Some, Contains, refl, sym, ap, ◌∙◌, subst, arith, length, length-append, slice_get}
-use Rattle.std.specs.Prelude.{cond}
+use Rattle.std.proofs.Common.{◌≡◌, ℕ, suc, ◌≤◌, ◌<◌, ◌⊎◌, inl, inr, Bool, true, false, List, [], ◌∷◌, ◌++◌, Some, Contains, refl, sym, ap, ◌∙◌, subst, arith, length, length-append, slice_get}
+use Rattle.std.specs.Prelude.{codes, cond}
 use Rattle.std.specs.List.{range_with_len}
 use Rattle.std.proofs.lemmas.Option.{slice_get_within}
 use Rattle.fact_wasm.specs.declared.types.FuncType.{FuncType}
@@ -10,11 +10,13 @@ use Rattle.fact_wasm.specs.declared.module.WasmImport.{WasmImport}
 use Rattle.fact_wasm.specs.Ranges.{AreRanged}
 use Rattle.fact_types.specs.declared.import.Import.{Import}
 use Rattle.fact_emit.specs.declared.imported.RuntimeFunction.{RuntimeFunction}
-use Rattle.fact_emit.specs.Brought.{AreRuntimeImported, Brought}
-use Rattle.fact_emit.specs.ImportSection.{a_function, imports_of, is_of}
+use Rattle.fact_types.specs.declared.import.Import.TheVariants as known
+use Rattle.fact_emit.specs.declared.transcoders.Transcoder.{Transcoder}
+use Rattle.fact_emit.specs.Brought.{AreCalledImported, Brought, CalledFunction, IsCalledImported, Runtime, Transcoding}
+use Rattle.fact_emit.specs.ImportSection.{Sort, a_function, imports_of, is_of}
 use Rattle.fact_emit.specs.NamedFunctions.{all_added_once, imported_named}
 use Rattle.fact_emit.specs.Runtime.{import_of, name_of_runtime, origin_of_runtime}
-use Rattle.fact_emit.specs.States.{HasType, IsImported, IsRuntimeImported, ModuleSoFar, functions_of, import_as, with_import}
+use Rattle.fact_emit.specs.States.{HasType, IsImported, IsRuntimeImported, IsTranscoderImported, ModuleSoFar, functions_of, import_as, name_of_transcoder, with_import}
 use Rattle.fact_emit.proofs.ImportLists.{imports-append, last-or-before, there-get}
 use Rattle.fact_emit.proofs.NamedLaws.{added_on, below_added, named_append, next_added, ranged_append, ranged_more, ranged_named}
 
@@ -33,12 +35,13 @@ even_import {old} {new} {w} {i} h e = elim h.step [
   | inr anew ↦ subst IsEven (sym anew.0) (omega (arith, e, length-append old.section (w ∷ []), length-append old.imports (i ∷ [])))
 ]
 
-pub even_runtime : {old new : ModuleSoFar} {f : RuntimeFunction} {place : ℕ} → IsRuntimeImported old new f place → IsEven old → IsEven new
-even_runtime h e = even_import h.imported (even_type h.types e)
+pub even_called : (f : CalledFunction) (old new : ModuleSoFar) (place : ℕ) → IsCalledImported old new f place → IsEven old → IsEven new
+even_called (Runtime f) old new place h e = even_import h.imported (even_type h.types e)
+even_called (Transcoding t) old new place h e = even_import h.imported (even_type h.types e)
 
-pub even_all : (fs : List RuntimeFunction) (old new : ModuleSoFar) → AreRuntimeImported old new fs → IsEven old → IsEven new
+pub even_all : (fs : List CalledFunction) (old new : ModuleSoFar) → AreCalledImported old new fs → IsEven old → IsEven new
 even_all [] old new h e = subst IsEven (sym h) e
-even_all (f ∷ fs) old new h e = even_all fs h.0 new h.3 (even_runtime h.2 e)
+even_all (f ∷ fs) old new h e = even_all fs h.0 new h.3 (even_called f old h.0 h.1 h.2 e)
 
 -- ---- one function of the runtime
 
@@ -68,70 +71,99 @@ import_order old new w i place is_function e at (inr anew) =
     more : suc (length (functions_of old)) ≡ length (functions_of new)
     more = omega (arith, ap length grown, length-append (functions_of old) (i ∷ []))
 
-runtime_order : {old new : ModuleSoFar} {f : RuntimeFunction} {place : ℕ} → IsRuntimeImported old new f place → IsEven old
+-- after the type a function is imported
+typed_order : (old typed new : ModuleSoFar) (ty : FuncType) (w : WasmImport) (i : Import) (place : ℕ) → imports_of a_function (w ∷ []) (i ∷ []) ≡ i ∷ [] → HasType old typed ty → slice_get (functions_of new) place ≡ Some i
+    → ((new ≡ typed) × Contains (functions_of typed) i) ⊎ ((new ≡ with_import typed w i) × (Contains (functions_of typed) i → ⊥)) → IsEven old
     → all_added_once (range_with_len 0 (length (functions_of old))) (place ∷ []) ≡ range_with_len 0 (length (functions_of new))
-runtime_order {new = new} {f} {place} h e =
-    ap (λ fs. all_added_once (range_with_len 0 (length fs)) (place ∷ [])) (sym (functions_typed h.types)) ∙ import_order h.typed new (import_as (origin_of_runtime f) (name_of_runtime f) (import.Func h.ty)) (import_of f) place refl (even_type h.types e) h.imported.there h.imported.step
+typed_order old typed new ty w i place is_function types at step e =
+    ap (λ fs. all_added_once (range_with_len 0 (length fs)) (place ∷ [])) (sym (functions_typed types)) ∙ import_order typed new w i place is_function (even_type types e) at step
+
+called_order : (f : CalledFunction) (old new : ModuleSoFar) (place : ℕ) → IsCalledImported old new f place → IsEven old
+    → all_added_once (range_with_len 0 (length (functions_of old))) (place ∷ []) ≡ range_with_len 0 (length (functions_of new))
+called_order (Runtime f) old new place h e = typed_order old h.typed new _ (import_as (origin_of_runtime f) (name_of_runtime f) (import.Func h.ty)) (import_of f) place refl h.types h.imported.there h.imported.step e
+called_order (Transcoding t) old new place h e =
+    typed_order old h.typed new _ (import_as (codes "transcode") (name_of_transcoder t) (import.Func h.ty)) (known.Transcode t.op h.from t.from_memory64 h.to t.to_memory64) place refl h.types h.imported.there h.imported.step e
+
+called_there : (f : CalledFunction) (old new : ModuleSoFar) (place : ℕ) → IsCalledImported old new f place → place < length (functions_of new)
+called_there (Runtime f) old new place h = slice_get_within (functions_of new) place _ h.imported.there
+called_there (Transcoding t) old new place h = slice_get_within (functions_of new) place _ h.imported.there
 
 -- Code that names one function of the runtime, and no other one.
-pub brought_runtime : {old new : ModuleSoFar} {f : RuntimeFunction} {place : ℕ} {code : List Instr} → imported_named code ≡ place ∷ [] → AreRanged (suc place) 0 code → IsRuntimeImported old new f place → Brought old new code
-brought_runtime {old} {new} {f} {place} {code} names ranged h = record {
-  runtime = f ∷ [];
+brought_called : (f : CalledFunction) (old new : ModuleSoFar) (place : ℕ) (code : List Instr) → imported_named code ≡ place ∷ [] → AreRanged (suc place) 0 code → IsCalledImported old new f place → Brought old new code
+brought_called f old new place code names ranged h = record {
+  called = f ∷ [];
   imported = (new, place, h, refl);
-  ranged = ranged_more (suc place) (length (functions_of new)) (omega (arith, slice_get_within (functions_of new) place (import_of f) h.imported.there)) code ranged;
-  order = λ e. ap (all_added_once (range_with_len 0 (length (functions_of old)))) names ∙ runtime_order h e;
+  ranged = ranged_more (suc place) (length (functions_of new)) (omega (arith, called_there f old new place h)) code ranged;
+  order = λ e. ap (all_added_once (range_with_len 0 (length (functions_of old)))) names ∙ called_order f old new place h e;
 }
+
+pub brought_runtime : {old new : ModuleSoFar} {f : RuntimeFunction} {place : ℕ} {code : List Instr} → imported_named code ≡ place ∷ [] → AreRanged (suc place) 0 code → IsRuntimeImported old new f place → Brought old new code
+brought_runtime {old} {new} {f} {place} {code} names ranged h = brought_called (Runtime f) old new place code names ranged h
+
+pub brought_transcoder : {old new : ModuleSoFar} {t : Transcoder} {place : ℕ} {code : List Instr} → imported_named code ≡ place ∷ [] → AreRanged (suc place) 0 code → IsTranscoderImported old new t place → Brought old new code
+brought_transcoder {old} {new} {t} {place} {code} names ranged h = brought_called (Transcoding t) old new place code names ranged h
 
 -- ---- none, and one piece of code after another
 
 -- code that names only functions that were imported before
 pub brought_before : {old new : ModuleSoFar} {code : List Instr} → new ≡ old → AreRanged (length (functions_of old)) 0 code → Brought old new code
 brought_before {old} {new} {code} same ranged = record {
-  runtime = [];
+  called = [];
   imported = same;
   ranged = subst (λ s. AreRanged (length (functions_of s)) 0 code) (sym same) ranged;
   order = λ e. below_added (length (functions_of old)) (imported_named code) (ranged_named (length (functions_of old)) code ranged) ∙ ap (λ s. range_with_len 0 (length (functions_of s))) (sym same);
 }
 
-runtime_on : (fs gs : List RuntimeFunction) (a b c : ModuleSoFar) → AreRuntimeImported a b fs → AreRuntimeImported b c gs → AreRuntimeImported a c (fs ++ gs)
-runtime_on [] gs a b c x y = subst (λ s. AreRuntimeImported s c gs) x y
-runtime_on (f ∷ fs) gs a b c x y = (x.0, x.1, x.2, runtime_on fs gs x.0 b c x.3 y)
+called_on : (fs gs : List CalledFunction) (a b c : ModuleSoFar) → AreCalledImported a b fs → AreCalledImported b c gs → AreCalledImported a c (fs ++ gs)
+called_on [] gs a b c x y = subst (λ s. AreCalledImported s c gs) x y
+called_on (f ∷ fs) gs a b c x y = (x.0, x.1, x.2, called_on fs gs x.0 b c x.3 y)
 
--- with more imports there are no fewer functions
-count_more : (ws vs : List WasmImport) (is js : List Import) → length (imports_of a_function ws is) ≤ length (imports_of a_function (ws ++ vs) (is ++ js))
-count_more [] vs is js = omega arith
-count_more (w ∷ ws) vs [] js = omega arith
-count_more (w ∷ ws) vs (i ∷ is) js = step (is_of a_function w) (count_more ws vs is js)
+-- with more imports there are no fewer of a kind
+count_more : (q : Sort) (ws vs : List WasmImport) (is js : List Import) → length (imports_of q ws is) ≤ length (imports_of q (ws ++ vs) (is ++ js))
+count_more q [] vs is js = omega arith
+count_more q (w ∷ ws) vs [] js = omega arith
+count_more q (w ∷ ws) vs (i ∷ is) js = step (is_of q w) (count_more q ws vs is js)
   where
-    step : (b : Bool) → length (imports_of a_function ws is) ≤ length (imports_of a_function (ws ++ vs) (is ++ js))
-        → length (cond b (i ∷ imports_of a_function ws is) (imports_of a_function ws is)) ≤ length (cond b (i ∷ imports_of a_function (ws ++ vs) (is ++ js)) (imports_of a_function (ws ++ vs) (is ++ js)))
+    step : (b : Bool) → length (imports_of q ws is) ≤ length (imports_of q (ws ++ vs) (is ++ js))
+        → length (cond b (i ∷ imports_of q ws is) (imports_of q ws is)) ≤ length (cond b (i ∷ imports_of q (ws ++ vs) (is ++ js)) (imports_of q (ws ++ vs) (is ++ js)))
     step true h = omega (arith, h)
     step false h = h
 
-import_count : {old new : ModuleSoFar} {w : WasmImport} {i : Import} {place : ℕ} → IsImported old new w i place → length (functions_of old) ≤ length (functions_of new)
-import_count {old} {new} {w} {i} h = elim h.step [
-  | inl there ↦ omega (arith, ap (λ s. length (functions_of s)) there.0)
-  | inr anew ↦ omega (arith, ap (λ s. length (functions_of s)) anew.0, count_more old.section (w ∷ []) old.imports (i ∷ []))
+import_count : (q : Sort) {old new : ModuleSoFar} {w : WasmImport} {i : Import} {place : ℕ} → IsImported old new w i place → length (imports_of q old.section old.imports) ≤ length (imports_of q new.section new.imports)
+import_count q {old} {new} {w} {i} h = elim h.step [
+  | inl there ↦ omega (arith, ap (λ (s : ModuleSoFar). length (imports_of q s.section s.imports)) there.0)
+  | inr anew ↦ omega (arith, ap (λ (s : ModuleSoFar). length (imports_of q s.section s.imports)) anew.0, count_more q old.section (w ∷ []) old.imports (i ∷ []))
 ]
 
-pub runtime_count : (fs : List RuntimeFunction) (old new : ModuleSoFar) → AreRuntimeImported old new fs → length (functions_of old) ≤ length (functions_of new)
-runtime_count [] old new h = omega (arith, ap (λ s. length (functions_of s)) h)
-runtime_count (f ∷ fs) old new h = omega (arith, ap length (functions_typed h.2.types), import_count h.2.imported, runtime_count fs h.0 new h.3)
+type_count : (q : Sort) {old new : ModuleSoFar} {ty : FuncType} → HasType old new ty → length (imports_of q old.section old.imports) ≤ length (imports_of q new.section new.imports)
+type_count q (inl same) = omega (arith, ap (λ (s : ModuleSoFar). length (imports_of q s.section s.imports)) same)
+type_count q (inr anew) = omega (arith, ap (λ (s : ModuleSoFar). length (imports_of q s.section s.imports)) anew.1)
+
+one_count : (q : Sort) (f : CalledFunction) (old new : ModuleSoFar) (place : ℕ) → IsCalledImported old new f place → length (imports_of q old.section old.imports) ≤ length (imports_of q new.section new.imports)
+one_count q (Runtime f) old new place h = omega (arith, type_count q h.types, import_count q h.imported)
+one_count q (Transcoding t) old new place h = omega (arith, type_count q h.types, import_count q h.imported)
+
+called_count : (q : Sort) (fs : List CalledFunction) (old new : ModuleSoFar) → AreCalledImported old new fs → length (imports_of q old.section old.imports) ≤ length (imports_of q new.section new.imports)
+called_count q [] old new h = omega (arith, ap (λ (s : ModuleSoFar). length (imports_of q s.section s.imports)) h)
+called_count q (f ∷ fs) old new h = omega (arith, one_count q f old h.0 h.1 h.2, called_count q fs h.0 new h.3)
+
+pub brought_count : (q : Sort) {old new : ModuleSoFar} {code : List Instr} → Brought old new code → length (imports_of q old.section old.imports) ≤ length (imports_of q new.section new.imports)
+brought_count q {old} {new} x = called_count q x.called old new x.imported
 
 pub brought_on : {a b c : ModuleSoFar} {xs ys : List Instr} → Brought a b xs → Brought b c ys → Brought a c (xs ++ ys)
 brought_on {a} {b} {c} {xs} {ys} x y = record {
-  runtime = x.runtime ++ y.runtime;
-  imported = runtime_on x.runtime y.runtime a b c x.imported y.imported;
-  ranged = ranged_append (length (functions_of c)) 0 xs ys (ranged_more (length (functions_of b)) (length (functions_of c)) (runtime_count y.runtime b c y.imported) xs x.ranged) y.ranged;
+  called = x.called ++ y.called;
+  imported = called_on x.called y.called a b c x.imported y.imported;
+  ranged = ranged_append (length (functions_of c)) 0 xs ys (ranged_more (length (functions_of b)) (length (functions_of c)) (brought_count a_function y) xs x.ranged) y.ranged;
   order = λ e.
       let n = range_with_len 0 (length (functions_of a)) in
-      ap (all_added_once n) (named_append xs ys) ∙ added_on n (imported_named xs) (imported_named ys) ∙ ap (λ ns. all_added_once ns (imported_named ys)) (x.order e) ∙ y.order (even_all x.runtime a b x.imported e);
+      ap (all_added_once n) (named_append xs ys) ∙ added_on n (imported_named xs) (imported_named ys) ∙ ap (λ ns. all_added_once ns (imported_named ys)) (x.order e) ∙ y.order (even_all x.called a b x.imported e);
 }
 
 -- other code that names the same functions in the same order
 pub brought_as : {a b : ModuleSoFar} {xs ys : List Instr} → imported_named ys ≡ imported_named xs → ((imports : ℕ) → AreRanged imports 0 xs → AreRanged imports 0 ys) → Brought a b xs → Brought a b ys
 brought_as {a} {b} names ranged x = record {
-  runtime = x.runtime;
+  called = x.called;
   imported = x.imported;
   ranged = ranged (length (functions_of b)) x.ranged;
   order = λ e. ap (all_added_once (range_with_len 0 (length (functions_of a)))) names ∙ x.order e;

@@ -9,22 +9,19 @@ use Rattle.fact_wasm.specs.declared.instr.Instr.TheVariants as I
 use Rattle.fact_wasm.specs.declared.module.WasmModule.{WasmModule}
 use Rattle.fact_wasm.specs.Ranges.{AreRanged, IsPoint, points}
 use Rattle.fact_wasm.proofs.Ranged.{all-first, all-second}
-use Rattle.fact_types.specs.declared.outside.Trap.TheVariants.{InvalidDiscriminant}
 use Rattle.fact_machine.specs.Exits.{nest}
 use Rattle.fact_moves.specs.Running.{ImportPlaces}
 use Rattle.fact_pieces.specs.Choices.{all_of_chunks, chunk_codes, chunk_number, full_chunk_code, place_in_chunk, IsChoice, InOneTable, InChunks}
 use Rattle.fact_pieces.specs.Code.{arms, cases_code, labels_from, trap_code, sum_code}
-use Rattle.fact_emit.specs.declared.places.LinearMemory.{LinearMemory}
 use Rattle.fact_emit.specs.declared.writer.Writer.{Writer}
 use Rattle.fact_emit.specs.Bodies.{ChoosesCase, WroteChoice, code_of_bodies}
 use Rattle.fact_emit.specs.Brought.{Brought}
 use Rattle.fact_emit.specs.Emits.{Grew, GrewAside, Emits, Later, Piece}
 use Rattle.fact_emit.specs.Imports.{AreOnce}
 use Rattle.fact_emit.specs.NamedFunctions.{imported_named}
-use Rattle.fact_emit.specs.Requests.{IsReallocImported}
 use Rattle.fact_emit.specs.States.{ModuleSoFar}
-use Rattle.fact_emit.specs.Writers.{Wrote, TookTrap, Began, Ended}
-use Rattle.fact_emit.proofs.BroughtLaws.{brought_as, brought_before, brought_between, brought_on, brought_runtime, runtime_count}
+use Rattle.fact_emit.specs.Writers.{Began, Ended}
+use Rattle.fact_emit.proofs.BroughtLaws.{brought_as, brought_before, brought_between, brought_on, brought_runtime}
 use Rattle.fact_emit.proofs.Emitting.{same_locals, same_still, same_types, serves_imported, sooner, still_numbers}
 use Rattle.fact_emit.proofs.ImportLaws.{extended_none, extended_on, grows_none, grows_on}
 use Rattle.fact_emit.proofs.NamedLaws.{named_append, named_block, names_none, ranged_append, ranged_block, ranged_more, ranged_none}
@@ -80,12 +77,12 @@ module _ (number : List Instr) (none : AreRanged 0 0 number) where
   jump_none : (count : ℕ) → AreRanged 0 0 (number ++ I.BrTable (labels_from 0 count) count ∷ [])
   jump_none count = ranged_append 0 0 number (I.BrTable (labels_from 0 count) count ∷ []) none (ranged_none 0 0 (I.BrTable (labels_from 0 count) count ∷ []) (simp the_lemmas))
 
-  table_named : (count : ℕ) (bodies : List (List Instr)) → imported_named (cases_code number (labels_from 0 count) count bodies) ≡ imported_named (code_of_bodies bodies)
+  pub table_named : (count : ℕ) (bodies : List (List Instr)) → imported_named (cases_code number (labels_from 0 count) count bodies) ≡ imported_named (code_of_bodies bodies)
   table_named count bodies =
       let jump : List Instr = number ++ I.BrTable (labels_from 0 count) count ∷ [] in
       named_block Empty (nest (arms bodies) jump) ∙ nested_named bodies jump ∙ ap (λ ns. ns ++ imported_named (code_of_bodies bodies)) (names_none jump (jump_none count))
 
-  table_ranged : (n count : ℕ) (bodies : List (List Instr)) → AreRanged n 0 (code_of_bodies bodies) → AreRanged n 0 (cases_code number (labels_from 0 count) count bodies)
+  pub table_ranged : (n count : ℕ) (bodies : List (List Instr)) → AreRanged n 0 (code_of_bodies bodies) → AreRanged n 0 (cases_code number (labels_from 0 count) count bodies)
   table_ranged n count bodies h =
       let jump : List Instr = number ++ I.BrTable (labels_from 0 count) count ∷ [] in
       ranged_block n 0 Empty (nest (arms bodies) jump) (nested_ranged n bodies jump (ranged_more 0 n (omega arith) jump (jump_none count)) h)
@@ -172,10 +169,6 @@ aside_nothing a = record {
   numbers = λ n. n;
   still = λ i. refl;
 }
-
--- a realloc is imported still behind bodies that were written aside
-pub realloc_aside : {m : LinearMemory} {a b : Writer} {bodies : List Instr} → IsReallocImported m a.imports → GrewAside a b bodies → IsReallocImported m b.imports
-realloc_aside {m} {a} {b} h x = record { below = λ place e. omega (arith, h.below place e, runtime_count x.brought.runtime a.imports b.imports x.brought.imported) }
 
 pub aside_on : {a b c : Writer} {xs ys : List Instr} → GrewAside a b xs → GrewAside b c ys → GrewAside a c (xs ++ ys)
 aside_on x y = record {

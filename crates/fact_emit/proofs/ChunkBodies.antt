@@ -1,11 +1,11 @@
 -- Bodies in chunks of 64, one body after another.
-use Rattle.std.proofs.Common.{◌≡◌, ◌≢◌, ℕ, ◌+◌, ◌*◌, ◌^◌, ◌<◌, ◌≤◌, ◌⊎◌, inl, inr, List, [], ◌∷◌, ◌++◌, length, map, refl, sym, ap, ◌∙◌, subst, arith, append_assoc, append-nil, length-append}
+use Rattle.std.proofs.Common.{◌≡◌, ◌≢◌, ℕ, ◌+◌, ◌<◌, ◌≤◌, inl, inr, List, [], ◌∷◌, ◌++◌, length, map, refl, sym, ap, ◌∙◌, subst, arith, append_assoc, append-nil, length-append}
 use Rattle.std.specs.List.{AllByRecursion}
 use Rattle.std.proofs.Math.Nat.{eq-or-lt_of_le}
 use Rattle.std.proofs.lemmas.Grind.{flat_map-append}
 use Rattle.std.proofs.lemmas.List.{map-append, length-map}
 use Rattle.fact_wasm.specs.declared.instr.Instr.{Instr}
-use Rattle.fact_pieces.specs.Choices.{all_of_chunks, AreChunks, chunk_codes, chunk_number, full_chunk_code, place_in_chunk, IsChoice, InChunks}
+use Rattle.fact_pieces.specs.Choices.{all_of_chunks, chunk_number, full_chunk_code, place_in_chunk, IsChoice, InChunks}
 use Rattle.fact_pieces.specs.Code.{cases_code, labels_from, sum_code}
 use Rattle.fact_pieces.proofs.Choices.{length_of_chunks}
 use Rattle.fact_emit.specs.Bodies.{AreChunkCodes, HasChunks}

@@ -5,7 +5,7 @@ use Rattle.fact_wasm.specs.declared.types.FuncType.{FuncType}
 use Rattle.fact_wasm.specs.declared.module.WasmImport.{WasmImport}
 use Rattle.fact_types.specs.declared.import.Import.{Import}
 use Rattle.fact_emit.specs.declared.imported.RuntimeFunction.{RuntimeFunction}
-use Rattle.fact_emit.specs.Brought.{AreRuntimeImported, Brought}
+use Rattle.fact_emit.specs.Brought.{AreCalledImported, Brought, CalledFunction, IsCalledImported, Runtime, Transcoding}
 use Rattle.fact_emit.specs.ImportSection.{a_function, a_memory, a_global, imports_of, sort_of}
 use Rattle.fact_emit.specs.Imports.{Extended}
 use Rattle.fact_emit.specs.States.{ModuleSoFar, HasType, IsImported, IsRuntimeImported, KeepsDefined, with_import}
@@ -31,12 +31,16 @@ defined_import {a} {b} {w} {i} h = go h.step
 pub defined_runtime : {a b : ModuleSoFar} {f : RuntimeFunction} {place : ℕ} → IsRuntimeImported a b f place → KeepsDefined a b
 defined_runtime h = defined_on (defined_type h.types) (defined_import h.imported)
 
-pub defined_all : (fs : List RuntimeFunction) {a b : ModuleSoFar} → AreRuntimeImported a b fs → KeepsDefined a b
+defined_called : (f : CalledFunction) (a b : ModuleSoFar) (place : ℕ) → IsCalledImported a b f place → KeepsDefined a b
+defined_called (Runtime f) a b place h = defined_runtime h
+defined_called (Transcoding t) a b place h = defined_on (defined_type h.types) (defined_import h.imported)
+
+pub defined_all : (fs : List CalledFunction) {a b : ModuleSoFar} → AreCalledImported a b fs → KeepsDefined a b
 defined_all [] e = defined_same e
-defined_all (f ∷ fs) h = defined_on (defined_runtime h.2) (defined_all fs h.3)
+defined_all (f ∷ fs) {a} h = defined_on (defined_called f a h.0 h.1 h.2) (defined_all fs h.3)
 
 pub defined_brought : {a b : ModuleSoFar} {code : List Instr} → Brought a b code → KeepsDefined a b
-defined_brought x = defined_all x.runtime x.imported
+defined_brought x = defined_all x.called x.imported
 
 -- a module that defines and exports more imports the same
 pub extended_defined : {a b : ModuleSoFar} → b.types ≡ a.types → b.section ≡ a.section → b.imports ≡ a.imports → Extended a b

@@ -7,24 +7,26 @@ use Rattle.fact_wasm.specs.declared.instr.Instr.{Instr}
 use Rattle.fact_wasm.specs.declared.module.WasmModule.{WasmModule}
 use Rattle.fact_wasm.specs.Ranges.{AreRanged}
 use Rattle.fact_types.specs.declared.import.Import.{Import}
+use Rattle.fact_types.specs.declared.import.Import.TheVariants as known
+use Rattle.fact_types.specs.declared.outside.CoreDef.{CoreDef}
 use Rattle.fact_types.specs.declared.outside.MemoryOption.{MemoryOption}
 use Rattle.fact_machine.specs.Trace.{Grows}
 use Rattle.fact_moves.specs.Running.{ImportPlaces}
 use Rattle.fact_moves.specs.Sides.{LiftLowerOptions}
-use Rattle.fact_pieces.specs.Knows.{KnowsFunction, ExtendsModule}
+use Rattle.fact_pieces.specs.Knows.{KnowsFunction}
 use Rattle.fact_pieces.specs.Places.{SideMemory}
-use Rattle.fact_pieces.proofs.KnowsLaws.{has_flags, has_function, has_memory}
 use Rattle.fact_emit.specs.declared.imported.RuntimeFunction.{RuntimeFunction}
+use Rattle.fact_emit.specs.declared.transcoders.Transcoder.{Transcoder}
 use Rattle.fact_emit.specs.declared.writer.Local.{Local}
 use Rattle.fact_emit.specs.declared.writer.Writer.{Writer}
 use Rattle.fact_emit.specs.Emits.{Later, Grew, Piece, Is, Emits, Both}
 use Rattle.fact_emit.specs.Brought.{Brought}
-use Rattle.fact_emit.specs.Imports.{HasImport, HasMemory, Extended, AreOnce, Serves}
+use Rattle.fact_emit.specs.Imports.{HasImport, HasMemory, HasTranscoder, Extended, AreOnce, Serves}
 use Rattle.fact_emit.specs.NamedFunctions.{imported_named}
 use Rattle.fact_emit.specs.Runtime.{import_of, type_of_runtime}
-use Rattle.fact_emit.specs.States.{ModuleSoFar, functions_of}
-use Rattle.fact_emit.specs.Writers.{AreNumberTypes, types_of_locals, is_local_in_use, taken_in, Wrote, Took, Freed, TookRuntime}
-use Rattle.fact_emit.proofs.BroughtLaws.{brought_as, brought_before, brought_between, brought_on, brought_runtime}
+use Rattle.fact_emit.specs.States.{ModuleSoFar, functions_of, type_of_transcoder}
+use Rattle.fact_emit.specs.Writers.{AreNumberTypes, types_of_locals, is_local_in_use, taken_in, Wrote, Took, Freed, TookRuntime, TookTranscoder}
+use Rattle.fact_emit.proofs.BroughtLaws.{brought_as, brought_before, brought_between, brought_on, brought_runtime, brought_transcoder}
 use Rattle.fact_emit.proofs.NamedLaws.{ranged_more}
 use Rattle.fact_emit.proofs.ImportLaws.{extended_none, extended_on, grown_get, grows_none, grows_on}
 use Rattle.fact_emit.proofs.ServingLaws.{serves_sooner}
@@ -130,31 +132,50 @@ emits_nothing {a} d = record { grew = grew_nothing a; does = λ M p locals l. d 
 pub serves_imported : {M : WasmModule} {p : ImportPlaces} {s : ModuleSoFar} {i : Import} {place : ℕ} {params results : List ValType} → Serves M p s → HasImport s i place params results → KnowsFunction M p i place params results
 serves_imported s i = s.functions _ _ _ _ i
 
--- A module that extends one that has all that was imported has it too.
-pub serves_extended : {M M' : WasmModule} {p p' : ImportPlaces} {s : ModuleSoFar} → ExtendsModule M M' p p' → Serves M p s → Serves M' p' s
-serves_extended x s = record { functions = λ i place params results h. has_function x (s.functions i place params results h); memories = λ d place memory64 log2 h. has_memory x (s.memories d place memory64 log2 h); flags = λ instance place h. has_flags x (s.flags instance place h) }
-
 -- the memory of a side that was imported
 pub serves_side : {M : WasmModule} {p : ImportPlaces} {s : ModuleSoFar} {place : ℕ} {log2 : Option ℕ} (o : LiftLowerOptions) (m : MemoryOption) → Serves M p s → HasMemory s m.def place m.memory64 log2 → o.memory ≡ Some m → SideMemory M p o m.memory64 place
 serves_side {log2 = log2} o m s i is = record { option = m; is = is; wide = refl; log2 = log2; has = s.memories _ _ _ _ i }
 
--- A function of the runtime was imported, and then code was put there that names it, and no other one.
-module _ {a b c : Writer} {f : RuntimeFunction} {place : ℕ} {xs : List Instr} (names : imported_named xs ≡ place ∷ []) (ranged : AreRanged (suc place) 0 xs) (x : TookRuntime a b f place) (y : Wrote b c xs) where
-  grew_taking : Grew a c
-  grew_taking = record {
+-- A function was imported, and then code was put there that names it, and no other one.
+module _ {a b c : Writer} {xs : List Instr} (code : b.code.items ≡ a.code.items) (locals : b.locals ≡ a.locals) (imports : Extended a.imports b.imports) (once : AreOnce a.imports → AreOnce b.imports)
+    (brought : Brought a.imports b.imports xs) (y : Wrote b c xs) where
+  pub grew_naming : Grew a c
+  grew_naming = record {
     added = xs;
-    code = y.code ∙ ap (λ l. l ++ xs) x.code;
-    brought = brought_between refl (sym y.imports) (brought_runtime names ranged x.imported);
-    imports = extended_on x.imports (extended_none y.imports);
-    once = λ o. subst AreOnce (sym y.imports) (x.once o);
-    locals = grows_on (same_locals a b x.locals) (same_locals b c y.locals);
-    numbers = λ n. still_numbers b c (same_types b c y.locals) (still_numbers a b (same_types a b x.locals) n);
-    still = λ i. same_still b c y.locals i ∙ same_still a b x.locals i;
+    code = y.code ∙ ap (λ l. l ++ xs) code;
+    brought = brought_between refl (sym y.imports) brought;
+    imports = extended_on imports (extended_none y.imports);
+    once = λ o. subst AreOnce (sym y.imports) (once o);
+    locals = grows_on (same_locals a b locals) (same_locals b c y.locals);
+    numbers = λ n. still_numbers b c (same_types b c y.locals) (still_numbers a b (same_types a b locals) n);
+    still = λ i. same_still b c y.locals i ∙ same_still a b locals i;
   }
 
-  pub emits_taking : {P : Piece} → ((M : WasmModule) (p : ImportPlaces) (locals : List ValType) → KnowsFunction M p (import_of f) place (type_of_runtime f).params (type_of_runtime f).results → P M p locals xs) → Emits a c P
-  unfolding grew_taking
-  emits_taking d = record { grew = grew_taking; does = λ M p locals l. d M p locals (serves_imported (sooner {a = b} (extended_none y.imports) (same_locals b c y.locals) l).serves x.there) }
+  pub emits_naming : {P : Piece} → ((M : WasmModule) (p : ImportPlaces) (locals : List ValType) → Serves M p b.imports → P M p locals xs) → Emits a c P
+  unfolding grew_naming
+  emits_naming d = record { grew = grew_naming; does = λ M p locals l. d M p locals (sooner {a = b} (extended_none y.imports) (same_locals b c y.locals) l).serves }
+
+-- a function of the runtime
+pub emits_taking : {a b c : Writer} {f : RuntimeFunction} {place : ℕ} {xs : List Instr} → imported_named xs ≡ place ∷ [] → AreRanged (suc place) 0 xs → TookRuntime a b f place → Wrote b c xs
+    → {P : Piece} → ((M : WasmModule) (p : ImportPlaces) (locals : List ValType) → KnowsFunction M p (import_of f) place (type_of_runtime f).params (type_of_runtime f).results → P M p locals xs) → Emits a c P
+emits_taking names ranged x y d = emits_naming x.code x.locals x.imports x.once (brought_runtime names ranged x.imported) y (λ M p locals serves. d M p locals (serves_imported serves x.there))
+
+-- The import of a transcoder is that between the definitions of the memories, whichever have their places.
+abbrev pub KnowsTranscoder : WasmModule → ImportPlaces → Transcoder → (place : ℕ) → Type 0
+KnowsTranscoder M p t place =
+    (d e : CoreDef) → p.memory d ≡ t.from_memory.number → p.memory e ≡ t.to_memory.number
+    → KnowsFunction M p (known.Transcode t.op d t.from_memory64 e t.to_memory64) place (type_of_transcoder t).params (type_of_transcoder t).results
+
+pub serves_transcoder : {M : WasmModule} {p : ImportPlaces} {s : ModuleSoFar} (t : Transcoder) (place : ℕ) → Serves M p s → HasTranscoder s t place → KnowsTranscoder M p t place
+serves_transcoder {M} {p} t place s h d e at at' =
+    let from : d ≡ h.from = s.one_memory d h.from t.from_memory.number at h.from_there in
+    let to : e ≡ h.to = s.one_memory e h.to t.to_memory.number at' h.to_there in
+    subst (λ x. KnowsFunction M p x place (type_of_transcoder t).params (type_of_transcoder t).results) (λ k. known.Transcode t.op (sym from k) t.from_memory64 (sym to k) t.to_memory64) (serves_imported s h.has)
+
+-- a transcoder
+pub emits_transcoding : {a b c : Writer} {t : Transcoder} {place : ℕ} {xs : List Instr} → imported_named xs ≡ place ∷ [] → AreRanged (suc place) 0 xs → TookTranscoder a b t place → Wrote b c xs
+    → {P : Piece} → ((M : WasmModule) (p : ImportPlaces) (locals : List ValType) → KnowsTranscoder M p t place → P M p locals xs) → Emits a c P
+emits_transcoding {t = t} {place} names ranged x y d = emits_naming x.code x.locals x.imports x.once (brought_transcoder names ranged x.imported) y (λ M p locals serves. d M p locals (serves_transcoder t place serves x.there))
 
 -- ---- a body that is written aside
 

@@ -1,8 +1,15 @@
 -- Imports that are equal by `==` are the same.
-use Rattle.std.proofs.Common.{◌≡◌, true, Option, Some, None, refl, sym, ap, ◌∙◌}
+use Rattle.std.proofs.Common.{◌≡◌, Bool, true, Option, Some, None, refl, sym, ap, ◌∙◌}
+use Rattle.std.specs.Cmp.{first_so, second_so}
 use Rattle.std.proofs.lemmas.Bool.{true≢false}
-use Rattle.fact_types.specs.Exact.{exact_def}
+use Rattle.fact_types.specs.Exact.{exact_bool, exact_def}
 use Rattle.fact_types.specs.declared.outside.CoreDef.{CoreDef}
+use Rattle.fact_types.specs.declared.outside.FixedEncoding.{FixedEncoding}
+use Rattle.fact_types.specs.declared.outside.FixedEncoding.TheVariants as encoding
+use Rattle.fact_types.specs.contracts.outside.FixedEncodingPartialEq.TheImpl as encoding_eq
+use Rattle.fact_types.specs.declared.outside.Transcode.{Transcode}
+use Rattle.fact_types.specs.declared.outside.Transcode.TheVariants as transcode
+use Rattle.fact_types.specs.contracts.outside.TranscodePartialEq.TheImpl as transcode_eq
 use Rattle.fact_types.specs.declared.outside.Trap.{Trap}
 use Rattle.fact_types.specs.declared.outside.Trap.TheVariants as trap
 use Rattle.fact_types.specs.contracts.outside.TrapPartialEq.TheImpl as trap_eq
@@ -14,6 +21,8 @@ use Rattle.fact_types.specs.declared.import.Import.TheVariants as known
 use Rattle.fact_emit.specs.declared.imported.RuntimeFunction.{RuntimeFunction}
 use Rattle.fact_emit.specs.declared.imported.RuntimeFunction.TheVariants as runtime
 use Rattle.fact_emit.specs.contracts.imported.RuntimeFunctionPartialEq.TheImpl as runtime_eq
+use Rattle.fact_emit.specs.declared.imported.TranscoderItem.{TranscoderItem}
+use Rattle.fact_emit.specs.contracts.imported.TranscoderItemPartialEq.TheImpl as transcoder_eq
 use Rattle.fact_emit.specs.declared.imported.ImportedItem.{ImportedItem}
 use Rattle.fact_emit.specs.declared.imported.ImportedItem.TheVariants as item
 use Rattle.fact_emit.specs.contracts.imported.ImportedItemPartialEq.TheImpl as item_eq
@@ -36,7 +45,7 @@ exact_trap trap.DebugAssertStringEncodingFinished trap.DebugAssertStringEncoding
 exact_trap trap.DebugAssertEqualCodeUnits trap.DebugAssertEqualCodeUnits h = refl
 exact_trap a b h = absurd (true≢false (sym h))
 
-exact_slot : (a b : UnsafeIntrinsic) → slot_eq.ghosts.eq a b ≡ true → a ≡ b
+pub exact_slot : (a b : UnsafeIntrinsic) → slot_eq.ghosts.eq a b ≡ true → a ≡ b
 exact_slot slot.ContextGetI32_0 slot.ContextGetI32_0 h = refl
 exact_slot slot.ContextGetI32_1 slot.ContextGetI32_1 h = refl
 exact_slot slot.ContextSetI32_0 slot.ContextSetI32_0 h = refl
@@ -55,9 +64,41 @@ exact_runtime runtime.ExitSyncCall runtime.ExitSyncCall h = refl
 exact_runtime (runtime.UnsafeIntrinsic s) (runtime.UnsafeIntrinsic t) h = ap runtime.UnsafeIntrinsic (exact_slot s t h)
 exact_runtime a b h = absurd (true≢false (sym h))
 
+exact_encoding : (a b : FixedEncoding) → encoding_eq.ghosts.eq a b ≡ true → a ≡ b
+exact_encoding encoding.Utf8 encoding.Utf8 h = refl
+exact_encoding encoding.Utf16 encoding.Utf16 h = refl
+exact_encoding encoding.Latin1 encoding.Latin1 h = refl
+exact_encoding a b h = absurd (true≢false (sym h))
+
+pub exact_transcode : (a b : Transcode) → transcode_eq.ghosts.eq a b ≡ true → a ≡ b
+exact_transcode (transcode.Copy e) (transcode.Copy f) h = ap transcode.Copy (exact_encoding e f h)
+exact_transcode transcode.Latin1ToUtf16 transcode.Latin1ToUtf16 h = refl
+exact_transcode transcode.Latin1ToUtf8 transcode.Latin1ToUtf8 h = refl
+exact_transcode transcode.Utf16ToCompactProbablyUtf16 transcode.Utf16ToCompactProbablyUtf16 h = refl
+exact_transcode transcode.Utf16ToCompactUtf16 transcode.Utf16ToCompactUtf16 h = refl
+exact_transcode transcode.Utf16ToLatin1 transcode.Utf16ToLatin1 h = refl
+exact_transcode transcode.Utf16ToUtf8 transcode.Utf16ToUtf8 h = refl
+exact_transcode transcode.Utf8ToCompactUtf16 transcode.Utf8ToCompactUtf16 h = refl
+exact_transcode transcode.Utf8ToLatin1 transcode.Utf8ToLatin1 h = refl
+exact_transcode transcode.Utf8ToUtf16 transcode.Utf8ToUtf16 h = refl
+exact_transcode a b h = absurd (true≢false (sym h))
+
+exact_transcoder : (a b : TranscoderItem) → transcoder_eq.ghosts.eq a b ≡ true → a ≡ b
+exact_transcoder a b h =
+    let e1 = exact_transcode a.op b.op (first_so _ _ h) in
+    let r1 = second_so (transcode_eq.ghosts.eq a.op b.op) _ h in
+    let e2 = exact_def a.from b.from (first_so _ _ r1) in
+    let r2 = second_so _ _ r1 in
+    let e3 = exact_bool a.from64 b.from64 (first_so _ _ r2) in
+    let r3 = second_so _ _ r2 in
+    let e4 = exact_def a.to b.to (first_so _ _ r3) in
+    let e5 = exact_bool a.to64 b.to64 (second_so _ _ r3) in
+    λ i. record { op = e1 i; from = e2 i; from64 = e3 i; to = e4 i; to64 = e5 i }
+
 pub exact_item : (a b : ImportedItem) → item_eq.ghosts.eq a b ≡ true → a ≡ b
 exact_item (item.Def d) (item.Def e) h = ap item.Def (exact_def d e h)
 exact_item (item.Runtime f) (item.Runtime g) h = ap item.Runtime (exact_runtime f g h)
+exact_item (item.Transcoder t) (item.Transcoder u) h = ap item.Transcoder (exact_transcoder t u h)
 exact_item a b h = absurd (true≢false (sym h))
 
 -- what an import is as a function of the runtime
@@ -94,9 +135,28 @@ pub runtime-no-def : (f : RuntimeFunction) (d : CoreDef) → import_of f ≡ kno
 unfolding runtime_of
 runtime-no-def f d e = let no : Some f ≡ None = sym (runtime-back f) ∙ ap runtime_of e in absurd (cc)
 
+-- and none is a transcoder
+runtime-no-transcoder : (f : RuntimeFunction) (o : Transcode) (d e : CoreDef) (v w : Bool) → import_of f ≡ known.Transcode o d v e w → ⊥
+unfolding runtime_of
+runtime-no-transcoder f o d e v w h = let no : Some f ≡ None = sym (runtime-back f) ∙ ap runtime_of h in absurd (cc)
+
+transcoder-once : (t u : TranscoderItem) → known.Transcode t.op t.from t.from64 t.to t.to64 ≡ known.Transcode u.op u.from u.from64 u.to u.to64 → t ≡ u
+transcoder-once t u h =
+    let e1 : t.op ≡ u.op = cc in
+    let e2 : t.from ≡ u.from = cc in
+    let e3 : t.from64 ≡ u.from64 = cc in
+    let e4 : t.to ≡ u.to = cc in
+    let e5 : t.to64 ≡ u.to64 = cc in
+    λ i. record { op = e1 i; from = e2 i; from64 = e3 i; to = e4 i; to64 = e5 i }
+
 -- items that are the same import are the same
 pub known-once : (x y : ImportedItem) → known_as x ≡ known_as y → x ≡ y
 known-once (item.Def d) (item.Def e) h = ap item.Def cc
 known-once (item.Runtime f) (item.Runtime g) h = ap item.Runtime (runtime-once f g h)
 known-once (item.Def d) (item.Runtime g) h = absurd (runtime-no-def g d (sym h))
 known-once (item.Runtime f) (item.Def e) h = absurd (runtime-no-def f e h)
+known-once (item.Transcoder t) (item.Transcoder u) h = ap item.Transcoder (transcoder-once t u h)
+known-once (item.Transcoder t) (item.Def e) h = cc
+known-once (item.Def d) (item.Transcoder u) h = cc
+known-once (item.Transcoder t) (item.Runtime g) h = absurd (runtime-no-transcoder g t.op t.from t.to t.from64 t.to64 (sym h))
+known-once (item.Runtime f) (item.Transcoder u) h = absurd (runtime-no-transcoder f u.op u.from u.to u.from64 u.to64 h)

@@ -1,5 +1,5 @@
 -- Handles that are taken over by functions of the runtime.
-use Rattle.std.proofs.Common.{◌≡◌, ◌≢◌, ℕ, Bool, true, false, List, [], ◌∷◌, ◌++◌, Option, Some, None, refl, sym, ap, ◌∙◌, subst, arith, append_assoc, ◌⊎◌, inl, inr}
+use Rattle.std.proofs.Common.{◌≡◌, ℕ, List, [], ◌∷◌, ◌++◌, Some, refl, sym, ap, ◌∙◌, subst, append_assoc}
 use Rattle.fact_wasm.specs.declared.instr.Instr.{Instr, the_lemmas}
 use Rattle.fact_wasm.specs.declared.instr.Instr.TheVariants as I
 use Rattle.fact_wasm.specs.declared.module.WasmModule.{WasmModule}
@@ -10,7 +10,7 @@ use Rattle.fact_types.specs.declared.interface.InterfaceType.{InterfaceType}
 use Rattle.fact_types.specs.declared.interface.InterfaceType.TheVariants as ty
 use Rattle.fact_moves.specs.Running.{ImportPlaces}
 use Rattle.fact_pieces.specs.Knows.{KnowsFunction}
-use Rattle.fact_pieces.specs.Places.{From, To, N32, Setting, transfer, read_code, code_before, code_behind}
+use Rattle.fact_pieces.specs.Places.{From, To, N32, read_code, code_before, code_behind}
 use Rattle.fact_pieces.proofs.Handles.{handle_code, moves_handle}
 use Rattle.fact_emit.specs.declared.handles.HandleTransfer.{HandleTransfer}
 use Rattle.fact_emit.specs.declared.places.Sides.{Sides}
@@ -20,7 +20,7 @@ use Rattle.fact_emit.specs.Handles.{IsTransfer, handle_moves, handle_transfer}
 use Rattle.fact_emit.specs.MovesValue.{MovesValue}
 use Rattle.fact_emit.specs.Numbers.{FitsUnchecked, HasUpperAt, ReadsNumber}
 use Rattle.fact_emit.specs.Places.{checks_at, setting_of}
-use Rattle.fact_emit.specs.Runtime.{import_of, transfer_type, type_of_runtime}
+use Rattle.fact_emit.specs.Runtime.{import_of, transfer_type}
 use Rattle.fact_emit.specs.RuntimeCalls.{CallsRuntime, runtime_call}
 use Rattle.fact_emit.specs.Writers.{Wrote, taken_in}
 use Rattle.fact_emit.proofs.Emitting.{emits_then, emits_wrote, wrote_then}

@@ -7,22 +7,24 @@ use Rattle.fact_wasm.specs.declared.module.WasmImport.{WasmImport}
 use Rattle.fact_types.specs.declared.outside.CoreDef.{CoreDef}
 use Rattle.fact_types.specs.declared.import.Import.{Import}
 use Rattle.fact_types.specs.declared.import.Import.TheVariants as known
-use Rattle.fact_emit.specs.ImportSection.{AreNamed, IsNamed, Mention, Role, StandsFor, imports_of}
+use Rattle.fact_emit.specs.ImportSection.{AreNamed, IsNamed, IsNamedIfTranscoder, Mention, Role, StandsFor, imports_of}
 use Rattle.fact_emit.specs.Imports.{Extended}
 use Rattle.fact_emit.specs.declared.imported.RuntimeFunction.{RuntimeFunction}
+use Rattle.fact_emit.specs.declared.transcoders.Transcoder.{Transcoder}
 use Rattle.fact_emit.specs.Known.{AreKnown, AreLinked}
 use Rattle.fact_emit.specs.Linked.{HasTypeIfAny, IsDefLinked, type_of_role}
 use Rattle.fact_emit.specs.Runtime.{name_of_runtime, origin_of_runtime}
-use Rattle.fact_emit.specs.States.{HasType, IsImported, IsRuntimeImported, ModuleSoFar, import_as, nothing_so_far}
+use Rattle.fact_emit.specs.States.{HasType, IsImported, IsRuntimeImported, IsTranscoderImported, ModuleSoFar, import_as, memories_of, nothing_so_far}
 use Rattle.fact_emit.proofs.ImportLaws.{extended_none, extended_on, grows_none}
 use Rattle.fact_emit.proofs.RuntimeNamed.{runtime-named}
 use Rattle.fact_emit.proofs.Named.{named-lengths, named-more, named-push, sort_for, stands-sort}
 use Rattle.fact_emit.proofs.StateLaws.{extended-by}
+use Rattle.fact_emit.proofs.TranscodersNamed.{runtime-as, transcoder-as, transcoders-push, transcoders-typed}
 
 -- ---- what keeps them known
 
 pub known_nothing : AreKnown nothing_so_far []
-known_nothing = record { named = tt }
+known_nothing = record { named = tt; transcoders = record { each = λ k w i at is_at. absurd (cc) } }
 
 module _ {old new : ModuleSoFar} {ms : List Mention} where
   -- a type that comes
@@ -30,14 +32,20 @@ module _ {old new : ModuleSoFar} {ms : List Mention} where
   known_type ty (inl there) h = subst (λ s. AreKnown s ms) (sym there) h
   known_type ty (inr anew) h =
       subst (λ s. AreKnown s ms) (sym anew.1)
-      (record { named = subst (λ ns. AreNamed (old.types ++ ty ∷ []) ns [] old.section old.imports) (append-nil ms) (named-more old.types (ty ∷ []) ms [] [] old.section old.imports h.named) })
+      (record {
+        named = subst (λ ns. AreNamed (old.types ++ ty ∷ []) ns [] old.section old.imports) (append-nil ms) (named-more old.types (ty ∷ []) ms [] [] old.section old.imports h.named);
+        transcoders = transcoders-typed old.types (ty ∷ []) old.section old.imports h.transcoders;
+      })
 
   -- an import that has the names and the type of what it is
-  known_import : {w : WasmImport} {i : Import} {place : ℕ} → IsImported old new w i place → IsNamed old.types ms old.section w i → AreKnown old ms → AreKnown new ms
-  known_import {w} {i} x n h =
+  known_import : {w : WasmImport} {i : Import} {place : ℕ} → IsImported old new w i place → IsNamed old.types ms old.section w i → IsNamedIfTranscoder old.types (memories_of old) w i → AreKnown old ms → AreKnown new ms
+  known_import {w} {i} x n m h =
       elim x.step [
         | inl there ↦ subst (λ s. AreKnown s ms) (sym there.0) h
-        | inr anew ↦ subst (λ s. AreKnown s ms) (sym anew.0) (record { named = named-push old.types ms [] old.section old.imports w i h.named n })
+        | inr anew ↦ subst (λ s. AreKnown s ms) (sym anew.0) (record {
+          named = named-push old.types ms [] old.section old.imports w i h.named n;
+          transcoders = transcoders-push old.types old.section old.imports w i (named-lengths old.types ms [] old.section old.imports h.named) h.transcoders m;
+        })
       ]
 
 known_type_if_any : (old new : ModuleSoFar) {ms : List Mention} (o : Option FuncType) → HasTypeIfAny old new o → AreKnown old ms → AreKnown new ms
@@ -46,11 +54,11 @@ known_type_if_any old new (Some ty) has h = known_type ty has h
 
 -- more mentions
 known_more : (s : ModuleSoFar) (ms ns : List Mention) → AreKnown s ms → AreKnown s (ms ++ ns)
-known_more s ms ns h = record { named = subst (λ ts. AreNamed ts (ms ++ ns) [] s.section s.imports) (append-nil s.types) (named-more s.types [] ms ns [] s.section s.imports h.named) }
+known_more s ms ns h = record { named = subst (λ ts. AreNamed ts (ms ++ ns) [] s.section s.imports) (append-nil s.types) (named-more s.types [] ms ns [] s.section s.imports h.named); transcoders = h.transcoders }
 
 -- mentions that are among these
 pub known_within : (s : ModuleSoFar) (ms ns : List Mention) → ((m : Mention) → Contains ms m → Contains ns m) → AreKnown s ms → AreKnown s ns
-known_within s ms ns within h = record { named = go [] s.section s.imports h.named }
+known_within s ms ns within h = record { named = go [] s.section s.imports h.named; transcoders = h.transcoders }
   where
     one : (before : List WasmImport) (w : WasmImport) (i : Import) → IsNamed s.types ms before w i → IsNamed s.types ns before w i
     one before w (known.CoreDef d) n = (n.0, within _ n.1, n.2)
@@ -63,7 +71,7 @@ known_within s ms ns within h = record { named = go [] s.section s.imports h.nam
     one before w known.EnterSyncCall n = n
     one before w known.ExitSyncCall n = n
     one before w (known.UnsafeIntrinsic s) n = n
-    one before w (known.Transcode a b c d e) n = absurd n
+    one before w (known.Transcode a b c d e) n = n
     one before w (known.PrepareCall a) n = absurd n
     one before w (known.StartCall a b) n = absurd n
 
@@ -75,7 +83,11 @@ known_within s ms ns within h = record { named = go [] s.section s.imports h.nam
 
 -- a function of the runtime
 pub known_runtime : {old new : ModuleSoFar} {ms : List Mention} (f : RuntimeFunction) (place : ℕ) → IsRuntimeImported old new f place → AreKnown old ms → AreKnown new ms
-known_runtime {ms = ms} f place x h = known_import x.imported (runtime-named x.typed.types ms x.typed.section (import_as (origin_of_runtime f) (name_of_runtime f) (import.Func x.ty)) f (record { is_from = refl; is_named = refl; is_typed = x.ty_there })) (known_type _ x.types h)
+known_runtime {ms = ms} f place x h = known_import x.imported (runtime-named x.typed.types ms x.typed.section (import_as (origin_of_runtime f) (name_of_runtime f) (import.Func x.ty)) f (record { is_from = refl; is_named = refl; is_typed = x.ty_there })) (runtime-as _ _ _ f) (known_type _ x.types h)
+
+-- a transcoder
+pub known_transcoder : {old new : ModuleSoFar} {ms : List Mention} (t : Transcoder) (place : ℕ) → IsTranscoderImported old new t place → AreKnown old ms → AreKnown new ms
+known_transcoder t place x h = known_import x.imported x.ty_there (transcoder-as x) (known_type _ x.types h)
 
 -- only types come with a type
 same_section : (old new : ModuleSoFar) (o : Option FuncType) → HasTypeIfAny old new o → new.section ≡ old.section
@@ -88,7 +100,7 @@ pub known_link : {old new : ModuleSoFar} {ms : List Mention} (m : Mention) (plac
 known_link {old} {new} {ms} m place l h =
     let typed : AreKnown l.typed ms = known_type_if_any old l.typed (type_of_role m.role) l.types h in
     let stands : StandsFor l.typed.types l.typed.section m.role l.import = subst (λ ws. StandsFor l.typed.types ws m.role l.import) (sym (same_section old l.typed (type_of_role m.role) l.types)) l.stands in
-    known_import l.imported (m.role, Contains-push ms m, stands) (known_more l.typed ms (m ∷ []) typed)
+    known_import l.imported (m.role, Contains-push ms m, stands) tt (known_more l.typed ms (m ∷ []) typed)
 
 pub known_links : (old new : ModuleSoFar) (ms xs : List Mention) (places : List ℕ) → AreLinked old new xs places → AreKnown old ms → AreKnown new (ms ++ xs)
 known_links old new ms [] [] l h = subst (λ s. AreKnown s (ms ++ [])) (sym l) (known_more old ms [] h)

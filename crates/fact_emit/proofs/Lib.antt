@@ -8,6 +8,7 @@ pub mod ChunkBodies
 pub mod DefinedKept
 pub mod Emitting
 pub mod ExactItems
+pub mod FreedLocals
 pub mod HandleMoves
 pub mod ImportLaws
 pub mod ImportLists
@@ -23,7 +24,9 @@ pub mod NamedPlaces
 pub mod NewAreaMoves
 pub mod NumberMoves
 pub mod Once
+pub mod PairMoves
 pub mod PartPlaces
+pub mod PathLaws
 pub mod PlacesOfLaws
 pub mod RangedCode
 pub mod RequestMoves
@@ -32,6 +35,11 @@ pub mod RuntimeMoves
 pub mod RuntimeNamed
 pub mod ScalarMoves
 pub mod ServingLaws
+pub mod SidesImported
 pub mod StateLaws
+pub mod StringParts
+pub mod StringRanged
+pub mod StringTexts
 pub mod TakenLocals
+pub mod TranscodersNamed
 pub mod Using

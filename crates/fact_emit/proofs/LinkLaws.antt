@@ -1,5 +1,5 @@
 -- What a last module knows of the definitions that were imported for an adapter.
-use Rattle.std.proofs.Common.{◌≡◌, ℕ, Bool, List, [], Contains, Option, Some, None, refl, sym, ap, ◌∙◌, subst, slice_get}
+use Rattle.std.proofs.Common.{◌≡◌, ℕ, Bool, true, List, [], Contains, Option, Some, None, refl, sym, ap, ◌∙◌, subst, slice_get}
 use Rattle.fact_wasm.specs.declared.types.FuncType.{FuncType}
 use Rattle.fact_wasm.specs.declared.module.ImportType.TheVariants as import
 use Rattle.fact_wasm.specs.declared.module.WasmModule.{WasmModule}
@@ -71,8 +71,8 @@ module _ {M : WasmModule} {p : ImportPlaces} {last : ModuleSoFar} {ms : List Men
 -- ---- the memory of a side
 
 pub linear_memory_of : {M : WasmModule} {p : ImportPlaces} (s : Side) (m : MemoryOption) (linear : LinearMemory) → s.memory ≡ Some m → is_wide s.memory ≡ linear.memory64 → linear.page_size_log2 ≡ custom_page_size m.page_size_log2
-    → KnowsMemory M p m.def linear.memory m.memory64 (custom_page_size m.page_size_log2) → IsLinearMemoryOf M p (options_of s) linear
-linear_memory_of {M} {p} s m linear is wide page knows =
+    → linear.has_memory ≡ true → s.encoding ≡ linear.encoding → KnowsMemory M p m.def linear.memory m.memory64 (custom_page_size m.page_size_log2) → IsLinearMemoryOf M p (options_of s) linear
+linear_memory_of {M} {p} s m linear is wide page there encoding knows =
     let same : m.memory64 ≡ linear.memory64 = sym (ap is_wide is) ∙ wide in
     record {
       side = record {
@@ -83,4 +83,6 @@ linear_memory_of {M} {p} s m linear is wide page knows =
         has = subst (λ w. KnowsMemory M p m.def linear.memory w (custom_page_size m.page_size_log2)) same knows;
       };
       log2 = sym page;
+      there = there;
+      encoding = encoding;
     }

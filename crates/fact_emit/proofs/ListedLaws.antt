@@ -12,16 +12,18 @@ use Rattle.fact_types.specs.declared.outside.CoreDef.{CoreDef}
 use Rattle.fact_types.specs.declared.import.Import.{Import}
 use Rattle.fact_types.specs.declared.import.Import.TheVariants as known
 use Rattle.fact_emit.specs.declared.imported.RuntimeFunction.{RuntimeFunction}
-use Rattle.fact_emit.specs.Brought.{AreRuntimeImported}
-use Rattle.fact_emit.specs.ImportSection.{AreNamed, Callback, Callee, Flags, IsRuntime, Mention, PostReturn, Realloc, Role, Sort, StandsFor, Storage, a_function, a_global, a_memory, def_of, imports_of, is_mentioned, sort_of, with_mention, with_mentions}
+use Rattle.fact_emit.specs.declared.transcoders.Transcoder.{Transcoder}
+use Rattle.fact_emit.specs.Brought.{AreCalledImported, CalledFunction, IsCalledImported, Runtime, Transcoding}
+use Rattle.fact_emit.specs.ImportSection.{AreNamed, Callback, Callee, Flags, IsNamed, IsNamedIfTranscoder, Mention, PostReturn, Realloc, Role, Sort, StandsFor, Storage, a_function, a_global, a_memory, def_of, imports_of, is_mentioned, sort_of, with_mention, with_mentions}
 use Rattle.fact_emit.specs.Known.{AreUsedAlike, IsUsedAlike, memory_of_role}
 use Rattle.fact_emit.specs.Linked.{HasTypeIfAny, IsDefLinked, type_of_role}
 use Rattle.fact_emit.specs.Listed.{AreLinkedInTurn, ListsMentions}
 use Rattle.fact_emit.specs.Runtime.{import_of, name_of_runtime, origin_of_runtime}
-use Rattle.fact_emit.specs.States.{HasType, IsImported, IsRuntimeImported, ModuleSoFar, import_as, with_import}
+use Rattle.fact_emit.specs.States.{HasType, IsImported, IsRuntimeImported, IsTranscoderImported, ModuleSoFar, import_as, memories_of, with_import}
 use Rattle.fact_emit.proofs.ImportLists.{get-map, get-there, map-push, there-get, unmap}
-use Rattle.fact_emit.proofs.RuntimeNamed.{named-runtime, runtime-defines-none, runtime-named}
-use Rattle.fact_emit.proofs.Named.{function-sort, named-at, named-lengths, named-more, named-push, sort_for, stands-sort}
+use Rattle.fact_emit.proofs.RuntimeNamed.{runtime-defines-none, runtime-named}
+use Rattle.fact_emit.proofs.Named.{named-at, named-function, named-lengths, named-more, named-push, sort_for, stands-sort}
+use Rattle.fact_emit.proofs.TranscodersNamed.{runtime-as, transcoder-as, transcoders-push, transcoders-typed}
 use Rattle.fact_emit.proofs.Mentions.{def_of-is, given, giver, in-its-kind, in-one, mention-of, mentioned, of-a-kind}
 
 -- ---- the imports so far, and those who mention them
@@ -50,39 +52,50 @@ listed_type old new ms ty (inl there) h = subst (λ s. ListsMentions s ms) (sym 
 listed_type old new ms ty (inr anew) h = subst (λ s. ListsMentions s ms) (sym anew.1) (record {
   defs = h.defs;
   named = subst (λ ns. AreNamed (old.types ++ ty ∷ []) ns [] old.section old.imports) (append-nil ms) (named-more old.types (ty ∷ []) ms [] [] old.section old.imports h.named);
+  transcoders = transcoders-typed old.types (ty ∷ []) old.section old.imports h.transcoders;
   once = h.once;
   signatures = all_pairs_push (λ t u. t ≢ u) old.types ty h.signatures (λ k t within e. anew.0 (there-get old.types k ty (slice_get-get_or old.types k t within ∙ ap Some e)));
 })
 
--- the import of a function of the runtime
-import_runtime : (old new : ModuleSoFar) (ms : List Mention) (w : WasmImport) (f : RuntimeFunction) (place : ℕ) → sort_of w.ty ≡ a_function → IsRuntime old.types f w → IsImported old new w (import_of f) place → ListsMentions old ms → ListsMentions new ms
-import_runtime old new ms w f place is_function names i h = elim i.step [
+-- the import of a function that is no core definition
+import_function : (old new : ModuleSoFar) (ms : List Mention) (w : WasmImport) (i : Import) (place : ℕ) → def_of i ≡ None → IsNamed old.types ms old.section w i → IsNamedIfTranscoder old.types (memories_of old) w i
+    → IsImported old new w i place → ListsMentions old ms → ListsMentions new ms
+import_function old new ms w i place no_def names places x h = elim x.step [
   | inl there ↦ subst (λ s. ListsMentions s ms) (sym there.0) h
   | inr anew ↦ subst (λ s. ListsMentions s ms) (sym anew.0) (record {
-    defs = filter_map-append def_of old.imports (import_of f ∷ []) ∙ ap (λ o. filter_map def_of old.imports ++ cons_option o []) (runtime-defines-none f) ∙ append-nil _ ∙ h.defs;
-    named = named-push old.types ms [] old.section old.imports w (import_of f) h.named (runtime-named old.types ms old.section w f names);
-    once = all_pairs_push (λ i j. i ≢ j) old.imports (import_of f) h.once (λ k i within e. fresh anew.1 k i within e);
+    defs = filter_map-append def_of old.imports (i ∷ []) ∙ ap (λ o. filter_map def_of old.imports ++ cons_option o []) no_def ∙ append-nil _ ∙ h.defs;
+    named = named-push old.types ms [] old.section old.imports w i h.named names;
+    transcoders = transcoders-push old.types old.section old.imports w i (listed_even old ms h) h.transcoders places;
+    once = all_pairs_push (λ i j. i ≢ j) old.imports i h.once (λ k j within e. fresh anew.1 k j within e);
     signatures = h.signatures;
   })
 ]
   where
-    fresh : (Contains (imports_of (sort_of w.ty) old.section old.imports) (import_of f) → ⊥) → (k : ℕ) (i : Import) → k < length old.imports → get_or old.imports k i ≡ import_of f → ⊥
-    fresh absent k i within e =
-        let at : slice_get old.imports k ≡ Some (import_of f) = slice_get-get_or old.imports k i within ∙ ap Some e in
-        let (w', there, b, named) = named-at old.types ms [] old.section old.imports k (import_of f) h.named at in
-        let (n, of) = in-its-kind old.section old.imports k w' (import_of f) there at in
-        let same : sort_of w'.ty ≡ sort_of w.ty = function-sort old.types w'.ty _ (named-runtime old.types ms b w' f named).is_typed ∙ sym is_function in
-        absent (there-get _ n (import_of f) (subst (λ sort. slice_get (imports_of sort old.section old.imports) n ≡ Some (import_of f)) same of))
+    fresh : (Contains (imports_of (sort_of w.ty) old.section old.imports) i → ⊥) → (k : ℕ) (j : Import) → k < length old.imports → get_or old.imports k j ≡ i → ⊥
+    fresh absent k j within e =
+        let at : slice_get old.imports k ≡ Some i = slice_get-get_or old.imports k j within ∙ ap Some e in
+        let (w', there, b, named) = named-at old.types ms [] old.section old.imports k i h.named at in
+        let (n, of) = in-its-kind old.section old.imports k w' i there at in
+        let same : sort_of w'.ty ≡ sort_of w.ty = named-function old.types ms b w' i no_def named ∙ sym (named-function old.types ms old.section w i no_def names) in
+        absent (there-get _ n i (subst (λ sort. slice_get (imports_of sort old.section old.imports) n ≡ Some i) same of))
 
 pub listed_runtime : (old new : ModuleSoFar) (ms : List Mention) (f : RuntimeFunction) (place : ℕ) → IsRuntimeImported old new f place → ListsMentions old ms → ListsMentions new ms
 listed_runtime old new ms f place h lists =
-    import_runtime h.typed new ms (import_as (origin_of_runtime f) (name_of_runtime f) (import.Func h.ty)) f place refl
-    (record { is_from = refl; is_named = refl; is_typed = h.ty_there }) h.imported (listed_type old h.typed ms _ h.types lists)
+    let w = import_as (origin_of_runtime f) (name_of_runtime f) (import.Func h.ty) in
+    import_function h.typed new ms w (import_of f) place (runtime-defines-none f) (runtime-named h.typed.types ms h.typed.section w f (record { is_from = refl; is_named = refl; is_typed = h.ty_there })) (runtime-as _ _ w f) h.imported
+    (listed_type old h.typed ms _ h.types lists)
+
+listed_transcoder : (old new : ModuleSoFar) (ms : List Mention) (t : Transcoder) (place : ℕ) → IsTranscoderImported old new t place → ListsMentions old ms → ListsMentions new ms
+listed_transcoder old new ms t place h lists = import_function h.typed new ms _ _ place refl h.ty_there (transcoder-as h) h.imported (listed_type old h.typed ms _ h.types lists)
+
+listed_one : (old new : ModuleSoFar) (ms : List Mention) (f : CalledFunction) (place : ℕ) → IsCalledImported old new f place → ListsMentions old ms → ListsMentions new ms
+listed_one old new ms (Runtime f) place h lists = listed_runtime old new ms f place h lists
+listed_one old new ms (Transcoding t) place h lists = listed_transcoder old new ms t place h lists
 
 -- Functions of the runtime that code brought in.
-pub listed_all_runtime : (fs : List RuntimeFunction) (old new : ModuleSoFar) (ms : List Mention) → AreRuntimeImported old new fs → ListsMentions old ms → ListsMentions new ms
-listed_all_runtime [] old new ms h lists = subst (λ s. ListsMentions s ms) (sym h) lists
-listed_all_runtime (f ∷ fs) old new ms h lists = listed_all_runtime fs h.0 new ms h.3 (listed_runtime old h.0 ms f h.1 h.2 lists)
+pub listed_called : (fs : List CalledFunction) (old new : ModuleSoFar) (ms : List Mention) → AreCalledImported old new fs → ListsMentions old ms → ListsMentions new ms
+listed_called [] old new ms h lists = subst (λ s. ListsMentions s ms) (sym h) lists
+listed_called (f ∷ fs) old new ms h lists = listed_called fs h.0 new ms h.3 (listed_one old h.0 ms f h.1 h.2 lists)
 
 -- ---- the import of a core definition
 
@@ -143,6 +156,7 @@ module _ (old new : ModuleSoFar) (ms : List Mention) (r : Mention) (w : WasmImpo
         named = named-push old.types (ms ++ r ∷ []) [] old.section old.imports w (known.CoreDef r.def)
             (subst (λ ts. AreNamed ts (ms ++ r ∷ []) [] old.section old.imports) (append-nil old.types) (named-more old.types [] ms (r ∷ []) [] old.section old.imports h.named))
             (r.role, Contains-push ms r, names);
+        transcoders = transcoders-push old.types old.section old.imports w (known.CoreDef r.def) (listed_even old ms h) h.transcoders tt;
         once = all_pairs_push (λ i j. i ≢ j) old.imports (known.CoreDef r.def) h.once (λ k i within e.
             false≢true (sym anew.0 ∙ is-mentioned old ms h r.def k (slice_get-get_or old.imports k i within ∙ ap Some e)));
         signatures = h.signatures;

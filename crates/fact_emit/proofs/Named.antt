@@ -1,5 +1,5 @@
 -- Imports that have the names and the types of what they are, as more of them come.
-use Rattle.std.proofs.Common.{◌≡◌, ℕ, zero, suc, List, [], ◌∷◌, ◌++◌, Some, refl, sym, ap, subst, length, slice_get, append_assoc, append-nil}
+use Rattle.std.proofs.Common.{◌≡◌, ℕ, zero, suc, List, [], ◌∷◌, ◌++◌, None, Some, refl, sym, ap, subst, length, slice_get, append_assoc, append-nil}
 use Rattle.std.proofs.lemmas.List.Elements.{Contains-append_left}
 use Rattle.fact_wasm.specs.declared.types.FuncType.{FuncType}
 use Rattle.fact_wasm.specs.declared.module.ImportType.{ImportType}
@@ -8,7 +8,7 @@ use Rattle.fact_wasm.specs.declared.module.WasmImport.{WasmImport}
 use Rattle.fact_machine.specs.Machine.{func_import}
 use Rattle.fact_types.specs.declared.import.Import.{Import}
 use Rattle.fact_types.specs.declared.import.Import.TheVariants as known
-use Rattle.fact_emit.specs.ImportSection.{AreNamed, Callback, Callee, Flags, IsImportedFunction, IsNamed, Mention, PostReturn, Realloc, Role, Sort, StandsFor, Storage, a_function, a_global, a_memory, imported_type, imports_of, sort_of}
+use Rattle.fact_emit.specs.ImportSection.{AreNamed, Callback, Callee, Flags, IsImportedFunction, IsNamed, Mention, PostReturn, Realloc, Role, Sort, StandsFor, Storage, a_function, a_global, a_memory, def_of, imported_type, imports_of, sort_of}
 use Rattle.fact_machine.proofs.Tests.{get_append}
 
 pub named-lengths : (types : List FuncType) (ms : List Mention) (before ws : List WasmImport) (is : List Import) → AreNamed types ms before ws is → length ws ≡ length is
@@ -19,12 +19,12 @@ named-lengths types ms before (w ∷ ws) (i ∷ is) h = ap suc (named-lengths ty
 
 -- ---- more types, more mentions
 
-typed-more : (types more : List FuncType) (ty : ImportType) (t : FuncType) → imported_type types ty ≡ Some t → imported_type (types ++ more) ty ≡ Some t
+pub typed-more : (types more : List FuncType) (ty : ImportType) (t : FuncType) → imported_type types ty ≡ Some t → imported_type (types ++ more) ty ≡ Some t
 typed-more types more (import.Func k) t e = get_append types more k t e
 typed-more types more (import.Memory a b c) t e = cc
 typed-more types more (import.Global a b) t e = cc
 
-function-more : (types more : List FuncType) (w : WasmImport) (origin name : List ℕ) (ty : FuncType) → IsImportedFunction types w origin name ty → IsImportedFunction (types ++ more) w origin name ty
+pub function-more : (types more : List FuncType) (w : WasmImport) (origin name : List ℕ) (ty : FuncType) → IsImportedFunction types w origin name ty → IsImportedFunction (types ++ more) w origin name ty
 function-more types more w origin name ty h = record { is_from = h.is_from; is_named = h.is_named; is_typed = typed-more types more w.ty ty h.is_typed }
 
 stands-more : (types more : List FuncType) (before : List WasmImport) (r : Role) (w : WasmImport) → StandsFor types before r w → StandsFor (types ++ more) before r w
@@ -38,7 +38,7 @@ stands-more types more before (PostReturn adapter results) w h = function-more t
 is-named-more : (types more : List FuncType) (ms ns : List Mention) (before : List WasmImport) (w : WasmImport) (i : Import) → IsNamed types ms before w i → IsNamed (types ++ more) (ms ++ ns) before w i
 is-named-more types more ms ns before w (known.CoreDef d) h = (h.0, Contains-append_left ms ns _ h.1, stands-more types more before h.0 w h.2)
 is-named-more types more ms ns before w (known.Trap t) h = function-more types more w _ _ _ h
-is-named-more types more ms ns before w (known.Transcode a b c d e) h = absurd h
+is-named-more types more ms ns before w (known.Transcode a b c d e) h = typed-more types more w.ty _ h
 is-named-more types more ms ns before w known.ResourceTransferOwn h = function-more types more w _ _ _ h
 is-named-more types more ms ns before w known.ResourceTransferBorrow h = function-more types more w _ _ _ h
 is-named-more types more ms ns before w (known.PrepareCall a) h = absurd h
@@ -103,6 +103,22 @@ pub function-sort : (types : List FuncType) (ty : ImportType) (t : FuncType) →
 function-sort types (import.Func k) t e = refl
 function-sort types (import.Memory a b c) t e = cc
 function-sort types (import.Global a b) t e = cc
+
+-- what is no core definition is a function
+pub named-function : (types : List FuncType) (ms : List Mention) (before : List WasmImport) (w : WasmImport) (i : Import) → def_of i ≡ None → IsNamed types ms before w i → sort_of w.ty ≡ a_function
+named-function types ms before w (known.CoreDef d) e h = cc
+named-function types ms before w (known.Trap t) e h = function-sort types w.ty _ h.is_typed
+named-function types ms before w (known.Transcode a b c d e') e h = function-sort types w.ty _ h
+named-function types ms before w known.ResourceTransferOwn e h = function-sort types w.ty _ h.is_typed
+named-function types ms before w known.ResourceTransferBorrow e h = function-sort types w.ty _ h.is_typed
+named-function types ms before w (known.PrepareCall a) e h = absurd h
+named-function types ms before w (known.StartCall a b) e h = absurd h
+named-function types ms before w known.FutureTransfer e h = function-sort types w.ty _ h.is_typed
+named-function types ms before w known.StreamTransfer e h = function-sort types w.ty _ h.is_typed
+named-function types ms before w known.ErrorContextTransfer e h = function-sort types w.ty _ h.is_typed
+named-function types ms before w known.EnterSyncCall e h = function-sort types w.ty _ h.is_typed
+named-function types ms before w known.ExitSyncCall e h = function-sort types w.ty _ h.is_typed
+named-function types ms before w (known.UnsafeIntrinsic a) e h = function-sort types w.ty _ h.is_typed
 
 pub stands-sort : (types : List FuncType) (before : List WasmImport) (r : Role) (w : WasmImport) → StandsFor types before r w → sort_of w.ty ≡ sort_for r
 stands-sort types before (Flags i) w h = ap (λ (v : WasmImport). sort_of v.ty) h

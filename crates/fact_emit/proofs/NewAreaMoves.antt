@@ -1,5 +1,5 @@
 -- The request of a new area that a tuple is passed through.
-use Rattle.std.proofs.Common.{◌≡◌, ◌≢◌, ℕ, ◌+◌, ◌-◌, ◌^◌, ◌<◌, ◌≤◌, Bool, true, false, List, [], ◌∷◌, ◌++◌, length, Option, Some, None, refl, sym, ap, ◌∙◌, subst, arith, append_assoc, slice_get}
+use Rattle.std.proofs.Common.{◌≡◌, ℕ, ◌^◌, ◌<◌, ◌≤◌, Bool, true, false, List, [], ◌∷◌, ◌++◌, length, Option, Some, None, refl, sym, ap, ◌∙◌, subst, arith, append_assoc, slice_get}
 use Rattle.std.specs.Prelude.{nat_eq, if◌then◌else◌}
 use Rattle.std.specs.Int.{IsPowerOfTwo}
 use Rattle.std.specs.List.{AllByRecursion}
@@ -26,7 +26,7 @@ use Rattle.fact_moves.specs.Sides.{LiftLowerOptions, check_region, first_bits, g
 use Rattle.fact_pieces.specs.Does.{Locals, Onward, held_types, Does}
 use Rattle.fact_pieces.specs.Context.{ContextSlots}
 use Rattle.fact_pieces.specs.Lists.{address_code}
-use Rattle.fact_pieces.specs.Places.{Slot, AreLocals, IsNone, limit_of, widen}
+use Rattle.fact_pieces.specs.Places.{Slot, AreLocals, limit_of, widen}
 use Rattle.fact_pieces.specs.Typed.{OnStack, IsTyped}
 use Rattle.fact_pieces.specs.Tests.{pointer, region_code}
 use Rattle.fact_pieces.proofs.Guards.{takes_aligned}
@@ -52,7 +52,7 @@ use Rattle.fact_emit.specs.Areas.{IsLinearMemoryOf}
 use Rattle.fact_emit.specs.Emits.{Is, Piece, Emits}
 use Rattle.fact_emit.specs.NewAreas.{NewAreaCode, HoldsArea, AsksArea}
 use Rattle.fact_emit.specs.Places.{AreDistinctSlots}
-use Rattle.fact_emit.specs.Requests.{AsksRegion, IsReallocOf, ask_code_if, request_code}
+use Rattle.fact_emit.specs.Requests.{AsksRegion, IsReallocOf, request_code}
 use Rattle.fact_emit.specs.RuntimeCalls.{slots_of}
 use Rattle.fact_emit.specs.Writers.{taken_in, Wrote, Took, TookAll, Freed}
 use Rattle.fact_emit.proofs.AreaMoves.{apart, each_of, limit_is, masks_of, three}

@@ -1,59 +1,24 @@
 -- Imports of a kind that stand once have the places at which they are found.
 use Rattle.std.proofs.Common.{◌≡◌, ℕ, ◌<◌, Bool, true, false, ◌&&◌, List, Option, Some, None, refl, sym, ap, ◌∙◌, arith, slice_get, get_or}
 use Rattle.std.proofs.lemmas.Bool.{true≢false}
-use Rattle.std.proofs.lemmas.List.Sums.{position_or_len_is}
+use Rattle.std.proofs.lemmas.List.Sums.{passes_at_first, position_or_len_is}
 use Rattle.std.proofs.lemmas.Option.{slice_get-get_or, get_or_from_slice_get, slice_get_within}
 use Rattle.fact_abi.proofs.LiftingLaws.{both_true}
 use Rattle.fact_types.specs.Exact.{exact_def}
 use Rattle.fact_types.specs.declared.outside.CoreDef.{CoreDef}
-use Rattle.fact_types.specs.declared.outside.FixedEncoding.{FixedEncoding}
-use Rattle.fact_types.specs.declared.outside.FixedEncoding.TheVariants as encoding
-use Rattle.fact_types.specs.declared.outside.Transcode.{Transcode}
-use Rattle.fact_types.specs.declared.outside.Transcode.TheVariants as transcode
-use Rattle.fact_types.specs.declared.outside.UnsafeIntrinsic.{UnsafeIntrinsic}
-use Rattle.fact_types.specs.declared.outside.UnsafeIntrinsic.TheVariants as intrinsic
 use Rattle.fact_types.specs.declared.import.Import.{Import}
 use Rattle.fact_types.specs.declared.import.Import.TheVariants as known
 use Rattle.fact_types.specs.contracts.outside.CoreDefEq.TheImpl.Laws as def_laws
-use Rattle.fact_types.specs.contracts.outside.FixedEncodingPartialEq.TheImpl as encoding_eq
-use Rattle.fact_types.specs.contracts.outside.TranscodePartialEq.TheImpl as transcode_eq
 use Rattle.fact_types.specs.contracts.outside.TranscodeEq.TheImpl.Laws as transcode_laws
 use Rattle.fact_types.specs.contracts.outside.TrapEq.TheImpl.Laws as trap_laws
-use Rattle.fact_types.specs.contracts.outside.UnsafeIntrinsicPartialEq.TheImpl as intrinsic_eq
 use Rattle.fact_types.specs.contracts.outside.UnsafeIntrinsicEq.TheImpl.Laws as intrinsic_laws
 use Rattle.fact_emit.specs.ImportedPlaces.{AreImportPlaces}
 use Rattle.fact_emit.specs.Imports.{AreOnce, StandsOnce}
 use Rattle.fact_emit.specs.PlacesOf.{import_places, place_among, same_bool, same_import, same_option}
-use Rattle.fact_emit.specs.States.{ModuleSoFar, functions_of}
-use Rattle.fact_emit.proofs.ExactItems.{exact_trap}
+use Rattle.fact_emit.specs.States.{ModuleSoFar, functions_of, memories_of}
+use Rattle.fact_emit.proofs.ExactItems.{exact_slot, exact_transcode, exact_trap}
 
 -- ---- imports that are equal are the same
-
-exact_encoding : (a b : FixedEncoding) → encoding_eq.ghosts.eq a b ≡ true → a ≡ b
-exact_encoding encoding.Utf8 encoding.Utf8 h = refl
-exact_encoding encoding.Utf16 encoding.Utf16 h = refl
-exact_encoding encoding.Latin1 encoding.Latin1 h = refl
-exact_encoding a b h = absurd (true≢false (sym h))
-
-exact_transcode : (a b : Transcode) → transcode_eq.ghosts.eq a b ≡ true → a ≡ b
-exact_transcode (transcode.Copy e) (transcode.Copy f) h = ap transcode.Copy (exact_encoding e f h)
-exact_transcode transcode.Latin1ToUtf16 transcode.Latin1ToUtf16 h = refl
-exact_transcode transcode.Latin1ToUtf8 transcode.Latin1ToUtf8 h = refl
-exact_transcode transcode.Utf16ToCompactProbablyUtf16 transcode.Utf16ToCompactProbablyUtf16 h = refl
-exact_transcode transcode.Utf16ToCompactUtf16 transcode.Utf16ToCompactUtf16 h = refl
-exact_transcode transcode.Utf16ToLatin1 transcode.Utf16ToLatin1 h = refl
-exact_transcode transcode.Utf16ToUtf8 transcode.Utf16ToUtf8 h = refl
-exact_transcode transcode.Utf8ToCompactUtf16 transcode.Utf8ToCompactUtf16 h = refl
-exact_transcode transcode.Utf8ToLatin1 transcode.Utf8ToLatin1 h = refl
-exact_transcode transcode.Utf8ToUtf16 transcode.Utf8ToUtf16 h = refl
-exact_transcode a b h = absurd (true≢false (sym h))
-
-exact_intrinsic : (a b : UnsafeIntrinsic) → intrinsic_eq.ghosts.eq a b ≡ true → a ≡ b
-exact_intrinsic intrinsic.ContextGetI32_0 intrinsic.ContextGetI32_0 h = refl
-exact_intrinsic intrinsic.ContextGetI32_1 intrinsic.ContextGetI32_1 h = refl
-exact_intrinsic intrinsic.ContextSetI32_0 intrinsic.ContextSetI32_0 h = refl
-exact_intrinsic intrinsic.ContextSetI32_1 intrinsic.ContextSetI32_1 h = refl
-exact_intrinsic a b h = absurd (true≢false (sym h))
 
 exact_bool : (a b : Bool) → same_bool a b ≡ true → a ≡ b
 exact_bool true b h = sym h
@@ -93,7 +58,7 @@ exact_import known.ErrorContextTransfer known.ErrorContextTransfer h = refl
 exact_import (known.Trap t) (known.Trap u) h = ap known.Trap (exact_trap t u h)
 exact_import known.EnterSyncCall known.EnterSyncCall h = refl
 exact_import known.ExitSyncCall known.ExitSyncCall h = refl
-exact_import (known.UnsafeIntrinsic f) (known.UnsafeIntrinsic g) h = ap known.UnsafeIntrinsic (exact_intrinsic f g h)
+exact_import (known.UnsafeIntrinsic f) (known.UnsafeIntrinsic g) h = ap known.UnsafeIntrinsic (exact_slot f g h)
 exact_import a b h = absurd (true≢false (sym h))
 
 same_self : (b : Bool) → same_bool b b ≡ true
@@ -138,10 +103,20 @@ found_at is o i n at =
         let is_n : k ≡ n = o.one k n i there at in
         absurd (omega (arith, is_n, lt))
 
+def_once : (d e : CoreDef) → known.CoreDef e ≡ known.CoreDef d → d ≡ e
+def_once d e h = cc
+
+-- what stands at the place of an import is that import
+pub placed_is : (i j : Import) (is : List Import) → slice_get is (place_among i is) ≡ Some j → j ≡ i
+placed_is i j is h =
+    let found : same_import i (get_or is (place_among i is) j) ≡ true = passes_at_first (same_import i) is j (slice_get_within is (place_among i is) j h) in
+    sym (exact_import i j (ap (same_import i) (sym (get_or_from_slice_get is (place_among i is) j j h)) ∙ found))
+
 pub are_import_places : (s : ModuleSoFar) → AreOnce s → AreImportPlaces s (import_places s)
 are_import_places s o = record {
   functions = found_at (functions_of s) o.functions;
   memories = λ d n at. found_at _ o.memories (known.CoreDef d) n at;
+  one_memory = λ d e n is at. def_once d e (placed_is (known.CoreDef d) (known.CoreDef e) (memories_of s) (ap (slice_get (memories_of s)) is ∙ at));
   flags = λ i n at. found_at _ o.globals _ n at;
   memory_types = refl;
   global_types = refl;

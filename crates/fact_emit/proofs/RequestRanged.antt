@@ -12,9 +12,9 @@ use Rattle.fact_emit.specs.declared.writer.Writer.{Writer}
 use Rattle.fact_emit.specs.Emits.{Grew}
 use Rattle.fact_emit.specs.Requests.{IsReallocImported, ask_code_if}
 use Rattle.fact_emit.specs.States.{ModuleSoFar, functions_of}
-use Rattle.fact_emit.proofs.BroughtLaws.{runtime_count}
 use Rattle.fact_emit.proofs.NamedLaws.{ranged_append, ranged_more, ranged_none}
 use Rattle.fact_emit.proofs.RangedCode.{local_ranged, unreachable_ranged}
+use Rattle.fact_emit.proofs.SidesImported.{realloc_later}
 
 pub const_ranged : (memory64 : Bool) (n : ℕ) → AreRanged 0 0 (const_code memory64 n ∷ [])
 const_ranged true n = ranged_none 0 0 (const_code true n ∷ []) (simp the_lemmas)
@@ -42,7 +42,7 @@ asked_ranged m s align bytes h = go m.realloc refl
 
 -- it is imported still when more is
 pub realloc_on : {m : LinearMemory} {a b : Writer} → IsReallocImported m a.imports → Grew a b → IsReallocImported m b.imports
-realloc_on {m} {a} {b} h x = record { below = λ place e. omega (arith, h.below place e, runtime_count x.brought.runtime a.imports b.imports x.brought.imported) }
+realloc_on h x = realloc_later x.imports h
 
 pub realloc_same : {m : LinearMemory} {s s' : ModuleSoFar} → s' ≡ s → IsReallocImported m s → IsReallocImported m s'
 realloc_same {m} e h = subst (IsReallocImported m) (sym e) h

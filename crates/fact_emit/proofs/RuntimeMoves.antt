@@ -1,5 +1,5 @@
 -- Functions that write calls of functions of the runtime: of the slots of the context, and of the transfers of handles.
-use Rattle.std.proofs.Common.{◌≡◌, ℕ, suc, Bool, true, false, List, [], ◌∷◌, ◌++◌, Some, None, refl, sym, ap, ◌∙◌, subst, arith, append_assoc, append-nil}
+use Rattle.std.proofs.Common.{◌≡◌, ℕ, suc, Bool, true, false, List, [], ◌∷◌, ◌++◌, refl, sym, ap, ◌∙◌, arith}
 use Rattle.fact_wasm.specs.declared.instr.FuncName.TheVariants as func
 use Rattle.fact_wasm.specs.declared.instr.Instr.{Instr, the_lemmas}
 use Rattle.fact_wasm.specs.declared.instr.Instr.TheVariants as I
@@ -12,10 +12,10 @@ use Rattle.fact_emit.specs.declared.imported.RuntimeFunction.TheVariants as runt
 use Rattle.fact_emit.specs.declared.writer.Writer.{Writer}
 use Rattle.fact_emit.specs.Emits.{Emits}
 use Rattle.fact_emit.specs.NamedFunctions.{imported_named}
-use Rattle.fact_emit.specs.RuntimeCalls.{CallsRuntime, CallsAmid, KnowsRuntime, ReadsSlots, SavesSlots, WritesSlots, ZeroesSlots, runtime_call}
+use Rattle.fact_emit.specs.RuntimeCalls.{CallsRuntime, CallsAmid, ReadsSlots, SavesSlots, WritesSlots, ZeroesSlots}
 use Rattle.fact_emit.specs.Writers.{Wrote, TookRuntime}
 use Rattle.fact_emit.proofs.NamedLaws.{ranged_none}
-use Rattle.fact_emit.proofs.Emitting.{emits_as, emits_nothing, emits_taking, emits_then, emits_wrote}
+use Rattle.fact_emit.proofs.Emitting.{emits_nothing, emits_taking, emits_then, emits_wrote}
 
 -- ---- a call
 

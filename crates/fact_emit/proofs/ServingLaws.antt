@@ -8,10 +8,11 @@ use Rattle.fact_machine.specs.Typed.{type_of_global, type_of_memory}
 use Rattle.fact_machine.specs.Typing.{global_import}
 use Rattle.fact_moves.specs.Running.{ImportPlaces}
 use Rattle.fact_pieces.specs.Knows.{ArePlacesOf}
+use Rattle.fact_types.specs.declared.import.Import.TheVariants as known
 use Rattle.fact_emit.specs.ImportedPlaces.{AreImportPlaces}
 use Rattle.fact_emit.specs.Imports.{Extended, Serves}
 use Rattle.fact_emit.specs.States.{ModuleSoFar}
-use Rattle.fact_emit.proofs.ImportLaws.{global_at, later_flags, later_import, later_memory, memory_at}
+use Rattle.fact_emit.proofs.ImportLaws.{global_at, grown_get, later_flags, later_import, later_memory, memory_at}
 
 -- It has what was imported earlier.
 pub serves_sooner : {M : WasmModule} {p : ImportPlaces} {old new : ModuleSoFar} → Extended old new → Serves M p new → Serves M p old
@@ -19,6 +20,7 @@ serves_sooner e s = record {
   functions = λ i place params results h. s.functions i place params results (later_import e h);
   memories = λ d place memory64 log2 h. s.memories d place memory64 log2 (later_memory e h);
   flags = λ instance place h. s.flags instance place (later_flags e h);
+  one_memory = λ d f place at there. s.one_memory d f place at (grown_get e.memories place (known.CoreDef f) there);
 }
 
 module _ (M : WasmModule) (p : ImportPlaces) (s : ModuleSoFar) (imports : M.imports ≡ s.section) (types : M.types ≡ s.types) (places : AreImportPlaces s p) where
@@ -40,6 +42,7 @@ module _ (M : WasmModule) (p : ImportPlaces) (s : ModuleSoFar) (imports : M.impo
       kind = ap (λ ts. slice_get ts n) places.global_types ∙ global_at s.section n (val.I32, true) h.imported;
       imported = ap (λ ws. global_import ws n) imports ∙ h.imported;
     };
+    one_memory = places.one_memory;
   }
 
   pub places_of_all : ArePlacesOf M p

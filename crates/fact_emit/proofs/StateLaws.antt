@@ -12,17 +12,18 @@ use Rattle.fact_wasm.specs.declared.module.WasmExport.{WasmExport}
 use Rattle.fact_wasm.specs.declared.module.WasmFunc.{WasmFunc}
 use Rattle.fact_wasm.specs.declared.module.WasmImport.{WasmImport}
 use Rattle.fact_machine.specs.Trace.{Grows}
+use Rattle.fact_types.specs.declared.outside.CoreDef.{CoreDef}
 use Rattle.fact_types.specs.declared.import.Import.{Import}
+use Rattle.fact_types.specs.declared.import.Import.TheVariants as known
 use Rattle.fact_emit.specs.declared.imported.ImportedItem.{ImportedItem}
 use Rattle.fact_emit.specs.declared.imported.ImportedItem.TheVariants as item
-use Rattle.fact_emit.specs.declared.imported.RuntimeFunction.{RuntimeFunction}
+use Rattle.fact_emit.specs.declared.transcoders.Transcoder.{Transcoder}
 use Rattle.fact_emit.specs.ImportSection.{Sort, a_function, a_memory, a_global, imports_of, imported_type, is_of, same_sort, sort_of}
-use Rattle.fact_emit.specs.Imports.{AreOnce, Extended, HasImport, StandsOnce}
-use Rattle.fact_emit.specs.Runtime.{import_of, type_of_runtime}
-use Rattle.fact_emit.specs.State.{IsAdded, IsIndexed, IsKept, by_sort}
-use Rattle.fact_emit.specs.States.{HasType, IsImported, ModuleSoFar, functions_of, known_as, with_import}
+use Rattle.fact_emit.specs.Imports.{AreOnce, Extended, HasImport, HasTranscoder, StandsOnce}
+use Rattle.fact_emit.specs.State.{IsAdded, IsIndexed, IsItemOf, IsKept, by_sort}
+use Rattle.fact_emit.specs.States.{HasType, IsImported, ModuleSoFar, functions_of, known_as, memories_of, type_of_item, type_of_transcoder, with_import}
 use Rattle.fact_emit.proofs.ExactItems.{known-once}
-use Rattle.fact_emit.proofs.ImportLaws.{extended_none, grows_none, later_import}
+use Rattle.fact_emit.proofs.ImportLaws.{extended_none, grown_get, grows_none, later_import}
 use Rattle.fact_emit.proofs.ImportLists.{count-of, func-last, get-last, get-map, get-there, imports-append, last-or-before, map-push, there-get, unmap}
 use Rattle.fact_emit.proofs.Once.{once_more}
 
@@ -109,27 +110,27 @@ type-number s (import.Global u mutable) t h = cc
 
 module _ (s : ModuleSoFar) (gs ms fs : List ImportedItem) (h : IsIndexed s gs ms fs) where
   -- One more item among those of its kind.
-  module _ (w : WasmImport) (x : ImportedItem) (typed : (f : RuntimeFunction) → x ≡ item.Runtime f → imported_type s.types w.ty ≡ Some (type_of_runtime f)) where
+  module _ (w : WasmImport) (x : ImportedItem) (typed : (f : FuncType) → type_of_item x ≡ Some f → imported_type s.types w.ty ≡ Some f) where
     abbrev new : ModuleSoFar
     new = with_import s w (known_as x)
 
-    added-runtime : (n : ℕ) (f : RuntimeFunction) → (n ≡ length (functions_of s)) × (known_as x ≡ import_of f) → slice_get (functions_of new) n ≡ Some (import_of f) → HasImport new (import_of f) n (type_of_runtime f).params (type_of_runtime f).results
-    added-runtime n f last there =
-        let (k, is, at) = type-number s w.ty (type_of_runtime f) (typed f (known-once x (item.Runtime f) last.1)) in
+    added-typed : (n : ℕ) (y : ImportedItem) (ty : FuncType) → type_of_item y ≡ Some ty → (n ≡ length (functions_of s)) × (known_as x ≡ known_as y) → slice_get (functions_of new) n ≡ Some (known_as y) → HasImport new (known_as y) n ty.params ty.results
+    added-typed n y ty is_typed last there =
+        let (k, is, at) = type-number s w.ty ty (typed ty (ap type_of_item (known-once x y last.1) ∙ is_typed)) in
         record { there = there; type_at = k; imported = rw last.0 (func-last s.section s.imports w k h.same_length is); type_is = at }
 
-    runtime-added : (n : ℕ) (f : RuntimeFunction) → slice_get (functions_of new) n ≡ Some (import_of f) → HasImport new (import_of f) n (type_of_runtime f).params (type_of_runtime f).results
-    runtime-added n f at = go (is_of a_function w) (ap (λ l. slice_get l n) (sym (more s h.same_length w (known_as x) a_function)) ∙ at)
+    typed-added : (n : ℕ) (y : ImportedItem) (ty : FuncType) → type_of_item y ≡ Some ty → slice_get (functions_of new) n ≡ Some (known_as y) → HasImport new (known_as y) n ty.params ty.results
+    typed-added n y ty is_typed at = go (is_of a_function w) (ap (λ l. slice_get l n) (sym (more s h.same_length w (known_as x) a_function)) ∙ at)
       where
-        before : slice_get (functions_of s) n ≡ Some (import_of f) → HasImport new (import_of f) n (type_of_runtime f).params (type_of_runtime f).results
-        before e = later_import (extended-by s h.same_length w (known_as x)) (h.runtime n f e)
+        before : slice_get (functions_of s) n ≡ Some (known_as y) → HasImport new (known_as y) n ty.params ty.results
+        before e = later_import (extended-by s h.same_length w (known_as x)) (h.typed n y ty is_typed e)
 
-        by_place : (slice_get (functions_of s) n ≡ Some (import_of f)) ⊎ ((n ≡ length (functions_of s)) × (known_as x ≡ import_of f)) → HasImport new (import_of f) n (type_of_runtime f).params (type_of_runtime f).results
+        by_place : (slice_get (functions_of s) n ≡ Some (known_as y)) ⊎ ((n ≡ length (functions_of s)) × (known_as x ≡ known_as y)) → HasImport new (known_as y) n ty.params ty.results
         by_place (inl e) = before e
-        by_place (inr last) = added-runtime n f last at
+        by_place (inr last) = added-typed n y ty is_typed last at
 
-        go : (b : Bool) → slice_get (functions_of s ++ cond b (known_as x ∷ []) []) n ≡ Some (import_of f) → HasImport new (import_of f) n (type_of_runtime f).params (type_of_runtime f).results
-        go true e = by_place (last-or-before (functions_of s) (known_as x) n (import_of f) e)
+        go : (b : Bool) → slice_get (functions_of s ++ cond b (known_as x ∷ []) []) n ≡ Some (known_as y) → HasImport new (known_as y) n ty.params ty.results
+        go true e = by_place (last-or-before (functions_of s) (known_as x) n (known_as y) e)
         go false e = before (ap (λ l. slice_get l n) (sym (append-nil (functions_of s))) ∙ e)
 
     module _ (gs' ms' fs' : List ImportedItem) (items : (q : Sort) → by_sort gs' ms' fs' q ≡ by_sort gs ms fs q ++ if_of q (sort_of w.ty) x) (room : length fs' + length s.functions < 2 ^ 32) where
@@ -141,12 +142,30 @@ module _ (s : ModuleSoFar) (gs ms fs : List ImportedItem) (h : IsIndexed s gs ms
           go true = ap (λ is. is ++ known_as x ∷ []) (h.lists q) ∙ sym (map-push known_as (by_sort gs ms fs q) x)
           go false = append-nil _ ∙ h.lists q ∙ ap (map known_as) (sym (append-nil (by_sort gs ms fs q)))
 
+      -- a memory is no function, so it has no type
+      no-memory : (ty : ImportType) → w.ty ≡ ty → same_sort a_memory (sort_of ty) ≡ true → (t : Option FuncType) → type_of_item x ≡ t → t ≡ None
+      no-memory ty is e None is_typed = refl
+      no-memory (import.Memory least wide page) is e (Some t) is_typed = let none : None ≡ Some t = ap (imported_type s.types) (sym is) ∙ typed t is_typed in cc
+      no-memory (import.Func k) is e (Some t) is_typed = cc
+      no-memory (import.Global u mutable) is e (Some t) is_typed = cc
+
+      memory-added : (n : ℕ) (y : ImportedItem) → slice_get ms' n ≡ Some y → type_of_item y ≡ None
+      memory-added n y at = go (same_sort a_memory (sort_of w.ty)) refl (ap (λ l. slice_get l n) (sym (items a_memory)) ∙ at)
+        where
+          go : (b : Bool) → same_sort a_memory (sort_of w.ty) ≡ b → slice_get (ms ++ cond b (x ∷ []) []) n ≡ Some y → type_of_item y ≡ None
+          go false e there = h.memory_defs n y (ap (λ l. slice_get l n) (sym (append-nil ms)) ∙ there)
+          go true e there = elim (last-or-before ms x n y there) [
+            | inl before ↦ h.memory_defs n y before
+            | inr last ↦ ap type_of_item (sym last.1) ∙ no-memory w.ty refl e (type_of_item x) refl
+          ]
+
       pub indexed-with : IsIndexed new gs' ms' fs'
       indexed-with = record {
         same_length = omega (arith, h.same_length, length-append s.section (w ∷ []), length-append s.imports (known_as x ∷ []));
         lists = list-added;
+        memory_defs = memory-added;
         numbered = room;
-        runtime = runtime-added;
+        typed = typed-added;
       }
 
 -- ---- an item that is looked up among those of its kind
@@ -160,7 +179,7 @@ pub record Leaves (old new : ModuleSoFar) (gs ms fs xs : List ImportedItem) (w :
 
 module _ (v : ModuleSoFar) (xs xs' : List ImportedItem) (G M F : List ImportedItem → List ImportedItem) (h : IsIndexed v (G xs) (M xs) (F xs))
     (w : WasmImport) (x : ImportedItem) (section' : List WasmImport) (imports' : List Import)
-    (typed : (f : RuntimeFunction) → x ≡ item.Runtime f → imported_type v.types w.ty ≡ Some (type_of_runtime f))
+    (typed : (f : FuncType) → type_of_item x ≡ Some f → imported_type v.types w.ty ≡ Some f)
     (items : (q : Sort) → by_sort (G (xs ++ x ∷ [])) (M (xs ++ x ∷ [])) (F (xs ++ x ∷ [])) q ≡ by_sort (G xs) (M xs) (F xs) q ++ if_of q (sort_of w.ty) x)
     (of : (ys : List ImportedItem) → by_sort (G ys) (M ys) (F ys) (sort_of w.ty) ≡ ys)
     (Room : Type 0) (room : Room → length (F (xs ++ x ∷ [])) + length v.functions < 2 ^ 32)
@@ -208,8 +227,8 @@ module _ (v : ModuleSoFar) (xs xs' : List ImportedItem) (G M F : List ImportedIt
 
 -- The state that contracts see, and the import that is asked for.
 module _ (v t : ModuleSoFar) (same : v ≡ t) (gs ms fs : List ImportedItem) (h : IsIndexed v gs ms fs) (w w' : WasmImport) (is_w : w ≡ w') (x : ImportedItem)
-    (typed : (f : RuntimeFunction) → x ≡ item.Runtime f → imported_type t.types w'.ty ≡ Some (type_of_runtime f)) (section' : List WasmImport) (imports' : List Import) (xs' : List ImportedItem) where
-  typed-here : (f : RuntimeFunction) → x ≡ item.Runtime f → imported_type v.types w.ty ≡ Some (type_of_runtime f)
+    (typed : (f : FuncType) → type_of_item x ≡ Some f → imported_type t.types w'.ty ≡ Some f) (section' : List WasmImport) (imports' : List Import) (xs' : List ImportedItem) where
+  typed-here : (f : FuncType) → type_of_item x ≡ Some f → imported_type v.types w.ty ≡ Some f
   typed-here = rw (same, is_w) typed
 
   seen : {new : ModuleSoFar} {gs' ms' fs' : List ImportedItem} → Leaves v new gs' ms' fs' xs' w x → Leaves t new gs' ms' fs' xs' w' x
@@ -248,8 +267,26 @@ pub global-untyped : (types : List FuncType) {w w' : WasmImport} {ty : ValType} 
 global-untyped types {t = t} is_w is h = let none : None ≡ Some t = ap (imported_type types) (sym is ∙ ap (λ (v : WasmImport). v.ty) is_w) ∙ h in cc
 
 -- a function of the runtime that is there has its type
-pub runtime-there : (s : ModuleSoFar) (gs ms fs : List ImportedItem) (h : IsIndexed s gs ms fs) (x : ImportedItem) (n : ℕ) → slice_get fs n ≡ Some x → (f : RuntimeFunction) → x ≡ item.Runtime f → HasImport s (import_of f) n (type_of_runtime f).params (type_of_runtime f).results
-runtime-there s gs ms fs h x n at f e = h.runtime n f (known-there _ fs x n (h.lists a_function) at ∙ ap (λ y. Some (known_as y)) e)
+pub typed-there : (s : ModuleSoFar) (gs ms fs : List ImportedItem) (h : IsIndexed s gs ms fs) (x : ImportedItem) (n : ℕ) → slice_get fs n ≡ Some x → (f : FuncType) → type_of_item x ≡ Some f → HasImport s (known_as x) n f.params f.results
+typed-there s gs ms fs h x n at f e = h.typed n x f e (known-there _ fs x n (h.lists a_function) at)
+
+-- A transcoder that is imported as an item is the function of this place.
+pub has_transcoder : {s t : ModuleSoFar} (x : Transcoder) (y : ImportedItem) (place : ℕ) → IsItemOf x s y → Extended s t → ((f : FuncType) → type_of_item y ≡ Some f → HasImport t (known_as y) place f.params f.results) → HasTranscoder t x place
+has_transcoder {t = t} x y place i e typed = record {
+  from = i.from;
+  to = i.to;
+  from_there = grown_get e.memories x.from_memory.number _ i.from_there;
+  to_there = grown_get e.memories x.to_memory.number _ i.to_there;
+  has = subst (λ z. HasImport t z place (type_of_transcoder x).params (type_of_transcoder x).results) (ap known_as i.is) (typed (type_of_transcoder x) (ap type_of_item i.is));
+}
+
+-- A memory that is there is a core definition.
+pub memory-there : (v t : ModuleSoFar) → v ≡ t → (gs ms fs : List ImportedItem) → IsIndexed v gs ms fs → (d : CoreDef) (n : ℕ) → slice_get ms n ≡ Some (item.Def d) → slice_get (memories_of t) n ≡ Some (known.CoreDef d)
+memory-there v t same gs ms fs h d n at = ap (λ (u : ModuleSoFar). slice_get (memories_of u) n) (sym same) ∙ known-there _ ms (item.Def d) n (h.lists a_memory) at
+
+-- It is no function of the runtime.
+pub memory-untold : (s : ModuleSoFar) (gs ms fs : List ImportedItem) → IsIndexed s gs ms fs → (x : ImportedItem) (n : ℕ) → slice_get ms n ≡ Some x → (t : FuncType) → type_of_item x ≡ Some t → ⊥
+memory-untold s gs ms fs h x n at t is = let none : Some t ≡ None = sym is ∙ h.memory_defs n x at in cc
 
 -- ---- types
 
@@ -259,8 +296,9 @@ pub typed-indexed : (v : ModuleSoFar) (types : List FuncType) (gs ms fs : List I
 typed-indexed v types gs ms fs h keeps = record {
   same_length = h.same_length;
   lists = h.lists;
+  memory_defs = h.memory_defs;
   numbered = h.numbered;
-  runtime = λ n f at. let i = h.runtime n f at in record { there = i.there; type_at = i.type_at; imported = i.imported; type_is = keeps i.type_at _ i.type_is };
+  typed = λ n y ty e at. let i = h.typed n y ty e at in record { there = i.there; type_at = i.type_at; imported = i.imported; type_is = keeps i.type_at _ i.type_is };
 }
 
 -- A function was defined, or one was exported.
@@ -269,16 +307,18 @@ module _ (v : ModuleSoFar) (gs ms fs : List ImportedItem) (h : IsIndexed v gs ms
   defined-indexed t same f functions is room = record {
     same_length = h.same_length;
     lists = h.lists;
+    memory_defs = h.memory_defs;
     numbered = omega (arith, ap length is, length-append v.functions (f ∷ []), length-map fs known_as, ap length (h.lists a_function), subst (λ (u : ModuleSoFar). length (functions_of u) + length u.functions + 1 < 2 ^ 32) (sym same) room);
-    runtime = λ n f at. let i = h.runtime n f at in record { there = i.there; type_at = i.type_at; imported = i.imported; type_is = i.type_is };
+    typed = λ n y ty e at. let i = h.typed n y ty e at in record { there = i.there; type_at = i.type_at; imported = i.imported; type_is = i.type_is };
   }
 
   pub exported-indexed : (exports : List WasmExport) → IsIndexed (record v { exports = exports }) gs ms fs
   exported-indexed exports = record {
     same_length = h.same_length;
     lists = h.lists;
+    memory_defs = h.memory_defs;
     numbered = h.numbered;
-    runtime = λ n f at. let i = h.runtime n f at in record { there = i.there; type_at = i.type_at; imported = i.imported; type_is = i.type_is };
+    typed = λ n y ty e at. let i = h.typed n y ty e at in record { there = i.there; type_at = i.type_at; imported = i.imported; type_is = i.type_is };
   }
 
 -- A list to which a type came, or in which it was, has it at one place.

@@ -33,10 +33,12 @@ pub record AreaCode (m : LinearMemory) (address size align : ℕ) (t : AreaLocal
   pub has_outside : KnowsFunction M p (import.Trap MemoryOutOfBounds) outside [] []
   pub is : code ≡ widened_code m.memory64 address t.pointer ++ (I.I64Const size ∷ I.LocalSet t.bytes ∷ region_code m.memory m.memory64 m.page_size_log2 align t.pointer t.bytes t.length unaligned outside)
 
--- A side whose memory this one is.
+-- A side whose memory this one is, and whose texts stand in it so.
 pub record IsLinearMemoryOf (M : WasmModule) (p : ImportPlaces) (o : LiftLowerOptions) (m : LinearMemory) : Type 0 where
   pub side : SideMemory M p o m.memory64 m.memory
   pub log2 : side.log2 ≡ m.page_size_log2
+  pub there : m.has_memory ≡ true
+  pub encoding : o.encoding ≡ m.encoding
 
 -- Code that checks the area of so many bytes at an address in a local: it is aligned, and lies within its side's memory, with a
 -- trap where not. It keeps all locals in use. Behind it, all bytes of the area have addresses.

@@ -16,11 +16,14 @@ use Rattle.fact_types.specs.declared.outside.CoreDef.TheVariants as def
 use Rattle.fact_types.specs.declared.import.Import.{Import}
 use Rattle.fact_types.specs.declared.import.Import.TheVariants as known
 use Rattle.fact_types.specs.declared.outside.MemoryOption.{MemoryOption}
+use Rattle.fact_types.specs.declared.outside.Transcode.{Transcode}
 use Rattle.fact_types.specs.Adapters.{LinkedAdapter, Side, is_wide, same_def}
 use Rattle.fact_types.specs.ImportTypes.{callback_type, post_return_type, realloc_type}
+use Rattle.fact_pieces.specs.StringCode.{transcoder_type}
 use Rattle.fact_emit.specs.declared.imported.RuntimeFunction.{RuntimeFunction}
 use Rattle.fact_emit.specs.declared.imported.RuntimeFunction.TheVariants as runtime
 use Rattle.fact_emit.specs.Runtime.{name_of_runtime, origin_of_runtime, type_of_runtime}
+use Rattle.fact_emit.specs.TranscoderNames.{transcoder_name}
 
 -- ---- what the adapters mention
 
@@ -127,7 +130,8 @@ abbrev pub IsRuntime : List FuncType → RuntimeFunction → WasmImport → Type
 IsRuntime types f w = IsImportedFunction types w (origin_of_runtime f) (name_of_runtime f) (type_of_runtime f)
 
 -- The import, behind these others, has the names and the type of what it is: a core definition those of the role in which it is
--- mentioned. Adapters that are built so far import no others.
+-- mentioned. A transcoder has its type; how it is named hangs on the places of memories, as is said below. Adapters that are built so
+-- far import no others.
 abbrev pub IsNamed : List FuncType → List Mention → List WasmImport → WasmImport → Import → Type 0
 IsNamed types ms before w (known.CoreDef d) = (role : Role) × Contains ms (record { def = d; role = role }) × StandsFor types before role w
 IsNamed types ms before w (known.Trap t) = IsRuntime types (runtime.Trap t) w
@@ -139,6 +143,7 @@ IsNamed types ms before w known.ErrorContextTransfer = IsRuntime types runtime.E
 IsNamed types ms before w known.EnterSyncCall = IsRuntime types runtime.EnterSyncCall w
 IsNamed types ms before w known.ExitSyncCall = IsRuntime types runtime.ExitSyncCall w
 IsNamed types ms before w (known.UnsafeIntrinsic s) = IsRuntime types (runtime.UnsafeIntrinsic s) w
+IsNamed types ms before w (known.Transcode o from from64 to to64) = imported_type types w.ty ≡ Some (transcoder_type o from64 to64)
 IsNamed types ms before w _ = ⊥
 
 -- The imports `ws`, behind `before`, are what `is` says, one by one.
@@ -147,6 +152,27 @@ AreNamed types ms before [] [] = Unit {0}
 AreNamed types ms before (w ∷ ws) (i ∷ is) = IsNamed types ms before w i × AreNamed types ms (before ++ w ∷ []) ws is
 AreNamed types ms before [] (i ∷ is) = ⊥
 AreNamed types ms before (w ∷ ws) [] = ⊥
+
+-- the imports of a kind, in order
+abbrev pub imports_of : Sort → List WasmImport → List Import → List Import
+imports_of sort (w ∷ ws) (i ∷ is) = if is_of sort w then i ∷ imports_of sort ws is else imports_of sort ws is
+imports_of sort _ _ = []
+
+-- The import is this transcoder between the memories of these definitions, which have their places among the imported memories.
+pub record IsTranscoderNamed (types : List FuncType) (memories : List Import) (o : Transcode) (from : CoreDef) (from64 : Bool) (to : CoreDef) (to64 : Bool) (w : WasmImport) : Type 0 where
+  pub from_place : ℕ
+  pub to_place : ℕ
+  pub from_there : slice_get memories from_place ≡ Some (known.CoreDef from)
+  pub to_there : slice_get memories to_place ≡ Some (known.CoreDef to)
+  pub is : IsImportedFunction types w (codes "transcode") (transcoder_name o from_place to_place) (transcoder_type o from64 to64)
+
+abbrev pub IsNamedIfTranscoder : List FuncType → (memories : List Import) → WasmImport → Import → Type 0
+IsNamedIfTranscoder types memories w (known.Transcode o from from64 to to64) = IsTranscoderNamed types memories o from from64 to to64 w
+IsNamedIfTranscoder types memories w _ = Unit {0}
+
+-- Each transcoder among the imports is named so.
+pub record AreTranscodersNamed (types : List FuncType) (ws : List WasmImport) (is : List Import) : Type 0 where
+  pub each : (k : ℕ) (w : WasmImport) (i : Import) → slice_get ws k ≡ Some w → slice_get is k ≡ Some i → IsNamedIfTranscoder types (imports_of a_memory ws is) w i
 
 abbrev pub def_of : Import → Option CoreDef
 def_of (known.CoreDef d) = Some d
@@ -157,15 +183,11 @@ def_of _ = None
 pub record NamesImports (m : WasmModule) (is : List Import) (adapters : List LinkedAdapter) : Type 0 where
   pub defs : filter_map def_of is ≡ map (λ r. r.def) (mentions adapters)
   pub named : AreNamed m.types (mentions adapters) [] m.imports is
+  pub transcoders : AreTranscodersNamed m.types m.imports is
   pub once : AllPairs (λ i j. i ≢ j) is
   pub signatures : AllPairs (λ t u. t ≢ u) m.types
 
 -- ---- what an index of the module names
-
--- the imports of a kind, in order
-abbrev pub imports_of : Sort → List WasmImport → List Import → List Import
-imports_of sort (w ∷ ws) (i ∷ is) = if is_of sort w then i ∷ imports_of sort ws is else imports_of sort ws is
-imports_of sort _ _ = []
 
 abbrev pub imported_function : WasmModule → List Import → FuncName → Option Import
 imported_function m is (func.Import k) = slice_get (imports_of a_function m.imports is) k

@@ -11,10 +11,11 @@ use Rattle.fact_types.specs.declared.import.Import.TheVariants as known
 use Rattle.fact_moves.specs.Running.{ImportPlaces}
 use Rattle.fact_emit.specs.States.{ModuleSoFar, functions_of, globals_of, memories_of}
 
--- The places are those at which the module imports what is named.
+-- The places are those at which the module imports what is named. No other definition has the place of an imported memory.
 pub record AreImportPlaces (s : ModuleSoFar) (p : ImportPlaces) : Type 0 where
   pub functions : (i : Import) (n : ℕ) → slice_get (functions_of s) n ≡ Some i → p.function i ≡ n
   pub memories : (d : CoreDef) (n : ℕ) → slice_get (memories_of s) n ≡ Some (known.CoreDef d) → p.memory d ≡ n
+  pub one_memory : (d e : CoreDef) (n : ℕ) → p.memory d ≡ n → slice_get (memories_of s) n ≡ Some (known.CoreDef e) → d ≡ e
   pub flags : (i : Id RuntimeComponentInstances) (n : ℕ) → slice_get (globals_of s) n ≡ Some (known.CoreDef (def.InstanceFlags i)) → p.flags i.number ≡ n
   pub memory_types : p.memory_types ≡ filter_map type_of_memory s.section
   pub global_types : p.global_types ≡ filter_map type_of_global s.section

@@ -12,7 +12,8 @@ use Rattle.fact_types.specs.declared.outside.CoreDef.{CoreDef}
 use Rattle.fact_types.specs.declared.outside.CoreDef.TheVariants as def
 use Rattle.fact_moves.specs.Running.{ImportPlaces}
 use Rattle.fact_pieces.specs.Knows.{KnowsFlags, KnowsFunction, KnowsMemory}
-use Rattle.fact_emit.specs.States.{ModuleSoFar, functions_of, globals_of, memories_of}
+use Rattle.fact_emit.specs.declared.transcoders.Transcoder.{Transcoder}
+use Rattle.fact_emit.specs.States.{ModuleSoFar, functions_of, globals_of, memories_of, type_of_transcoder}
 
 -- an import is the function of this place, with this type
 pub record HasImport (s : ModuleSoFar) (i : Import) (place : ℕ) (params results : List ValType) : Type 0 where
@@ -20,6 +21,14 @@ pub record HasImport (s : ModuleSoFar) (i : Import) (place : ℕ) (params result
   pub type_at : ℕ
   pub imported : func_import s.section place ≡ Some type_at
   pub type_is : slice_get s.types type_at ≡ Some (record { params = params; results = results })
+
+-- a transcoder between the memories of its places is the function of this place
+pub record HasTranscoder (s : ModuleSoFar) (t : Transcoder) (place : ℕ) : Type 0 where
+  pub from : CoreDef
+  pub to : CoreDef
+  pub from_there : slice_get (memories_of s) t.from_memory.number ≡ Some (known.CoreDef from)
+  pub to_there : slice_get (memories_of s) t.to_memory.number ≡ Some (known.CoreDef to)
+  pub has : HasImport s (known.Transcode t.op from t.from_memory64 to t.to_memory64) place (type_of_transcoder t).params (type_of_transcoder t).results
 
 -- a memory is that of this place
 pub record HasMemory (s : ModuleSoFar) (d : CoreDef) (place : ℕ) (memory64 : Bool) (log2 : Option ℕ) : Type 0 where
@@ -50,8 +59,9 @@ pub record AreOnce (s : ModuleSoFar) : Type 0 where
   pub memories : StandsOnce (memories_of s)
   pub globals : StandsOnce (globals_of s)
 
--- A module and places that have all that was imported so far.
+-- A module and places that have all that was imported so far. A definition that has the place of a memory is that which is imported there.
 pub record Serves (M : WasmModule) (p : ImportPlaces) (s : ModuleSoFar) : Type 0 where
   pub functions : (i : Import) (place : ℕ) (params results : List ValType) → HasImport s i place params results → KnowsFunction M p i place params results
   pub memories : (d : CoreDef) (place : ℕ) (memory64 : Bool) (log2 : Option ℕ) → HasMemory s d place memory64 log2 → KnowsMemory M p d place memory64 log2
   pub flags : (instance place : ℕ) → HasFlags s instance place → KnowsFlags M p instance place
+  pub one_memory : (d e : CoreDef) (place : ℕ) → p.memory d ≡ place → slice_get (memories_of s) place ≡ Some (known.CoreDef e) → d ≡ e

@@ -1,6 +1,6 @@
 -- What modules that import definitions in some roles know of them.
 use Rattle.std.specs.Prelude.{◌≡◌, ℕ, Bool, List, [], ◌∷◌, Contains, Option, Some, None}
-use Rattle.fact_emit.specs.ImportSection.{AreNamed, Mention, Role, Storage, custom_page_size}
+use Rattle.fact_emit.specs.ImportSection.{AreNamed, AreTranscodersNamed, Mention, Role, Storage, custom_page_size}
 use Rattle.fact_emit.specs.Linked.{IsDefLinked, type_of_role}
 use Rattle.fact_emit.specs.States.{ModuleSoFar}
 
@@ -21,6 +21,7 @@ pub record AreUsedAlike (ms : List Mention) : Type 0 where
 -- Each import so far has the names and the type of what it is: a core definition those of a role in which it is mentioned here.
 pub record AreKnown (s : ModuleSoFar) (ms : List Mention) : Type 0 where
   pub named : AreNamed s.types ms [] s.section s.imports
+  pub transcoders : AreTranscodersNamed s.types s.section s.imports
 
 -- Definitions were imported in the roles in which they are mentioned, one after another, and have these places.
 abbrev pub AreLinked : (old new : ModuleSoFar) → List Mention → List ℕ → Type 0

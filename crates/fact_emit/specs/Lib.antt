@@ -18,6 +18,7 @@ pub mod MovesValue
 pub mod NamedFunctions
 pub mod NewAreas
 pub mod Numbers
+pub mod Pairs
 pub mod Parts
 pub mod Places
 pub mod PlacesOf
@@ -28,6 +29,9 @@ pub mod Scalars
 pub mod Settings
 pub mod State
 pub mod States
+pub mod StringPaths
+pub mod StringPieces
+pub mod TranscoderNames
 pub mod WidthLaws
 pub mod Widths
 pub mod Writers

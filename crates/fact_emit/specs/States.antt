@@ -1,5 +1,5 @@
 -- The parts of a module that is being made, and what the calls on them change.
-use Rattle.std.specs.Prelude.{◌≡◌, ℕ, ◌⊎◌, List, [], ◌∷◌, ◌++◌, Some, Contains, length, slice_get}
+use Rattle.std.specs.Prelude.{◌≡◌, ℕ, ◌⊎◌, ◌<◌, List, [], ◌∷◌, ◌++◌, Option, Some, None, Contains, codes, length, slice_get}
 use Rattle.fact_wasm.specs.declared.types.FuncType.{FuncType}
 use Rattle.fact_wasm.specs.declared.module.ImportType.{ImportType}
 use Rattle.fact_wasm.specs.declared.module.ImportType.TheVariants as import
@@ -9,15 +9,19 @@ use Rattle.fact_wasm.specs.declared.module.WasmExport.{WasmExport}
 use Rattle.fact_wasm.specs.declared.module.WasmModule.{WasmModule}
 use Rattle.fact_wasm.specs.declared.instr.FuncName.{FuncName}
 use Rattle.fact_wasm.specs.declared.instr.FuncName.TheVariants as func
+use Rattle.fact_types.specs.declared.outside.CoreDef.{CoreDef}
 use Rattle.fact_types.specs.declared.outside.Trap.{Trap}
 use Rattle.fact_types.specs.declared.import.Import.{Import}
 use Rattle.fact_types.specs.declared.import.Import.TheVariants as known
+use Rattle.fact_pieces.specs.StringCode.{transcoder_type}
 use Rattle.fact_emit.specs.declared.imported.ImportedItem.{ImportedItem}
 use Rattle.fact_emit.specs.declared.imported.ImportedItem.TheVariants as item
 use Rattle.fact_emit.specs.declared.imported.RuntimeFunction.{RuntimeFunction}
 use Rattle.fact_emit.specs.declared.imported.RuntimeFunction.TheVariants as runtime
+use Rattle.fact_emit.specs.declared.transcoders.Transcoder.{Transcoder}
 use Rattle.fact_emit.specs.ImportSection.{a_function, a_memory, a_global, imports_of, sort_of}
 use Rattle.fact_emit.specs.Runtime.{import_of, name_of_runtime, origin_of_runtime, type_of_runtime}
+use Rattle.fact_emit.specs.TranscoderNames.{transcoder_name}
 
 -- The sections of a module so far, and what its imports are.
 pub record ModuleSoFar : Type 0 where
@@ -46,6 +50,24 @@ globals_of s = imports_of a_global s.section s.imports
 abbrev pub known_as : ImportedItem → Import
 known_as (item.Def d) = known.CoreDef d
 known_as (item.Runtime f) = import_of f
+known_as (item.Transcoder t) = known.Transcode t.op t.from t.from64 t.to t.to64
+
+-- the type of a function of the runtime; a core definition has that of its role
+abbrev pub type_of_item : ImportedItem → Option FuncType
+type_of_item (item.Def d) = None
+type_of_item (item.Runtime f) = Some (type_of_runtime f)
+type_of_item (item.Transcoder t) = Some (transcoder_type t.op t.from64 t.to64)
+
+abbrev pub name_of_transcoder : Transcoder → List ℕ
+name_of_transcoder t = transcoder_name t.op t.from_memory.number t.to_memory.number
+
+abbrev pub type_of_transcoder : Transcoder → FuncType
+type_of_transcoder t = transcoder_type t.op t.from_memory64 t.to_memory64
+
+-- both memories are imported
+pub record AreMemoriesImported (t : Transcoder) (s : ModuleSoFar) : Type 0 where
+  pub from : t.from_memory.number < length (memories_of s)
+  pub to : t.to_memory.number < length (memories_of s)
 
 -- ---- steps
 
@@ -85,6 +107,19 @@ pub record IsRuntimeImported (old new : ModuleSoFar) (f : RuntimeFunction) (plac
 -- So is a trap.
 abbrev pub IsTrapImported : (old new : ModuleSoFar) → Trap → (place : ℕ) → Type 0
 IsTrapImported old new t place = IsRuntimeImported old new (runtime.Trap t) place
+
+-- A transcoder is imported, and has this place among the imported functions. It reads and writes the memories of the definitions that
+-- have its places among the imported memories.
+pub record IsTranscoderImported (old new : ModuleSoFar) (t : Transcoder) (place : ℕ) : Type 0 where
+  pub from : CoreDef
+  pub to : CoreDef
+  pub from_there : slice_get (memories_of old) t.from_memory.number ≡ Some (known.CoreDef from)
+  pub to_there : slice_get (memories_of old) t.to_memory.number ≡ Some (known.CoreDef to)
+  pub ty : ℕ
+  pub typed : ModuleSoFar
+  pub types : HasType old typed (type_of_transcoder t)
+  pub ty_there : slice_get typed.types ty ≡ Some (type_of_transcoder t)
+  pub imported : IsImported typed new (import_as (codes "transcode") (name_of_transcoder t) (import.Func ty)) (known.Transcode t.op from t.from_memory64 to t.to_memory64) place
 
 -- The functions that the module defines, and its exports, are the same.
 pub record KeepsDefined (old new : ModuleSoFar) : Type 0 where

@@ -9,12 +9,13 @@ use Rattle.fact_machine.specs.Typing.{is_number}
 use Rattle.fact_pieces.specs.Places.{Slot, AreLocals, IsNone}
 use Rattle.fact_emit.specs.declared.imported.RuntimeFunction.{RuntimeFunction}
 use Rattle.fact_emit.specs.declared.imported.RuntimeFunction.TheVariants as runtime
+use Rattle.fact_emit.specs.declared.transcoders.Transcoder.{Transcoder}
 use Rattle.fact_emit.specs.declared.writer.Local.{Local}
 use Rattle.fact_emit.specs.declared.writer.Writer.{Writer}
-use Rattle.fact_emit.specs.Imports.{HasImport, Extended, AreOnce}
+use Rattle.fact_emit.specs.Imports.{HasImport, HasTranscoder, Extended, AreOnce}
 use Rattle.fact_emit.specs.Places.{AreDistinctSlots}
 use Rattle.fact_emit.specs.Runtime.{import_of, type_of_runtime}
-use Rattle.fact_emit.specs.States.{IsRuntimeImported}
+use Rattle.fact_emit.specs.States.{IsRuntimeImported, IsTranscoderImported}
 
 abbrev pub types_of_locals : Writer → List ValType
 types_of_locals w = map (λ l. l.ty) w.locals.items
@@ -106,6 +107,11 @@ pub record TookAll (old new : Writer) (slots : List Slot) : Type 0 where
 abbrev pub IsNoneOf : ℕ → List ℕ → Type 0
 IsNoneOf i ns = AllByRecursion (λ n. nat_eq i n ≡ false) ns
 
+-- no number stands there twice
+abbrev pub AreDistinctNumbers : List ℕ → Type 0
+AreDistinctNumbers [] = Unit {0}
+AreDistinctNumbers (n ∷ ns) = IsNoneOf n ns × AreDistinctNumbers ns
+
 -- locals are in use no more
 pub record FreedAll (old new : Writer) (locals : List ℕ) : Type 0 where
   pub code : new.code.items ≡ old.code.items
@@ -126,3 +132,12 @@ pub record TookRuntime (old new : Writer) (f : RuntimeFunction) (place : ℕ) : 
 -- so has a trap
 abbrev pub TookTrap : (old new : Writer) → Trap → (place : ℕ) → Type 0
 TookTrap old new t place = TookRuntime old new (runtime.Trap t) place
+
+-- so has a transcoder
+pub record TookTranscoder (old new : Writer) (t : Transcoder) (place : ℕ) : Type 0 where
+  pub code : new.code.items ≡ old.code.items
+  pub locals : new.locals ≡ old.locals
+  pub imported : IsTranscoderImported old.imports new.imports t place
+  pub imports : Extended old.imports new.imports
+  pub once : AreOnce old.imports → AreOnce new.imports
+  pub there : HasTranscoder new.imports t place

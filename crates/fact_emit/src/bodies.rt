@@ -7,7 +7,9 @@ ghost use Rattle.fact_wasm.specs.declared.instr.Instr.{Instr};
 ghost use Rattle.fact_wasm.specs.declared.instr.Instr.TheVariants as I;
 ghost use Rattle.fact_pieces.specs.Choices.{chunk_number, place_in_chunk, IsChoice};
 ghost use Rattle.fact_pieces.specs.Code.{arms, cases_code, labels_from, sum_code, trap_code};
+ghost use Rattle.fact_pieces.specs.StringCode.{either_code};
 ghost use Rattle.fact_emit.specs.Bodies.{AreChunkCodes, HasChunks, WroteChoice};
+ghost use Rattle.fact_emit.specs.Writers.{Wrote};
 
 use crate::writer::Writer;
 use fact_types::Trap;
@@ -215,6 +217,21 @@ pub fn put_cases(w: &mut Writer, local: u32, bodies: Vec<Seq<Instr>>) -> Result<
     }
     let place = w.trap(Trap::InvalidDiscriminant)?;
     let code = choice(w.alloc, local, place, bodies)?;
+    w.put(code)?;
+    Ok(())
+}
+
+/// Runs one body where a test gives no 0, and another where it gives 0.
+pub fn put_either(
+    w: &mut Writer,
+    test: Vec<Instr>,
+    if_true: Seq<Instr>,
+    if_false: Seq<Instr>,
+) -> Result<(), OutOfMemory>
+    ensures { OnOk result (Wrote w.old w.new (either_code test.items if_true if_false)) }
+{
+    let bodies = vec![in w.alloc; if_false, if_true]?;
+    let code = table(w.alloc, test, 1, bodies)?;
     w.put(code)?;
     Ok(())
 }

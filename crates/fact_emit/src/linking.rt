@@ -25,7 +25,7 @@ pub fn custom_page_size(page_size_log2: u8) -> Option<u32>
 }
 
 /// The type of an address.
-fn address(memory64: bool) -> ValType
+pub(crate) fn address(memory64: bool) -> ValType
     ensures { result ≡ address_of memory64 }
 {
     if memory64 { ValType::I64 } else { ValType::I32 }

@@ -6,6 +6,7 @@ ghost use Rattle.fact_emit.specs.Parts.{from_behind, to_behind, offset_on};
 ghost use Rattle.fact_emit.specs.declared.places.LinearMemory as linear;
 ghost use Rattle.fact_emit.specs.Places.{from_of, to_of};
 
+use fact_types::StringEncoding;
 use fact_wasm::ValType;
 
 /// A local and its type.
@@ -36,15 +37,17 @@ pub enum TargetPlace<'a> {
     Memory(Address),
 }
 
-/// A side's memory: its place among the imported memories, whether its addresses have 64 bits, the exponent of its page size
-/// where that is a custom one, and the place of its realloc among the imported functions where it has one. A side without a
-/// memory has addresses of 32 bits.
+/// A side's memory: whether there is one, its place among the imported memories, whether its addresses have 64 bits, the exponent of
+/// its page size where that is a custom one, the place of its realloc among the imported functions where it has one, and how texts
+/// stand in it. A side without a memory has addresses of 32 bits.
 #[derive(Clone, Copy)]
 pub struct LinearMemory {
+    pub has_memory: bool,
     pub memory: u32,
     pub memory64: bool,
     pub page_size_log2: Option<u32>,
     pub realloc: Option<u32>,
+    pub encoding: StringEncoding,
 }
 
 /// Values go from the one side to the other, with debug checks or without them. With concurrency on, the slots of the context are

@@ -3,16 +3,15 @@
 ghost use Rattle.std.specs.Prelude.{◌≡◌, ◌⊎◌, ◌+◌, ◌++◌, ◌∷◌, [], ◌<◌, ◌≤◌, ◌^◌, Contains, IsTrue, None, Some, position, slice_get, length, IfOk, IsFalse, OnErr, OnOk, count_by};
 ghost use Rattle.fact_wasm.specs.CoreTypes.{signature};
 ghost use Rattle.fact_types.specs.declared.import.Import.TheVariants as known;
-ghost use Rattle.fact_emit.specs.declared.imported.ImportedItem.TheVariants as variant;
-ghost use Rattle.fact_emit.specs.declared.imported.RuntimeFunction.{RuntimeFunction as RuntimeFunctionSet};
+ghost use Rattle.fact_wasm.specs.declared.types.FuncType.{FuncType};
 ghost use Rattle.fact_emit.specs.ImportSection.{a_function, a_memory, imported_type, is_of};
-ghost use Rattle.fact_emit.specs.Runtime.{import_of, type_of_runtime};
 ghost use Rattle.fact_emit.specs.Imports.{AreOnce, Extended, HasImport};
 ghost use Rattle.fact_emit.specs.Settings.{OnlySectionsChanged};
 ghost use Rattle.fact_emit.specs.State.{IsAdded, IsKept};
-ghost use Rattle.fact_emit.specs.States.{HasType, IsImported, export_as, functions_of, import_as, known_as, module_of, nothing_so_far};
+ghost use Rattle.fact_emit.specs.States.{HasType, IsImported, export_as, functions_of, import_as, known_as, memories_of, module_of, nothing_so_far, type_of_item, type_of_transcoder};
 
 use crate::imported::ImportedItem;
+use crate::transcoders::Transcoder;
 use crate::tunables::{Tunables, WasmFeatures};
 use fact_builder::ComponentTypesBuilder;
 use fact_entity::{EntityRef, FuncIndex, GlobalIndex, Interner, MemoryIndex};
@@ -197,6 +196,26 @@ impl ModuleSections {
         self.functions.len()
     }
 
+    /// The definition of the imported memory of this place.
+    pub(crate) fn memory_def(&self, place: MemoryIndex) -> &CoreDef
+        requires { place.number < length (memories_of self.now) }
+        ensures { slice_get (memories_of self.now) place.number ≡ Some (known.CoreDef result.now) }
+    {
+        match self.memories.get(place) {
+            Some(ImportedItem::Def(def)) => def,
+            Some(ImportedItem::Runtime(_)) => unreachable!(),
+            Some(ImportedItem::Transcoder(_)) => unreachable!(),
+            None => unreachable!(),
+        }
+    }
+
+    /// Whether a memory of this place is imported.
+    pub fn has_memory(&self, place: u32) -> bool
+        ensures { IsTrue result → place < length (memories_of self.now) }
+    {
+        (place as usize) < self.memories.len()
+    }
+
     /// Whether a function of this place is imported.
     pub fn has_function(&self, place: u32) -> bool
         ensures { IsTrue result → place < length (functions_of self.now) }
@@ -241,6 +260,17 @@ impl ModuleSections {
         ensures refused { OnErr result (self.new ≡ self.old) }
     {
         self.types.function(params, results)
+    }
+
+    /// The number of a transcoder's type, which comes last where it is new.
+    pub(crate) fn transcoder_type(&mut self, transcoder: &Transcoder) -> Result<u32, OutOfMemory>
+        ensures place { IfOk result (λ n. slice_get self.new.types n ≡ Some (type_of_transcoder transcoder.now)) }
+        ensures types { OnOk result (HasType self.old self.new (type_of_transcoder transcoder.now)) }
+        ensures keeps { Extended self.old self.new }
+        ensures once { AreOnce self.old → AreOnce self.new }
+        ensures refused { OnErr result (self.new ≡ self.old) }
+    {
+        transcoder.type_number(&mut self.types)
     }
 
     /// The place of a core definition among the imports of its kind. A new one is imported last, under these names, with this
@@ -358,7 +388,7 @@ impl ModuleSections {
     }
 
     /// The place of an item among the imports of its kind. A new one is imported last, under these names, with this type. A function
-    /// of the runtime has its type.
+    /// of the runtime, a transcoder too, has its own type.
     pub(crate) fn import(
         &mut self,
         item: ImportedItem,
@@ -366,9 +396,9 @@ impl ModuleSections {
         name: &str,
         ty: ImportType,
     ) -> Result<u32, OutOfMemory>
-        requires typed { (f : RuntimeFunctionSet) → item ≡ variant.Runtime f → imported_type self.old.types ty ≡ Some (type_of_runtime f) }
+        requires typed { (f : FuncType) → type_of_item item ≡ Some f → imported_type self.old.types ty ≡ Some f }
         ensures imported { IfOk result (λ place. IsImported self.old self.new (import_as origin.now name.now ty) (known_as item) place) }
-        ensures runtime { IfOk result (λ place. (f : RuntimeFunctionSet) → item ≡ variant.Runtime f → HasImport self.new (import_of f) place (type_of_runtime f).params (type_of_runtime f).results) }
+        ensures typed { IfOk result (λ place. (f : FuncType) → type_of_item item ≡ Some f → HasImport self.new (known_as item) place f.params f.results) }
         ensures keeps { Extended self.old self.new }
         ensures once { AreOnce self.old → AreOnce self.new }
         ensures refused { OnErr result (self.new ≡ self.old) }

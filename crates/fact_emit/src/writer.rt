@@ -4,10 +4,12 @@ ghost use Rattle.std.specs.Prelude.{IsTrue, IfOk, IfSome, OnOk, ◌≡◌, ◌++
 ghost use Rattle.fact_types.specs.declared.import.Import.TheVariants as import;
 ghost use Rattle.fact_emit.specs.Imports.{AreOnce};
 ghost use Rattle.fact_machine.specs.Typing.{is_number};
-ghost use Rattle.fact_emit.specs.Writers.{Wrote, AddedLocal, Began, Ended, Took, Freed, TookRuntime, TookTrap, Same, free_local_of, taken_in};
+ghost use Rattle.fact_emit.specs.States.{AreMemoriesImported};
+ghost use Rattle.fact_emit.specs.Writers.{Wrote, AddedLocal, Began, Ended, Took, Freed, TookRuntime, TookTranscoder, TookTrap, Same, free_local_of, taken_in};
 
 use crate::imported::RuntimeFunction;
 use crate::state::ModuleSections;
+use crate::transcoders::Transcoder;
 use fact_types::Trap;
 use fact_wasm::{Instr, OutOfMemory, Seq, ValType};
 use std::alloc::{AllocError, Global};
@@ -105,6 +107,14 @@ impl Writer {
         ensures { IfOk result (λ place. TookRuntime self.old self.new function place) }
     {
         self.imports.runtime(function)
+    }
+
+    /// The place of a transcoder among the imported functions.
+    pub fn transcoder(&mut self, transcoder: Transcoder) -> Result<u32, OutOfMemory>
+        requires { AreMemoriesImported transcoder self.old.imports }
+        ensures { IfOk result (λ place. TookTranscoder self.old self.new transcoder place) }
+    {
+        self.imports.transcoder(transcoder)
     }
 
     /// The place of a trap among the imported functions.

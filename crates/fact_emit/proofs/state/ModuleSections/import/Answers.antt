@@ -1,6 +1,6 @@
 use Rattle.std.proofs.lemmas.Result.{IfOk-weaker}
 use Rattle.fact_emit.specs.contracts.state.ModuleSections.{the_view}
-use Rattle.fact_emit.proofs.StateLaws.{global-untyped, leaves-function, leaves-global, leaves-memory, memory-untyped, runtime-there}
+use Rattle.fact_emit.proofs.StateLaws.{global-untyped, leaves-function, leaves-global, leaves-memory, memory-untyped, typed-there}
 use Rattle.fact_emit.proofs.state.ModuleSections.import.Goals as goal
 
 pub invariant_of-self : goal.invariant_of-self
@@ -39,11 +39,11 @@ returns-in-Global-clause-keeps c = (leaves-global (the_view c.self.inside) c.arg
 pub returns-in-Global-clause-once : goal.returns-in-Global-clause-once
 returns-in-Global-clause-once c = (leaves-global (the_view c.self.inside) c.args.self.now c.self.view_is _ _ _ c.self.invariant _ _ c.in-Ok.ensures c.args.item c.requires.typed _ _ _ _ _ c.in-Global.is c.find_or_add-in-Global.ensures.step).once
 
-pub returns-in-Func-clause-runtime : goal.returns-in-Func-clause-runtime
-returns-in-Func-clause-runtime c = IfOk-weaker c.find_or_add.result _ _ (λ n at. runtime-there _ _ _ _ (leaves-function (the_view c.self.inside) c.args.self.now c.self.view_is _ _ _ c.self.invariant _ _ c.in-Ok.ensures c.args.item c.requires.typed _ _ _ c.in-Func.field-0 c.in-Func.is _ c.is_full-has_room.ensures c.find_or_add.ensures.step).indexed c.args.item n at) c.find_or_add.ensures.place
+pub returns-in-Func-clause-typed : goal.returns-in-Func-clause-typed
+returns-in-Func-clause-typed c = IfOk-weaker c.find_or_add.result _ _ (λ n at. typed-there _ _ _ _ (leaves-function (the_view c.self.inside) c.args.self.now c.self.view_is _ _ _ c.self.invariant _ _ c.in-Ok.ensures c.args.item c.requires.typed _ _ _ c.in-Func.field-0 c.in-Func.is _ c.is_full-has_room.ensures c.find_or_add.ensures.step).indexed c.args.item n at) c.find_or_add.ensures.place
 
-pub returns-in-Memory-clause-runtime : goal.returns-in-Memory-clause-runtime
-returns-in-Memory-clause-runtime c = IfOk-weaker c.find_or_add-in-Memory.result _ _ (λ n at f e. absurd (memory-untyped c.args.self.now.types c.in-Ok.ensures c.in-Memory.is (c.requires.typed f e))) c.find_or_add-in-Memory.ensures.place
+pub returns-in-Memory-clause-typed : goal.returns-in-Memory-clause-typed
+returns-in-Memory-clause-typed c = IfOk-weaker c.find_or_add-in-Memory.result _ _ (λ n at f e. absurd (memory-untyped c.args.self.now.types c.in-Ok.ensures c.in-Memory.is (c.requires.typed f e))) c.find_or_add-in-Memory.ensures.place
 
-pub returns-in-Global-clause-runtime : goal.returns-in-Global-clause-runtime
-returns-in-Global-clause-runtime c = IfOk-weaker c.find_or_add-in-Global.result _ _ (λ n at f e. absurd (global-untyped c.args.self.now.types c.in-Ok.ensures c.in-Global.is (c.requires.typed f e))) c.find_or_add-in-Global.ensures.place
+pub returns-in-Global-clause-typed : goal.returns-in-Global-clause-typed
+returns-in-Global-clause-typed c = IfOk-weaker c.find_or_add-in-Global.result _ _ (λ n at f e. absurd (global-untyped c.args.self.now.types c.in-Ok.ensures c.in-Global.is (c.requires.typed f e))) c.find_or_add-in-Global.ensures.place

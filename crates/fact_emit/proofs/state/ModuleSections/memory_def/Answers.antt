@@ -1,0 +1,16 @@
+use Rattle.std.proofs.Common.{Some, ap, refl, sym, ◌∙◌}
+use Rattle.std.specs.Option.{option_copied}
+use Rattle.fact_emit.specs.contracts.state.ModuleSections.{the_view}
+use Rattle.fact_emit.proofs.StateLaws.{memory-there, memory-untold}
+use Rattle.fact_emit.proofs.state.ModuleSections.memory_def.Goals as goal
+
+pub unreachable-requires : goal.unreachable-requires
+unreachable-requires c =
+    memory-untold _ _ _ _ c.self.invariant _ c.args.place.number (sym c.get.ensures.value ∙ ap option_copied c.in-Some-Runtime.is ∙ ap Some c.in-Some-Runtime.field-0-is) _ refl
+
+pub unreachable-requires-in-Some-Transcoder : goal.unreachable-requires-in-Some-Transcoder
+unreachable-requires-in-Some-Transcoder c =
+    memory-untold _ _ _ _ c.self.invariant _ c.args.place.number (sym c.get.ensures.value ∙ ap option_copied c.in-Some-Transcoder.is ∙ ap Some c.in-Some-Transcoder.field-0-is) _ refl
+
+pub returns : goal.returns
+returns c = memory-there (the_view c.self.inside) c.args.self.now c.self.view_is _ _ _ c.self.invariant c.in-Some-Def.def c.args.place.number (sym c.get.ensures.value ∙ ap option_copied c.in-Some-Def.is ∙ ap Some c.in-Some-Def.field-0-is)
