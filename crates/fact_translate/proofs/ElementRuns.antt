@@ -1,7 +1,6 @@
 -- Elements of a list of fixed length that are moved one by one.
-use Rattle.std.proofs.Common.{◌≡◌, ℕ, zero, suc, ◌+◌, ◌-◌, ◌*◌, ◌<◌, ◌≤◌, Bool, true, false, ◌||◌, List, [], ◌∷◌, ◌++◌, refl, sym, ap, ◌∙◌, subst, arith, length, take, drop, append-nil, append_assoc, length-append}
+use Rattle.std.proofs.Common.{◌≡◌, ℕ, zero, suc, ◌+◌, ◌*◌, ◌<◌, ◌≤◌, Bool, true, false, ◌||◌, List, [], ◌∷◌, ◌++◌, refl, sym, ap, ◌∙◌, subst, arith, length, take, drop, append-nil, append_assoc, length-append}
 use Rattle.std.specs.Prelude.{min, unwrap_or}
-use Rattle.std.proofs.lemmas.List.{drop-take}
 use Rattle.fact_wasm.specs.declared.instr.Instr.{Instr}
 use Rattle.fact_wasm.specs.declared.types.ValType.{ValType}
 use Rattle.fact_wasm.specs.declared.module.WasmModule.{WasmModule}
@@ -15,7 +14,7 @@ use Rattle.fact_types.specs.Fields.{Field}
 use Rattle.fact_types.specs.FlatShapes.{flat, flat_members, times, IsCounted}
 use Rattle.fact_types.specs.Layout.{extent}
 use Rattle.fact_types.specs.PointerPairs.{has_pointer_pair}
-use Rattle.fact_types.specs.Shapes.{Shape, Members, no_members, typed, layout_of, next_of, place_of}
+use Rattle.fact_types.specs.Shapes.{Shape, Members, no_members, layout_of, next_of, place_of}
 use Rattle.fact_types.specs.Signatures.{width}
 use Rattle.fact_types.specs.Tables.{Tables, HasShape}
 use Rattle.fact_machine.specs.declared.types.CoreValue.{CoreValue}
@@ -23,12 +22,12 @@ use Rattle.fact_abi.specs.Limits.{place_in}
 use Rattle.fact_moves.specs.Actions.{Action}
 use Rattle.fact_moves.specs.Moves.{element_flats, entry_extent, flat_length, move, move_fields}
 use Rattle.fact_moves.specs.Running.{ImportPlaces}
-use Rattle.fact_moves.specs.Sides.{LiftLowerOptions, Transfer, Source, Target, width_of_side}
+use Rattle.fact_moves.specs.Sides.{LiftLowerOptions, Source, Target, width_of_side}
 use Rattle.fact_moves.proofs.ValidTypes.{single_extent}
 use Rattle.fact_pieces.specs.Does.{Locals}
-use Rattle.fact_pieces.specs.Places.{Slot, From, InLocals, InMemory, To, ToLocals, ToMemory, Rooms, Setting, transfer, Moves, Stood, FromUsed, ToUsed, to_past}
+use Rattle.fact_pieces.specs.Places.{Slot, From, InLocals, InMemory, To, ToLocals, ToMemory, Setting, transfer, Moves, Stood, FromUsed, ToUsed, to_past}
 use Rattle.fact_pieces.proofs.FieldMoves.{from_part, to_spot, with_to, IsApartAt, moves_same, moves_member, moves_no_local, moves_no_member}
-use Rattle.fact_pieces.proofs.FixedMoves.{elements_from, moves_no_element, moves_no_slot, moves_element, moves_fixed_by_parts}
+use Rattle.fact_pieces.proofs.FixedMoves.{elements_from, moves_element, moves_fixed_by_parts}
 use Rattle.fact_pieces.proofs.Keeping.{keeps_all}
 use Rattle.fact_pieces.proofs.Rules.{done}
 use Rattle.fact_pieces.proofs.TypingLaws.{typed_done}
@@ -37,8 +36,8 @@ use Rattle.fact_emit.specs.declared.writer.Writer.{Writer}
 use Rattle.fact_emit.specs.Emits.{Piece, Grew, Emits}
 use Rattle.fact_emit.specs.Fitting.{CanRead, CanWrite, SlotsFit, AreWithin, FromWithin, ToWithin, FitsShapes, MovesShape, MovesNode, bytes_of_shape}
 use Rattle.fact_emit.specs.MovesValue.{Act, MovesValue}
-use Rattle.fact_emit.specs.Parts.{from_behind, to_behind, offset_on}
-use Rattle.fact_emit.specs.Places.{setting_of, Using}
+use Rattle.fact_emit.specs.Parts.{offset_on}
+use Rattle.fact_emit.specs.Places.{setting_of}
 use Rattle.fact_emit.specs.Requests.{ServesLists}
 use Rattle.fact_emit.specs.Writers.{taken_in}
 use Rattle.fact_emit.proofs.Emitting.{emits_as, emits_nothing, emits_then, grew_nothing, grew_on}

@@ -1,5 +1,5 @@
 -- A list of fixed length from memory to memory: its loop, by the code of an element.
-use Rattle.std.proofs.Common.{◌≡◌, ◌≢◌, ℕ, zero, suc, ◌+◌, ◌*◌, ◌^◌, ◌<◌, ◌≤◌, Bool, true, false, List, [], ◌∷◌, ◌++◌, Some, refl, sym, ap, ◌∙◌, subst, arith, append-nil, append_assoc, slice_get}
+use Rattle.std.proofs.Common.{◌≡◌, ℕ, zero, suc, ◌+◌, ◌*◌, ◌<◌, ◌≤◌, Bool, true, false, List, [], ◌∷◌, ◌++◌, refl, sym, ap, ◌∙◌, subst, arith, append-nil}
 use Rattle.std.specs.Prelude.{nat_eq, if◌then◌else◌}
 use Rattle.std.specs.List.{AllByRecursion}
 use Rattle.std.proofs.lemmas.Bool.{eqb-true, eqb-false}
@@ -12,9 +12,7 @@ use Rattle.fact_wasm.specs.Ranges.{AreRanged}
 use Rattle.fact_types.specs.declared.widths.Extent.{Extent}
 use Rattle.fact_types.specs.declared.widths.MemoryWidth.{MemoryWidth}
 use Rattle.fact_types.specs.declared.widths.MemoryWidth.TheVariants.{Memory32, Memory64}
-use Rattle.fact_types.specs.Adapters.{is_wide}
 use Rattle.fact_types.specs.Layout.{extent}
-use Rattle.fact_types.specs.PointerPairs.{has_pointer_pair}
 use Rattle.fact_types.specs.Shapes.{Shape, layout_of, ends_of}
 use Rattle.fact_types.specs.Signatures.{width}
 use Rattle.fact_machine.specs.declared.types.CoreValue.{CoreValue}
@@ -25,15 +23,15 @@ use Rattle.fact_moves.specs.Sides.{LiftLowerOptions, Source, Target, width_of_si
 use Rattle.fact_moves.proofs.ValidTypes.{single_extent}
 use Rattle.fact_pieces.specs.FixedLists.{FixedMove, again_code, countdown_code, offset_code}
 use Rattle.fact_pieces.specs.Lists.{add_code, bump_code, const_code}
-use Rattle.fact_pieces.specs.Places.{Slot, From, InMemory, To, ToMemory, Rooms, Setting, transfer, AreLocals}
+use Rattle.fact_pieces.specs.Places.{From, InMemory, To, ToMemory, Rooms, Setting, transfer, AreLocals}
 use Rattle.fact_pieces.proofs.FixedLoops.{IsFixedMove, with_fixed}
 use Rattle.fact_pieces.proofs.FixedMoves.{moves_fixed_in_memory}
 use Rattle.fact_pieces.proofs.UsedLocals.{with_local, local_here, local_more}
 use Rattle.fact_emit.specs.declared.places.Address.{Address}
 use Rattle.fact_emit.specs.declared.places.Sides.{Sides}
 use Rattle.fact_emit.specs.declared.writer.Writer.{Writer}
-use Rattle.fact_emit.specs.Emits.{Piece, Is, Both, Grew, Emits}
-use Rattle.fact_emit.specs.Fitting.{AddressFits, bytes_of_shape, FitsShapes, FitsFields, MovesNode, MovesPaidFields}
+use Rattle.fact_emit.specs.Emits.{Is, Both, Grew, Emits}
+use Rattle.fact_emit.specs.Fitting.{bytes_of_shape, FitsShapes, FitsFields, MovesNode, MovesPaidFields}
 use Rattle.fact_emit.specs.Imports.{AreOnce}
 use Rattle.fact_emit.specs.NamedFunctions.{imported_named}
 use Rattle.fact_emit.specs.Places.{AreDistinctSlots, setting_of, Using}
@@ -48,10 +46,10 @@ use Rattle.fact_translate.specs.declared.fixed.FixedElements.{FixedElements}
 use Rattle.fact_translate.specs.declared.fixed.FixedLocals.{FixedLocals}
 use Rattle.fact_translate.specs.FixedLists.{ClosesFixed, fixed_begin_code, fixed_end_code, fixed_numbers, fixed_slots}
 use Rattle.fact_translate.specs.MovedFixed.{AreFixedElements, fixed_of}
-use Rattle.fact_translate.proofs.ListJoin.{unkept}
+use Rattle.fact_translate.proofs.SlotTemporaries.{unkept}
 use Rattle.fact_translate.proofs.ListMembers.{first_place, single}
 use Rattle.fact_translate.proofs.ListRanged.{bump_ranged}
-use Rattle.fact_translate.proofs.TakenLocals.{all_distinct, all_inside, all_taken, emits_around_all, grew_around_all, inside_taken}
+use Rattle.fact_emit.proofs.FreedLocals.{all_inside, all_taken, emits_around_all, grew_around_all, inside_taken}
 
 -- ---- its code is in range, and names what that of an element does
 

@@ -1,5 +1,5 @@
 -- Lists of fixed length of the types in tables, by the code of their elements.
-use Rattle.std.proofs.Common.{◌≡◌, ◌≢◌, ℕ, ◌<◌, ◌≤◌, Bool, true, List, [], ◌∷◌, Some, refl, sym, ap, ◌∙◌, subst, arith, slice_get}
+use Rattle.std.proofs.Common.{◌≡◌, ◌≢◌, ℕ, ◌<◌, Bool, true, List, Some, sym, ap, ◌∙◌, subst, slice_get}
 use Rattle.std.specs.List.{AllByRecursion}
 use Rattle.fact_entity.specs.declared.id.Id.{Id}
 use Rattle.fact_entity.specs.declared.table.TypeFixedLengthLists.{TypeFixedLengthLists}
@@ -24,18 +24,17 @@ use Rattle.fact_emit.specs.declared.writer.Writer.{Writer}
 use Rattle.fact_emit.specs.Emits.{Emits}
 use Rattle.fact_emit.specs.Fitting.{MovesNode}
 use Rattle.fact_emit.specs.Places.{from_of, to_of}
-use Rattle.fact_emit.specs.Writers.{Began, TookAll, FreedAll, Wrote, taken_in}
+use Rattle.fact_emit.specs.Writers.{AreDistinctNumbers, Began, TookAll, FreedAll, Wrote, taken_in}
 use Rattle.fact_emit.proofs.Emitting.{emits_as, grew_wrote}
 use Rattle.fact_translate.specs.declared.fixed.FixedElements.{FixedElements}
 use Rattle.fact_translate.specs.declared.fixed.FixedLocals.{FixedLocals}
 use Rattle.fact_translate.specs.FixedLists.{ClosesFixed, fixed_begin_code, fixed_numbers, fixed_slots}
-use Rattle.fact_translate.specs.Lists.{AreDistinctNumbers}
 use Rattle.fact_translate.specs.Movable.{CanMove}
 use Rattle.fact_translate.specs.Moved.{MovedNode, MovedValue}
 use Rattle.fact_translate.specs.MovedFixed.{AreFixedElements, MovedElements, fixed_of}
 use Rattle.fact_translate.proofs.FixedJoin.{fixed_emits, fixed_grew, fixed_taken}
 use Rattle.fact_translate.proofs.ListMembers.{list_element, single, single_moved, takes_bytes}
-use Rattle.fact_translate.proofs.TakenLocals.{all_distinct}
+use Rattle.fact_emit.proofs.FreedLocals.{all_distinct}
 use Rattle.fact_translate.proofs.TypeKinds.{fixed_kind, fixed_members, fixed_size, fixed_type}
 
 -- ---- by a loop

@@ -14,13 +14,15 @@ pub mod MapMembers
 pub mod MemberPairs
 pub mod MemberRuns
 pub mod NodeMoves
+pub mod PairPlaces
+pub mod SlotTemporaries
 pub mod SourceMembers
+pub mod StringMoves
 pub mod SumCases
 pub mod SumEmits
 pub mod SumFinds
 pub mod SumJoin
 pub mod SumRoom
-pub mod TakenLocals
 pub mod TypeKinds
 pub mod WithinRooms
 pub mod ZeroCode

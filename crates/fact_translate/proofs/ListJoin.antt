@@ -1,16 +1,13 @@
 -- The code of a list: what stands in front of its elements, the loop, and the new list behind it, in locals that are taken around all.
-use Rattle.std.proofs.Common.{◌≡◌, ◌≢◌, ℕ, zero, suc, ◌+◌, ◌-◌, ◌<◌, ◌≤◌, Bool, true, false, List, [], ◌∷◌, ◌++◌, length, Option, Some, refl, sym, ap, ◌∙◌, subst, arith, append_assoc, append-nil, slice_get}
-use Rattle.std.specs.Prelude.{nat_eq, if◌then◌else◌}
+use Rattle.std.proofs.Common.{◌≡◌, ℕ, zero, suc, ◌<◌, ◌≤◌, Bool, true, false, List, [], ◌∷◌, ◌++◌, Option, Some, refl, sym, ap, ◌∙◌, subst, arith, append_assoc}
+use Rattle.std.specs.Prelude.{nat_eq}
 use Rattle.std.specs.List.{AllByRecursion}
-use Rattle.std.proofs.lemmas.Bool.{eqb-true, eqb-false, ne_eqb}
 use Rattle.fact_wasm.specs.declared.types.ValType.{ValType}
 use Rattle.fact_wasm.specs.declared.types.ValType.TheVariants as val
 use Rattle.fact_wasm.specs.declared.instr.Instr.{Instr}
 use Rattle.fact_wasm.specs.declared.instr.Instr.TheVariants as I
 use Rattle.fact_wasm.specs.declared.module.WasmModule.{WasmModule}
 use Rattle.fact_types.specs.declared.abi.CanonicalAbiInfo.{CanonicalAbiInfo}
-use Rattle.fact_types.specs.declared.flats.FlatType.{FlatType}
-use Rattle.fact_types.specs.declared.flats.FlatType.TheVariants as flat_type
 use Rattle.fact_types.specs.declared.import.Import.TheVariants as import
 use Rattle.fact_types.specs.declared.outside.UnsafeIntrinsic.TheVariants as slot
 use Rattle.fact_types.specs.declared.outside.Trap.TheVariants.{UnalignedPointer, ListOutOfBounds}
@@ -30,7 +27,7 @@ use Rattle.fact_moves.specs.Running.{ImportPlaces}
 use Rattle.fact_moves.specs.Sides.{LiftLowerOptions, Source, AtAddress, Target, Into, width_of_side}
 use Rattle.fact_pieces.specs.Code.{counted_code}
 use Rattle.fact_pieces.specs.Lists.{is_few, few_guard, bytes_code, bump_code, count_code, left_code, address_code, put_code}
-use Rattle.fact_pieces.specs.Places.{Slot, From, InLocals, InMemory, To, ToLocals, ToMemory, DebugChecks, Rooms, Setting, transfer, Readable, Writable, FromUsed, FromTyped, ToTyped, MayHold, AreLocals, IsNone, Moves, size_of, widen}
+use Rattle.fact_pieces.specs.Places.{From, InMemory, To, ToMemory, DebugChecks, Rooms, Setting, transfer, AreLocals, Moves, size_of, widen}
 use Rattle.fact_pieces.specs.Tests.{HasUnaligned, pointer, read_into, region_code}
 use Rattle.fact_pieces.proofs.Blocks.{weaker}
 use Rattle.fact_pieces.proofs.Keeping.{room_at}
@@ -38,15 +35,16 @@ use Rattle.fact_pieces.proofs.ListCode.{realloc_code}
 use Rattle.fact_pieces.proofs.ListMoves.{list_code, slots_of}
 use Rattle.fact_pieces.proofs.ListNodes.{ListPlaces, IsList, listed, moves_elements}
 use Rattle.fact_pieces.proofs.ListTurns.{list_type}
-use Rattle.fact_pieces.proofs.Pairs.{PairFrom, PairInLocals, PairInMemory, PairTo, PairToLocals, PairToMemory, all_from, first_from, second_from as pair_second_from, all_to, first_to, second_to as pair_second_to, IsApart}
+use Rattle.fact_pieces.proofs.Pairs.{PairFrom, PairTo, all_from, second_from, all_to}
 use Rattle.fact_pieces.proofs.Temporaries.{Temporaries}
 use Rattle.fact_pieces.proofs.UsedLocals.{with_temps, temps_here}
 use Rattle.fact_emit.specs.declared.places.Sides.{Sides}
 use Rattle.fact_emit.specs.declared.writer.Writer.{Writer}
 use Rattle.fact_emit.specs.Emits.{Grew, Both, Emits}
 use Rattle.fact_emit.specs.Imports.{AreOnce}
-use Rattle.fact_emit.specs.Fitting.{CanRead, CanWrite, FitsFields, IsSlotFor, MovesNode, MovesPaidFields}
+use Rattle.fact_emit.specs.Fitting.{CanRead, CanWrite, FitsFields, MovesNode, MovesPaidFields}
 use Rattle.fact_emit.specs.Numbers.{HasUpperAt}
+use Rattle.fact_emit.specs.Pairs.{length_from, length_to, put_pair_code}
 use Rattle.fact_emit.specs.Places.{AreDistinctSlots, checks_at, setting_of, Using}
 use Rattle.fact_emit.specs.RuntimeCalls.{slots_of as slots_at_of}
 use Rattle.fact_emit.specs.Requests.{request_code, ServesLists}
@@ -55,42 +53,15 @@ use Rattle.fact_emit.proofs.BroughtLaws.{brought_as, brought_between}
 use Rattle.fact_emit.proofs.Emitting.{body_is, same_locals, same_still, same_types, sooner, still_numbers}
 use Rattle.fact_emit.proofs.ImportLaws.{extended_none, extended_on, grows_on}
 use Rattle.fact_emit.proofs.NamedLaws.{ranged_append}
-use Rattle.fact_emit.proofs.ScalarMoves.{reached, slot_holds}
 use Rattle.fact_translate.specs.declared.lists.Elements.{Elements}
 use Rattle.fact_translate.specs.declared.lists.ListLocals.{ListLocals}
-use Rattle.fact_translate.specs.Lists.{list_slots, second_from, second_to, OpensList, ClosesList, begin_code, asks_code, list_context, turn_end_code}
+use Rattle.fact_translate.specs.Lists.{list_slots, OpensList, ClosesList, begin_code, asks_code, list_context, turn_end_code}
 use Rattle.fact_translate.proofs.Alignments.{aligns_shape}
-use Rattle.fact_translate.proofs.FieldJoin.{exact}
 use Rattle.fact_translate.proofs.ListRanged.{counted_named, counted_ranged, left_ranged, put_ranged, turn_end_ranged}
+use Rattle.fact_translate.proofs.PairPlaces.{PairReads, PairWrites, pair_from, pair_to, second_from_is, second_to_is, first_readable, second_readable, first_from_typed, second_from_typed, first_writable, second_writable, first_to_typed, second_to_typed, from_used, read_first_is, put_first_is, apart_of}
+use Rattle.fact_translate.proofs.SlotTemporaries.{slot_at, all_at, typed_at, distinct_at, unkept, with_temps_within}
 
 -- ---- the locals as temporaries
-
-abbrev slot_at : List Slot → ℕ → Slot
-slot_at [] j = (0, val.I32)
-slot_at (s ∷ ss) zero = s
-slot_at (s ∷ ss) (suc j) = slot_at ss j
-
-all_at : (P : Slot → Type 0) (ss : List Slot) → AllByRecursion P ss → (j : ℕ) → j < length ss → P (slot_at ss j)
-all_at P [] h j lt = absurd (omega (arith, lt))
-all_at P (s ∷ ss) h zero lt = h.0
-all_at P (s ∷ ss) h (suc j) lt = all_at P ss h.1 j (omega (arith, lt))
-
-typed_at : (locals : List ValType) (ss : List Slot) → AreLocals locals ss → (j : ℕ) → j < length ss → slice_get locals (slot_at ss j).0 ≡ Some (slot_at ss j).1
-typed_at locals [] h j lt = absurd (omega (arith, lt))
-typed_at locals (s ∷ ss) h zero lt = h.0
-typed_at locals (s ∷ ss) h (suc j) lt = typed_at locals ss h.1 j (omega (arith, lt))
-
-none_at : (i : ℕ) (ss : List Slot) → IsNone i ss → (j : ℕ) → j < length ss → i ≢ (slot_at ss j).0
-none_at i [] h j lt = absurd (omega (arith, lt))
-none_at i (s ∷ ss) h zero lt = eqb-false i s.0 h.0
-none_at i (s ∷ ss) h (suc j) lt = none_at i ss h.1 j (omega (arith, lt))
-
-distinct_at : (ss : List Slot) → AreDistinctSlots ss → (i j : ℕ) → i < length ss → j < length ss → (slot_at ss i).0 ≡ (slot_at ss j).0 → i ≡ j
-distinct_at [] h i j li lj e = absurd (omega (arith, li))
-distinct_at (s ∷ ss) h zero zero li lj e = refl
-distinct_at (s ∷ ss) h zero (suc j) li lj e = absurd (none_at s.0 ss h.0 j (omega (arith, lj)) e)
-distinct_at (s ∷ ss) h (suc i) zero li lj e = absurd (none_at s.0 ss h.0 i (omega (arith, li)) (sym e))
-distinct_at (s ∷ ss) h (suc i) (suc j) li lj e = ap suc (distinct_at ss h.1 i j (omega (arith, li)) (omega (arith, lj)) e)
 
 types_are : (w1 w2 : Bool) (l : ListLocals) (j : ℕ) → j < 10 → (slot_at (list_slots w1 w2 l) j).1 ≡ list_type w1 w2 j
 types_are w1 w2 l zero h = refl
@@ -104,114 +75,6 @@ types_are w1 w2 l (suc (suc (suc (suc (suc (suc (suc zero))))))) h = refl
 types_are w1 w2 l (suc (suc (suc (suc (suc (suc (suc (suc zero)))))))) h = refl
 types_are w1 w2 l (suc (suc (suc (suc (suc (suc (suc (suc (suc zero))))))))) h = refl
 types_are w1 w2 l (suc (suc (suc (suc (suc (suc (suc (suc (suc (suc j)))))))))) h = absurd (omega (arith, h))
-
-pub unkept : {taken used : ℕ → Bool} → ((i : ℕ) → used i ≡ true → taken i ≡ true) → (i : ℕ) → taken i ≡ false → used i ≡ false
-unkept {taken} {used} inside i f = go (used i) refl
-  where
-    go : (b : Bool) → used i ≡ b → used i ≡ false
-    go true e = absurd (let no : true ≡ false = sym (inside i e) ∙ f in cc)
-    go false e = e
-
-with_temps_within : (used inner : ℕ → Bool) (temp : ℕ → ℕ) → ((i : ℕ) → used i ≡ true → inner i ≡ true) → (n : ℕ) → ((j : ℕ) → j < n → inner (temp j) ≡ true) → (i : ℕ) → with_temps used temp n i ≡ true → inner i ≡ true
-with_temps_within used inner temp h zero t i u = h i u
-with_temps_within used inner temp h (suc n) t i u = go (with_temps_within used inner temp h n (λ j lt. t j (omega (arith, lt))) i) (nat_eq i (temp n)) refl u
-  where
-    go : (with_temps used temp n i ≡ true → inner i ≡ true) → (q : Bool) → nat_eq i (temp n) ≡ q → (if q then true else with_temps used temp n i) ≡ true → inner i ≡ true
-    go rest true e u = ap inner (eqb-true i (temp n) e) ∙ t n (omega arith)
-    go rest false e u = rest u
-
--- ---- pointers and lengths
-
-pair_from : (M : WasmModule) (p : ImportPlaces) (locals : List ValType) (o : LiftLowerOptions) (memory64 : Bool) (t : FlatType) (bytes : ℕ) (src : From) → CanRead M p locals o memory64 src (t ∷ t ∷ []) bytes → (b : PairFrom) × (src ≡ all_from b)
-pair_from M p locals o memory64 t bytes (InLocals []) c = absurd c.room
-pair_from M p locals o memory64 t bytes (InLocals (a ∷ [])) c = absurd c.room.1
-pair_from M p locals o memory64 t bytes (InLocals (a ∷ b ∷ [])) c = (PairInLocals a b, refl)
-pair_from M p locals o memory64 t bytes (InLocals (a ∷ b ∷ x ∷ ss)) c = absurd c.room.1.1
-pair_from M p locals o memory64 t bytes (InMemory memory base offset) c = (PairInMemory memory base offset, refl)
-
-pair_to : (M : WasmModule) (p : ImportPlaces) (locals : List ValType) (o : LiftLowerOptions) (memory64 : Bool) (t : FlatType) (bytes : ℕ) (dst : To) → CanWrite M p locals o memory64 dst (t ∷ t ∷ []) bytes → (b : PairTo) × (dst ≡ all_to b)
-pair_to M p locals o memory64 t bytes (ToLocals []) c = absurd c.room
-pair_to M p locals o memory64 t bytes (ToLocals (a ∷ [])) c = absurd c.room.1
-pair_to M p locals o memory64 t bytes (ToLocals (a ∷ b ∷ [])) c = (PairToLocals a b, refl)
-pair_to M p locals o memory64 t bytes (ToLocals (a ∷ b ∷ x ∷ ss)) c = absurd c.room.1.1
-pair_to M p locals o memory64 t bytes (ToMemory memory base offset) c = (PairToMemory memory base offset, refl)
-
--- a slot for a pointer may hold one
-holds_pointer : (memory64 : Bool) (t : ValType) → IsSlotFor (flat_pointer (width memory64)) t → MayHold (pointer memory64) t
-holds_pointer true t h = slot_holds flat_type.I64 t h
-holds_pointer false t h = slot_holds flat_type.I32 t h
-
-abbrev pair_bytes : (memory64 : Bool) → ℕ
-pair_bytes memory64 = (extent (width memory64) pointer_pair_layout).size
-
-second_reach : (memory64 : Bool) (offset : ℕ) → offset + pair_bytes memory64 ≤ 4294967295 → offset + size_of (pointer memory64) ≤ 4294967295
-second_reach true offset h = omega (arith, h)
-second_reach false offset h = omega (arith, h)
-
-module _ (M : WasmModule) (p : ImportPlaces) (locals : List ValType) (checks : DebugChecks) (o : LiftLowerOptions) (memory64 : Bool) where
-  abbrev PairReads : PairFrom → Type 0
-  PairReads b = CanRead M p locals o memory64 (all_from b) (flat_pointer (width memory64) ∷ flat_pointer (width memory64) ∷ []) (pair_bytes memory64)
-
-  abbrev PairWrites : PairTo → Type 0
-  PairWrites b = CanWrite M p locals o memory64 (all_to b) (flat_pointer (width memory64) ∷ flat_pointer (width memory64) ∷ []) (pair_bytes memory64)
-
-  second_from_is : (b : PairFrom) → PairReads b → second_from memory64 (all_from b) ≡ pair_second_from (size_of (pointer memory64)) b
-  second_from_is (PairInLocals x y) c = refl
-  second_from_is (PairInMemory memory base offset) c = ap (InMemory memory base) (exact offset (size_of (pointer memory64)) (second_reach memory64 offset c.reach))
-
-  second_to_is : (b : PairTo) → PairWrites b → second_to memory64 (all_to b) ≡ pair_second_to (size_of (pointer memory64)) b
-  second_to_is (PairToLocals x y) c = refl
-  second_to_is (PairToMemory memory base offset) c = ap (ToMemory memory base) (exact offset (size_of (pointer memory64)) (second_reach memory64 offset c.reach))
-
-  first_readable : (b : PairFrom) → PairReads b → HasUpperAt M p checks (pointer memory64) (all_from b) → Readable M p checks o memory64 (pointer memory64) (first_from b)
-  first_readable (PairInLocals x y) c h = (holds_pointer memory64 x.1 c.room.0, h)
-  first_readable (PairInMemory memory base offset) c h = c.side
-
-  second_readable : (b : PairFrom) → PairReads b → HasUpperAt M p checks (pointer memory64) (pair_second_from (size_of (pointer memory64)) b) → Readable M p checks o memory64 (pointer memory64) (pair_second_from (size_of (pointer memory64)) b)
-  second_readable (PairInLocals x y) c h = (holds_pointer memory64 y.1 c.room.1.0, h)
-  second_readable (PairInMemory memory base offset) c h = c.side
-
-  first_from_typed : (b : PairFrom) → PairReads b → FromTyped locals memory64 (first_from b)
-  first_from_typed (PairInLocals x y) c = (c.typed.0, tt)
-  first_from_typed (PairInMemory memory base offset) c = record { local = c.local; reached = reached memory64 offset (pair_bytes memory64) c.reach }
-
-  second_from_typed : (b : PairFrom) → PairReads b → FromTyped locals memory64 (pair_second_from (size_of (pointer memory64)) b)
-  second_from_typed (PairInLocals x y) c = (c.typed.1.0, tt)
-  second_from_typed (PairInMemory memory base offset) c = record { local = c.local; reached = reached memory64 (offset + size_of (pointer memory64)) 0 (omega (arith, second_reach memory64 offset c.reach)) }
-
-  first_writable : (b : PairTo) → PairWrites b → Writable M p o memory64 (pointer memory64) (first_to b)
-  first_writable (PairToLocals x y) c = holds_pointer memory64 x.1 c.room.0
-  first_writable (PairToMemory memory base offset) c = c.side
-
-  second_writable : (b : PairTo) → PairWrites b → Writable M p o memory64 (pointer memory64) (pair_second_to (size_of (pointer memory64)) b)
-  second_writable (PairToLocals x y) c = holds_pointer memory64 y.1 c.room.1.0
-  second_writable (PairToMemory memory base offset) c = c.side
-
-  first_to_typed : (b : PairTo) → PairWrites b → ToTyped locals memory64 (first_to b)
-  first_to_typed (PairToLocals x y) c = (c.typed.0, tt)
-  first_to_typed (PairToMemory memory base offset) c = record { local = c.local; reached = reached memory64 offset (pair_bytes memory64) c.reach }
-
-  second_to_typed : (b : PairTo) → PairWrites b → ToTyped locals memory64 (pair_second_to (size_of (pointer memory64)) b)
-  second_to_typed (PairToLocals x y) c = (c.typed.1.0, tt)
-  second_to_typed (PairToMemory memory base offset) c = record { local = c.local; reached = reached memory64 (offset + size_of (pointer memory64)) 0 (omega (arith, second_reach memory64 offset c.reach)) }
-
-from_used : (used : ℕ → Bool) (n : ℕ) (b : PairFrom) → FromUsed used (all_from b) → FromUsed used (first_from b) × FromUsed used (pair_second_from n b)
-from_used used n (PairInLocals x y) u = ((u.0, tt), (u.1.0, tt))
-from_used used n (PairInMemory memory base offset) u = (u, u)
-
-read_first_is : (checks : DebugChecks) (memory64 : Bool) (local : ℕ) (b : PairFrom) → read_into checks memory64 (all_from b) local ≡ read_into checks memory64 (first_from b) local
-read_first_is checks memory64 local (PairInLocals x y) = refl
-read_first_is checks memory64 local (PairInMemory memory base offset) = refl
-
-put_first_is : (memory64 : Bool) (local : ℕ) (b : PairTo) → put_code memory64 local (all_to b) ≡ put_code memory64 local (first_to b)
-put_first_is memory64 local (PairToLocals x y) = refl
-put_first_is memory64 local (PairToMemory memory base offset) = refl
-
--- the slots of the target are two, and not a temporary
-apart_of : {taken used : ℕ → Bool} {src : From} (i : ℕ) → taken i ≡ false → (b : PairTo) → Using taken used src (all_to b) → IsApart i b
-apart_of {taken} i free (PairToLocals x y) u =
-    (ne_eqb x.0 i (λ e. absurd (let no : true ≡ false = sym u.target.0 ∙ ap taken e ∙ free in cc)), ne_eqb y.0 x.0 (λ e. eqb-false x.0 y.0 u.distinct.0.0 (sym e)))
-apart_of i free (PairToMemory memory base offset) u = tt
 
 -- ---- the code as that of a list's pieces
 
@@ -233,7 +96,7 @@ parts_code reads1 reads2 request puts from64 to64 s1 a1 s2 a2 log1 log2 memory1 
 pub record LoopsList (sides : Sides) (x : Elements) (l : ListLocals) (taken : ℕ → Bool) (ms ns : Members) (dst : To) (M : WasmModule) (p : ImportPlaces) (locals : List ValType) (code : List Instr) : Type 0 where
   pub body : List Instr
   pub moves : MovesPaidFields sides (InMemory sides.from.memory l.source 0) (ToMemory sides.to.memory l.target 0) taken ms ns 0 M p locals body
-  pub is : code ≡ counted_code (left_code l.left) (body ++ turn_end_code sides.from.memory64 sides.to.memory64 x l) ++ (put_code sides.to.memory64 l.address dst ++ put_code sides.to.memory64 l.number (second_to sides.to.memory64 dst))
+  pub is : code ≡ counted_code (left_code l.left) (body ++ turn_end_code sides.from.memory64 sides.to.memory64 x l) ++ put_pair_code sides.to.memory64 l.address l.number dst
 
 -- what is known of the elements and of the locals when the code is written
 pub record WritesList (sides : Sides) (x : Elements) (l : ListLocals) (taken inner : ℕ → Bool) (ms ns : Members) : Type 0 where
@@ -257,9 +120,9 @@ some_bytes Memory64 c h = h.memory64
 -- what the parts are, as they were written
 written_is : {sides : Sides} {x : Elements} {l : ListLocals} {src : From} {dst : To} {inner : ℕ → Bool} {ms ns : Members} (M : WasmModule) (p : ImportPlaces) (locals : List ValType) (c k : List Instr)
     → OpensList sides x l src M p locals c → (loop : LoopsList sides x l inner ms ns dst M p locals k)
-    → c ++ k ≡ parts_code (read_into (checks_at sides.debug p) sides.from.memory64 src l.pointer) (read_into (checks_at sides.debug p) sides.from.memory64 (second_from sides.from.memory64 src) l.number)
+    → c ++ k ≡ parts_code (read_into (checks_at sides.debug p) sides.from.memory64 src l.pointer) (read_into (checks_at sides.debug p) sides.from.memory64 (length_from sides.from.memory64 src) l.number)
     (request_code sides.concurrency (slots_at_of p (list_context l)) sides.to.realloc sides.to.memory64 x.to_align l.bytes ++ (widen (pointer sides.to.memory64) val.I64 ++ I.LocalSet l.address ∷ []))
-    (put_code sides.to.memory64 l.address dst ++ put_code sides.to.memory64 l.number (second_to sides.to.memory64 dst))
+    (put_pair_code sides.to.memory64 l.address l.number dst)
     sides.from.memory64 sides.to.memory64 x.from_size x.from_align x.to_size x.to_align sides.from.page_size_log2 sides.to.page_size_log2 sides.from.memory sides.to.memory (p.function (import.Trap UnalignedPointer)) (p.function (import.Trap ListOutOfBounds)) l loop.body
 written_is {sides} {x} {l} {src} {dst} M p locals c k opened loop =
     let unaligned : ℕ = p.function (import.Trap UnalignedPointer) in
@@ -267,7 +130,7 @@ written_is {sides} {x} {l} {src} {dst} M p locals c k opened loop =
     let from64 = sides.from.memory64 in
     let to64 = sides.to.memory64 in
     let r1 : List Instr = read_into (checks_at sides.debug p) from64 src l.pointer in
-    let r2 : List Instr = read_into (checks_at sides.debug p) from64 (second_from from64 src) l.number in
+    let r2 : List Instr = read_into (checks_at sides.debug p) from64 (length_from from64 src) l.number in
     let f1 : List Instr = few_guard (is_few from64 x.from_size) l.number x.from_size outside in
     let f2 : List Instr = few_guard (is_few to64 x.to_size) l.number x.to_size outside in
     let g1 : List Instr = region_code sides.from.memory from64 sides.from.page_size_log2 x.from_align l.pointer l.bytes l.length unaligned outside in
@@ -372,7 +235,7 @@ module _ {sides : Sides} {x : Elements} {l : ListLocals} {taken inner : ℕ → 
     align2_is : x.to_align ≡ (entry_extent b ns).align
     align2_is = h.to_align ∙ ap (λ m. (extent (width m) (entry_layout ns)).align) (sym to_wide)
 
-    second_is : second_from sides.from.memory64 (all_from from) ≡ pair_second_from (size_of (pointer sides.from.memory64)) from
+    second_is : length_from sides.from.memory64 (all_from from) ≡ second_from (size_of (pointer sides.from.memory64)) from
     second_is = second_from_is M p locals checks a sides.from.memory64 from reads
 
     is_list : IsList S used places ms ns loop.body act
@@ -483,8 +346,8 @@ looped_grew {c} {d} {e} {f} {sides} {x} {l} {dst} began m closed =
     let to64 = sides.to.memory64 in
     let test : List Instr = left_code l.left in
     let ends : List Instr = turn_end_code from64 to64 x l in
-    let puts : List Instr = put_code to64 l.address dst ++ put_code to64 l.number (second_to to64 dst) in
-    let put = ranged_append 0 0 (put_code to64 l.address dst) (put_code to64 l.number (second_to to64 dst)) (put_ranged to64 l.address dst) (put_ranged to64 l.number (second_to to64 dst)) in
+    let puts : List Instr = put_code to64 l.address dst ++ put_code to64 l.number (length_to to64 dst) in
+    let put = ranged_append 0 0 (put_code to64 l.address dst) (put_code to64 l.number (length_to to64 dst)) (put_ranged to64 l.address dst) (put_ranged to64 l.number (length_to to64 dst)) in
     let loop : List Instr → List Instr = λ body. counted_code test (body ++ ends) ++ puts in
     record {
       added = loop m.added;

@@ -1,5 +1,5 @@
 -- The elements of lists and the entries of maps, member by member.
-use Rattle.std.proofs.Common.{◌≡◌, ◌≢◌, ℕ, ◌+◌, ◌-◌, ◌*◌, ◌/◌, ◌%◌, ◌<◌, ◌≤◌, min, Bool, true, List, [], ◌∷◌, Some, refl, sym, ap, ◌∙◌, subst, arith, append-nil}
+use Rattle.std.proofs.Common.{◌≡◌, ◌≢◌, ℕ, ◌+◌, ◌*◌, ◌/◌, ◌%◌, ◌<◌, ◌≤◌, min, Bool, true, List, [], ◌∷◌, Some, refl, sym, ap, ◌∙◌, subst, arith, append-nil}
 use Rattle.std.specs.Prelude.{unwrap_or}
 use Rattle.std.specs.List.{AllByRecursion}
 use Rattle.std.proofs.Math.Nat.{div-add-mod}
@@ -28,18 +28,18 @@ use Rattle.fact_emit.specs.declared.writer.Writer.{Writer}
 use Rattle.fact_emit.specs.Emits.{Grew, Emits}
 use Rattle.fact_emit.specs.Fitting.{MovesShape, MovesNode, MovesPaidFields}
 use Rattle.fact_emit.specs.Parts.{bytes_by}
-use Rattle.fact_emit.specs.Writers.{taken_in, Began, TookAll, FreedAll, Wrote}
+use Rattle.fact_emit.specs.Writers.{AreDistinctNumbers, taken_in, Began, TookAll, FreedAll, Wrote}
 use Rattle.fact_emit.proofs.Emitting.{emits_as, emits_both, grew_on, grew_wrote, same_still}
 use Rattle.fact_translate.specs.declared.lists.Elements.{Elements}
 use Rattle.fact_translate.specs.declared.lists.ListLocals.{ListLocals}
-use Rattle.fact_translate.specs.Lists.{list_slots, list_numbers, AreDistinctNumbers, OpensList, ClosesList}
+use Rattle.fact_translate.specs.Lists.{list_slots, list_numbers, OpensList, ClosesList}
 use Rattle.fact_translate.specs.Movable.{CanMove, CanMoveFields, CanMoveElements}
 use Rattle.fact_translate.specs.Moved.{MovedNode, MovedValue}
 use Rattle.fact_translate.proofs.FieldJoin.{fields_join_paid}
 use Rattle.fact_translate.proofs.Found.{flat_is}
 use Rattle.fact_translate.proofs.ListJoin.{WritesList, entry_layout, list_piece, looped, looped_grew, map_piece}
 use Rattle.fact_translate.proofs.MemberRuns.{NextMember, open_next, none_left, nothing_moves}
-use Rattle.fact_translate.proofs.TakenLocals.{grew_around_all, emits_around_all, inside_taken, all_inside, all_taken, all_distinct}
+use Rattle.fact_emit.proofs.FreedLocals.{grew_around_all, emits_around_all, inside_taken, all_inside, all_taken, all_distinct}
 use Rattle.fact_translate.proofs.TypeKinds.{list_kind, list_type}
 
 -- ---- entries, whatever they are

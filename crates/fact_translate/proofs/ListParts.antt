@@ -1,29 +1,29 @@
 -- Functions that write the code of lists around their elements.
-use Rattle.std.proofs.Common.{◌≡◌, ℕ, Bool, true, false, List, [], ◌∷◌, ◌++◌, refl, sym, ap, ◌∙◌, subst, append_assoc}
+use Rattle.std.proofs.Common.{◌≡◌, ℕ, Bool, true, false, List, [], ◌∷◌, ◌++◌, refl, sym, ap, ◌∙◌, append_assoc}
 use Rattle.std.specs.Prelude.{not}
 use Rattle.fact_wasm.specs.declared.instr.Instr.{Instr}
 use Rattle.fact_wasm.specs.declared.instr.Instr.TheVariants as I
 use Rattle.fact_types.specs.declared.import.Import.TheVariants as import
-use Rattle.fact_types.specs.declared.outside.Trap.{Trap}
 use Rattle.fact_types.specs.declared.outside.Trap.TheVariants.{UnalignedPointer, ListOutOfBounds}
 use Rattle.fact_pieces.specs.Code.{counted_code}
-use Rattle.fact_pieces.specs.Lists.{is_few, few_guard, few_code, bytes_code, left_code, put_code}
+use Rattle.fact_pieces.specs.Lists.{is_few, few_guard, few_code, bytes_code, left_code}
 use Rattle.fact_pieces.specs.Places.{From, To}
-use Rattle.fact_pieces.specs.Tests.{pointer, read_into, region_code}
+use Rattle.fact_pieces.specs.Tests.{read_into, region_code}
 use Rattle.fact_emit.specs.declared.places.LinearMemory.{LinearMemory}
 use Rattle.fact_emit.specs.declared.places.Sides.{Sides}
 use Rattle.fact_emit.specs.declared.writer.Writer.{Writer}
-use Rattle.fact_emit.specs.Checks.{Guarded, ChecksRegion, ReadsPointer}
+use Rattle.fact_emit.specs.Checks.{Guarded, ChecksRegion}
 use Rattle.fact_emit.specs.Emits.{Is, Emits}
+use Rattle.fact_emit.specs.Pairs.{ReadsPair, length_from, put_pair_code}
 use Rattle.fact_emit.specs.Places.{checks_at}
 use Rattle.fact_emit.specs.Requests.{AsksRegion}
 use Rattle.fact_emit.specs.Writers.{Wrote, Ended}
 use Rattle.fact_emit.proofs.CheckMoves.{guard_is, guarded_as}
-use Rattle.fact_emit.proofs.Emitting.{emits_then, emits_as, emits_wrote, emits_nothing, emits_both, wrote_then}
+use Rattle.fact_emit.proofs.Emitting.{emits_then, emits_as, emits_wrote, emits_nothing, emits_both}
 use Rattle.fact_emit.proofs.RequestMoves.{region_at}
 use Rattle.fact_translate.specs.declared.lists.Elements.{Elements}
 use Rattle.fact_translate.specs.declared.lists.ListLocals.{ListLocals}
-use Rattle.fact_translate.specs.Lists.{second_from, second_to, ReadsList, ChecksFew, ChecksBytes, AsksList, OpensList, list_context, ClosesList, asks_code, begin_code, turn_end_code}
+use Rattle.fact_translate.specs.Lists.{ChecksFew, ChecksBytes, AsksList, OpensList, list_context, ClosesList, asks_code, begin_code, turn_end_code}
 use Rattle.fact_translate.proofs.ListRanged.{begin_ranged, bytes_ranged}
 
 -- ---- lengths
@@ -44,12 +44,7 @@ pub no_few_emits : (a : Writer) (memory64 : Bool) (size number : ℕ) {tested : 
 no_few_emits a memory64 size number {tested} is few =
     emits_nothing (λ M p locals. record { is = ap (λ q. few_guard q number size (p.function (import.Trap ListOutOfBounds))) (sym (is_few_so (is_few memory64 size) tested is few)) })
 
--- ---- a list that is read, its regions
-
-pub list_read : {a b c : Writer} {debug memory64 : Bool} (l : ListLocals) {from second : From} → second ≡ second_from memory64 from → Emits a b (ReadsPointer debug memory64 from l.pointer) → Emits b c (ReadsPointer debug memory64 second l.number)
-    → Emits a c (ReadsList debug memory64 l from)
-list_read {b = b} {c} {debug} {memory64} l e x y =
-    emits_then (λ M p locals c k r s. record { is = (λ i. r.is i ++ s.is i); has_pointer = r.has; has_number = s.has }) x (subst (λ f. Emits b c (ReadsPointer debug memory64 f l.number)) e y)
+-- ---- its regions
 
 pub bytes_checked : {a b c : Writer} {m : LinearMemory} {size align : ℕ} (l : ListLocals) → Wrote a b (bytes_code l.number size ++ I.LocalSet l.bytes ∷ []) → Emits b c (ChecksRegion m align l.pointer l.bytes l.length ListOutOfBounds) → Emits a c (ChecksBytes m size align l)
 bytes_checked {size = size} l x y =
@@ -70,7 +65,7 @@ list_asked {size = size} l x y =
 
 -- all that stands in front of the elements
 pub list_opened : {a b c d e f g : Writer} {sides : Sides} {x : Elements} {l : ListLocals} {src : From}
-    → Emits a b (ReadsList sides.debug sides.from.memory64 l src) → Emits b c (ChecksFew sides.from.memory64 x.from_size l.number) → Emits c d (ChecksFew sides.to.memory64 x.to_size l.number)
+    → Emits a b (ReadsPair sides.debug sides.from.memory64 l.pointer l.number src) → Emits b c (ChecksFew sides.from.memory64 x.from_size l.number) → Emits c d (ChecksFew sides.to.memory64 x.to_size l.number)
     → Emits d e (ChecksBytes sides.from x.from_size x.from_align l) → Emits e f (AsksList sides.concurrency sides.to x.to_size x.to_align l) → Wrote f g (begin_code sides.from.memory64 sides.to.memory64 l)
     → Emits a g (OpensList sides x l src)
 list_opened {sides = sides} {x} {l} {src} u v w y z o =
@@ -81,7 +76,7 @@ list_opened {sides = sides} {x} {l} {src} u v w y z o =
     let k4 = k3.second_holds in
     let k5 = k4.second_holds in
     let r1 : List Instr = read_into (checks_at sides.debug p) sides.from.memory64 src l.pointer in
-    let r2 : List Instr = read_into (checks_at sides.debug p) sides.from.memory64 (second_from sides.from.memory64 src) l.number in
+    let r2 : List Instr = read_into (checks_at sides.debug p) sides.from.memory64 (length_from sides.from.memory64 src) l.number in
     let outside : ℕ = p.function (import.Trap ListOutOfBounds) in
     let f1 : List Instr = few_guard (is_few sides.from.memory64 x.from_size) l.number x.from_size outside in
     let f2 : List Instr = few_guard (is_few sides.to.memory64 x.to_size) l.number x.to_size outside in
@@ -90,7 +85,7 @@ list_opened {sides = sides} {x} {l} {src} u v w y z o =
     let begin : List Instr = begin_code sides.from.memory64 sides.to.memory64 l in
     record {
       has_pointer = read.has_pointer;
-      has_number = read.has_number;
+      has_number = read.has_length;
       from_unaligned = k4.first_holds.unaligned;
       to_unaligned = k5.first_holds.unaligned;
       outside = k4.first_holds.outside;
@@ -104,17 +99,13 @@ list_opened {sides = sides} {x} {l} {src} u v w y z o =
 
 -- ---- the loop, and the new list
 
-pub pair_written : {a b c : Writer} {second : To} (memory64 : Bool) (dst : To) (l : ListLocals) → second ≡ second_to memory64 dst → Wrote a b (put_code memory64 l.address dst) → Wrote b c (put_code memory64 l.number second)
-    → Wrote a c (put_code memory64 l.address dst ++ put_code memory64 l.number (second_to memory64 dst))
-pair_written {b = b} {c} memory64 dst l e x y = wrote_then x (subst (λ d. Wrote b c (put_code memory64 l.number d)) e y)
-
 pub list_closed : {a b c d e : Writer} {sides : Sides} {x : Elements} {l : ListLocals} {dst : To} {outer body test : List Instr} → test ≡ left_code l.left
     → Wrote a b (turn_end_code sides.from.memory64 sides.to.memory64 x l) → Ended b c outer body → Wrote c d (counted_code test body)
-    → Wrote d e (put_code sides.to.memory64 l.address dst ++ put_code sides.to.memory64 l.number (second_to sides.to.memory64 dst))
+    → Wrote d e (put_pair_code sides.to.memory64 l.address l.number dst)
     → ClosesList sides x l outer dst a e
 list_closed {a} {sides = sides} {x} {l} {dst} {outer} {body} {test} e t ended counted pair =
     let ends : List Instr = turn_end_code sides.from.memory64 sides.to.memory64 x l in
-    let put : List Instr = put_code sides.to.memory64 l.address dst ++ put_code sides.to.memory64 l.number (second_to sides.to.memory64 dst) in
+    let put : List Instr = put_pair_code sides.to.memory64 l.address l.number dst in
     record {
       code = pair.code ∙ ap (λ c. c ++ put) (counted.code ∙ ap (λ c. c ++ counted_code test body) ended.code) ∙ append_assoc outer (counted_code test body) put
           ∙ ap (λ c. outer ++ (c ++ put)) (ap (λ test. counted_code test body) e ∙ ap (counted_code (left_code l.left)) (ended.body ∙ t.code));

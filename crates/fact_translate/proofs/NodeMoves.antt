@@ -1,5 +1,5 @@
 -- From what is moved behind checks to the values of types: records, tuples, flags, enums, and all of them with their checks.
-use Rattle.std.proofs.Common.{◌≡◌, ◌≢◌, ℕ, ◌≤◌, Bool, List, ◌++◌, Option, Some, None, refl, sym, ap, ◌∙◌, subst, arith, ◌⊎◌, inl, inr}
+use Rattle.std.proofs.Common.{◌≡◌, ◌≢◌, ℕ, ◌≤◌, Bool, List, ◌++◌, Option, Some, None, refl, sym, ap, ◌∙◌, subst, arith, inl, inr}
 use Rattle.std.specs.Prelude.{unwrap_or}
 use Rattle.fact_entity.specs.declared.id.Id.{Id}
 use Rattle.fact_entity.specs.declared.table.TypeFixedLengthLists.{TypeFixedLengthLists}
@@ -222,15 +222,16 @@ from_moved {t} is m = record { grew = m.grew; emits = λ s u hs hu cs cu can. m.
 pub scalar_moved : {t : Tables} {from to : InterfaceType} {sides : Sides} {src : From} {dst : To} {first last : Writer}
     → ((i : Id TypeRecords) → from ≢ ty.Record i) → ((i : Id TypeTuples) → from ≢ ty.Tuple i) → ((i : Id FlagsTable) → from ≢ ty.Flags i) → ((i : Id TypeEnums) → from ≢ ty.Enum i)
     → ((i : Id TypeVariants) → from ≢ ty.Variant i) → ((i : Id TypeOptions) → from ≢ ty.Option i) → ((i : Id TypeResults) → from ≢ ty.Result i)
-    → ((i : Id TypeLists) → from ≢ ty.List i) → ((i : Id TypeMaps) → from ≢ ty.Map i) → ((i : Id TypeFixedLengthLists) → from ≢ ty.FixedLengthList i)
+    → ((i : Id TypeLists) → from ≢ ty.List i) → ((i : Id TypeMaps) → from ≢ ty.Map i) → ((i : Id TypeFixedLengthLists) → from ≢ ty.FixedLengthList i) → from ≢ ty.String
     → handle_transfer from to ≡ None → MovedScalar from sides src dst first last → MovedNode t from to sides src dst first last
-scalar_moved {t} {from} {to} {sides} {src} {dst} {first} {last} no_record no_tuple no_flags no_enum no_variant no_option no_result no_list no_map no_fixed no_handle scalar = record { grew = scalar.grew; emits = λ s u hs hu cs cu can. moved s u hs hu can }
+scalar_moved {t} {from} {to} {sides} {src} {dst} {first} {last} no_record no_tuple no_flags no_enum no_variant no_option no_result no_list no_map no_fixed no_string no_handle scalar = record { grew = scalar.grew; emits = λ s u hs hu cs cu can. moved s u hs hu can }
   where
     moved : (s u : Shape) → HasShape t from s → HasShape t to u → CanMove s u → Emits first last (MovesNode sides src dst (taken_in first) s u)
     moved (s_plain a) (s_plain b) hs hu (inl can) =
         subst (λ b. Emits first last (MovesNode sides src dst (taken_in first) (s_plain a) (s_plain b))) can.0
         (subst (λ a. Emits first last (MovesNode sides src dst (taken_in first) (s_plain a) (s_plain a))) hs.0 (scalar.emits (ap is_scalar hs.0 ∙ can.1)))
-    moved (s_plain a) (s_plain b) hs hu (inr can) = absurd (no_transfer a b (ap (λ a. handle_transfer a b) (sym hs.0) ∙ ap (handle_transfer from) (sym hu.0) ∙ no_handle) can)
+    moved (s_plain a) (s_plain b) hs hu (inr (inl can)) = absurd (no_string (hs.0 ∙ can.0))
+    moved (s_plain a) (s_plain b) hs hu (inr (inr can)) = absurd (no_transfer a b (ap (λ a. handle_transfer a b) (sym hs.0) ∙ ap (handle_transfer from) (sym hu.0) ∙ no_handle) can)
     moved (s_node k ms) (s_plain b) hs hu can = absurd can
     moved (s_node (k_future i m) ms) (s_node (k_future j n) ns) hs hu can = absurd (no_future t from to ms ns no_handle hs hu)
     moved (s_node (k_stream i m) ms) (s_node (k_stream j n) ns) hs hu can = absurd (no_stream t from to ms ns no_handle hs hu)

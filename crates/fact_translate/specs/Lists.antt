@@ -15,19 +15,18 @@ use Rattle.fact_moves.specs.Running.{ImportPlaces}
 use Rattle.fact_pieces.specs.Code.{counted_code}
 use Rattle.fact_pieces.specs.Context.{HasSlotsIf}
 use Rattle.fact_pieces.specs.Knows.{KnowsFunction}
-use Rattle.fact_pieces.specs.Lists.{is_few, few_guard, bytes_code, bump_code, count_code, left_code, address_code, put_code}
-use Rattle.fact_pieces.specs.Places.{Slot, From, To, size_of, widen}
+use Rattle.fact_pieces.specs.Lists.{is_few, few_guard, bytes_code, bump_code, count_code, left_code, address_code}
+use Rattle.fact_pieces.specs.Places.{Slot, From, To, widen}
 use Rattle.fact_pieces.specs.Tests.{HasUnaligned, pointer, read_into, region_code}
 use Rattle.fact_emit.specs.declared.context.ContextLocals.{ContextLocals}
 use Rattle.fact_emit.specs.declared.places.LinearMemory.{LinearMemory}
 use Rattle.fact_emit.specs.declared.places.Sides.{Sides}
 use Rattle.fact_emit.specs.declared.writer.Writer.{Writer}
 use Rattle.fact_emit.specs.Numbers.{HasUpperAt}
-use Rattle.fact_emit.specs.Parts.{from_behind, to_behind}
+use Rattle.fact_emit.specs.Pairs.{length_from, put_pair_code}
 use Rattle.fact_emit.specs.Places.{checks_at}
 use Rattle.fact_emit.specs.Requests.{request_code}
 use Rattle.fact_emit.specs.RuntimeCalls.{slots_of}
-use Rattle.fact_emit.specs.Writers.{IsNoneOf}
 use Rattle.fact_translate.specs.declared.lists.Elements.{Elements}
 use Rattle.fact_translate.specs.declared.lists.ListLocals.{ListLocals}
 
@@ -46,11 +45,6 @@ list_numbers l = l.pointer ∷ l.number ∷ l.bytes ∷ l.address ∷ l.length �
 abbrev pub list_context : ListLocals → ContextLocals
 list_context l = record { first = l.saved0; second = l.saved1 }
 
--- no number stands there twice
-abbrev pub AreDistinctNumbers : List ℕ → Type 0
-AreDistinctNumbers [] = Unit {0}
-AreDistinctNumbers (n ∷ ns) = IsNoneOf n ns × AreDistinctNumbers ns
-
 -- ---- entries
 
 -- The bytes and the alignment of entries of a layout, where they take some.
@@ -60,19 +54,6 @@ pub record IsEntryOf (memory64 : Bool) (abi : CanonicalAbiInfo) (size align : �
   pub small : (extent (width memory64) abi).size ≤ 4294967295
 
 -- ---- what is read and checked
-
--- the length of a list behind its pointer
-abbrev pub second_from : Bool → From → From
-second_from memory64 from = from_behind 1 1 (size_of (pointer memory64)) from
-
-abbrev pub second_to : Bool → To → To
-second_to memory64 to = to_behind 1 1 (size_of (pointer memory64)) to
-
--- a pointer and a length are read
-pub record ReadsList (debug memory64 : Bool) (l : ListLocals) (from : From) (M : WasmModule) (p : ImportPlaces) (locals : List ValType) (code : List Instr) : Type 0 where
-  pub is : code ≡ read_into (checks_at debug p) memory64 from l.pointer ++ read_into (checks_at debug p) memory64 (second_from memory64 from) l.number
-  pub has_pointer : HasUpperAt M p (checks_at debug p) (pointer memory64) from
-  pub has_number : HasUpperAt M p (checks_at debug p) (pointer memory64) (second_from memory64 from)
 
 -- so many things of a size have fewer than 2 to the power of 32 bytes, with a trap where not
 pub record ChecksFew (memory64 : Bool) (size number : ℕ) (M : WasmModule) (p : ImportPlaces) (locals : List ValType) (code : List Instr) : Type 0 where
@@ -104,12 +85,12 @@ begin_code from64 to64 l =
 -- one. The functions of the traps and of the slots are there.
 pub record OpensList (sides : Sides) (e : Elements) (l : ListLocals) (src : From) (M : WasmModule) (p : ImportPlaces) (locals : List ValType) (code : List Instr) : Type 0 where
   pub has_pointer : HasUpperAt M p (checks_at sides.debug p) (pointer sides.from.memory64) src
-  pub has_number : HasUpperAt M p (checks_at sides.debug p) (pointer sides.from.memory64) (second_from sides.from.memory64 src)
+  pub has_number : HasUpperAt M p (checks_at sides.debug p) (pointer sides.from.memory64) (length_from sides.from.memory64 src)
   pub from_unaligned : HasUnaligned (nat_eq e.from_align 1) M p (p.function (import.Trap UnalignedPointer))
   pub to_unaligned : HasUnaligned (nat_eq e.to_align 1) M p (p.function (import.Trap UnalignedPointer))
   pub outside : KnowsFunction M p (import.Trap ListOutOfBounds) (p.function (import.Trap ListOutOfBounds)) [] []
   pub slots : HasSlotsIf sides.concurrency M p (slots_of p (list_context l))
-  pub is : code ≡ read_into (checks_at sides.debug p) sides.from.memory64 src l.pointer ++ (read_into (checks_at sides.debug p) sides.from.memory64 (second_from sides.from.memory64 src) l.number
+  pub is : code ≡ read_into (checks_at sides.debug p) sides.from.memory64 src l.pointer ++ (read_into (checks_at sides.debug p) sides.from.memory64 (length_from sides.from.memory64 src) l.number
       ++ (few_guard (is_few sides.from.memory64 e.from_size) l.number e.from_size (p.function (import.Trap ListOutOfBounds)) ++ (few_guard (is_few sides.to.memory64 e.to_size) l.number e.to_size (p.function (import.Trap ListOutOfBounds))
       ++ (bytes_code l.number e.from_size ++ (I.LocalSet l.bytes ∷ (region_code sides.from.memory sides.from.memory64 sides.from.page_size_log2 e.from_align l.pointer l.bytes l.length (p.function (import.Trap UnalignedPointer)) (p.function (import.Trap ListOutOfBounds))
       ++ (asks_code sides.concurrency p sides.to e.to_size e.to_align l ++ begin_code sides.from.memory64 sides.to.memory64 l)))))))
@@ -123,6 +104,6 @@ turn_end_code from64 to64 e l = bump_code from64 l.source e.from_size ++ (bump_c
 -- The code of an element, which was all the code, became that of all elements behind the code from before it, and the new list is
 -- written behind them.
 pub record ClosesList (sides : Sides) (e : Elements) (l : ListLocals) (outer : List Instr) (dst : To) (old new : Writer) : Type 0 where
-  pub code : new.code.items ≡ outer ++ (counted_code (left_code l.left) (old.code.items ++ turn_end_code sides.from.memory64 sides.to.memory64 e l) ++ (put_code sides.to.memory64 l.address dst ++ put_code sides.to.memory64 l.number (second_to sides.to.memory64 dst)))
+  pub code : new.code.items ≡ outer ++ (counted_code (left_code l.left) (old.code.items ++ turn_end_code sides.from.memory64 sides.to.memory64 e l) ++ put_pair_code sides.to.memory64 l.address l.number dst)
   pub locals : new.locals ≡ old.locals
   pub imports : new.imports ≡ old.imports

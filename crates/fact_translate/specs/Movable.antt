@@ -1,4 +1,4 @@
--- Shapes between which these functions move values: a scalar and the same one, flags of at most 32 names and enums with as many
+-- Shapes between which these functions move values: a scalar and the same one, strings, flags of at most 32 names and enums with as many
 -- names, tuples member by member, records whose members can be moved by name, variants, options and results of which each case can
 -- be moved to the case of its name, lists and maps whose elements can be moved, and handles of one kind.
 use Rattle.std.specs.Prelude.{◌≡◌, ◌<◌, ◌≤◌, ◌⊎◌, ℕ, true, Some, None}
@@ -23,7 +23,7 @@ CanTransfer (ty.ErrorContext i) (ty.ErrorContext j) = Unit {0}
 CanTransfer _ _ = ⊥
 
 abbrev pub CanMovePlain : Shape → InterfaceType → Type 0
-CanMovePlain (s_plain a) b = ((a ≡ b) × (is_scalar a ≡ true)) ⊎ CanTransfer a b
+CanMovePlain (s_plain a) b = ((a ≡ b) × (is_scalar a ≡ true)) ⊎ (((a ≡ ty.String) × (b ≡ ty.String)) ⊎ CanTransfer a b)
 CanMovePlain (s_node k ms) b = ⊥
 
 -- flags of as many names, at least one and at most 32

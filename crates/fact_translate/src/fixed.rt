@@ -5,11 +5,11 @@ ghost use Rattle.std.specs.List.{AllByRecursion};
 ghost use Rattle.fact_emit.specs.declared.places.LinearMemory as linear;
 ghost use Rattle.fact_pieces.specs.FixedLists.{offset_code};
 ghost use Rattle.fact_emit.specs.Places.{from_of, to_of};
-ghost use Rattle.fact_emit.specs.Writers.{Wrote, TookAll, FreedAll, taken_in};
+ghost use Rattle.fact_emit.specs.Writers.{AreDistinctNumbers, Wrote, TookAll, FreedAll, taken_in};
 ghost use Rattle.fact_translate.specs.FixedLists.{ClosesFixed, fixed_begin_code, fixed_slots, fixed_numbers, fixed_end_code, nth_from, nth_to};
-ghost use Rattle.fact_translate.specs.Lists.{AreDistinctNumbers};
 
-use crate::lists::{address_type, bump, free_locals, put_add};
+use crate::lists::{address_type, bump, put_add};
+use fact_emit::freed_locals::free_locals;
 use fact_emit::loops::put_countdown;
 use fact_emit::places::{Address, Sides, SourcePlace, TargetPlace};
 use fact_emit::requests::put_const;

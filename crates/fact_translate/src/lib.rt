@@ -9,4 +9,5 @@ pub mod lists;
 pub mod maps;
 pub mod members;
 pub mod products;
+pub mod strings;
 pub mod sums;

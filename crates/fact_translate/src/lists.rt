@@ -5,20 +5,19 @@ ghost use Rattle.std.specs.List.{AllByRecursion};
 ghost use Rattle.fact_wasm.specs.declared.instr.Instr.TheVariants as I;
 ghost use Rattle.fact_machine.specs.Typing.{address_type as address_type_of};
 ghost use Rattle.fact_pieces.specs.Lists.{is_few, add_code, few_code, bump_code, count_code, left_code, put_code};
-ghost use Rattle.fact_pieces.specs.Places.{size_of};
-ghost use Rattle.fact_pieces.specs.Tests.{pointer};
 ghost use Rattle.fact_emit.specs.Emits.{Emits};
 ghost use Rattle.fact_emit.specs.Places.{from_of, to_of};
 ghost use Rattle.fact_emit.specs.Requests.{IsReallocImported};
-ghost use Rattle.fact_emit.specs.Writers.{Wrote, TookAll, FreedAll, taken_in};
-ghost use Rattle.fact_translate.specs.Lists.{AreDistinctNumbers, ChecksFew, ChecksBytes, ReadsList, OpensList, ClosesList, AsksList, begin_code, turn_end_code, list_slots, list_numbers, second_to};
+ghost use Rattle.fact_emit.specs.Writers.{AreDistinctNumbers, Wrote, TookAll, FreedAll, taken_in};
+ghost use Rattle.fact_translate.specs.Lists.{ChecksFew, ChecksBytes, OpensList, ClosesList, AsksList, begin_code, turn_end_code, list_slots, list_numbers};
 
 use fact_emit::checks::put_guard;
 use fact_emit::context::ContextLocals;
+use fact_emit::freed_locals::free_locals;
 use fact_emit::loops::put_counted;
-use fact_emit::numbers::{open, write_number};
+use fact_emit::pairs::{read_pair, write_pair};
 use fact_emit::places::{LinearMemory, Sides, SourcePlace, TargetPlace};
-use fact_emit::pointers::{check_region, pointer_number, read_pointer};
+use fact_emit::pointers::check_region;
 use fact_emit::requests::{NewRegion, put_address, put_bytes, put_const, reallocate};
 use fact_emit::writer::Writer;
 use fact_types::Trap;
@@ -56,13 +55,6 @@ pub fn address_type(memory64: bool) -> ValType
     if memory64 { ValType::I64 } else { ValType::I32 }
 }
 
-/// The bytes of an address.
-fn address_bytes(memory64: bool) -> u32
-    ensures { result ≡ size_of (pointer memory64) }
-{
-    if memory64 { 8 } else { 4 }
-}
-
 /// Takes the locals of a list.
 pub fn take_list_locals(w: &mut Writer, sides: Sides) -> Result<ListLocals, OutOfMemory>
     ensures { IfOk result (λ l. TookAll w.old w.new (list_slots sides.from.memory64 sides.to.memory64 l)) }
@@ -89,18 +81,6 @@ pub fn take_list_locals(w: &mut Writer, sides: Sides) -> Result<ListLocals, OutO
         saved0,
         saved1,
     })
-}
-
-/// Locals are in use no more.
-pub fn free_locals(w: &mut Writer, locals: &[u32]) -> Result<(), OutOfMemory>
-    requires taken { AllByRecursion (λ i. taken_in w.old i ≡ true) locals.now }
-    requires distinct { AreDistinctNumbers locals.now }
-    ensures { OnOk result (FreedAll w.old w.new locals.now) }
-{
-    for local in locals {
-        w.free_local(*local)?;
-    }
-    Ok(())
 }
 
 /// The locals of a list are in use no more.
@@ -148,22 +128,6 @@ fn check_few(w: &mut Writer, memory64: bool, number: u32, size: u32) -> Result<(
         let test = few_test(w, number, size)?;
         put_guard(w, test, Trap::ListOutOfBounds)?;
     }
-    Ok(())
-}
-
-/// Reads the pointer and the length of a list.
-fn read_list(
-    w: &mut Writer,
-    debug: bool,
-    linear: LinearMemory,
-    source: SourcePlace<'_>,
-    l: ListLocals,
-) -> Result<(), OutOfMemory>
-    ensures { OnOk result (Emits w.old w.new (ReadsList debug linear.memory64 l (from_of linear source.entry))) }
-{
-    read_pointer(w, debug, linear, source, l.pointer)?;
-    let second = source.part(1, 1, address_bytes(linear.memory64));
-    read_pointer(w, debug, linear, second, l.number)?;
     Ok(())
 }
 
@@ -240,7 +204,7 @@ pub fn open_list(
     requires realloc { IsReallocImported sides.to w.old.imports }
     ensures { OnOk result (Emits w.old w.new (OpensList sides e l (from_of sides.from source.entry))) }
 {
-    read_list(w, sides.debug, sides.from, source, l)?;
+    read_pair(w, sides.debug, sides.from, source, l.pointer, l.number)?;
     check_few(w, sides.from.memory64, l.number, e.from_size)?;
     check_few(w, sides.to.memory64, l.number, e.to_size)?;
     check_bytes(w, sides.from, e.from_size, e.from_align, l)?;
@@ -301,36 +265,6 @@ fn left_test(w: &Writer, left: u32) -> Result<Vec<Instr>, OutOfMemory>
     Ok(test)
 }
 
-/// Writes what a local of type i64 holds to a place, as wide as addresses.
-fn write_pointer(
-    w: &mut Writer,
-    linear: LinearMemory,
-    local: u32,
-    target: TargetPlace<'_>,
-) -> Result<(), OutOfMemory>
-    ensures { OnOk result (Wrote w.old w.new (put_code linear.memory64 local (to_of linear target.entry))) }
-{
-    open(w, linear, target)?;
-    put_address(w, linear.memory64, local)?;
-    write_number(w, linear, pointer_number(linear.memory64), target)?;
-    Ok(())
-}
-
-/// Writes the new pointer and the length of a list.
-fn write_list(
-    w: &mut Writer,
-    linear: LinearMemory,
-    l: ListLocals,
-    target: TargetPlace<'_>,
-) -> Result<(), OutOfMemory>
-    ensures { OnOk result (Wrote w.old w.new (put_code linear.memory64 l.address (to_of linear target.entry) ++ put_code linear.memory64 l.number (second_to linear.memory64 (to_of linear target.entry)))) }
-{
-    write_pointer(w, linear, l.address, target)?;
-    let second = target.part(1, 1, address_bytes(linear.memory64));
-    write_pointer(w, linear, l.number, second)?;
-    Ok(())
-}
-
 /// Ends the code of an element, which is all the code since a body began: it is done for each element, and then the new list is
 /// written.
 pub fn close_list(
@@ -347,6 +281,6 @@ pub fn close_list(
     let body = w.end(outer);
     let test = left_test(w, l.left)?;
     put_counted(w, test, body)?;
-    write_list(w, sides.to, l, target)?;
+    write_pair(w, sides.to, l.address, l.number, target)?;
     Ok(())
 }

@@ -6,7 +6,7 @@ ghost use Rattle.fact_types.specs.Tables.{IsLive, IsLiveMember};
 ghost use Rattle.fact_pieces.specs.Places.{InMemory, ToMemory};
 ghost use Rattle.fact_emit.specs.Handles.{handle_transfer as transfer_of};
 ghost use Rattle.fact_emit.specs.Places.{from_of, to_of};
-ghost use Rattle.fact_emit.specs.Requests.{IsReallocImported};
+ghost use Rattle.fact_emit.specs.StringPieces.{AreSidesImported};
 ghost use Rattle.fact_translate.specs.Moved.{MovedNode, MovedTuple, MovedValue, MovedMember, CheckedPlaces, IsLiveFound};
 ghost use Rattle.fact_translate.specs.MovedFixed.{MovedElements};
 ghost use Rattle.fact_translate.specs.MovedSums.{IsLiveNumbered, MovedSome, MovedPayload, MovedCase, WroteBodies, MovedSumBy, MovedSum};
@@ -22,6 +22,7 @@ use crate::layouts::{alignment, byte_count, byte_place, flat_length, next_place}
 use crate::lists::{Elements, close_list, free_list_locals, open_list, take_list_locals};
 use crate::maps::{entries, value_place};
 use crate::members::{MemberPair, pair_fields, pair_members};
+use crate::strings::move_string;
 use crate::sums::{
     PairedCase, Sum, option_sum, payload_place, put_left_over, put_tag, result_sum, variant_sum,
 };
@@ -73,7 +74,7 @@ pub fn translate(
 ) -> Result<(), OutOfMemory>
     requires from_live { IsLive types.now from }
     requires to_live { IsLive types.now to }
-    requires realloc { IsReallocImported sides.to w.old.imports }
+    requires sides { AreSidesImported sides w.old.imports }
     ensures { OnOk result (MovedValue types.now from to sides (from_of sides.from source.entry) (to_of sides.to target.entry) w.old w.new) }
 {
     check_places(types, w, sides, from, to, source, target)?;
@@ -97,7 +98,7 @@ fn move_node(
 ) -> Result<(), OutOfMemory>
     requires from_live { IsLive types.now from }
     requires to_live { IsLive types.now to }
-    requires realloc { IsReallocImported sides.to w.old.imports }
+    requires sides { AreSidesImported sides w.old.imports }
     requires no_handle { transfer_of from to ≡ None }
     ensures { OnOk result (MovedNode types.now from to sides (from_of sides.from source.entry) (to_of sides.to target.entry) w.old w.new) }
 {
@@ -138,6 +139,10 @@ fn move_node(
         },
         InterfaceType::Flags(i) => move_flags(types, w, sides, i, source, target)?,
         InterfaceType::Enum(i) => move_enum(types, w, sides, i, source, target)?,
+        InterfaceType::String => match to {
+            InterfaceType::String => move_string(w, sides, source, target)?,
+            _ => w.put(Instr::Unreachable)?,
+        },
         _ => move_scalar(w, sides, from, source, target)?,
     }
     Ok(())
@@ -156,7 +161,7 @@ fn move_record(
 ) -> Result<(), OutOfMemory>
     requires from_live { IsLive types.now (ty.Record from) }
     requires to_live { IsLive types.now (ty.Record to) }
-    requires realloc { IsReallocImported sides.to w.old.imports }
+    requires sides { AreSidesImported sides w.old.imports }
     ensures { OnOk result (MovedNode types.now (ty.Record from) (ty.Record to) sides (from_of sides.from source.entry) (to_of sides.to target.entry) w.old w.new) }
 {
     let pairs = pair_fields(w.alloc, types, from, to)?;
@@ -179,7 +184,7 @@ pub fn move_tuple(
 ) -> Result<(), OutOfMemory>
     requires from_live { IsLive types.now (ty.Tuple from) }
     requires to_live { IsLive types.now (ty.Tuple to) }
-    requires realloc { IsReallocImported sides.to w.old.imports }
+    requires sides { AreSidesImported sides w.old.imports }
     ensures { OnOk result (MovedTuple types.now (ty.Tuple from) (ty.Tuple to) sides (from_of sides.from source.entry) (to_of sides.to target.entry) w.old w.new) }
 {
     let pairs = pair_members(w.alloc, types, from, to)?;
@@ -201,7 +206,7 @@ fn move_pairs(
     target: TargetPlace<'_>,
 ) -> Result<(), OutOfMemory>
     requires pairs { ArePairs types.now whole pairs.now }
-    requires realloc { IsReallocImported sides.to w.old.imports }
+    requires sides { AreSidesImported sides w.old.imports }
     ensures { OnOk result (MovedPairs types.now whole pairs.now sides (from_of sides.from source.entry) (to_of sides.to target.entry) w.old w.new) }
 {
     let mut rest = target;
@@ -229,7 +234,7 @@ fn move_list(
 ) -> Result<(), OutOfMemory>
     requires from_live { IsLive types.now (ty.List from) }
     requires to_live { IsLive types.now (ty.List to) }
-    requires realloc { IsReallocImported sides.to w.old.imports }
+    requires sides { AreSidesImported sides w.old.imports }
     ensures { OnOk result (MovedNode types.now (ty.List from) (ty.List to) sides (from_of sides.from source.entry) (to_of sides.to target.entry) w.old w.new) }
 {
     types.reveal();
@@ -271,7 +276,7 @@ fn move_map(
 ) -> Result<(), OutOfMemory>
     requires from_live { IsLive types.now (ty.Map from) }
     requires to_live { IsLive types.now (ty.Map to) }
-    requires realloc { IsReallocImported sides.to w.old.imports }
+    requires sides { AreSidesImported sides w.old.imports }
     ensures { OnOk result (MovedNode types.now (ty.Map from) (ty.Map to) sides (from_of sides.from source.entry) (to_of sides.to target.entry) w.old w.new) }
 {
     types.reveal();
@@ -319,7 +324,7 @@ fn move_fixed_list(
 ) -> Result<(), OutOfMemory>
     requires from_live { IsLive types.now (ty.FixedLengthList from) }
     requires to_live { IsLive types.now (ty.FixedLengthList to) }
-    requires realloc { IsReallocImported sides.to w.old.imports }
+    requires sides { AreSidesImported sides w.old.imports }
     ensures { OnOk result (MovedNode types.now (ty.FixedLengthList from) (ty.FixedLengthList to) sides (from_of sides.from source.entry) (to_of sides.to target.entry) w.old w.new) }
 {
     types.reveal();
@@ -360,7 +365,7 @@ fn move_by_loop(
 ) -> Result<(), OutOfMemory>
     requires from_live { IsLive types.now from }
     requires to_live { IsLive types.now to }
-    requires realloc { IsReallocImported sides.to w.old.imports }
+    requires sides { AreSidesImported sides w.old.imports }
     ensures { OnOk result (MovedElements types.now from to e sides (InMemory sides.from.memory source.local source.offset) (ToMemory sides.to.memory target.local target.offset) w.old w.new) }
 {
     let locals = take_fixed_locals(w, sides)?;
@@ -394,7 +399,7 @@ fn move_one_by_one(
 ) -> Result<(), OutOfMemory>
     requires from_live { IsLive types.now from }
     requires to_live { IsLive types.now to }
-    requires realloc { IsReallocImported sides.to w.old.imports }
+    requires sides { AreSidesImported sides w.old.imports }
     ensures { OnOk result (MovedElements types.now from to e sides (from_of sides.from source.entry) (to_of sides.to target.entry) w.old w.new) }
 {
     let from_flats = flat_length(types, &from);
@@ -422,7 +427,7 @@ fn move_member(
 ) -> Result<(), OutOfMemory>
     requires from_live { IsLiveFound types.now found }
     requires to_live { IsLive types.now to }
-    requires realloc { IsReallocImported sides.to w.old.imports }
+    requires sides { AreSidesImported sides w.old.imports }
     ensures { OnOk result (MovedMember types.now found to sides (from_of sides.from source.entry) (to_of sides.to spot.entry) w.old w.new) }
 {
     match found {
@@ -451,7 +456,7 @@ fn move_variant(
 ) -> Result<(), OutOfMemory>
     requires from_live { IsLive types.now (ty.Variant from) }
     requires to_live { IsLive types.now (ty.Variant to) }
-    requires realloc { IsReallocImported sides.to w.old.imports }
+    requires sides { AreSidesImported sides w.old.imports }
     ensures { OnOk result (MovedNode types.now (ty.Variant from) (ty.Variant to) sides (from_of sides.from source.entry) (to_of sides.to target.entry) w.old w.new) }
 {
     let sum = variant_sum(w.alloc, types, from, to)?;
@@ -483,7 +488,7 @@ fn move_option(
 ) -> Result<(), OutOfMemory>
     requires from_live { IsLive types.now (ty.Option from) }
     requires to_live { IsLive types.now (ty.Option to) }
-    requires realloc { IsReallocImported sides.to w.old.imports }
+    requires sides { AreSidesImported sides w.old.imports }
     ensures { OnOk result (MovedNode types.now (ty.Option from) (ty.Option to) sides (from_of sides.from source.entry) (to_of sides.to target.entry) w.old w.new) }
 {
     let sum = option_sum(w.alloc, types, from, to)?;
@@ -515,7 +520,7 @@ fn move_result(
 ) -> Result<(), OutOfMemory>
     requires from_live { IsLive types.now (ty.Result from) }
     requires to_live { IsLive types.now (ty.Result to) }
-    requires realloc { IsReallocImported sides.to w.old.imports }
+    requires sides { AreSidesImported sides w.old.imports }
     ensures { OnOk result (MovedNode types.now (ty.Result from) (ty.Result to) sides (from_of sides.from source.entry) (to_of sides.to target.entry) w.old w.new) }
 {
     let sum = result_sum(w.alloc, types, from, to)?;
@@ -549,7 +554,7 @@ fn move_sum(
     requires from_live { IsLive types.now from }
     requires to_live { IsLive types.now to }
     requires cases { IsSumOf types.now from to sum.now }
-    requires realloc { IsReallocImported sides.to w.old.imports }
+    requires sides { AreSidesImported sides w.old.imports }
     ensures { OnOk result (MovedSum types.now from to sides (from_of sides.from source.entry) (to_of sides.to target.entry) w.old w.new) }
 {
     let local = w.take_local(ValType::I32)?;
@@ -574,7 +579,7 @@ fn move_sum_by(
     requires from_live { IsLive types.now from }
     requires to_live { IsLive types.now to }
     requires cases { IsSumOf types.now from to sum.now }
-    requires realloc { IsReallocImported sides.to w.old.imports }
+    requires sides { AreSidesImported sides w.old.imports }
     ensures { OnOk result (MovedSumBy types.now from to local sides (from_of sides.from source.entry) (to_of sides.to target.entry) w.old w.new) }
 {
     types.reveal();
@@ -606,7 +611,7 @@ fn case_bodies(
     requires from_live { IsLive types.now from }
     requires to_live { IsLive types.now to }
     requires cases { IsSumOf types.now from to sum.now }
-    requires realloc { IsReallocImported sides.to w.old.imports }
+    requires sides { AreSidesImported sides w.old.imports }
     ensures { IfOk result (λ bodies. WroteBodies types.now from to sides (from_of sides.from source.entry) (to_of sides.to target.entry) (length sum.now.cases.items) bodies.items w.old w.new) }
 {
     types.reveal();
@@ -633,7 +638,7 @@ fn move_case(
 ) -> Result<(), OutOfMemory>
     requires from_live { IsLiveMember types.now case.payload }
     requires to_live { IsLiveNumbered types.now case.found }
-    requires realloc { IsReallocImported sides.to w.old.imports }
+    requires sides { AreSidesImported sides w.old.imports }
     ensures { OnOk result (MovedCase types.now infos.0 infos.1 case sides (from_of sides.from source.entry) (to_of sides.to target.entry) w.old w.new) }
 {
     match case.found {
@@ -670,7 +675,7 @@ fn move_payload(
 ) -> Result<(), OutOfMemory>
     requires from_live { IsLiveMember types.now from }
     requires to_live { IsLiveMember types.now to }
-    requires realloc { IsReallocImported sides.to w.old.imports }
+    requires sides { AreSidesImported sides w.old.imports }
     ensures { OnOk result (MovedPayload types.now infos.0 infos.1 from to sides (from_of sides.from source.entry) (to_of sides.to target.entry) w.old w.new) }
 {
     match from {
@@ -697,7 +702,7 @@ fn move_some(
 ) -> Result<(), OutOfMemory>
     requires from_live { IsLive types.now from }
     requires to_live { IsLive types.now to }
-    requires realloc { IsReallocImported sides.to w.old.imports }
+    requires sides { AreSidesImported sides w.old.imports }
     ensures { OnOk result (MovedSome types.now infos.0 infos.1 from to sides (from_of sides.from source.entry) (to_of sides.to target.entry) w.old w.new) }
 {
     let bytes = payload_place(infos.0, sides.from.memory64);

@@ -5,10 +5,9 @@ use Rattle.std.proofs.lemmas.Result.{on_ok_weaker}
 use Rattle.fact_types.specs.declared.kinds.TypeFixedLengthList.{TypeFixedLengthList}
 use Rattle.fact_types.proofs.ShapeLaws.{same_some}
 use Rattle.fact_types.proofs.HeightLaws.{fixed_length_list_within, list_within, map_key_within, map_value_within}
-use Rattle.fact_emit.proofs.ChosenBodies.{realloc_aside}
 use Rattle.fact_emit.proofs.Emitting.{grew_on}
 use Rattle.fact_emit.proofs.RangedCode.{unreachable_ranged}
-use Rattle.fact_emit.proofs.RequestRanged.{realloc_on, realloc_same}
+use Rattle.fact_emit.proofs.SidesImported.{sides_later, sides_same}
 use Rattle.fact_translate.specs.MemberPairs.{members_at}
 use Rattle.fact_translate.proofs.ElementRuns.{element_passed, elements_begin, elements_end}
 use Rattle.fact_translate.proofs.FixedMembers.{fixed_alone, fixed_locals_taken, fixed_moved, loop_at, loop_moved}
@@ -21,13 +20,14 @@ use Rattle.fact_translate.proofs.HandleMoves.{handle_moved}
 use Rattle.fact_translate.proofs.NodeMoves.{value_moved, record_alone, tuple_alone, tuple_as_node, from_moved, scalar_moved, member_emits}
 use Rattle.fact_translate.proofs.SumCases.{bare_case, pair_fits}
 use Rattle.fact_translate.proofs.SumEmits.{some_emits, payload_some, payload_alone, payload_none, case_moved, case_missing, bodies_begin, bodies_on, bodies_end, sum_by_emits, sum_around, variant_moved, variant_alone, option_moved, option_alone, result_moved, result_alone}
+use Rattle.fact_translate.proofs.StringMoves.{string_alone, string_moved}
 use Rattle.fact_translate.proofs.TypeKinds.{list_members, map_members}
 use Rattle.fact_translate.proofs.products.+moving.Goals as goal
 
 -- ---- values
 
 pub translate-move_node-requires : goal.translate-move_node-requires
-translate-move_node-requires t c = (omega (arith, c.decreases), (c.requires.from_live, (c.requires.to_live, (realloc_on c.requires.realloc c.in_ok-check_places.ensures.grew, sym c.handle_transfer.ensures ∙ c.in-None.is))))
+translate-move_node-requires t c = (omega (arith, c.decreases), (c.requires.from_live, (c.requires.to_live, (sides_later c.in_ok-check_places.ensures.grew.imports c.requires.sides, sym c.handle_transfer.ensures ∙ c.in-None.is))))
 
 pub translate-move_handle-requires : goal.translate-move_handle-requires
 translate-move_handle-requires t c = transfers_handles c.args.from c.args.to c.in-Some.transfer (sym c.handle_transfer.ensures ∙ c.in-Some.is)
@@ -79,9 +79,15 @@ pub move_node-returns-in_ok-put-in_default-to-8 : goal.move_node-returns-in_ok-p
 move_node-returns-in_ok-put-in_default-to-8 t c =
     fixed_alone unreachable_ranged c.in-FixedLengthList.i c.args.to c.in-FixedLengthList.is c.in_default-to-8.not-FixedLengthList c.in_ok-put-in_default-to-8.ensures
 
+pub move_node-returns-in_ok-move_string-in-String-to : goal.move_node-returns-in_ok-move_string-in-String-to
+move_node-returns-in_ok-move_string-in-String-to t c = string_moved c.in-String.is c.in-String-to.is c.in_ok-move_string-in-String-to.ensures
+
+pub move_node-returns-in_ok-put-in_default-to-9 : goal.move_node-returns-in_ok-put-in_default-to-9
+move_node-returns-in_ok-put-in_default-to-9 t c = string_alone unreachable_ranged c.args.to c.in-String.is c.in_default-to-9.not-String c.in_ok-put-in_default-to-9.ensures
+
 pub move_node-returns-in_ok-move_scalar-in_default : goal.move_node-returns-in_ok-move_scalar-in_default
 move_node-returns-in_ok-move_scalar-in_default t c =
-    scalar_moved c.in_default.not-Record c.in_default.not-Tuple c.in_default.not-Flags c.in_default.not-Enum c.in_default.not-Variant c.in_default.not-Option c.in_default.not-Result c.in_default.not-List c.in_default.not-Map c.in_default.not-FixedLengthList
+    scalar_moved c.in_default.not-Record c.in_default.not-Tuple c.in_default.not-Flags c.in_default.not-Enum c.in_default.not-Variant c.in_default.not-Option c.in_default.not-Result c.in_default.not-List c.in_default.not-Map c.in_default.not-FixedLengthList c.in_default.not-String
     c.requires.no_handle c.in_ok-move_scalar-in_default.ensures
 
 pub move_member-returns-in_ok-translate-in-Some : goal.move_member-returns-in_ok-translate-in-Some
@@ -111,7 +117,7 @@ move_pairs-flat_length-count-requires t c = (pair_at c.loop-pair.pair-index c.re
 pub move_pairs-move_member-requires : goal.move_pairs-move_member-requires
 move_pairs-move_member-requires t c =
     let p = (pair_at c.loop-pair.pair-index c.requires.pairs c.loop-pair-test.true).pair in
-    (omega (arith, p.within.lower, c.decreases), (p.found_live, (p.within.live, realloc_on c.requires.realloc c.loop-pair.invariant.grew)))
+    (omega (arith, p.within.lower, c.decreases), (p.found_live, (p.within.live, sides_later c.loop-pair.invariant.grew.imports c.requires.sides)))
 
 pub move_pairs-loop-pair-preserved : goal.move_pairs-loop-pair-preserved
 move_pairs-loop-pair-preserved t c =
@@ -134,12 +140,12 @@ move_tuple-returns t c = on_ok_weaker c.move_pairs-moved.result (tuple_of_pairs 
 -- ---- variants, options and results
 
 pub move_sum-move_sum_by-requires : goal.move_sum-move_sum_by-requires
-move_sum-move_sum_by-requires t c = (omega (arith, c.decreases), (c.requires.from_live, (c.requires.to_live, (c.requires.cases, realloc_same c.in_ok-local.ensures.imports c.requires.realloc))))
+move_sum-move_sum_by-requires t c = (omega (arith, c.decreases), (c.requires.from_live, (c.requires.to_live, (c.requires.cases, sides_same c.in_ok-local.ensures.imports c.requires.sides))))
 
 pub move_sum_by-case_bodies-requires : goal.move_sum_by-case_bodies-requires
 move_sum_by-case_bodies-requires t c =
-    let realloc = realloc_same c.in_ok-put.ensures.imports (realloc_on c.requires.realloc c.in_ok-read_number.ensures.grew) in
-    (omega (arith, c.decreases), (c.requires.from_live, (c.requires.to_live, (c.requires.cases, realloc))))
+    let sides = sides_same c.in_ok-put.ensures.imports (sides_later c.in_ok-read_number.ensures.grew.imports c.requires.sides) in
+    (omega (arith, c.decreases), (c.requires.from_live, (c.requires.to_live, (c.requires.cases, sides))))
 
 pub move_variant-returns : goal.move_variant-returns
 move_variant-returns t c = variant_moved c.args.from c.args.to c.in_ok-move_sum.ensures
@@ -164,8 +170,8 @@ pub case_bodies-move_case-requires : goal.case_bodies-move_case-requires
 case_bodies-move_case-requires t c =
     let there = ap (λ ps. slice_get ps c.loop-case.case-index) (sym c.as_slice-case-items.ensures.value) ∙ slice_get-get_or c.as_slice-case-items.result.now c.loop-case.case-index bare_case c.loop-case-test.true in
     let fits = pair_fits c.args.types.now c.reveal.ensures.sound c.args.from c.args.to c.args.sum.now c.requires.from_live c.requires.to_live c.requires.cases c.loop-case.case-index _ there in
-    let realloc = realloc_same c.begin-outer.ensures.imports (realloc_aside c.requires.realloc c.loop-case.invariant.0.grew) in
-    (omega (arith, fits.lower, c.decreases), (fits.from_live, (fits.to_live, realloc)))
+    let sides = sides_same c.begin-outer.ensures.imports (sides_later c.loop-case.invariant.0.grew.imports c.requires.sides) in
+    (omega (arith, fits.lower, c.decreases), (fits.from_live, (fits.to_live, sides)))
 
 pub case_bodies-loop-case-preserved : goal.case_bodies-loop-case-preserved
 case_bodies-loop-case-preserved t c =
@@ -221,15 +227,15 @@ move_list-open_list-requires t c = record {
   to_size = c.byte_count-2.ensures.some;
   from_align = c.alignment.ensures.some;
   to_align = c.alignment-2.ensures.some;
-  realloc = realloc_same c.in_ok-locals.ensures.imports c.requires.realloc;
+  realloc = (sides_same c.in_ok-locals.ensures.imports c.requires.sides).realloc;
 }
 
 pub move_list-translate-requires : goal.move_list-translate-requires
 move_list-translate-requires t c =
     let from = list_within c.args.types.now c.reveal.ensures.sound c.args.from c.index.result.now c.index.ensures in
     let to = list_within c.args.types.now c.reveal.ensures.sound c.args.to c.index-2.result.now c.index-2.ensures in
-    let realloc = realloc_same c.begin-outer.ensures.imports (realloc_on (realloc_same c.in_ok-locals.ensures.imports c.requires.realloc) c.in_ok-open_list.ensures.grew) in
-    (omega (arith, to.lower, c.decreases), (from.live, (to.live, realloc)))
+    let sides = sides_same c.begin-outer.ensures.imports (sides_later c.in_ok-open_list.ensures.grew.imports (sides_same c.in_ok-locals.ensures.imports c.requires.sides)) in
+    (omega (arith, to.lower, c.decreases), (from.live, (to.live, sides)))
 
 pub move_list-free_list_locals-requires : goal.move_list-free_list_locals-requires
 move_list-free_list_locals-requires t c =
@@ -255,19 +261,19 @@ pub move_fixed_list-move_by_loop-requires : goal.move_fixed_list-move_by_loop-re
 move_fixed_list-move_by_loop-requires t c =
     let from = fixed_length_list_within c.args.types.now c.reveal.ensures.sound c.args.from c.index.result.now c.index.ensures in
     let to = fixed_length_list_within c.args.types.now c.reveal.ensures.sound c.args.to c.index-2.result.now c.index-2.ensures in
-    (omega (arith, to.lower, c.decreases), (from.live, (to.live, c.requires.realloc)))
+    (omega (arith, to.lower, c.decreases), (from.live, (to.live, c.requires.sides)))
 
 pub move_fixed_list-move_one_by_one-requires : goal.move_fixed_list-move_one_by_one-requires
 move_fixed_list-move_one_by_one-requires t c =
     let from = fixed_length_list_within c.args.types.now c.reveal.ensures.sound c.args.from c.index.result.now c.index.ensures in
     let to = fixed_length_list_within c.args.types.now c.reveal.ensures.sound c.args.to c.index-2.result.now c.index-2.ensures in
-    (omega (arith, to.lower, c.decreases), (from.live, (to.live, c.requires.realloc)))
+    (omega (arith, to.lower, c.decreases), (from.live, (to.live, c.requires.sides)))
 
 pub move_fixed_list-move_one_by_one-requires-in-Locals : goal.move_fixed_list-move_one_by_one-requires-in-Locals
 move_fixed_list-move_one_by_one-requires-in-Locals t c =
     let from = fixed_length_list_within c.args.types.now c.reveal.ensures.sound c.args.from c.index.result.now c.index.ensures in
     let to = fixed_length_list_within c.args.types.now c.reveal.ensures.sound c.args.to c.index-2.result.now c.index-2.ensures in
-    (omega (arith, to.lower, c.decreases), (from.live, (to.live, c.requires.realloc)))
+    (omega (arith, to.lower, c.decreases), (from.live, (to.live, c.requires.sides)))
 
 pub move_fixed_list-returns-in_ok-move_by_loop-in-Memory-target : goal.move_fixed_list-returns-in_ok-move_by_loop-in-Memory-target
 move_fixed_list-returns-in_ok-move_by_loop-in-Memory-target t c =
@@ -291,7 +297,7 @@ pub move_one_by_one-loop-n-init : goal.move_one_by_one-loop-n-init
 move_one_by_one-loop-n-init t c = elements_begin
 
 pub move_one_by_one-translate-requires : goal.move_one_by_one-translate-requires
-move_one_by_one-translate-requires t c = (omega (arith, c.decreases), (c.requires.from_live, (c.requires.to_live, realloc_on c.requires.realloc c.loop-n.invariant.grew)))
+move_one_by_one-translate-requires t c = (omega (arith, c.decreases), (c.requires.from_live, (c.requires.to_live, sides_later c.loop-n.invariant.grew.imports c.requires.sides)))
 
 pub move_one_by_one-loop-n-preserved : goal.move_one_by_one-loop-n-preserved
 move_one_by_one-loop-n-preserved t c =
@@ -303,8 +309,8 @@ move_one_by_one-returns t c = elements_end (omega (arith, c.loop-n-test.false)) 
 
 pub move_by_loop-translate-requires : goal.move_by_loop-translate-requires
 move_by_loop-translate-requires t c =
-    let realloc = realloc_same c.begin-outer.ensures.imports (realloc_same c.in_ok-open_fixed.ensures.imports (realloc_same c.in_ok-locals.ensures.imports c.requires.realloc)) in
-    (omega (arith, c.decreases), (c.requires.from_live, (c.requires.to_live, realloc)))
+    let sides = sides_same (c.begin-outer.ensures.imports ∙ c.in_ok-open_fixed.ensures.imports ∙ c.in_ok-locals.ensures.imports) c.requires.sides in
+    (omega (arith, c.decreases), (c.requires.from_live, (c.requires.to_live, sides)))
 
 pub move_by_loop-free_fixed_locals-requires : goal.move_by_loop-free_fixed_locals-requires
 move_by_loop-free_fixed_locals-requires t c =
@@ -323,22 +329,22 @@ move_map-open_list-requires t c = record {
   to_size = c.entries-elements.ensures.to_some;
   from_align = c.entries-elements.ensures.from_align_some;
   to_align = c.entries-elements.ensures.to_align_some;
-  realloc = realloc_same c.in_ok-locals.ensures.imports c.requires.realloc;
+  realloc = (sides_same c.in_ok-locals.ensures.imports c.requires.sides).realloc;
 }
 
 pub move_map-translate-requires : goal.move_map-translate-requires
 move_map-translate-requires t c =
     let from = map_key_within c.args.types.now c.reveal.ensures.sound c.args.from c.index-from_map.result.now c.index-from_map.ensures in
     let to = map_key_within c.args.types.now c.reveal.ensures.sound c.args.to c.index-to_map.result.now c.index-to_map.ensures in
-    let realloc = realloc_same c.begin-outer.ensures.imports (realloc_on (realloc_same c.in_ok-locals.ensures.imports c.requires.realloc) c.in_ok-open_list.ensures.grew) in
-    (omega (arith, to.lower, c.decreases), (from.live, (to.live, realloc)))
+    let sides = sides_same c.begin-outer.ensures.imports (sides_later c.in_ok-open_list.ensures.grew.imports (sides_same c.in_ok-locals.ensures.imports c.requires.sides)) in
+    (omega (arith, to.lower, c.decreases), (from.live, (to.live, sides)))
 
 pub move_map-translate-requires-2 : goal.move_map-translate-requires-2
 move_map-translate-requires-2 t c =
     let from = map_value_within c.args.types.now c.reveal.ensures.sound c.args.from c.index-from_map.result.now c.index-from_map.ensures in
     let to = map_value_within c.args.types.now c.reveal.ensures.sound c.args.to c.index-to_map.result.now c.index-to_map.ensures in
-    let realloc = realloc_same c.begin-outer.ensures.imports (realloc_on (realloc_same c.in_ok-locals.ensures.imports c.requires.realloc) c.in_ok-open_list.ensures.grew) in
-    (omega (arith, to.lower, c.decreases), (from.live, (to.live, realloc_on realloc c.in_ok-translate.ensures.grew)))
+    let sides = sides_same c.begin-outer.ensures.imports (sides_later c.in_ok-open_list.ensures.grew.imports (sides_same c.in_ok-locals.ensures.imports c.requires.sides)) in
+    (omega (arith, to.lower, c.decreases), (from.live, (to.live, sides_later c.in_ok-translate.ensures.grew.imports sides)))
 
 pub move_map-free_list_locals-requires : goal.move_map-free_list_locals-requires
 move_map-free_list_locals-requires t c =
