@@ -23,8 +23,7 @@ use Rattle.fact_emit.specs.AdapterLinks.{AdapterLinks, SideLinks}
 use Rattle.fact_emit.specs.ImportSection.{custom_page_size}
 use Rattle.fact_emit.specs.KnownAdapters.{KnowsAdapter, KnowsFunctionAt, KnowsSide}
 use Rattle.fact_emit.proofs.LinkLaws.{linear_memory_of}
-use Rattle.fact_compound.specs.Described.{HasNewTupleMemory, HasTupleMemory, KnowsAdapterData, KnowsPostReturn, KnowsSideData, linear_of}
-use Rattle.fact_compound.specs.Events.{function_place}
+use Rattle.fact_compound.specs.Described.{HasNewTupleMemory, HasTupleMemory, KnowsAdapterData, KnowsPostReturn, KnowsSideData, linear_of, number_if_any}
 use Rattle.fact_compound.specs.Placed.{AreOptionsOf, HasMemoriesFor, HasMemoryOption, HasReallocOption, IsDataOf}
 use Rattle.fact_compound.specs.declared.adapters.AdapterOptions.{AdapterOptions}
 use Rattle.fact_compound.specs.declared.adapters.AdapterData.{AdapterData}
@@ -34,12 +33,12 @@ wide_address true = refl
 wide_address false = refl
 
 -- the post-return takes what the callee gives
-knows_post : (M : WasmModule) (p : ImportPlaces) {given results : List ValType} (n : Option (Id Funcs)) (o : Option CoreDef) (place : Option ℕ) → is_some n ≡ is_some o → function_place n ≡ place → results ≡ given
+knows_post : (M : WasmModule) (p : ImportPlaces) {given results : List ValType} (n : Option (Id Funcs)) (o : Option CoreDef) (place : Option ℕ) → is_some n ≡ is_some o → number_if_any n ≡ place → results ≡ given
     → ((f : CoreDef) → o ≡ Some f → KnowsFunctionAt M p f (post_return_type results) place) → KnowsPostReturn M p given n o
 knows_post M p None None place e at same knows = tt
 knows_post M p {results = results} (Some n) (Some f) place e at same knows =
     let k = knows f refl in
-    let number : n.number ≡ k.number = same_some (function_place (Some n)) n.number k.number refl (at ∙ k.place_is) in
+    let number : n.number ≡ k.number = same_some (number_if_any (Some n)) n.number k.number refl (at ∙ k.place_is) in
     subst (λ ts. KnowsFunction M p (import.CoreDef f) n.number ts []) same (subst (λ i. KnowsFunction M p (import.CoreDef f) i (post_return_type results).params (post_return_type results).results) (sym number) k.knows)
 knows_post M p None (Some f) place e at same knows = absurd (let no : false ≡ true = e in cc)
 knows_post M p (Some n) None place e at same knows = absurd (let no : true ≡ false = e in cc)
@@ -52,7 +51,7 @@ module _ (M : WasmModule) (p : ImportPlaces) where
         let here = knows.memory m is in
         let placed : Some here.number ≡ Some (linear_of o).memory = sym here.place_is ∙ options.memory m is in
         let same : here.number ≡ (linear_of o).memory = cc in
-        linear_memory_of s m (linear_of o) is options.wide (options.page_size m is) (subst (λ n. KnowsMemory M p m.def n m.memory64 (custom_page_size m.page_size_log2)) same here.knows)
+        linear_memory_of s m (linear_of o) is options.wide (options.page_size m is) (options.has_memory m is) options.encoding (subst (λ n. KnowsMemory M p m.def n m.memory64 (custom_page_size m.page_size_log2)) same here.knows)
 
     -- the realloc of a side that has one
     side_realloc : HasReallocOption s → IsReallocOf M p (options_of s) (linear_of o)

@@ -8,11 +8,11 @@ pub mod FunctionShapes
 pub mod KeptLocals
 pub mod LocalRuns
 pub mod LocalsAdded
+pub mod OptionsImported
 pub mod ParamMoves
 pub mod PassedOnCode
 pub mod PassedOnMoves
 pub mod RangedSteps
-pub mod ReallocsKept
 pub mod ResultMoves
 pub mod Runs
 pub mod SameInstanceFunctions

@@ -468,4 +468,4 @@ module _ {t : Tables} {d : AdapterData} {debug concurrency : Bool} {u : AdapterT
       ∙ sym (params_by u a (front ++ parts.rest) fs gs h.lower.sync r.lower_is r.lift_is) ∙ ap (move_params u a) (sym parts.all) in
       subst (λ q. Does M p Onward 384 0 [] ls code q (λ vs. []) (λ vs ls'. AreHeld ls' core vs × KeepsLocals kept ls ls')) is
       (subst (λ c. Does M p Onward 384 0 [] ls c (passed fs o a.lower.params (first_bits front) (Give []) >>= (λ (no : List CoreValue). asked u.concurrency gs o' a.lift.params (λ at. Give at) >>= (λ at. finished gs o' at (q at)))) (λ vs. []) (λ vs ls'. AreHeld ls' core vs × KeepsLocals kept ls ls')) (sym k.is)
-      (within (omega arith) all))
+      (within {extra = 100} {spare = 0} (omega arith) all))

@@ -3,14 +3,13 @@ use Rattle.std.proofs.Common.{◌≡◌, ℕ, suc, Bool, true, false, List, [], 
 use Rattle.std.specs.List.{list_all}
 use Rattle.fact_wasm.specs.CoreTypes.{signature}
 use Rattle.fact_wasm.specs.declared.instr.FuncName.TheVariants as func
-use Rattle.fact_wasm.specs.declared.instr.Instr.{Instr, the_lemmas}
-use Rattle.fact_wasm.specs.declared.instr.Instr.TheVariants as I
+use Rattle.fact_wasm.specs.declared.instr.Instr.{the_lemmas}
 use Rattle.fact_wasm.specs.declared.module.WasmFunc.{WasmFunc}
 use Rattle.fact_wasm.specs.declared.module.WasmModule.{WasmModule}
 use Rattle.fact_wasm.specs.declared.types.FuncType.{FuncType}
 use Rattle.fact_wasm.specs.declared.types.ValType.{ValType}
 use Rattle.fact_wasm.specs.Ranges.{AreRanged}
-use Rattle.fact_types.specs.Adapters.{LinkedAdapter, is_wide}
+use Rattle.fact_types.specs.Adapters.{LinkedAdapter}
 use Rattle.fact_types.specs.Functions.{HasSignature}
 use Rattle.fact_types.specs.Shapes.{Shape}
 use Rattle.fact_types.specs.Signatures.{lower_by, lower_signature}
@@ -20,7 +19,7 @@ use Rattle.fact_types.specs.declared.outside.Trap.TheVariants.{CannotEnterCompon
 use Rattle.fact_types.specs.declared.signature.SideSig.{SideSig}
 use Rattle.fact_types.specs.declared.signature.Signature.{Signature}
 use Rattle.fact_machine.specs.Exits.{entry_locals}
-use Rattle.fact_machine.specs.Typing.{Operands, Open, code_typing, declares_numbers, ends, function_context, is_empty, is_typed_body, is_typed_function, local_types, pop, pop_all}
+use Rattle.fact_machine.specs.Typing.{Operands, Open, declares_numbers, ends, is_empty, is_typed_body, is_typed_function, local_types, pop_all}
 use Rattle.fact_machine.proofs.Tests.{both}
 use Rattle.fact_moves.specs.Adapters.{lower_signature_of, same_instance}
 use Rattle.fact_moves.specs.Running.{ImportPlaces}
@@ -31,7 +30,7 @@ use Rattle.fact_pieces.specs.PieceLaws.{HaveResultTypes}
 use Rattle.fact_pieces.specs.Typed.{Never, IsTyped}
 use Rattle.fact_pieces.proofs.Primitives.{calls_trap}
 use Rattle.fact_pieces.proofs.TypedShapes.{typed_trap}
-use Rattle.fact_emit.specs.Imports.{AreOnce, Extended, HasImport, Serves}
+use Rattle.fact_emit.specs.Imports.{AreOnce, Extended, HasImport}
 use Rattle.fact_emit.specs.NamedFunctions.{imported_named}
 use Rattle.fact_emit.specs.States.{HasType, IsTrapImported, KeepsDefined, ModuleSoFar, export_as, functions_of, globals_of, memories_of}
 use Rattle.fact_emit.proofs.BroughtLaws.{brought_runtime}

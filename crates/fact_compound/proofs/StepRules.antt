@@ -15,7 +15,7 @@ use Rattle.fact_machine.specs.declared.types.CoreValue.TheVariants.{I32}
 use Rattle.fact_machine.specs.Typed.{is_value}
 use Rattle.fact_machine.specs.World.{World}
 use Rattle.fact_machine.proofs.RowLaws.{leaves_i32_const}
-use Rattle.fact_moves.specs.Actions.{Action, Give, Visit, SetFlags, MemoryLength, ◌>>=◌, trap, unless}
+use Rattle.fact_moves.specs.Actions.{Action, Visit, MemoryLength, ◌>>=◌, unless}
 use Rattle.fact_moves.specs.Actions as action
 use Rattle.fact_moves.specs.Adapters.{cleared}
 use Rattle.fact_moves.specs.Running.{ImportPlaces, Ended, Gave, Halted, Strayed, heavier, run}

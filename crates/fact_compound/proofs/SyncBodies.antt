@@ -31,8 +31,8 @@ use Rattle.fact_emit.specs.RuntimeCalls.{slots_of}
 use Rattle.fact_emit.specs.declared.context.ContextLocals.{ContextLocals}
 use Rattle.fact_emit.specs.declared.imported.RuntimeFunction.TheVariants as runtime
 use Rattle.fact_compound.specs.Code.{SyncParts, pushed_code, sync_code, with_barrier}
-use Rattle.fact_compound.specs.Events.{AreCallOptions, CanFinish, CanReturnPost, KnowsRuntimeIf, function_place}
-use Rattle.fact_compound.specs.Described.{DescribesAdapter, KnowsAdapterData, KnowsPostReturn, HasTupleMemory, linear_of}
+use Rattle.fact_compound.specs.Events.{AreCallOptions, CanFinish, CanReturnPost, KnowsRuntimeIf}
+use Rattle.fact_compound.specs.Described.{DescribesAdapter, KnowsAdapterData, KnowsPostReturn, HasTupleMemory, linear_of, number_if_any}
 use Rattle.fact_compound.specs.Passing.{last_local, tuple_from, tuple_to, tuple_size}
 use Rattle.fact_compound.specs.Syncs.{EmitsSync, EndsAsSync}
 use Rattle.fact_emit.specs.declared.writer.Writer.{Writer}
@@ -98,7 +98,7 @@ tells : (M : WasmModule) (p : ImportPlaces) (b : Bool) → KnowsRuntimeIf b M p 
 tells M p false x y = tt
 tells M p true x y = (x, y)
 
-knows_post : (M : WasmModule) (p : ImportPlaces) (given : List ValType) (n : Option (Id Funcs)) (f : Option CoreDef) → KnowsPostReturn M p given n f → IsPostReturn M p given f (function_place n)
+knows_post : (M : WasmModule) (p : ImportPlaces) (given : List ValType) (n : Option (Id Funcs)) (f : Option CoreDef) → KnowsPostReturn M p given n f → IsPostReturn M p given f (number_if_any n)
 knows_post M p given None None h = tt
 knows_post M p given (Some n) (Some f) h = h
 knows_post M p given None (Some f) h = absurd h

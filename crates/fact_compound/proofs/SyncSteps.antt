@@ -29,7 +29,7 @@ use Rattle.fact_pieces.specs.Does.{Locals, Onward, held_types, EndsOn, EndsSo, D
 use Rattle.fact_pieces.specs.Knows.{KnowsFunction, KnowsFlags}
 use Rattle.fact_pieces.specs.Places.{Slot, AreHeld, KeepsLocals, AreLocals, AreUsed, IsNone}
 use Rattle.fact_pieces.proofs.Blocks.{alone, same_run}
-use Rattle.fact_pieces.proofs.ContextSteps.{AreSlotsHeldIf, MayHoldSlotsIf, AreSlotsKept, AreSlotsKeptIf, slots_kept, reads_slots, writes_slots}
+use Rattle.fact_pieces.proofs.ContextSteps.{AreSlotsHeldIf, MayHoldSlotsIf, AreSlotsKeptIf, slots_kept, reads_slots, writes_slots}
 use Rattle.fact_pieces.proofs.Functions.{bars_then}
 use Rattle.fact_pieces.proofs.Keeping.{held_kept}
 use Rattle.fact_pieces.proofs.Numbers.{value_type}

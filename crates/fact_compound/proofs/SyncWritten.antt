@@ -7,7 +7,6 @@ use Rattle.fact_wasm.specs.declared.instr.Instr.{Instr}
 use Rattle.fact_wasm.specs.declared.instr.Instr.TheVariants as I
 use Rattle.fact_wasm.specs.declared.module.WasmModule.{WasmModule}
 use Rattle.fact_wasm.specs.declared.types.ValType.{ValType}
-use Rattle.fact_wasm.specs.Ranges.{AreRanged}
 use Rattle.fact_types.specs.Functions.{HasSignature}
 use Rattle.fact_types.specs.Shapes.{Shape}
 use Rattle.fact_types.specs.Tables.{Tables}
@@ -17,7 +16,7 @@ use Rattle.fact_moves.specs.Running.{ImportPlaces}
 use Rattle.fact_pieces.specs.Code.{guard_code}
 use Rattle.fact_pieces.specs.Context.{read_slots_code, restore_code, CanWriteSlotsIf}
 use Rattle.fact_pieces.specs.Places.{Slot}
-use Rattle.fact_emit.specs.Barriers.{Barred, WroteBarrier}
+use Rattle.fact_emit.specs.Barriers.{WroteBarrier}
 use Rattle.fact_emit.specs.Checks.{Guarded}
 use Rattle.fact_emit.specs.Emits.{Grew, Is, Emits}
 use Rattle.fact_emit.specs.RuntimeCalls.{CallsRuntime, ReadsSlots, WritesSlots, slots_of}
@@ -33,12 +32,12 @@ use Rattle.fact_emit.proofs.BarrierMoves.{barrier_emits, grew_barrier}
 use Rattle.fact_emit.proofs.CheckMoves.{guarded_as}
 use Rattle.fact_emit.proofs.Emitting.{emits_as, emits_before, emits_nothing, emits_then, emits_wrote, wrote_then, grew_on}
 use Rattle.fact_emit.proofs.NamedLaws.{ranged_append}
-use Rattle.fact_compound.specs.Code.{saved_code, may_leave_code, started_code, cleared_code, pushed_code, call_code, enter_code, exit_code, finish_code}
-use Rattle.fact_compound.specs.Described.{CanMoveTuple, linear_of}
-use Rattle.fact_compound.specs.Events.{CanFinish, EntersCall, ExitsCall, FinishesCall, KnowsRuntimeIf, ReturnsPost, function_place}
+use Rattle.fact_compound.specs.Code.{saved_code, started_code, cleared_code, pushed_code, call_code, enter_code, exit_code, finish_code}
+use Rattle.fact_compound.specs.Described.{CanMoveTuple, linear_of, number_if_any}
+use Rattle.fact_compound.specs.Events.{CanFinish, EntersCall, ExitsCall, FinishesCall, KnowsRuntimeIf, ReturnsPost}
 use Rattle.fact_compound.specs.Passed.{ParamsCode, PassedParams, MovesResults, MovedResults}
 use Rattle.fact_compound.specs.Passing.{ChecksMayLeave, tuple_size}
-use Rattle.fact_compound.specs.Written.{IsCallCode, IsReturnCode, IsStepsCode, IsSyncCode, KnowsUncaught, SyncPlaces, WrittenBarred, WrittenCall, WrittenReturn, WrittenSteps}
+use Rattle.fact_compound.specs.Written.{IsReturnCode, IsStepsCode, IsSyncCode, KnowsUncaught, SyncPlaces, WrittenBarred, WrittenCall, WrittenReturn, WrittenSteps}
 use Rattle.fact_compound.specs.declared.adapters.AdapterData.{AdapterData}
 use Rattle.fact_compound.specs.declared.syncs.CallOptions.{CallOptions}
 use Rattle.fact_compound.proofs.RangedSteps.{back_ranged, call_ranged, constants_ranged, post_ranged, pushed_ranged, saved_ranged, zero_ranged}
@@ -151,13 +150,13 @@ written_call d debug o l {a} {b} {c} {e} {f} {g} {h} callee x1 x2 x3 x4 x5 x6 =
 -- from the move of the results on, and from the telling of the return on
 record ResultsOn (d : AdapterData) (debug : Bool) (o : CallOptions) (l : SyncPlaces) (taken : ℕ → Bool) (rs ss : List Shape) (front : List Instr) (M : WasmModule) (p : ImportPlaces) (locals : List ValType) (code : List Instr) : Type 0 where
   results : List Instr
-  is : code ≡ front ++ (results ++ (back_code d.lower.flags.number l.saved ++ finish_code o.context (function_place d.lift.post_return) (slots_of p l.callee_context) (slots_of p l.own_context) l.given))
+  is : code ≡ front ++ (results ++ (back_code d.lower.flags.number l.saved ++ finish_code o.context (number_if_any d.lift.post_return) (slots_of p l.callee_context) (slots_of p l.own_context) l.given))
   finishes : CanFinish d.lift.post_return o.context l.callee_context l.own_context M p
   moves_results : MovesResults d debug o.concurrency l.given l.results l.args taken ss rs M p locals results
 
 record ExitOn (d : AdapterData) (debug : Bool) (o : CallOptions) (l : SyncPlaces) (taken : ℕ → Bool) (rs ss : List Shape) (M : WasmModule) (p : ImportPlaces) (locals : List ValType) (code : List Instr) : Type 0 where
   results : List Instr
-  is : code ≡ exit_code o.told (p.function import.ExitSyncCall) ++ (zero_code d.lower.flags.number ++ (results ++ (back_code d.lower.flags.number l.saved ++ finish_code o.context (function_place d.lift.post_return) (slots_of p l.callee_context) (slots_of p l.own_context) l.given)))
+  is : code ≡ exit_code o.told (p.function import.ExitSyncCall) ++ (zero_code d.lower.flags.number ++ (results ++ (back_code d.lower.flags.number l.saved ++ finish_code o.context (number_if_any d.lift.post_return) (slots_of p l.callee_context) (slots_of p l.own_context) l.given)))
   exits : KnowsRuntimeIf o.told M p runtime.ExitSyncCall
   finishes : CanFinish d.lift.post_return o.context l.callee_context l.own_context M p
   moves_results : MovesResults d debug o.concurrency l.given l.results l.args taken ss rs M p locals results
@@ -181,13 +180,13 @@ written_return d debug o l {a} {b} {c} {e} {f} {g} {h} x1 x2 x3 x4 x5 x6 =
           let results : Emits e f (MovesResults d debug o.concurrency l.given l.results l.args (taken_in a) ss rs) =
           subst (λ taken. Emits e f (MovesResults d debug o.concurrency l.given l.results l.args taken ss rs)) taken_e (x4.emits ps rs qs ss hl hf can) in
           let Last : WasmModule → ImportPlaces → List ValType → List Instr → Type 0 = λ M p locals code.
-          (code ≡ back_code d.lower.flags.number l.saved ++ finish_code o.context (function_place d.lift.post_return) (slots_of p l.callee_context) (slots_of p l.own_context) l.given) × CanFinish d.lift.post_return o.context l.callee_context l.own_context M p in
+          (code ≡ back_code d.lower.flags.number l.saved ++ finish_code o.context (number_if_any d.lift.post_return) (slots_of p l.callee_context) (slots_of p l.own_context) l.given) × CanFinish d.lift.post_return o.context l.callee_context l.own_context M p in
           let last : Emits f h Last = emits_then {P = Is (back_code d.lower.flags.number l.saved)} (λ M p locals code more y z. (λ i. y i ++ z.is i, z.can)) back x6 in
           emits_then {P = ReadsSlots o.context l.callee_context} {Q = ExitOn d debug o l (taken_in a) rs ss}
           (λ M p locals code more y z. record {
             results = z.results;
             is = (λ i. y.is i ++ z.is i)
-                ∙ ap (λ c. read_slots_code o.context (slots_of p l.callee_context) ++ c) (back_assoc d.lower.flags.number l.saved (exit_code o.told (p.function import.ExitSyncCall)) z.results (finish_code o.context (function_place d.lift.post_return) (slots_of p l.callee_context) (slots_of p l.own_context) l.given));
+                ∙ ap (λ c. read_slots_code o.context (slots_of p l.callee_context) ++ c) (back_assoc d.lower.flags.number l.saved (exit_code o.told (p.function import.ExitSyncCall)) z.results (finish_code o.context (number_if_any d.lift.post_return) (slots_of p l.callee_context) (slots_of p l.own_context) l.given));
             exits = z.exits;
             reads = y.can;
             finishes = z.finishes;

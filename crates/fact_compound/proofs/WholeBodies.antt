@@ -9,10 +9,8 @@ use Rattle.fact_types.specs.Signatures.{address, flat_values, flat_params, unles
 use Rattle.fact_types.specs.Tables.{Tables}
 use Rattle.fact_types.specs.declared.signature.Signature.{Signature}
 use Rattle.fact_machine.specs.Trace.{Grows}
-use Rattle.fact_machine.specs.declared.types.CoreValue.{CoreValue}
 use Rattle.fact_moves.specs.Adapters.{AdapterTunables, lower_signature_of, lift_signature_of}
 use Rattle.fact_moves.specs.Running.{ImportPlaces}
-use Rattle.fact_pieces.specs.Does.{Locals, held_types}
 use Rattle.fact_pieces.specs.Places.{Slot, AreHeld, AreLocals, AreUsed}
 use Rattle.fact_pieces.specs.Typed.{OnStack, IsTyped}
 use Rattle.fact_emit.specs.Brought.{Brought}
@@ -26,9 +24,9 @@ use Rattle.fact_emit.proofs.BroughtLaws.{brought_between}
 use Rattle.fact_emit.proofs.ImportLaws.{grown_get, grows_none, grows_on}
 use Rattle.fact_emit.proofs.Locals.{get_map}
 use Rattle.fact_compound.specs.Described.{DescribesAdapter, KnowsAdapterData}
-use Rattle.fact_compound.specs.Functions.{slots_from, AddedSyncLocals, PutBody, DoesBody, WroteBody, places_with, sync_types, params_among, added_slots, context_types, unless_passed}
+use Rattle.fact_compound.specs.Functions.{slots_from, AddedSyncLocals, PutBody, DoesBody, WroteBody, places_with, sync_types, added_slots, context_types, unless_passed}
 use Rattle.fact_compound.specs.Events.{AreCallOptions}
-use Rattle.fact_compound.specs.Syncs.{DoesSync, EmitsSync, EndsAsSync}
+use Rattle.fact_compound.specs.Syncs.{EndsAsSync}
 use Rattle.fact_compound.specs.declared.syncs.CallOptions.{CallOptions}
 use Rattle.fact_compound.specs.Code.{slot_types}
 use Rattle.fact_compound.specs.PassedOn.{ArePassedOn}

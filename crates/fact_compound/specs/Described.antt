@@ -23,6 +23,7 @@ use Rattle.fact_emit.specs.Areas.{IsLinearMemoryOf}
 use Rattle.fact_emit.specs.ImportSection.{custom_page_size}
 use Rattle.fact_emit.specs.declared.places.LinearMemory.{LinearMemory}
 use Rattle.fact_emit.specs.Requests.{IsReallocImported, IsReallocOf, ServesLists}
+use Rattle.fact_emit.specs.StringPieces.{IsMemoryImported}
 use Rattle.fact_emit.specs.States.{ModuleSoFar}
 use Rattle.fact_translate.specs.Movable.{CanMoveFields}
 use Rattle.fact_compound.specs.declared.adapters.AdapterOptions.{AdapterOptions}
@@ -42,16 +43,20 @@ number_if_any place = option_map (λ i. i.number) place
 -- a side's memory as code uses it
 abbrev pub linear_of : AdapterOptions → LinearMemory
 linear_of o = record {
+  has_memory = is_some o.options.linear.memory;
   memory = memory_place o.options.linear.memory;
   memory64 = o.options.linear.memory64;
   page_size_log2 = custom_page_size o.options.linear.page_size_log2;
   realloc = number_if_any o.options.linear.realloc;
+  encoding = o.options.string_encoding;
 }
 
--- The reallocs of both sides, where they have some, are among the functions that were imported.
-pub record AreReallocsImported (d : AdapterData) (s : ModuleSoFar) : Type 0 where
+-- The reallocs and the memories of both sides, where they have some, are imported.
+pub record AreOptionsImported (d : AdapterData) (s : ModuleSoFar) : Type 0 where
   pub lift : IsReallocImported (linear_of d.lift) s
   pub lower : IsReallocImported (linear_of d.lower) s
+  pub lift_memory : IsMemoryImported (linear_of d.lift) s
+  pub lower_memory : IsMemoryImported (linear_of d.lower) s
 
 -- ---- when the code is written
 

@@ -22,6 +22,7 @@ use Rattle.fact_emit.specs.declared.context.ContextLocals.{ContextLocals}
 use Rattle.fact_emit.specs.declared.imported.RuntimeFunction.{RuntimeFunction}
 use Rattle.fact_emit.specs.declared.imported.RuntimeFunction.TheVariants as runtime
 use Rattle.fact_compound.specs.Code.{enter_code, exit_code, finish_code}
+use Rattle.fact_compound.specs.Described.{number_if_any}
 use Rattle.fact_compound.specs.declared.adapters.AdapterData.{AdapterData}
 use Rattle.fact_compound.specs.declared.syncs.CallOptions.{CallOptions}
 
@@ -73,15 +74,10 @@ pub record ReturnsPost (function : ℕ) (context : Bool) (callee own : ContextLo
   pub is : code ≡ finish_code context (Some function) (slots_of p callee) (slots_of p own) given
   pub can : CanReturnPost context callee own M p
 
--- the place of a function that there may be
-abbrev pub function_place : Option (Id Funcs) → Option ℕ
-function_place None = None
-function_place (Some f) = Some f.number
-
 abbrev pub CanFinish : Option (Id Funcs) → (context : Bool) → (callee own : ContextLocals) → WasmModule → ImportPlaces → Type 0
 CanFinish None context callee own M p = Unit {0}
 CanFinish (Some f) context callee own M p = CanReturnPost context callee own M p
 
 pub record FinishesCall (post_return : Option (Id Funcs)) (context : Bool) (callee own : ContextLocals) (given : List Slot) (M : WasmModule) (p : ImportPlaces) (locals : List ValType) (code : List Instr) : Type 0 where
-  pub is : code ≡ finish_code context (function_place post_return) (slots_of p callee) (slots_of p own) given
+  pub is : code ≡ finish_code context (number_if_any post_return) (slots_of p callee) (slots_of p own) given
   pub can : CanFinish post_return context callee own M p

@@ -8,20 +8,21 @@ use Rattle.fact_types.specs.declared.outside.CoreDef.{CoreDef}
 use Rattle.fact_types.specs.declared.outside.MemoryOption.{MemoryOption}
 use Rattle.fact_emit.specs.AdapterLinks.{AdapterLinks, SideLinks}
 use Rattle.fact_emit.specs.ImportSection.{custom_page_size}
-use Rattle.fact_compound.specs.Described.{linear_of}
-use Rattle.fact_compound.specs.Events.{function_place}
+use Rattle.fact_compound.specs.Described.{linear_of, number_if_any}
 use Rattle.fact_compound.specs.declared.adapters.AdapterOptions.{AdapterOptions}
 use Rattle.fact_compound.specs.declared.adapters.AdapterData.{AdapterData}
 
--- The options of a side: its instance, the places of its flags, of its memory and of its realloc, the width of its addresses, and the
--- memory's page size.
+-- The options of a side: its instance, the places of its flags, of its memory and of its realloc, the width of its addresses, the
+-- memory's page size, and the encoding of its strings.
 pub record AreOptionsOf (s : Side) (at : SideLinks) (o : AdapterOptions) : Type 0 where
   pub instance : o.instance.number ≡ s.instance
   pub flags : o.flags.number ≡ at.flags
   pub wide : is_wide s.memory ≡ o.options.linear.memory64
+  pub has_memory : (m : MemoryOption) → s.memory ≡ Some m → (linear_of o).has_memory ≡ true
   pub memory : (m : MemoryOption) → s.memory ≡ Some m → at.memory ≡ Some (linear_of o).memory
   pub realloc : (linear_of o).realloc ≡ at.realloc
   pub page_size : (m : MemoryOption) → s.memory ≡ Some m → (linear_of o).page_size_log2 ≡ custom_page_size m.page_size_log2
+  pub encoding : s.encoding ≡ (linear_of o).encoding
 
 -- a side that has a memory, and one that has a realloc
 abbrev pub HasMemoryOption : Side → Type 0
@@ -45,6 +46,6 @@ pub record IsDataOf (a : LinkedAdapter) (at : AdapterLinks) (d : AdapterData) : 
   pub lift : AreOptionsOf a.lift at.lift d.lift
   pub lower : AreOptionsOf a.lower at.lower d.lower
   pub callee : d.callee.number ≡ at.callee
-  pub post_return : function_place d.lift.post_return ≡ at.post_return
+  pub post_return : number_if_any d.lift.post_return ≡ at.post_return
   pub has_post_return : is_some d.lift.post_return ≡ is_some a.lift.post_return
   pub transparent : d.transparent ≡ a.transparent

@@ -26,8 +26,8 @@ use Rattle.fact_emit.specs.Places.{slots_of_locals}
 use Rattle.fact_emit.specs.Writers.{taken_in}
 use Rattle.fact_emit.specs.declared.writer.Writer.{Writer}
 use Rattle.fact_compound.specs.Code.{SyncParts, call_steps_code, pushed_code, return_steps_code, slot_types, with_barrier}
-use Rattle.fact_compound.specs.Events.{CanFinish, KnowsRuntimeIf, function_place}
-use Rattle.fact_compound.specs.Described.{CanMoveTuple, linear_of}
+use Rattle.fact_compound.specs.Events.{CanFinish, KnowsRuntimeIf}
+use Rattle.fact_compound.specs.Described.{CanMoveTuple, linear_of, number_if_any}
 use Rattle.fact_compound.specs.Passed.{ParamsCode, MovesResults}
 use Rattle.fact_compound.specs.PassedOn.{ArePassedOn}
 use Rattle.fact_compound.specs.Passing.{tuple_size}
@@ -78,7 +78,7 @@ parts_of d o l p may_leave uncaught = record {
   instance = d.lift.instance.number;
   enter = p.function import.EnterSyncCall;
   exit = p.function import.ExitSyncCall;
-  post_return = function_place d.lift.post_return;
+  post_return = number_if_any d.lift.post_return;
   context = o.context;
   callee_slots = slots_of p l.callee_context;
   own_slots = slots_of p l.own_context;

@@ -83,10 +83,12 @@ impl AdapterOptions {
     {
         let linear = self.options.linear;
         LinearMemory {
+            has_memory: linear.memory.is_some(),
             memory: memory_place(linear.memory),
             memory64: linear.memory64,
             page_size_log2: custom_page_size(linear.page_size_log2),
             realloc: realloc_place(linear.realloc),
+            encoding: self.options.string_encoding,
         }
     }
 }

@@ -7,7 +7,7 @@ ghost use Rattle.fact_emit.specs.Settings.{OnlySectionsChanged};
 ghost use Rattle.fact_emit.specs.States.{functions_of};
 ghost use Rattle.fact_emit.specs.declared.writer.Local as local_is;
 ghost use Rattle.fact_entity.specs.declared.id.Id as id;
-ghost use Rattle.fact_compound.specs.Described.{AreReallocsImported};
+ghost use Rattle.fact_compound.specs.Described.{AreOptionsImported};
 ghost use Rattle.fact_compound.specs.Events.{AsksCalls};
 ghost use Rattle.fact_compound.specs.Functions.{AddedContext, AddedLocals, AddedSyncLocals, core_slots, unless_passed, PutBody, WroteBody, WroteFunction, CompiledSync, params_among, Compiled};
 
@@ -138,7 +138,7 @@ fn put_body(
     requires lower_live { adapter.now.lower.ty.number < length types.now.functions }
     requires lift_live { adapter.now.lift.ty.number < length types.now.functions }
     requires callee { adapter.now.callee.number < length (functions_of w.old.imports) }
-    requires reallocs { AreReallocsImported adapter.now w.old.imports }
+    requires options_imported { AreOptionsImported adapter.now w.old.imports }
     requires post_return { IfSome adapter.now.lift.post_return (λ (f : id.Id _). f.number < length (functions_of w.old.imports)) }
     ensures { OnOk result (PutBody types.now adapter.now debug options passed locals.now w.old w.new) }
 {
@@ -174,7 +174,7 @@ fn write_body(
     requires lower_live { adapter.now.lower.ty.number < length types.now.functions }
     requires lift_live { adapter.now.lift.ty.number < length types.now.functions }
     requires callee { adapter.now.callee.number < length (functions_of w.old.imports) }
-    requires reallocs { AreReallocsImported adapter.now w.old.imports }
+    requires options_imported { AreOptionsImported adapter.now w.old.imports }
     requires post_return { IfSome adapter.now.lift.post_return (λ (f : id.Id _). f.number < length (functions_of w.old.imports)) }
     requires no_code { w.old.code.items ≡ [] }
     requires no_locals { w.old.locals.items ≡ [] }
@@ -262,7 +262,7 @@ fn write_function(
     requires lower_live { adapter.now.lower.ty.number < length types.now.functions }
     requires lift_live { adapter.now.lift.ty.number < length types.now.functions }
     requires callee { adapter.now.callee.number < length (functions_of sections.old) }
-    requires reallocs { AreReallocsImported adapter.now sections.old }
+    requires options_imported { AreOptionsImported adapter.now sections.old }
     requires post_return { IfSome adapter.now.lift.post_return (λ (f : id.Id _). f.number < length (functions_of sections.old)) }
     ensures { IfOk result (λ f. WroteFunction types.now adapter.now debug options lower.now lift.now ty sections.old sections.new f) }
 {
@@ -347,7 +347,7 @@ fn compile_sync(
     requires lower_live { adapter.now.lower.ty.number < length types.now.tables.functions }
     requires lift_live { adapter.now.lift.ty.number < length types.now.tables.functions }
     requires callee { adapter.now.callee.number < length (functions_of sections.old) }
-    requires reallocs { AreReallocsImported adapter.now sections.old }
+    requires options_imported { AreOptionsImported adapter.now sections.old }
     requires post_return { IfSome adapter.now.lift.post_return (λ (f : id.Id _). f.number < length (functions_of sections.old)) }
     ensures { OnOk result (CompiledSync types.now.tables adapter.now debug concurrency exceptions sections.old sections.new) }
 {
@@ -371,7 +371,7 @@ pub fn compile(state: &mut ModuleState<'_>, adapter: &AdapterData) -> Result<(),
     requires lower_live { adapter.now.lower.ty.number < length state.old.builder.now.tables.functions }
     requires lift_live { adapter.now.lift.ty.number < length state.old.builder.now.tables.functions }
     requires callee { adapter.now.callee.number < length (functions_of state.old.sections) }
-    requires reallocs { AreReallocsImported adapter.now state.old.sections }
+    requires options_imported { AreOptionsImported adapter.now state.old.sections }
     requires post_return { IfSome adapter.now.lift.post_return (λ (f : id.Id _). f.number < length (functions_of state.old.sections)) }
     ensures compiled { OnOk result (Compiled state.old.builder.now.tables adapter.now state.old.tunables.now.debug_adapter_modules state.old.tunables.now.concurrency_support state.old.features.exceptions state.old.sections state.new.sections) }
     ensures keeps { OnlySectionsChanged state.old state.new }

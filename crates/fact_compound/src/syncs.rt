@@ -3,7 +3,7 @@
 ghost use Rattle.std.specs.Prelude.{OnOk, IfSome, ◌<◌, length};
 ghost use Rattle.fact_entity.specs.declared.id.Id as id;
 ghost use Rattle.fact_emit.specs.States.{functions_of};
-ghost use Rattle.fact_compound.specs.Described.{AreReallocsImported};
+ghost use Rattle.fact_compound.specs.Described.{AreOptionsImported};
 ghost use Rattle.fact_compound.specs.Syncs.{EmitsSync};
 ghost use Rattle.fact_compound.specs.Written.{WrittenBarred, WrittenCall, WrittenReturn, WrittenSteps, sync_places};
 
@@ -60,7 +60,7 @@ fn put_call(
     requires lower_live { adapter.now.lower.ty.number < length types.now.functions }
     requires lift_live { adapter.now.lift.ty.number < length types.now.functions }
     requires callee { adapter.now.callee.number < length (functions_of w.old.imports) }
-    requires reallocs { AreReallocsImported adapter.now w.old.imports }
+    requires options_imported { AreOptionsImported adapter.now w.old.imports }
     ensures { OnOk result (WrittenCall types.now adapter.now debug options (sync_places locals.entry) w.old w.new) }
 {
     check_may_leave(w, adapter.lower.flags.number, locals.saved)?;
@@ -99,7 +99,7 @@ fn put_return(
 ) -> Result<(), OutOfMemory>
     requires lower_live { adapter.now.lower.ty.number < length types.now.functions }
     requires lift_live { adapter.now.lift.ty.number < length types.now.functions }
-    requires reallocs { AreReallocsImported adapter.now w.old.imports }
+    requires options_imported { AreOptionsImported adapter.now w.old.imports }
     requires post_return { IfSome adapter.now.lift.post_return (λ (f : id.Id _). f.number < length (functions_of w.old.imports)) }
     ensures { OnOk result (WrittenReturn types.now adapter.now debug options (sync_places locals.entry) w.old w.new) }
 {
@@ -136,7 +136,7 @@ fn put_steps(
     requires lower_live { adapter.now.lower.ty.number < length types.now.functions }
     requires lift_live { adapter.now.lift.ty.number < length types.now.functions }
     requires callee { adapter.now.callee.number < length (functions_of w.old.imports) }
-    requires reallocs { AreReallocsImported adapter.now w.old.imports }
+    requires options_imported { AreOptionsImported adapter.now w.old.imports }
     requires post_return { IfSome adapter.now.lift.post_return (λ (f : id.Id _). f.number < length (functions_of w.old.imports)) }
     ensures { OnOk result (WrittenSteps types.now adapter.now debug options (sync_places locals.entry) w.old w.new) }
 {
@@ -157,7 +157,7 @@ fn put_barred(
     requires lower_live { adapter.now.lower.ty.number < length types.now.functions }
     requires lift_live { adapter.now.lift.ty.number < length types.now.functions }
     requires callee { adapter.now.callee.number < length (functions_of w.old.imports) }
-    requires reallocs { AreReallocsImported adapter.now w.old.imports }
+    requires options_imported { AreOptionsImported adapter.now w.old.imports }
     requires post_return { IfSome adapter.now.lift.post_return (λ (f : id.Id _). f.number < length (functions_of w.old.imports)) }
     ensures { OnOk result (WrittenBarred types.now adapter.now debug options (sync_places locals.entry) w.old w.new) }
 {
@@ -186,7 +186,7 @@ pub fn put_sync(
     requires lower_live { adapter.now.lower.ty.number < length types.now.functions }
     requires lift_live { adapter.now.lift.ty.number < length types.now.functions }
     requires callee { adapter.now.callee.number < length (functions_of w.old.imports) }
-    requires reallocs { AreReallocsImported adapter.now w.old.imports }
+    requires options_imported { AreOptionsImported adapter.now w.old.imports }
     requires post_return { IfSome adapter.now.lift.post_return (λ (f : id.Id _). f.number < length (functions_of w.old.imports)) }
     ensures { OnOk result (EmitsSync types.now adapter.now debug options (sync_places locals.entry) w.old w.new) }
 {

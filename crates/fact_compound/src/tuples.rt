@@ -10,10 +10,10 @@ ghost use Rattle.fact_types.specs.Tuples.{tuple_of, tuple_members};
 ghost use Rattle.fact_types.specs.declared.interface.InterfaceType.TheVariants as ty;
 ghost use Rattle.fact_emit.specs.Places.{slots_of_locals, from_of, to_of};
 ghost use Rattle.fact_emit.specs.declared.places.LinearMemory as linear;
-ghost use Rattle.fact_compound.specs.Described.{linear_of};
 ghost use Rattle.fact_emit.specs.Requests.{IsReallocImported};
+ghost use Rattle.fact_emit.specs.StringPieces.{AreSidesImported};
 ghost use Rattle.fact_compound.specs.Passing.{last_local, tuple_from, tuple_to};
-ghost use Rattle.fact_compound.specs.Passed.{MovedParams, PassedParams, AskedTuple, CheckedTuple, MovedResults};
+ghost use Rattle.fact_compound.specs.Passed.{MovedParams, PassedParams, AskedTuple, CheckedTuple, MovedResults, params_sides as sides_of_params, results_sides as sides_of_results};
 
 use crate::adapters::AdapterData;
 use fact_emit::places::{Address, LinearMemory, SourcePlace, TargetPlace, TypedLocal};
@@ -78,7 +78,7 @@ pub fn move_params(
 ) -> Result<(), OutOfMemory>
     requires lower_live { adapter.now.lower.ty.number < length types.now.functions }
     requires lift_live { adapter.now.lift.ty.number < length types.now.functions }
-    requires realloc { IsReallocImported (linear_of adapter.now.lift) w.old.imports }
+    requires sides { AreSidesImported (sides_of_params adapter.now debug concurrency) w.old.imports }
     ensures { OnOk result (MovedParams types.now adapter.now debug concurrency (slots_of_locals params.now) (slots_of_locals core.now) w.old w.new) }
 {
     let sides = adapter.params_sides(debug, concurrency);
@@ -105,7 +105,7 @@ pub fn pass_params(
 ) -> Result<(), OutOfMemory>
     requires lower_live { adapter.now.lower.ty.number < length types.now.functions }
     requires lift_live { adapter.now.lift.ty.number < length types.now.functions }
-    requires realloc { IsReallocImported (linear_of adapter.now.lift) w.old.imports }
+    requires sides { AreSidesImported (sides_of_params adapter.now debug concurrency) w.old.imports }
     ensures { OnOk result (PassedParams types.now adapter.now debug concurrency passed (slots_of_locals params.now) (slots_of_locals core.now) w.old w.new) }
 {
     if !passed {
@@ -203,7 +203,7 @@ pub fn move_results(
 ) -> Result<(), OutOfMemory>
     requires lower_live { adapter.now.lower.ty.number < length types.now.functions }
     requires lift_live { adapter.now.lift.ty.number < length types.now.functions }
-    requires realloc { IsReallocImported (linear_of adapter.now.lower) w.old.imports }
+    requires sides { AreSidesImported (sides_of_results adapter.now debug concurrency) w.old.imports }
     ensures { OnOk result (MovedResults types.now adapter.now debug concurrency (slots_of_locals given.now) (slots_of_locals results.now) (slots_of_locals args.now) w.old w.new) }
 {
     let sides = adapter.results_sides(debug, concurrency);

@@ -1,5 +1,5 @@
-use Rattle.std.proofs.Common.{◌≡◌, refl, ap, ◌∙◌}
-use Rattle.std.specs.Prelude.{not, ◌&&◌, ◌||◌}
+use Rattle.std.proofs.Common.{refl, ap, ◌∙◌}
+use Rattle.std.specs.Prelude.{◌||◌}
 use Rattle.fact_types.specs.Tuples.{tuple_of}
 use Rattle.fact_compound.proofs.CallOptions.{calls_asked}
 use Rattle.fact_compound.proofs.functions.call_options.Goals as goal

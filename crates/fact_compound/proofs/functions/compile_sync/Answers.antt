@@ -1,9 +1,9 @@
 use Rattle.fact_compound.proofs.WholeFunctions.{compiled}
-use Rattle.fact_compound.proofs.ReallocsKept.{reallocs_later}
+use Rattle.fact_compound.proofs.OptionsImported.{options_later}
 use Rattle.fact_compound.proofs.functions.compile_sync.Goals as goal
 
-pub write_function-requires-clause-reallocs : goal.write_function-requires-clause-reallocs
-write_function-requires-clause-reallocs c = reallocs_later c.in_ok-ty.ensures.keeps c.requires.reallocs
+pub write_function-requires-clause-options_imported : goal.write_function-requires-clause-options_imported
+write_function-requires-clause-options_imported c = options_later c.in_ok-ty.ensures.keeps c.requires.options_imported
 
 pub returns : goal.returns
 returns c =

@@ -1,9 +1,9 @@
 use Rattle.fact_compound.proofs.WholeBodies.{wrote_body}
-use Rattle.fact_compound.proofs.ReallocsKept.{reallocs_same}
+use Rattle.fact_compound.proofs.OptionsImported.{options_same}
 use Rattle.fact_compound.proofs.functions.write_body.Goals as goal
 
-pub put_body-requires-clause-reallocs : goal.put_body-requires-clause-reallocs
-put_body-requires-clause-reallocs c = reallocs_same c.in_ok-locals.ensures.added.imports c.requires.reallocs
+pub put_body-requires-clause-options_imported : goal.put_body-requires-clause-options_imported
+put_body-requires-clause-options_imported c = options_same c.in_ok-locals.ensures.added.imports c.requires.options_imported
 
 pub returns : goal.returns
 returns c =

@@ -1,10 +1,10 @@
 use Rattle.std.proofs.Common.{◌∙◌}
 use Rattle.fact_compound.proofs.WholeFunctions.{wrote_function}
-use Rattle.fact_compound.proofs.ReallocsKept.{reallocs_same}
+use Rattle.fact_compound.proofs.OptionsImported.{options_same}
 use Rattle.fact_compound.proofs.functions.write_function.Goals as goal
 
-pub write_body-said-requires-clause-reallocs : goal.write_body-said-requires-clause-reallocs
-write_body-said-requires-clause-reallocs c = reallocs_same (c.over-w.ensures.imports ∙ c.replace.ensures.value) c.requires.reallocs
+pub write_body-said-requires-clause-options_imported : goal.write_body-said-requires-clause-options_imported
+write_body-said-requires-clause-options_imported c = options_same (c.over-w.ensures.imports ∙ c.replace.ensures.value) c.requires.options_imported
 
 pub returns-in_ok-function-in-Ok : goal.returns-in_ok-function-in-Ok
 returns-in_ok-function-in-Ok c =

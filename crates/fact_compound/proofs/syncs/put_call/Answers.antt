@@ -1,5 +1,6 @@
-use Rattle.fact_emit.proofs.Emitting.{grew_on}
-use Rattle.fact_compound.proofs.ReallocsKept.{realloc_behind}
+use Rattle.std.proofs.Common.{◌∙◌}
+use Rattle.fact_emit.proofs.SidesImported.{sides_later, sides_same}
+use Rattle.fact_compound.proofs.OptionsImported.{params_imported}
 use Rattle.fact_compound.specs.Written.{sync_places}
 use Rattle.fact_compound.proofs.SyncWritten.{written_call}
 use Rattle.fact_compound.proofs.syncs.put_call.Goals as goal
@@ -11,5 +12,5 @@ pub pass_params-requires : goal.pass_params-requires
 pass_params-requires c = record {
   lower_live = c.requires.lower_live;
   lift_live = c.requires.lift_live;
-  realloc = realloc_behind (grew_on c.in_ok-check_may_leave.ensures.grew c.in_ok-enter_call.ensures.grew) c.in_ok-save_flags.ensures c.in_ok-clear_flags.ensures c.requires.reallocs.lift;
+  sides = sides_same (c.in_ok-clear_flags.ensures.imports ∙ c.in_ok-save_flags.ensures.imports) (sides_later c.in_ok-enter_call.ensures.grew.imports (sides_later c.in_ok-check_may_leave.ensures.grew.imports (params_imported c.requires.options_imported)));
 }

@@ -1,6 +1,6 @@
-use Rattle.fact_emit.proofs.Emitting.{grew_on}
+use Rattle.fact_emit.proofs.SidesImported.{sides_later, sides_same}
 use Rattle.fact_compound.specs.Written.{sync_places}
-use Rattle.fact_compound.proofs.ReallocsKept.{realloc_then}
+use Rattle.fact_compound.proofs.OptionsImported.{results_imported}
 use Rattle.fact_compound.proofs.SyncWritten.{finish_there, written_return}
 use Rattle.fact_compound.proofs.syncs.put_return.Goals as goal
 
@@ -8,7 +8,7 @@ pub move_results-requires : goal.move_results-requires
 move_results-requires c = record {
   lower_live = c.requires.lower_live;
   lift_live = c.requires.lift_live;
-  realloc = realloc_then (grew_on c.in_ok-read_context.ensures.grew c.in_ok-exit_call.ensures.grew) c.in_ok-clear_flags.ensures c.requires.reallocs.lower;
+  sides = sides_same c.in_ok-clear_flags.ensures.imports (sides_later c.in_ok-exit_call.ensures.grew.imports (sides_later c.in_ok-read_context.ensures.grew.imports (results_imported c.requires.options_imported)));
 }
 
 pub finish_call-requires : goal.finish_call-requires

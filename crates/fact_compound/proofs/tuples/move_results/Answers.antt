@@ -1,15 +1,15 @@
 use Rattle.std.proofs.Common.{subst, sym}
 use Rattle.fact_emit.specs.declared.places.Sides.{Sides}
-use Rattle.fact_emit.specs.Requests.{IsReallocImported}
+use Rattle.fact_emit.specs.StringPieces.{AreSidesImported}
+use Rattle.fact_emit.proofs.SidesImported.{sides_later}
 use Rattle.fact_compound.proofs.TuplesWritten.{moved_results}
 use Rattle.fact_compound.proofs.tuples.move_results.Goals as goal
-use Rattle.fact_emit.proofs.RequestRanged.{realloc_on}
 
 pub move_tuple-requires : goal.move_tuple-requires
 move_tuple-requires c = record {
   from_live = c.tuples_of.ensures.results_live;
   to_live = c.tuples_of-2.ensures.results_live;
-  realloc = realloc_on (realloc_on (subst (λ (s : Sides). IsReallocImported s.to c.args.w.now.imports) (sym c.results_sides-sides.ensures) c.requires.realloc) c.in_ok-check_tuple_area.ensures.grew) c.in_ok-check_tuple_area-2.ensures.grew;
+  sides = sides_later c.in_ok-check_tuple_area-2.ensures.grew.imports (sides_later c.in_ok-check_tuple_area.ensures.grew.imports (subst (λ (s : Sides). AreSidesImported s c.args.w.now.imports) (sym c.results_sides-sides.ensures) c.requires.sides));
 }
 
 pub returns : goal.returns

@@ -1,0 +1,26 @@
+-- What the options of both sides of an adapter name is imported, for moves in both directions and in every later module.
+use Rattle.std.proofs.Common.{◌≡◌, Bool, sym, subst}
+use Rattle.fact_emit.specs.Imports.{Extended}
+use Rattle.fact_emit.specs.States.{ModuleSoFar}
+use Rattle.fact_emit.specs.StringPieces.{AreSidesImported}
+use Rattle.fact_emit.proofs.SidesImported.{memory_later, realloc_later}
+use Rattle.fact_compound.specs.Described.{AreOptionsImported}
+use Rattle.fact_compound.specs.Passed.{params_sides, results_sides}
+use Rattle.fact_compound.specs.declared.adapters.AdapterData.{AdapterData}
+
+pub options_later : {d : AdapterData} {s s' : ModuleSoFar} → Extended s s' → AreOptionsImported d s → AreOptionsImported d s'
+options_later x h = record {
+  lift = realloc_later x h.lift;
+  lower = realloc_later x h.lower;
+  lift_memory = memory_later x h.lift_memory;
+  lower_memory = memory_later x h.lower_memory;
+}
+
+pub options_same : {d : AdapterData} {s s' : ModuleSoFar} → s' ≡ s → AreOptionsImported d s → AreOptionsImported d s'
+options_same {d} e h = subst (AreOptionsImported d) (sym e) h
+
+pub params_imported : {d : AdapterData} {debug concurrency : Bool} {s : ModuleSoFar} → AreOptionsImported d s → AreSidesImported (params_sides d debug concurrency) s
+params_imported h = record { realloc = h.lift; from_memory = h.lower_memory; to_memory = h.lift_memory }
+
+pub results_imported : {d : AdapterData} {debug concurrency : Bool} {s : ModuleSoFar} → AreOptionsImported d s → AreSidesImported (results_sides d debug concurrency) s
+results_imported h = record { realloc = h.lower; from_memory = h.lift_memory; to_memory = h.lower_memory }
