@@ -1,8 +1,6 @@
 -- What a module imports at a number, and which calls the events of a log are.
-use Rattle.std.proofs.Common.{◌≡◌, ℕ, zero, suc, true, List, [], ◌∷◌, ◌++◌, Option, Some, refl, sym, ap, ◌∙◌, cond, length, map, slice_get, get_or, All}
+use Rattle.std.proofs.Common.{◌≡◌, ℕ, zero, suc, List, [], ◌∷◌, ◌++◌, Option, Some, refl, ap, ◌∙◌, cond, length, map, slice_get, All}
 use Rattle.std.proofs.lemmas.List.Elements.{All-head, All-tail}
-use Rattle.std.proofs.lemmas.List.Sums.{passes_at_first}
-use Rattle.std.proofs.lemmas.Option.{get_or_from_slice_get, slice_get_within}
 use Rattle.fact_wasm.specs.declared.types.FuncType.{FuncType}
 use Rattle.fact_wasm.specs.declared.module.ImportType.{ImportType}
 use Rattle.fact_wasm.specs.declared.module.ImportType.TheVariants as import
@@ -14,18 +12,9 @@ use Rattle.fact_types.specs.declared.import.Import.{Import}
 use Rattle.fact_moves.specs.Laws.{call_event}
 use Rattle.fact_moves.specs.Running.{Call}
 use Rattle.fact_emit.specs.ImportSection.{Mention, AreNamed, IsNamed, a_function, imports_of, same_sort, sort_of}
-use Rattle.fact_emit.specs.PlacesOf.{place_among, same_import}
-use Rattle.fact_emit.proofs.PlacesOfLaws.{exact_import}
+use Rattle.fact_emit.proofs.PlacesOfLaws.{placed_is}
 use Rattle.fact_promises.specs.Names.{places_in, IsCall, AreCalls, IsNamedLog}
 use Rattle.fact_promises.proofs.LoggedImports.{IsOfImport}
-
--- ---- places
-
--- what stands at the place of an import is that import
-pub placed_is : (i j : Import) (is : List Import) → slice_get is (place_among i is) ≡ Some j → j ≡ i
-placed_is i j is h =
-    let found : same_import i (get_or is (place_among i is) j) ≡ true = passes_at_first (same_import i) is j (slice_get_within is (place_among i is) j h) in
-    sym (exact_import i j (ap (same_import i) (sym (get_or_from_slice_get is (place_among i is) j j h)) ∙ found))
 
 -- ---- what stands at a number
 

@@ -24,7 +24,8 @@ use Rattle.fact_pieces.proofs.TypedStates.{answers_agree}
 use Rattle.fact_emit.specs.ImportSection.{Mention, AreNamed, IsNamed, a_function, imported_type, imports_of}
 use Rattle.fact_promises.specs.Functions.{core_results}
 use Rattle.fact_promises.specs.Names.{places_in}
-use Rattle.fact_promises.proofs.ImportNumbers.{stands_at, placed_is}
+use Rattle.fact_emit.proofs.PlacesOfLaws.{placed_is}
+use Rattle.fact_promises.proofs.ImportNumbers.{stands_at}
 
 -- the number of a function's type, where an imported function has one
 type_number : (types : List FuncType) (o : Option ℕ) (t : FuncType) → elim o as (λ (x : Option ℕ). Option FuncType) [ None ↦ None | Some n ↦ slice_get types n ] ≡ Some t
@@ -61,7 +62,7 @@ module _ (m : WasmModule) (is : List Import) where
     results_by (known.UnsafeIntrinsic slot.ContextGetI32_1) before entry n t named_so at there typed = by_type entry _ t n named_so.is_typed at there
     results_by (known.UnsafeIntrinsic slot.ContextSetI32_0) before entry n t named_so at there typed = by_type entry _ t n named_so.is_typed at there
     results_by (known.UnsafeIntrinsic slot.ContextSetI32_1) before entry n t named_so at there typed = by_type entry _ t n named_so.is_typed at there
-    results_by (known.Transcode a b c d e) before entry n t named_so at there typed = absurd named_so
+    results_by (known.Transcode a b c d e) before entry n t named_so at there typed = by_type entry _ t n named_so at there
     results_by (known.PrepareCall a) before entry n t named_so at there typed = absurd named_so
     results_by (known.StartCall a b) before entry n t named_so at there typed = absurd named_so
 
