@@ -1,4 +1,4 @@
--- Values of types that agree with types that are built can be moved to these.
+-- Values of valid types that agree can be moved.
 use Rattle.std.proofs.Common.{◌≡◌, ℕ, suc, ◌≤◌, Bool, true, false, List, [], ◌∷◌, length, Option, Some, None, refl, sym, ap, ◌∙◌, subst, arith, inl, inr}
 use Rattle.std.specs.List.{AllByRecursion}
 use Rattle.std.specs.Str.{bytes_eq}
@@ -33,8 +33,6 @@ use Rattle.fact_carry.proofs.Membered.{fields_agree, members_formed, members_val
 use Rattle.fact_carry.proofs.Theorem.{AreValid, case_valid, members_valid, places_names, valid_found}
 use Rattle.fact_carry.proofs.Tuples.{places_fields}
 use Rattle.fact_carry.proofs.Variants.{case_formed}
-use Rattle.fact_type_rules.specs.Forms.{IsBuiltShape, IsUnbuiltShape, IsUnbuiltType}
-use Rattle.fact_type_rules.specs.TypeFaults.{AnyAmong}
 use Rattle.fact_emit.specs.Scalars.{is_scalar}
 use Rattle.fact_translate.specs.Movable.{CanMove, CanMovePlain, CanMoveFields, CanMoveCase, CanMoveCases, CanMoveElements, CanMoveFlags}
 use Rattle.fact_compound.specs.Described.{CanMoveTuple}
@@ -43,17 +41,17 @@ use Rattle.fact_compound.specs.Described.{CanMoveTuple}
 
 -- a handle can be moved to one of its kind
 own_moves : (j : Id TypeResourceTables) (s : Shape) → AgreesPlain (ty.Own j) s → CanMovePlain s (ty.Own j)
-own_moves j (s_plain (ty.Own i)) a = inr tt
+own_moves j (s_plain (ty.Own i)) a = inr (inr tt)
 own_moves j (s_plain p) a = cc
 own_moves j (s_node k ms) a = absurd a
 
 borrow_moves : (j : Id TypeResourceTables) (s : Shape) → AgreesPlain (ty.Borrow j) s → CanMovePlain s (ty.Borrow j)
-borrow_moves j (s_plain (ty.Borrow i)) a = inr tt
+borrow_moves j (s_plain (ty.Borrow i)) a = inr (inr tt)
 borrow_moves j (s_plain p) a = cc
 borrow_moves j (s_node k ms) a = absurd a
 
 error_moves : (j : Id TypeComponentLocalErrorContextTables) (s : Shape) → AgreesPlain (ty.ErrorContext j) s → CanMovePlain s (ty.ErrorContext j)
-error_moves j (s_plain (ty.ErrorContext i)) a = inr tt
+error_moves j (s_plain (ty.ErrorContext i)) a = inr (inr tt)
 error_moves j (s_plain p) a = cc
 error_moves j (s_node k ms) a = absurd a
 
@@ -64,25 +62,29 @@ scalar_moves (ty.ErrorContext j) s h a = absurd (false≢true h)
 scalar_moves q (s_plain p) h a = inl (a, ap is_scalar a ∙ h)
 scalar_moves q (s_node k ms) h a = absurd a
 
--- a plain type that is built is a scalar or a handle
-plain_moves : (q : InterfaceType) (s : Shape) → (IsUnbuiltType q → ⊥) → HasValues (plain_of q) → AgreesPlain q s → CanMovePlain s q
-plain_moves ty.Bool s b g a = scalar_moves ty.Bool s refl a
-plain_moves ty.S8 s b g a = scalar_moves ty.S8 s refl a
-plain_moves ty.U8 s b g a = scalar_moves ty.U8 s refl a
-plain_moves ty.S16 s b g a = scalar_moves ty.S16 s refl a
-plain_moves ty.U16 s b g a = scalar_moves ty.U16 s refl a
-plain_moves ty.S32 s b g a = scalar_moves ty.S32 s refl a
-plain_moves ty.U32 s b g a = scalar_moves ty.U32 s refl a
-plain_moves ty.S64 s b g a = scalar_moves ty.S64 s refl a
-plain_moves ty.U64 s b g a = scalar_moves ty.U64 s refl a
-plain_moves ty.Float32 s b g a = scalar_moves ty.Float32 s refl a
-plain_moves ty.Float64 s b g a = scalar_moves ty.Float64 s refl a
-plain_moves ty.Char s b g a = scalar_moves ty.Char s refl a
-plain_moves ty.String s b g a = absurd (b tt)
-plain_moves (ty.Own j) s b g a = own_moves j s a
-plain_moves (ty.Borrow j) s b g a = borrow_moves j s a
-plain_moves (ty.ErrorContext j) s b g a = error_moves j s a
-plain_moves _ s b g a = absurd g
+string_moves : (s : Shape) → AgreesPlain ty.String s → CanMovePlain s ty.String
+string_moves (s_plain p) a = inr (inl (a, refl))
+string_moves (s_node k ms) a = absurd a
+
+-- a plain type that has values is a scalar, a string or a handle
+plain_moves : (q : InterfaceType) (s : Shape) → HasValues (plain_of q) → AgreesPlain q s → CanMovePlain s q
+plain_moves ty.Bool s g a = scalar_moves ty.Bool s refl a
+plain_moves ty.S8 s g a = scalar_moves ty.S8 s refl a
+plain_moves ty.U8 s g a = scalar_moves ty.U8 s refl a
+plain_moves ty.S16 s g a = scalar_moves ty.S16 s refl a
+plain_moves ty.U16 s g a = scalar_moves ty.U16 s refl a
+plain_moves ty.S32 s g a = scalar_moves ty.S32 s refl a
+plain_moves ty.U32 s g a = scalar_moves ty.U32 s refl a
+plain_moves ty.S64 s g a = scalar_moves ty.S64 s refl a
+plain_moves ty.U64 s g a = scalar_moves ty.U64 s refl a
+plain_moves ty.Float32 s g a = scalar_moves ty.Float32 s refl a
+plain_moves ty.Float64 s g a = scalar_moves ty.Float64 s refl a
+plain_moves ty.Char s g a = scalar_moves ty.Char s refl a
+plain_moves ty.String s g a = string_moves s a
+plain_moves (ty.Own j) s g a = own_moves j s a
+plain_moves (ty.Borrow j) s g a = borrow_moves j s a
+plain_moves (ty.ErrorContext j) s g a = error_moves j s a
+plain_moves _ s g a = absurd g
 
 -- the payload of a case, where it has one, is of a valid type
 abbrev IsSoundPayload : CaseType → Type 0
@@ -158,39 +160,34 @@ chosen_as true A B C D f g x = f x
 chosen_as false A B C D f g x = g x
 
 mutual
-  pub moves : (u t : Shape) → IsBuiltShape u → Agrees t u → IsValid t → IsValid u → IsWellFormed t → IsWellFormed u → CanMove t u
-  moves (s_plain q) t b a v w f g = plain_moves q t b g a
-  moves (s_node k ns) t b a v w f g =
+  pub moves : (u t : Shape) → Agrees t u → IsValid t → IsValid u → IsWellFormed t → IsWellFormed u → CanMove t u
+  moves (s_plain q) t a v w f g = plain_moves q t g a
+  moves (s_node k ns) t a v w f g =
       let valid = members_valid k ns w in
-      node_moves k t ns a w.ruled.0 v valid f g.0 (λ ms agree v formed. fields_move ns ms (λ x. b (inr x)) agree v valid formed g.1) (λ c agree sound. case_moves ns c (λ x. b (inr x)) agree sound valid g.1)
+      node_moves k t ns a w.ruled.0 v valid f g.0 (λ ms agree v formed. fields_move ns ms agree v valid formed g.1) (λ c agree sound. case_moves ns c agree sound valid g.1)
 
-  fields_move : (ns ms : Members) → (AnyAmong IsUnbuiltShape ns → ⊥) → AgreesFields ms ns → AreValid ms → AreValid ns → AreWellFormed ms → AreWellFormed ns → CanMoveFields ms ns
-  fields_move no_members ms b a v w f g = tt
-  fields_move (bare x ns) ms b a v w f g = fields_move ns ms b a v w f g
-  fields_move (typed x u ns) ms b a v w f g =
-      (field_there x ms u (named x ms) refl a.0 v f (λ s agree valid formed. moves u s (λ y. b (inl y)) agree valid w.0 formed g.0), fields_move ns ms (λ y. b (inr y)) a.1 v w.1 f g.1)
+  fields_move : (ns ms : Members) → AgreesFields ms ns → AreValid ms → AreValid ns → AreWellFormed ms → AreWellFormed ns → CanMoveFields ms ns
+  fields_move no_members ms a v w f g = tt
+  fields_move (bare x ns) ms a v w f g = fields_move ns ms a v w f g
+  fields_move (typed x u ns) ms a v w f g =
+      (field_there x ms u (named x ms) refl a.0 v f (λ s agree valid formed. moves u s agree valid w.0 formed g.0), fields_move ns ms a.1 v w.1 f g.1)
 
-  case_moves : (ns : Members) (c : CaseType) → (AnyAmong IsUnbuiltShape ns → ⊥) → AgreesCase c.name c.payload ns → IsSoundPayload c → AreValid ns → AreWellFormed ns → CanMoveCase c ns
-  case_moves no_members c b a f w g = absurd a
-  case_moves (bare x ns) c b a f w g = chosen_as (bytes_eq x c.name) (c.payload ≡ None) (AgreesCase c.name c.payload ns) (c.payload ≡ None) (CanMoveCase c ns) (λ e. e) (λ later. case_moves ns c b later f w g) a
-  case_moves (typed x u ns) c b a f w g =
+  case_moves : (ns : Members) (c : CaseType) → AgreesCase c.name c.payload ns → IsSoundPayload c → AreValid ns → AreWellFormed ns → CanMoveCase c ns
+  case_moves no_members c a f w g = absurd a
+  case_moves (bare x ns) c a f w g = chosen_as (bytes_eq x c.name) (c.payload ≡ None) (AgreesCase c.name c.payload ns) (c.payload ≡ None) (CanMoveCase c ns) (λ e. e) (λ later. case_moves ns c later f w g) a
+  case_moves (typed x u ns) c a f w g =
       chosen_as (bytes_eq x c.name) (BothThere c.payload (λ s. Agrees s u)) (AgreesCase c.name c.payload ns) (ThereIs c.payload (λ p. CanMove p u)) (CanMoveCase c ns)
-      (λ here. payload_there c.payload u here f (λ s agree valid formed. moves u s (λ y. b (inl y)) agree valid w.0 formed g.0)) (λ later. case_moves ns c (λ y. b (inr y)) later f w.1 g.1) a
+      (λ here. payload_there c.payload u here f (λ s agree valid formed. moves u s agree valid w.0 formed g.0)) (λ later. case_moves ns c later f w.1 g.1) a
 
 -- ---- tuples
-
-built_from : (n : ℕ) (ss : List Shape) → AllByRecursion IsBuiltShape ss → AnyAmong IsUnbuiltShape (members_from n ss) → ⊥
-built_from n [] h x = x
-built_from n (s ∷ ss) h (inl x) = h.0 x
-built_from n (s ∷ ss) h (inr x) = built_from (suc n) ss h.1 x
 
 pub counted_from : (n : ℕ) (ss : List Shape) → AllByRecursion IsValid ss → AreCounted (members_from n ss)
 counted_from n [] h = tt
 counted_from n (s ∷ ss) h = (valid_counted s h.0, counted_from (suc n) ss h.1)
 
-pub tuple_moves : (ss ds : List Shape) → AllByRecursion IsBuiltShape ds → AgreesPlaces (tuple_members ss) (tuple_members ds) → AreWellFormedTypes ss → AreWellFormedTypes ds → CanMoveTuple ss ds
-tuple_moves ss ds built agree s d = record {
+pub tuple_moves : (ss ds : List Shape) → AgreesPlaces (tuple_members ss) (tuple_members ds) → AreWellFormedTypes ss → AreWellFormedTypes ds → CanMoveTuple ss ds
+tuple_moves ss ds agree s d = record {
   from_counted = counted_from 0 ss s.valid;
   to_counted = counted_from 0 ds d.valid;
-  members = fields_move (tuple_members ds) (tuple_members ss) (built_from 0 ds built) (fields_agree ss ds agree) (tuple_valid 0 ss s.valid) (tuple_valid 0 ds d.valid) (members_formed 0 ss s.formed) (members_formed 0 ds d.formed);
+  members = fields_move (tuple_members ds) (tuple_members ss) (fields_agree ss ds agree) (tuple_valid 0 ss s.valid) (tuple_valid 0 ds d.valid) (members_formed 0 ss s.formed) (members_formed 0 ds d.formed);
 }

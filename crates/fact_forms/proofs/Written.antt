@@ -68,8 +68,8 @@ built_are_writable a built crossing h =
         lift_params = counted_from 0 a.lift.params h.lift_params.valid;
         lift_results = counted_from 0 a.lift.results h.lift_results.valid;
       };
-      params = tuple_moves a.lower.params a.lift.params lift.params h.params_agree h.lower_params h.lift_params;
-      results = tuple_moves a.lift.results a.lower.results lower.results h.results_agree h.lift_results h.lower_results;
+      params = tuple_moves a.lower.params a.lift.params h.params_agree h.lower_params h.lift_params;
+      results = tuple_moves a.lift.results a.lower.results h.results_agree h.lift_results h.lower_results;
       memories = memories_for a h lift.sync_side lower.sync_side;
     }
 

@@ -1,15 +1,11 @@
 -- The adapters that are built so far.
 use Rattle.std.specs.Prelude.{◌≡◌, ◌⊎◌, false, All}
-use Rattle.std.specs.List.{AllByRecursion}
 use Rattle.fact_plan.specs.declared.plan.FusePlan.{FusePlan}
 use Rattle.fact_types.specs.Adapters.{LinkedAdapter, Side}
-use Rattle.fact_type_rules.specs.Forms.{IsBuiltShape}
 use Rattle.fact_checks.specs.Adapters.{adapters_of}
 
--- A sync side of a function of types that are built.
+-- A sync side of a sync function.
 pub record IsBuiltSide (s : Side) : Type 0 where
-  pub params : AllByRecursion IsBuiltShape s.params
-  pub results : AllByRecursion IsBuiltShape s.results
   pub sync_type : s.async_type ≡ false
   pub sync_side : s.async_side ≡ false
 

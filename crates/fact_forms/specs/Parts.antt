@@ -1,17 +1,12 @@
 -- Cited by private clauses alone.
 -- What makes an adapter one that is built, part by part.
-use Rattle.std.specs.Prelude.{◌≡◌, false, Some}
+use Rattle.std.specs.Prelude.{◌≡◌, Some}
 use Rattle.fact_plan.specs.declared.plan.FusePlan.{FusePlan}
 use Rattle.fact_plan.specs.declared.plan.PlanAdapter.{PlanAdapter}
-use Rattle.fact_types.specs.Adapters.{LinkedAdapter, Side}
+use Rattle.fact_types.specs.Adapters.{LinkedAdapter}
 use Rattle.fact_checks.specs.Adapters.{adapter_of}
 use Rattle.fact_checks.specs.declared.adapter.Adapter.{Adapter}
 use Rattle.fact_forms.specs.Built.{IsBuiltAdapter}
-
--- a sync side
-pub record IsSyncSide (s : Side) : Type 0 where
-  pub sync_type : s.async_type ≡ false
-  pub sync_side : s.async_side ≡ false
 
 -- both sides have one instance
 abbrev pub IsWithinOneInstance : Adapter → Type 0

@@ -28,7 +28,7 @@ use Rattle.fact_module.proofs.PartLaws.{bodies_adapter, in_parts_adapter, in_par
 
 pub holds-nothing : (t : Tables) (u : AdapterTunables) → Holds t u nothing_so_far []
 holds-nothing t u = record {
-  lists = record { defs = refl; named = tt; once = λ i j d below within. absurd (omega arith); signatures = λ i j d below within. absurd (omega arith) };
+  lists = record { defs = refl; named = tt; once = λ i j d below within. absurd (omega arith); signatures = λ i j d below within. absurd (omega arith); transcoders = record { each = λ k w i at there. absurd cc } };
   in_parts = in_parts_nothing;
   bodies = tt;
   exports = refl;
@@ -54,7 +54,7 @@ module _ (t : Tables) (u : AdapterTunables) (old new : ModuleSoFar) (adapters : 
   in-turn = linked_adapter old add.linked a (links_of add.«data») add.links
 
   known : AreKnown old (mentions adapters)
-  known = record { named = h.lists.named }
+  known = record { named = h.lists.named; transcoders = h.lists.transcoders }
 
   -- what was there stays there
   pub grown-adds : Extended old new

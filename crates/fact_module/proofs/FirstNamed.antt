@@ -69,7 +69,7 @@ no_function types ms before w n known.ErrorContextTransfer h e = function_kind t
 no_function types ms before w n known.EnterSyncCall h e = function_kind types w h.is_typed e
 no_function types ms before w n known.ExitSyncCall h e = function_kind types w h.is_typed e
 no_function types ms before w n (known.UnsafeIntrinsic s) h e = function_kind types w h.is_typed e
-no_function types ms before w n (known.Transcode a b c d e) h g = absurd h
+no_function types ms before w n (known.Transcode a b c d e) h g = function_kind types w h g
 no_function types ms before w n (known.PrepareCall a) h g = absurd h
 no_function types ms before w n (known.StartCall a b) h g = absurd h
 
@@ -113,7 +113,7 @@ named_prepares_none types ms before w known.ErrorContextTransfer h = refl
 named_prepares_none types ms before w known.EnterSyncCall h = refl
 named_prepares_none types ms before w known.ExitSyncCall h = refl
 named_prepares_none types ms before w (known.UnsafeIntrinsic s) h = refl
-named_prepares_none types ms before w (known.Transcode a b c d e) h = absurd h
+named_prepares_none types ms before w (known.Transcode a b c d e) h = refl
 named_prepares_none types ms before w (known.PrepareCall a) h = absurd h
 named_prepares_none types ms before w (known.StartCall a b) h = absurd h
 

@@ -1,8 +1,11 @@
 -- What is linked for an adapter, by what is linked for the options of its sides, and the data that say where.
-use Rattle.std.proofs.Common.{◌≡◌, ◌<◌, ℕ, Bool, List, Some, sym, ap, ◌∙◌, subst, arith, length, slice_get}
+use Rattle.std.proofs.Common.{◌≡◌, ◌<◌, ℕ, Bool, true, List, Option, None, Some, refl, sym, ap, ◌∙◌, subst, arith, length, slice_get}
+use Rattle.std.specs.Prelude.{is_some}
+use Rattle.std.proofs.lemmas.Bool.{false≢true}
 use Rattle.std.proofs.lemmas.Option.{slice_get_within}
 use Rattle.fact_entity.specs.declared.id.Id.{Id}
 use Rattle.fact_entity.specs.declared.table.Funcs.{Funcs}
+use Rattle.fact_entity.specs.declared.table.Memories.{Memories}
 use Rattle.fact_entity.specs.declared.table.TypeFuncs.{TypeFuncs}
 use Rattle.fact_wasm.specs.declared.types.FuncType.{FuncType}
 use Rattle.fact_wasm.specs.declared.types.ValType.{ValType}
@@ -16,13 +19,13 @@ use Rattle.fact_checks.specs.declared.sides.Candidate.{Candidate}
 use Rattle.fact_checks.specs.Linked.{IsLinked, IsSideOf}
 use Rattle.fact_moves.specs.Adapters.{AdapterTunables}
 use Rattle.fact_emit.specs.AdapterLinks.{AdapterLinks, IsAdapterLinked, IsLinkedIfAny, IsSideLinked}
-use Rattle.fact_emit.specs.ImportSection.{Callee, PostReturn, Realloc}
+use Rattle.fact_emit.specs.ImportSection.{Callee, PostReturn, Realloc, Storage}
 use Rattle.fact_emit.specs.Imports.{Extended}
 use Rattle.fact_emit.specs.Linked.{IsDefLinked}
-use Rattle.fact_emit.specs.States.{ModuleSoFar, functions_of}
+use Rattle.fact_emit.specs.States.{ModuleSoFar, functions_of, memories_of}
 use Rattle.fact_emit.proofs.ImportLaws.{grown_get}
 use Rattle.fact_emit.proofs.KnownLaws.{linked_at}
-use Rattle.fact_compound.specs.Described.{number_if_any}
+use Rattle.fact_compound.specs.Described.{memory_place, number_if_any}
 use Rattle.fact_compound.specs.Functions.{Compiled}
 use Rattle.fact_compound.specs.declared.adapters.AdapterData.{AdapterData}
 use Rattle.fact_compound.specs.declared.adapters.AdapterOptions.{AdapterOptions}
@@ -40,6 +43,7 @@ side-data {b} {s = s} h fits = record {
   instance = ap (λ i. i.number) fits.instance ∙ sym h.instance;
   signature = subst (λ ty. HasSignature b.tables ty s.params s.results) (sym fits.ty_is) h.signature;
   async_side = fits.async_ ∙ sym h.async_side;
+  encoding = fits.encoding ∙ sym h.encoding;
   memory64 = fits.memory64 ∙ ap is_wide (sym h.memory);
   page_size_log2 = fits.page_size_log2 ∙ ap page_size_log2_of (sym h.memory);
 }
@@ -58,7 +62,19 @@ realloc-below {new = new} {d} {place = place} {n} memory64 linked there is =
     let below = slice_get_within (functions_of new) place (known.CoreDef d) (linked_at (Realloc memory64) linked) in
     omega (arith, below, same)
 
--- So is a post-return.
+-- And a memory is among the imported memories.
+pub memory-below : {old new : ModuleSoFar} {d : CoreDef} {i : Id Memories} {place n : ℕ} (memory64 : Bool) (page_size_log2 : ℕ) → IsDefLinked old new (Storage memory64 page_size_log2) d place → i.number ≡ place → number_if_any (Some i) ≡ Some n → n < length (memories_of new)
+memory-below {new = new} {d} {place = place} {n} memory64 page_size_log2 linked there is =
+    let same : place ≡ n = cc in
+    let below = slice_get_within (memories_of new) place (known.CoreDef d) (linked_at (Storage memory64 page_size_log2) linked) in
+    omega (arith, below, same)
+
+-- So is the memory of a side, where it has one.
+pub memory-there : (s : ModuleSoFar) (memory : Option (Id Memories)) → ((n : ℕ) → number_if_any memory ≡ Some n → n < length (memories_of s)) → is_some memory ≡ true → memory_place memory < length (memories_of s)
+memory-there s None h there = absurd (false≢true there)
+memory-there s (Some m) h there = h m.number refl
+
+-- A post-return is among the imported functions.
 pub post-return-below : {old new : ModuleSoFar} {d : CoreDef} {n place : ℕ} (name : List ℕ) (results : List ValType) → IsDefLinked old new (PostReturn name results) d place → n ≡ place → n < length (functions_of new)
 post-return-below {new = new} {d} {place = place} name results linked there =
     let below = slice_get_within (functions_of new) place (known.CoreDef d) (linked_at (PostReturn name results) linked) in

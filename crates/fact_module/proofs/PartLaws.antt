@@ -1,5 +1,5 @@
 -- One adapter more in a module that is being made: what it mentions is imported, the type of its function is declared, its code
--- brings in functions of the runtime, and its function is put behind the others.
+-- brings in functions that it calls, and its function is put behind the others.
 use Rattle.std.proofs.Common.{◌≡◌, ℕ, ◌+◌, ◌<◌, ◌≤◌, false, List, [], ◌∷◌, ◌++◌, Some, None, Option, refl, sym, ap, ◌∙◌, subst, arith, length, length-append, map, slice_get, append-nil, append_assoc, inl, inr}
 use Rattle.std.specs.Prelude.{count_by, filter, nat_le}
 use Rattle.std.specs.List.{AllByRecursion, filter_map, flat_map, range_with_len}
@@ -22,7 +22,7 @@ use Rattle.fact_types.specs.declared.import.Import.{Import}
 use Rattle.fact_types.specs.declared.import.Import.TheVariants as known
 use Rattle.fact_types.specs.Adapters.{LinkedAdapter}
 use Rattle.fact_plan_types.proofs.HandleLaws.{there as get-within}
-use Rattle.fact_emit.specs.Brought.{AreRuntimeImported, Brought}
+use Rattle.fact_emit.specs.Brought.{AreCalledImported, Brought, CalledFunction, Runtime, Transcoding, IsCalledImported}
 use Rattle.fact_emit.specs.declared.imported.RuntimeFunction.{RuntimeFunction}
 use Rattle.fact_emit.specs.declared.imported.RuntimeFunction.TheVariants as runtime
 use Rattle.fact_emit.specs.Runtime.{import_of}
@@ -32,11 +32,11 @@ use Rattle.fact_emit.specs.Linked.{HasTypeIfAny}
 use Rattle.fact_emit.specs.Listed.{AreLinkedInTurn, ListsMentions}
 use Rattle.fact_emit.specs.NamedFunctions.{all_added_once, imported_named}
 use Rattle.fact_emit.specs.States.{HasType, IsImported, KeepsDefined, ModuleSoFar, functions_of, module_of, nothing_so_far, with_exported, with_import}
-use Rattle.fact_emit.proofs.BroughtLaws.{IsEven, even_import, even_runtime, even_type}
+use Rattle.fact_emit.proofs.BroughtLaws.{IsEven, even_called, even_import, even_type}
 use Rattle.fact_emit.proofs.DefinedKept.{defined_all, defined_import, defined_on, defined_same, defined_type}
 use Rattle.fact_emit.proofs.ImportLaws.{grown_get, grows_none, grows_on}
 use Rattle.fact_emit.proofs.ImportLists.{count-of, imports-append}
-use Rattle.fact_emit.proofs.ListedLaws.{IsMentionStep, alike_first, alike_more, linked_step, listed_all, listed_even, listed_linked, listed_all_runtime, listed_type}
+use Rattle.fact_emit.proofs.ListedLaws.{IsMentionStep, alike_first, alike_more, linked_step, listed_all, listed_even, listed_called, listed_linked, listed_type}
 use Rattle.fact_emit.proofs.Mentions.{mentions-push}
 use Rattle.fact_emit.proofs.NamedLaws.{ranged_named}
 use Rattle.fact_module.specs.Exports.{exported_functions_of}
@@ -100,7 +100,7 @@ defines_all (r ∷ rs) old new ms l alike h =
           ∙ append_assoc (items_so_far old) _ _ ∙ ap (λ l. items_so_far old ++ l) (sym (map-append (λ (q : Mention). Definition q.def) one.defs rest.defs));
     }
 
--- ---- functions of the runtime
+-- ---- functions that code calls
 
 -- Functions that are no core definitions are imported behind the others.
 record AddsOthers (old new : ModuleSoFar) : Type 0 where
@@ -119,21 +119,27 @@ runtime_item n runtime.EnterSyncCall = refl
 runtime_item n runtime.ExitSyncCall = refl
 runtime_item n (runtime.UnsafeIntrinsic s) = refl
 
-runtime_added : {old new : ModuleSoFar} {w : WasmImport} (f : RuntimeFunction) {place : ℕ} → IsEven old → IsImported old new w (import_of f) place → AddsOthers old new
-runtime_added {old} {new} {w} f e h = elim h.step [
+imported_added : {old new : ModuleSoFar} {w : WasmImport} (i : Import) {place : ℕ} → ((n : ℕ) → item_of n i ≡ Other n) → IsEven old → IsImported old new w i place → AddsOthers old new
+imported_added {old} {new} {w} i other e h = elim h.step [
   | inl there ↦ record { others = []; items_are = ap items_so_far there.0 ∙ sym (append-nil (items_so_far old)) }
-  | inr anew ↦ record { others = length (functions_of old) ∷ []; items_are = ap items_so_far anew.0 ∙ one_more old w (import_of f) e ∙ ap (λ i. items_so_far old ++ i ∷ []) (runtime_item (length (functions_of old)) f) }
+  | inr anew ↦ record { others = length (functions_of old) ∷ []; items_are = ap items_so_far anew.0 ∙ one_more old w i e ∙ ap (λ i. items_so_far old ++ i ∷ []) (other (length (functions_of old))) }
 ]
 
-runtime_all_added : (fs : List RuntimeFunction) (old new : ModuleSoFar) → IsEven old → AreRuntimeImported old new fs → AddsOthers old new
-runtime_all_added [] old new e h = record { others = []; items_are = ap items_so_far h ∙ sym (append-nil (items_so_far old)) }
-runtime_all_added (f ∷ fs) old new e h =
-    let one = runtime_added f (even_type h.2.types e) h.2.imported in
-    let rest = runtime_all_added fs h.0 new (even_runtime h.2 e) h.3 in
+behind_type : {old typed new : ModuleSoFar} {ty : FuncType} → HasType old typed ty → AddsOthers typed new → AddsOthers old new
+behind_type types x = record { others = x.others; items_are = x.items_are ∙ ap (λ l. l ++ map Other x.others) (items_type types) }
+
+called_added : (f : CalledFunction) (old new : ModuleSoFar) (place : ℕ) → IsEven old → IsCalledImported old new f place → AddsOthers old new
+called_added (Runtime f) old new place e h = behind_type h.types (imported_added (import_of f) (λ n. runtime_item n f) (even_type h.types e) h.imported)
+called_added (Transcoding t) old new place e h = behind_type h.types (imported_added _ (λ n. refl) (even_type h.types e) h.imported)
+
+called_all_added : (fs : List CalledFunction) (old new : ModuleSoFar) → IsEven old → AreCalledImported old new fs → AddsOthers old new
+called_all_added [] old new e h = record { others = []; items_are = ap items_so_far h ∙ sym (append-nil (items_so_far old)) }
+called_all_added (f ∷ fs) old new e h =
+    let one = called_added f old h.0 h.1 e h.2 in
+    let rest = called_all_added fs h.0 new (even_called f old h.0 h.1 h.2 e) h.3 in
     record {
       others = one.others ++ rest.others;
-      items_are = rest.items_are ∙ ap (λ l. l ++ map Other rest.others) (one.items_are ∙ ap (λ l. l ++ map Other one.others) (items_type h.2.types))
-          ∙ append_assoc (items_so_far old) _ _ ∙ ap (λ l. items_so_far old ++ l) (sym (map-append Other one.others rest.others));
+      items_are = rest.items_are ∙ ap (λ l. l ++ map Other rest.others) one.items_are ∙ append_assoc (items_so_far old) _ _ ∙ ap (λ l. items_so_far old ++ l) (sym (map-append Other one.others rest.others));
     }
 
 -- ---- what was imported has its number still
@@ -152,9 +158,13 @@ functions_if_any : (old new : ModuleSoFar) (ty : Option FuncType) → HasTypeIfA
 functions_if_any old new None same = ap functions_of same
 functions_if_any old new (Some ty) has = functions_typed has
 
-runtime_grows : (fs : List RuntimeFunction) (old new : ModuleSoFar) → IsEven old → AreRuntimeImported old new fs → Grows (functions_of old) (functions_of new)
-runtime_grows [] old new e h = grows_none (ap functions_of h)
-runtime_grows (f ∷ fs) old new e h = grows_on (grows_none (functions_typed h.2.types)) (grows_on (import_grows (even_type h.2.types e) h.2.imported) (runtime_grows fs h.0 new (even_runtime h.2 e) h.3))
+called_grow : (f : CalledFunction) (old new : ModuleSoFar) (place : ℕ) → IsEven old → IsCalledImported old new f place → Grows (functions_of old) (functions_of new)
+called_grow (Runtime f) old new place e h = grows_on (grows_none (functions_typed h.types)) (import_grows (even_type h.types e) h.imported)
+called_grow (Transcoding t) old new place e h = grows_on (grows_none (functions_typed h.types)) (import_grows (even_type h.types e) h.imported)
+
+all_called_grow : (fs : List CalledFunction) (old new : ModuleSoFar) → IsEven old → AreCalledImported old new fs → Grows (functions_of old) (functions_of new)
+all_called_grow [] old new e h = grows_none (ap functions_of h)
+all_called_grow (f ∷ fs) old new e h = grows_on (called_grow f old h.0 h.1 e h.2) (all_called_grow fs h.0 new (even_called f old h.0 h.1 h.2 e) h.3)
 
 links_grow : (rs : List Mention) (old new : ModuleSoFar) → IsEven old → AreLinkedInTurn old new rs → Grows (functions_of old) (functions_of new)
 links_grow [] old new e l = grows_none (ap functions_of l)
@@ -194,23 +204,23 @@ module _ (old linked declared brought : ModuleSoFar) (ty : FuncType) (adapters :
   lists_declared = listed_type linked declared _ ty declares lists_linked
 
   lists_brought : ListsMentions brought (with_mentions (mentions adapters) (adapter_mentions a))
-  lists_brought = listed_all_runtime b.runtime declared brought _ b.imported lists_declared
+  lists_brought = listed_called b.called declared brought _ b.imported lists_declared
 
   -- The imports of the module are those that the adapters mention, and functions of the runtime.
   pub listed_adapter : ListsMentions new (mentions (adapters ++ a ∷ []))
-  listed_adapter = subst (ListsMentions new) (sym (mentions-push adapters a)) (record { defs = lists_brought.defs; named = lists_brought.named; once = lists_brought.once; signatures = lists_brought.signatures })
+  listed_adapter = subst (ListsMentions new) (sym (mentions-push adapters a)) (record { defs = lists_brought.defs; named = lists_brought.named; once = lists_brought.once; signatures = lists_brought.signatures; transcoders = lists_brought.transcoders })
 
   even : IsEven declared
   even = listed_even declared _ lists_declared
 
   pub keeps : KeepsDefined old brought
-  keeps = defined_on (kept_linked (adapter_mentions a) old linked links) (defined_on (defined_type declares) (defined_all b.runtime b.imported))
+  keeps = defined_on (kept_linked (adapter_mentions a) old linked links) (defined_on (defined_type declares) (defined_all b.called b.imported))
 
   defines : DefinesMentions old linked (mentions adapters) (adapter_mentions a)
   defines = defines_all (adapter_mentions a) old linked (mentions adapters) links alike lists
 
   adds : AddsOthers declared brought
-  adds = runtime_all_added b.runtime declared brought even b.imported
+  adds = called_all_added b.called declared brought even b.imported
 
   -- ---- what its code names first
 
@@ -221,7 +231,7 @@ module _ (old linked declared brought : ModuleSoFar) (ty : FuncType) (adapters :
     declared-there : (k : ℕ) (i : Import) → slice_get (functions_of declared) k ≡ Some i → slice_get all (0 + k) ≡ Some i
     declared-there k i at =
         let same : 0 + k ≡ k = omega arith in
-        ap (slice_get all) same ∙ get_append (functions_of brought) more k i (grown_get (runtime_grows b.runtime declared brought even b.imported) k i at)
+        ap (slice_get all) same ∙ get_append (functions_of brought) more k i (grown_get (all_called_grow b.called declared brought even b.imported) k i at)
 
     brought-there : (k : ℕ) (i : Import) → slice_get (functions_of brought) k ≡ Some i → slice_get all (0 + k) ≡ Some i
     brought-there k i at = let same : 0 + k ≡ k = omega arith in ap (slice_get all) same ∙ get_append (functions_of brought) more k i at
@@ -258,7 +268,7 @@ module _ (old linked declared brought : ModuleSoFar) (ty : FuncType) (adapters :
 
   module _ (one : length (exported_functions_of a) ≡ 1) (in_parts : (more : List Import) → IsInParts old more adapters) where
     grown : Grows (functions_of old) (functions_of brought)
-    grown = grows_on (links_grow (adapter_mentions a) old linked (listed_even old (mentions adapters) lists) links) (grows_on (grows_none (functions_typed declares)) (runtime_grows b.runtime declared brought even b.imported))
+    grown = grows_on (links_grow (adapter_mentions a) old linked (listed_even old (mentions adapters) lists) links) (grows_on (grows_none (functions_typed declares)) (all_called_grow b.called declared brought even b.imported))
 
     part : ModulePart
     part = record { defs = defines.defs; others = adds.others; own = f ∷ []; helpers = [] }
@@ -309,7 +319,7 @@ pub in_parts_nothing : (more : List Import) → IsInParts nothing_so_far more []
 in_parts_nothing more = record { parts = []; are_parts = tt; imports = refl; functions = refl; exports = refl }
 
 pub names_imports : (s : ModuleSoFar) (adapters : List LinkedAdapter) → ListsMentions s (mentions adapters) → NamesImports (module_of s) s.imports adapters
-names_imports s adapters h = record { defs = h.defs; named = h.named; once = h.once; signatures = h.signatures }
+names_imports s adapters h = record { defs = h.defs; named = h.named; once = h.once; signatures = h.signatures; transcoders = h.transcoders }
 
 pub is_ordered : (s : ModuleSoFar) (adapters : List LinkedAdapter) → ((more : List Import) → IsInParts s more adapters) → IsOrdered (module_of s) s.imports adapters
 is_ordered s adapters in_parts =
@@ -317,7 +327,7 @@ is_ordered s adapters in_parts =
     record { parts = h.parts; are_parts = subst (λ fs. AreParts fs [] adapters h.parts) (append-nil (functions_of s)) h.are_parts; imports = h.imports; functions = h.functions; exports = h.exports }
 
 pub listed_nothing : ListsMentions nothing_so_far []
-listed_nothing = record { defs = refl; named = tt; once = λ i j d below within. absurd (omega arith); signatures = λ i j d below within. absurd (omega arith) }
+listed_nothing = record { defs = refl; named = tt; once = λ i j d below within. absurd (omega arith); signatures = λ i j d below within. absurd (omega arith); transcoders = record { each = λ k w i at there. absurd cc } }
 
 -- ---- the bodies of the whole module
 

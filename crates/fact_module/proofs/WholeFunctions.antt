@@ -1,6 +1,6 @@
 -- The functions of the adapters of a whole module behave, and those of adapters within one instance only trap.
 use Rattle.std.proofs.Common.{◌≡◌, ◌≢◌, ℕ, zero, suc, Bool, true, false, List, [], ◌∷◌, Option, Some, None, All, AllPairs, refl, sym, ap, ◌∙◌, subst, arith, slice_get}
-use Rattle.std.specs.Prelude.{cond}
+use Rattle.std.specs.Prelude.{cond, is_some}
 use Rattle.std.specs.List.{flat_map}
 use Rattle.std.proofs.lemmas.Option.{get_or_from_slice_get, slice_get_within}
 use Rattle.fact_wasm.specs.declared.module.WasmImport.{WasmImport}
@@ -10,7 +10,6 @@ use Rattle.fact_types.specs.Adapters.{LinkedAdapter, Side, is_crossing}
 use Rattle.fact_types.specs.Tables.{Tables}
 use Rattle.fact_types.specs.declared.import.Import.{Import}
 use Rattle.fact_entity.specs.declared.id.Id.{Id}
-use Rattle.fact_entity.specs.declared.table.Funcs.{Funcs}
 use Rattle.fact_entity.specs.declared.table.Memories.{Memories}
 use Rattle.fact_uses.specs.Bindings.{AreConsistent}
 use Rattle.fact_plan_types.proofs.HandleLaws.{there as get-within}
@@ -31,7 +30,7 @@ use Rattle.fact_emit.proofs.Mentions.{in-mentions, of-a-kind}
 use Rattle.fact_emit.proofs.PlacesOfLaws.{are_import_places}
 use Rattle.fact_emit.proofs.ServingLaws.{serves_all, serves_sooner}
 use Rattle.fact_compound.specs.Described.{KnowsAdapterData, memory_place, number_if_any}
-use Rattle.fact_compound.specs.Events.{AreSetTo, function_place}
+use Rattle.fact_compound.specs.Events.{AreSetTo}
 use Rattle.fact_compound.specs.Placed.{AreOptionsOf, IsDataOf}
 use Rattle.fact_compound.specs.SameInstance.{IsSameInstanceFunction}
 use Rattle.fact_compound.specs.Syncs.{IsSyncFunction, lower_type_of}
@@ -90,18 +89,20 @@ place_there : (o : Option (Id Memories)) (n : ℕ) → number_if_any o ≡ Some 
 place_there None n e = cc
 place_there (Some m) n e = refl
 
-function_placed : (o : Option (Id Funcs)) → function_place o ≡ number_if_any o
-function_placed None = refl
-function_placed (Some f) = refl
+some_there : (o : Option (Id Memories)) (n : ℕ) → number_if_any o ≡ Some n → is_some o ≡ true
+some_there None n e = cc
+some_there (Some m) n e = refl
 
 options_placed : (M : WasmModule) (p : ImportPlaces) (t : Tables) (s : Side) (d : AdapterOptions) → HasSideData t s d → KnowsSide M p s (side_links_of d) → AreOptionsOf s (side_links_of d) d
 options_placed M p t s d h knows = record {
   instance = h.instance;
   flags = refl;
   wide = sym h.memory64;
+  has_memory = λ m is. let here = knows.memory m is in some_there d.options.linear.memory here.number here.place_is;
   memory = λ m is. let here = knows.memory m is in place_there d.options.linear.memory here.number here.place_is;
   realloc = refl;
   page_size = λ m is. ap custom_page_size (h.page_size_log2 ∙ ap page_size_log2_of is);
+  encoding = sym h.encoding;
 }
 
 -- ---- the module
@@ -128,7 +129,7 @@ module _ (t : Tables) (u : AdapterTunables) (s : ModuleSoFar) (adapters : List L
   serves = serves_all here places s refl refl (are_import_places s once)
 
   known_all : AreKnown s all_mentions
-  known_all = known_within s (mentions adapters) all_mentions (λ m c. in-mentions [] all_mentions m c) (record { named = h.lists.named })
+  known_all = known_within s (mentions adapters) all_mentions (λ m c. in-mentions [] all_mentions m c) (record { named = h.lists.named; transcoders = h.lists.transcoders })
 
   alike : AreUsedAlike all_mentions
   alike = mentions_alike adapters consistent
@@ -147,7 +148,7 @@ module _ (t : Tables) (u : AdapterTunables) (s : ModuleSoFar) (adapters : List L
     linked_later = extended_on placed.adds.added.imports placed.later
 
     knows : KnowsAdapter here places a (links_of placed.adds.«data»)
-    knows = knows_adapter serves known_all alike placed.old placed.adds.linked (mentions placed.before) a (links_of placed.adds.«data») (record { named = placed.lists.named }) placed.adds.links linked_later
+    knows = knows_adapter serves known_all alike placed.old placed.adds.linked (mentions placed.before) a (links_of placed.adds.«data») (record { named = placed.lists.named; transcoders = placed.lists.transcoders }) placed.adds.links linked_later
         (λ m c. in-flat adapter_mentions adapters j a m at c)
 
     type_there : slice_get s.types placed.adds.function.ty ≡ Some (lower_type_of a)
@@ -166,7 +167,7 @@ module _ (t : Tables) (u : AdapterTunables) (s : ModuleSoFar) (adapters : List L
             lift = options_placed here places t a.lift placed.adds.«data».lift placed.adds.lift knows.lift;
             lower = options_placed here places t a.lower placed.adds.«data».lower placed.adds.lower knows.lower;
             callee = refl;
-            post_return = function_placed placed.adds.«data».lift.post_return;
+            post_return = refl;
             has_post_return = has-post-return placed.adds;
             transparent = placed.adds.transparent;
           } in

@@ -124,7 +124,7 @@ module _ (M : WasmModule) where
     typed-import before w known.EnterSyncCall h = typed-function-import w _ h.is_typed
     typed-import before w known.ExitSyncCall h = typed-function-import w _ h.is_typed
     typed-import before w (known.UnsafeIntrinsic s) h = typed-function-import w _ h.is_typed
-    typed-import before w (known.Transcode a b c d e) h = absurd h
+    typed-import before w (known.Transcode a b c d e) h = typed-function-import w _ h
     typed-import before w (known.PrepareCall a) h = absurd h
     typed-import before w (known.StartCall a b) h = absurd h
 

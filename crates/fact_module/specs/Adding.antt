@@ -16,16 +16,18 @@ use Rattle.fact_compound.specs.declared.adapters.AdapterData.{AdapterData}
 use Rattle.fact_compound.specs.declared.adapters.AdapterOptions.{AdapterOptions}
 use Rattle.fact_module.specs.Links.{links_of, page_size_log2_of}
 
--- the data of a side: its instance, its function type, whether it is async, and the width and the page size of its memory
+-- the data of a side: its instance, its function type, whether it is async, the encoding of its strings, and the width and the page size
+-- of its memory
 pub record HasSideData (t : Tables) (s : Side) (d : AdapterOptions) : Type 0 where
   pub instance : d.instance.number ≡ s.instance
   pub signature : HasSignature t d.ty s.params s.results
   pub async_side : d.options.async_ ≡ s.async_side
+  pub encoding : d.options.string_encoding ≡ s.encoding
   pub memory64 : d.options.linear.memory64 ≡ is_wide s.memory
   pub page_size_log2 : d.options.linear.page_size_log2 ≡ page_size_log2_of s.memory
 
 -- A function is put behind the functions of the module, and its export, under this name, behind the exports. Before that its type is
--- declared, and its code brings in functions of the runtime.
+-- declared, and its code brings in functions that it calls.
 pub record AddsFunction (name : List ℕ) (old new : ModuleSoFar) (function : WasmFunc) : Type 0 where
   pub ty : FuncType
   pub declared : ModuleSoFar

@@ -7,9 +7,10 @@ ghost use Rattle.fact_emit.specs.AdapterLinks.{IsAdapterLinked, IsLinkedIfAny, I
 ghost use Rattle.fact_emit.specs.ImportSection.{Callback, PostReturn, Realloc};
 ghost use Rattle.fact_emit.specs.Imports.{Extended};
 ghost use Rattle.fact_emit.specs.Requests.{IsReallocImported};
-ghost use Rattle.fact_emit.specs.States.{functions_of};
+ghost use Rattle.fact_emit.specs.States.{functions_of, memories_of};
+ghost use Rattle.fact_emit.specs.StringPieces.{IsMemoryImported};
 ghost use Rattle.fact_checks.specs.Linked.{IsLinked};
-ghost use Rattle.fact_compound.specs.Described.{AreReallocsImported, linear_of, number_if_any};
+ghost use Rattle.fact_compound.specs.Described.{AreOptionsImported, linear_of, number_if_any};
 ghost use Rattle.fact_module.specs.Links.{IsDataOfCandidate, IsDataOfSide, NamesOf, links_of, page_size_log2_of, side_links_of};
 
 use fact_builder::ComponentTypesBuilder;
@@ -40,6 +41,7 @@ fn link_memory(
     memory: &Option<MemoryOption>,
 ) -> Result<Option<MemoryIndex>, OutOfMemory>
     ensures linked { IfOk result (λ place. IsMemoryLinked sections.old sections.new memory.now (number_if_any place)) }
+    ensures below { IfOk result (λ place. (n : ℕ) → number_if_any place ≡ Some n → n < length (memories_of sections.new)) }
     ensures keeps { Extended sections.old sections.new }
 {
     let Some(memory) = memory else {
@@ -108,6 +110,7 @@ fn link_side(
     ensures linked { IfOk result (λ o. (s : Side) → NamesOf options.now s → IsSideLinked sections.old sections.new s (side_links_of o)) }
     ensures described { IfOk result (λ o. IsDataOfSide ty options.now o) }
     ensures realloc { IfOk result (λ o. IsReallocImported (linear_of o) sections.new) }
+    ensures memory { IfOk result (λ o. IsMemoryImported (linear_of o) sections.new) }
     ensures keeps { Extended sections.old sections.new }
 {
     let (memory64, page_size_log2) = memory_type(&options.memory);
@@ -145,7 +148,7 @@ pub fn link_adapter(
     requires typed { candidate.now.adapter.now.lift_options.core_type.number < length builder.now.module_types }
     ensures linked { IfOk result (λ d. (a : LinkedAdapter) → IsLinked builder.now candidate.now a → IsAdapterLinked sections.old sections.new a (links_of d)) }
     ensures callee { IfOk result (λ d. d.callee.number < length (functions_of sections.new)) }
-    ensures reallocs { IfOk result (λ d. AreReallocsImported d sections.new) }
+    ensures options { IfOk result (λ d. AreOptionsImported d sections.new) }
     ensures post_return { IfOk result (λ d. IfSome d.lift.post_return (λ (f : id.Id _). f.number < length (functions_of sections.new))) }
     ensures described { IfOk result (λ d. IsDataOfCandidate candidate.now d) }
 {

@@ -268,7 +268,7 @@ impl<'a> Module<'a> {
             }
             return Ok(true);
         }
-        Ok(is_built(&mut self.types, self.state.builder, &candidate)?)
+        Ok(is_built(self.state.builder, &candidate))
     }
 
     /// A copy of the module of the adapters so far. `OutOfMemory` is the one refusal; it comes for good once [`Module::adapt`]

@@ -5,15 +5,12 @@ use Rattle.std.specs.Fmt.{decimal}
 use Rattle.hex.specs.Hex.{encode_lower}
 use Rattle.fact_types.specs.declared.outside.CoreDef.{CoreDef}
 use Rattle.fact_types.specs.declared.outside.CoreDef.TheVariants as def
-use Rattle.fact_types.specs.declared.outside.FixedEncoding.{FixedEncoding}
-use Rattle.fact_types.specs.declared.outside.FixedEncoding.TheVariants as encoding
-use Rattle.fact_types.specs.declared.outside.Transcode.{Transcode}
-use Rattle.fact_types.specs.declared.outside.Transcode.TheVariants as op
 use Rattle.fact_types.specs.declared.outside.UnsafeIntrinsic.{UnsafeIntrinsic}
 use Rattle.fact_types.specs.declared.outside.UnsafeIntrinsic.TheVariants as slot
 use Rattle.fact_types.specs.declared.import.Import.{Import}
 use Rattle.fact_types.specs.declared.import.Import.TheVariants as known
 use Rattle.fact_emit.specs.Runtime.{trap_number}
+use Rattle.fact_emit.specs.TranscoderNames.{transcode_name}
 
 -- a core definition: an export by its instance and its name in lower-case hex
 abbrev pub def_text : CoreDef → List ℕ
@@ -33,24 +30,6 @@ width_text wide = if wide then codes "64" else codes "32"
 abbrev pub memory_text : Bool → CoreDef → List ℕ
 memory_text wide d = width_text wide ++ (codes " " ++ def_text d)
 
-abbrev pub encoding_text : FixedEncoding → List ℕ
-encoding_text encoding.Utf8 = codes "utf8"
-encoding_text encoding.Utf16 = codes "utf16"
-encoding_text encoding.Latin1 = codes "latin1"
-
--- a transcoder, as its import name begins
-abbrev pub transcode_text : Transcode → List ℕ
-transcode_text (op.Copy e) = encoding_text e ++ (codes "-to-" ++ encoding_text e)
-transcode_text op.Latin1ToUtf16 = codes "latin1-to-utf16"
-transcode_text op.Latin1ToUtf8 = codes "latin1-to-utf8"
-transcode_text op.Utf16ToCompactProbablyUtf16 = codes "utf16-to-compact-probably-utf16"
-transcode_text op.Utf16ToCompactUtf16 = codes "utf16-to-compact-utf16"
-transcode_text op.Utf16ToLatin1 = codes "utf16-to-latin1"
-transcode_text op.Utf16ToUtf8 = codes "utf16-to-utf8"
-transcode_text op.Utf8ToCompactUtf16 = codes "utf8-to-compact-utf16"
-transcode_text op.Utf8ToLatin1 = codes "utf8-to-latin1"
-transcode_text op.Utf8ToUtf16 = codes "utf8-to-utf16"
-
 abbrev pub intrinsic_text : UnsafeIntrinsic → List ℕ
 intrinsic_text slot.ContextGetI32_0 = codes "get0"
 intrinsic_text slot.ContextGetI32_1 = codes "get1"
@@ -61,7 +40,7 @@ intrinsic_text slot.ContextSetI32_1 = codes "set1"
 abbrev pub import_text : Import → List ℕ
 import_text (known.CoreDef d) = codes "core-def " ++ def_text d
 import_text (known.Transcode how from from64 to to64) =
-    codes "transcode " ++ (transcode_text how ++ (codes " " ++ (memory_text from64 from ++ (codes " " ++ memory_text to64 to))))
+    codes "transcode " ++ (transcode_name how ++ (codes " " ++ (memory_text from64 from ++ (codes " " ++ memory_text to64 to))))
 import_text known.ResourceTransferOwn = codes "resource-transfer-own"
 import_text known.ResourceTransferBorrow = codes "resource-transfer-borrow"
 import_text (known.PrepareCall memory) = codes "prepare-call " ++ optional_text memory

@@ -1,11 +1,13 @@
 //! The printed lines of what a module imports.
 
 ghost use Rattle.std.specs.Prelude.{◌≡◌, ◌++◌, IfOk, codes, string_bytes};
-ghost use Rattle.fact_run.specs.ImportLines.{def_text, encoding_text, import_lines, import_text, intrinsic_text, memory_text, optional_text, transcode_text, width_text};
+ghost use Rattle.fact_run.specs.ImportLines.{def_text, import_lines, import_text, intrinsic_text, memory_text, optional_text, width_text};
 ghost use Rattle.fact_emit.specs.Runtime.{trap_number};
+ghost use Rattle.fact_emit.specs.TranscoderNames.{transcode_name as transcode_name_of};
 
+use fact_emit::transcoders::transcode_name;
 use fact_entity::EntityRef;
-use fact_module::{CoreDef, FixedEncoding, Import, Transcode, Trap, UnsafeIntrinsic};
+use fact_module::{CoreDef, Import, Transcode, Trap, UnsafeIntrinsic};
 use fact_wasm::OutOfMemory;
 use std::alloc::Global;
 
@@ -43,36 +45,6 @@ fn width(wide: bool) -> &'static str
     ensures { result.now ≡ width_text wide }
 {
     if wide { "64" } else { "32" }
-}
-
-fn encoding(encoding: FixedEncoding) -> &'static str
-    ensures { result.now ≡ encoding_text encoding }
-{
-    match encoding {
-        FixedEncoding::Utf8 => "utf8",
-        FixedEncoding::Utf16 => "utf16",
-        FixedEncoding::Latin1 => "latin1",
-    }
-}
-
-/// A transcoder, as its import name begins.
-fn transcoder(op: Transcode) -> &'static str
-    ensures { result.now ≡ transcode_text op }
-{
-    match op {
-        Transcode::Copy(FixedEncoding::Utf8) => "utf8-to-utf8",
-        Transcode::Copy(FixedEncoding::Utf16) => "utf16-to-utf16",
-        Transcode::Copy(FixedEncoding::Latin1) => "latin1-to-latin1",
-        Transcode::Latin1ToUtf16 => "latin1-to-utf16",
-        Transcode::Latin1ToUtf8 => "latin1-to-utf8",
-        Transcode::Utf16ToCompactProbablyUtf16 => "utf16-to-compact-probably-utf16",
-        Transcode::Utf16ToCompactUtf16 => "utf16-to-compact-utf16",
-        Transcode::Utf16ToLatin1 => "utf16-to-latin1",
-        Transcode::Utf16ToUtf8 => "utf16-to-utf8",
-        Transcode::Utf8ToCompactUtf16 => "utf8-to-compact-utf16",
-        Transcode::Utf8ToLatin1 => "utf8-to-latin1",
-        Transcode::Utf8ToUtf16 => "utf8-to-utf16",
-    }
 }
 
 fn intrinsic(intrinsic: UnsafeIntrinsic) -> &'static str
@@ -116,9 +88,9 @@ fn memory_text(alloc: Global, wide: bool, def: &CoreDef) -> Result<String, OutOf
 }
 
 fn transcode_text(alloc: Global, op: Transcode, from: &str, to: &str) -> Result<String, OutOfMemory>
-    ensures { IfOk result (λ text. string_bytes text ≡ codes "transcode " ++ (transcode_text op ++ (codes " " ++ (from.now ++ (codes " " ++ to.now))))) }
+    ensures { IfOk result (λ text. string_bytes text ≡ codes "transcode " ++ (transcode_name_of op ++ (codes " " ++ (from.now ++ (codes " " ++ to.now))))) }
 {
-    let op = transcoder(op);
+    let op = transcode_name(op);
     format!(in alloc; "transcode {op} {from} {to}")
 }
 

@@ -1,5 +1,4 @@
 pub mod EntryLaws
-pub mod FormLaws
 pub mod FunctionLaws
 pub mod KindLaws
 pub mod ListLaws

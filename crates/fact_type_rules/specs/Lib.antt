@@ -1,4 +1,3 @@
-pub mod Forms
 pub mod RuleLaws
 pub mod TypeFaults
 pub mod Walk

@@ -7,15 +7,13 @@ use Rattle.fact_types.specs.Layout.{payloads}
 use Rattle.fact_types.specs.Shapes.{Shape}
 use Rattle.fact_types.specs.Tables.{Tables, Node, node_of, HasShape}
 use Rattle.fact_type_rules.specs.declared.rules.Rules.{Rules}
-use Rattle.fact_type_rules.specs.declared.rules.Rules.TheVariants.{OfKind, OfSize, OfForm}
-use Rattle.fact_type_rules.specs.Forms.{IsUnbuiltShape}
+use Rattle.fact_type_rules.specs.declared.rules.Rules.TheVariants.{OfKind, OfSize}
 use Rattle.fact_type_rules.specs.TypeFaults.{AnyIn, IsBadKind, IsBadShape, IsFarHandle, IsLargeShape, IsLongList, AreManyCases}
 
 -- A type breaks one of the rules, whatever the types in it are.
 abbrev pub BreaksRules : Rules → Shape → Type 0
 BreaksRules OfKind s = IsBadShape s
 BreaksRules OfSize s = IsLargeShape s
-BreaksRules OfForm s = IsUnbuiltShape s
 
 -- A type of the tables, or one in it, breaks one of the rules, or none does.
 abbrev pub IsFaulty : Tables → Rules → InterfaceType → Type 0

@@ -6,7 +6,6 @@ ghost use Rattle.fact_types.specs.Shapes.{Shape};
 ghost use Rattle.fact_types.specs.Tables.{IsLive};
 ghost use Rattle.fact_types.specs.Handles.{has_borrow};
 ghost use Rattle.fact_plan_types.specs.TypeRules.{IsPast, IsRepeated, most_entries, tuple_layout};
-ghost use Rattle.fact_type_rules.specs.Forms.{HasUnbuiltTypes};
 ghost use Rattle.fact_type_rules.specs.TypeFaults.{AnyIn, HasManyTypes, IsBadFunction, IsLargeFunction, IsLongFunction};
 ghost use Rattle.fact_type_rules.specs.Walk.{BreaksRules, IsClean};
 
@@ -28,20 +27,19 @@ pub struct FunctionTypes<'a> {
     // Types that break no rule of a kind, nor does a type in them.
     of_kind: IndexSet<InterfaceType>,
     of_size: IndexSet<InterfaceType>,
-    of_form: IndexSet<InterfaceType>,
 }
 
 impl<'a> Model for FunctionTypes<'a> {
     ghost use Rattle.std.specs.Prelude.{All};
     ghost use Rattle.fact_builder.specs.Builder.{Builder};
-    ghost use Rattle.fact_type_rules.specs.declared.rules.Rules.TheVariants.{OfForm, OfKind, OfSize};
+    ghost use Rattle.fact_type_rules.specs.declared.rules.Rules.TheVariants.{OfKind, OfSize};
     ghost use Rattle.fact_type_rules.specs.Walk.{IsClean};
 
     ghost Value = { Builder };
 
     ghost view = { λ f. f.builder.now };
 
-    ghost invariant = { λ f. All (IsClean f.builder.now.tables OfKind) f.of_kind.keys × All (IsClean f.builder.now.tables OfSize) f.of_size.keys × All (IsClean f.builder.now.tables OfForm) f.of_form.keys };
+    ghost invariant = { λ f. All (IsClean f.builder.now.tables OfKind) f.of_kind.keys × All (IsClean f.builder.now.tables OfSize) f.of_size.keys };
 }
 
 impl<'a> FunctionTypes<'a> {
@@ -53,7 +51,6 @@ impl<'a> FunctionTypes<'a> {
             builder,
             of_kind: IndexSet::new(alloc),
             of_size: IndexSet::new(alloc),
-            of_form: IndexSet::new(alloc),
         }
     }
 
@@ -87,16 +84,6 @@ impl<'a> FunctionTypes<'a> {
             return Ok(true);
         }
         has_faulty_types(builder, Rules::OfSize, &mut self.of_size, ty)
-    }
-
-    /// Whether the type of a parameter or of a result of a live function type, or a type in one, is of a form that is not built so far.
-    pub fn has_unbuilt(&mut self, ty: TypeFuncIndex) -> Result<bool, OutOfMemory>
-        requires { ty.number < length self.old.tables.functions }
-        ensures same { self.new ≡ self.old }
-        ensures exact { IfOk result (λ found. (params results : List Shape) → HasSignature self.old.tables ty params results → (IsTrue found ↔ HasUnbuiltTypes params results)) }
-    {
-        let builder = self.builder;
-        has_faulty_types(builder, Rules::OfForm, &mut self.of_form, ty)
     }
 }
 

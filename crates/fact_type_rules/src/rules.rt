@@ -4,7 +4,6 @@ ghost use Rattle.std.specs.Prelude.{◌↔◌, IfOk, IsTrue};
 ghost use Rattle.fact_types.specs.Shapes.{IsWithin, Shape};
 ghost use Rattle.fact_types.specs.Tables.{IsLive, HasShape, Tables};
 ghost use Rattle.fact_plan_types.specs.TypeRules.{IsEntryPast};
-ghost use Rattle.fact_type_rules.specs.Forms.{IsUnbuiltShape, IsUnbuiltType};
 ghost use Rattle.fact_type_rules.specs.TypeFaults.{IsBadShape, IsLargeShape};
 ghost use Rattle.fact_type_rules.specs.Walk.{BreaksRules};
 
@@ -17,12 +16,11 @@ use std::alloc::Global;
 /// How deep types nest at most.
 const MOST_NESTING: u32 = 100;
 
-/// The rules whose breach is looked for: those that say which types there are, those on their size, or that their form is built.
+/// The rules whose breach is looked for: those that say which types there are, or those on their size.
 #[derive(Clone, Copy)]
 pub(crate) enum Rules {
     OfKind,
     OfSize,
-    OfForm,
 }
 
 impl Rules {
@@ -39,23 +37,8 @@ impl Rules {
         match self {
             Rules::OfKind => is_bad_type(alloc, builder, ty),
             Rules::OfSize => Ok(is_large_type(builder, ty)),
-            Rules::OfForm => Ok(is_unbuilt_type(ty)),
         }
     }
-}
-
-/// Whether a type is of a form that is not built so far.
-fn is_unbuilt(ty: InterfaceType) -> bool
-    ensures { IsTrue result ↔ IsUnbuiltType ty }
-{
-    matches!(ty, InterfaceType::String)
-}
-
-/// Whether the shape of a type is.
-fn is_unbuilt_type(ty: &InterfaceType) -> bool
-    ensures { (t : Tables) (s : Shape) → HasShape t ty.now s → (IsTrue result ↔ IsUnbuiltShape s) }
-{
-    is_unbuilt(*ty)
 }
 
 /// Whether a live type is none.

@@ -5,4 +5,4 @@ use Rattle.fact_forms.specs.Parts.{IsBuiltIn}
 use Rattle.fact_forms.proofs.built.are_built.Given as goal
 
 abbrev pub invariant-loop-k : goal.invariant-loop-k
-invariant-loop-k l = (l.types ≡ l.plan_types.builder) × ((j : ℕ) (x : PlanAdapter) → j < l.k → slice_get l.plan.adapters j ≡ Some x → IsBuiltIn l.plan x)
+invariant-loop-k l = (j : ℕ) (x : PlanAdapter) → j < l.k → slice_get l.plan.adapters j ≡ Some x → IsBuiltIn l.plan x

@@ -5,6 +5,6 @@ use Rattle.fact_forms.proofs.built.is_built_in.Goals as goal
 
 pub returns-clause-exact : goal.returns-clause-exact
 returns-clause-exact c =
-    built_in c.args.plan.now c.args.plan_types.now.builder c.args.adapter.now c.candidate_of-candidate.result c.in_ok-built.field-0
+    built_in c.args.plan.now c.args.plan_types.now.builder c.args.adapter.now c.candidate_of-candidate.result c.is_built-built.result
     (subst (LinksAdapter c.args.plan.now c.args.plan_types.now.builder c.args.adapter.now) (sym c.candidate_of-candidate.ensures.linked) c.in_ok-linked.ensures.links)
-    c.candidate_of-candidate.ensures.name c.candidate_of-candidate.ensures.transparent c.in_ok-built.ensures.exact
+    c.candidate_of-candidate.ensures.name c.candidate_of-candidate.ensures.transparent c.is_built-built.ensures

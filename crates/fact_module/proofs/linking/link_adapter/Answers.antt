@@ -2,7 +2,7 @@ use Rattle.std.proofs.Common.{ℕ, ap, sym, subst}
 use Rattle.fact_emit.specs.ImportSection.{Callee}
 use Rattle.fact_emit.specs.Linked.{IsDefLinked}
 use Rattle.fact_emit.proofs.ImportLaws.{extended_on}
-use Rattle.fact_compound.proofs.ReallocsKept.{realloc_later}
+use Rattle.fact_emit.proofs.SidesImported.{memory_later, realloc_later}
 use Rattle.fact_module.proofs.LinkingLaws.{adapter-linked, function-below}
 use Rattle.fact_module.proofs.linking.link_adapter.Goals as goal
 
@@ -16,7 +16,13 @@ returns-clause-callee c =
     let callee = subst (λ (n : ℕ). IsDefLinked c.link_side-2.new.sections c.callee.new.self (Callee c.args.candidate.now.name.now c.index-core_type.result.now) c.args.candidate.now.adapter.now.func n) (sym (ap (λ i. i.number) c.from_u32.ensures)) c.in_ok-callee.ensures.imported in
     function-below c.args.candidate.now.name.now c.index-core_type.result.now callee c.link_post_return.ensures.keeps
 
-pub returns-clause-reallocs : goal.returns-clause-reallocs
-returns-clause-reallocs c =
+pub returns-clause-options : goal.returns-clause-options
+returns-clause-options c =
     let behind = extended_on c.in_ok-callee.ensures.keeps c.link_post_return.ensures.keeps in
-    record { lift = realloc_later (extended_on c.in_ok-lower.ensures.keeps behind) c.in_ok-lift.ensures.realloc; lower = realloc_later behind c.in_ok-lower.ensures.realloc }
+    let before = extended_on c.in_ok-lower.ensures.keeps behind in
+    record {
+      lift = realloc_later before c.in_ok-lift.ensures.realloc;
+      lower = realloc_later behind c.in_ok-lower.ensures.realloc;
+      lift_memory = memory_later before c.in_ok-lift.ensures.memory;
+      lower_memory = memory_later behind c.in_ok-lower.ensures.memory;
+    }

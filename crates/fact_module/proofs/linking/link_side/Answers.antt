@@ -6,7 +6,8 @@ use Rattle.fact_emit.specs.AdapterLinks.{IsLinkedIfAny, IsMemoryLinked}
 use Rattle.fact_emit.specs.ImportSection.{Callback, Flags, Realloc}
 use Rattle.fact_emit.specs.Linked.{IsDefLinked}
 use Rattle.fact_emit.proofs.ImportLaws.{extended_on}
-use Rattle.fact_compound.proofs.ReallocsKept.{realloc_later}
+use Rattle.fact_emit.proofs.SidesImported.{memory_later, realloc_later}
+use Rattle.fact_module.proofs.LinkingLaws.{memory-there}
 use Rattle.fact_module.proofs.linking.link_side.Goals as goal
 
 pub returns-clause-linked : goal.returns-clause-linked
@@ -26,6 +27,10 @@ returns-clause-linked c s names = record {
 
 pub returns-clause-realloc : goal.returns-clause-realloc
 returns-clause-realloc c = realloc_later c.in_ok-callback.ensures.keeps (record { below = c.in_ok-realloc.ensures.below })
+
+pub returns-clause-memory : goal.returns-clause-memory
+returns-clause-memory c =
+    memory_later (extended_on c.in_ok-realloc.ensures.keeps c.in_ok-callback.ensures.keeps) (record { below = λ there. memory-there c.link_memory.new.sections c.in_ok-memory.memory c.in_ok-memory.ensures.below there })
 
 pub returns-clause-keeps : goal.returns-clause-keeps
 returns-clause-keeps c = extended_on c.in_ok-flags.ensures.keeps (extended_on c.in_ok-memory.ensures.keeps (extended_on c.in_ok-realloc.ensures.keeps c.in_ok-callback.ensures.keeps))

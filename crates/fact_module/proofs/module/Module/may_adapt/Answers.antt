@@ -13,5 +13,5 @@ pub returns-clause-exact : goal.returns-clause-exact
 returns-clause-exact c =
     let whole = ap (λ (v : Collected). v.whole) (sym c.self.view_is) ∙ c.if-not-self.false in
     let stays = c.self-2.view_is ∙ c.judge.ensures.unchanged in
-    built-may c.args.self.now _ c.args.component.now c.args.adapter c.args.name.now c.candidate-candidate.result _ (sym stays) c.as_u32.ensures c.candidate-candidate.ensures
-    c.in_ok-is_built.field-0 c.requires.live whole c.in_default.ensures.types c.in_default.ensures.faultless _ stays c.in_ok-is_built.ensures.exact
+    built-may c.args.self.now _ c.args.component.now c.args.adapter c.args.name.now c.candidate-candidate.result _ (sym c.judge.ensures.unchanged) c.as_u32.ensures c.candidate-candidate.ensures
+    c.is_built.result c.requires.live whole c.in_default.ensures.types c.in_default.ensures.faultless _ stays c.is_built.ensures
