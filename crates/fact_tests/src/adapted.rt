@@ -357,7 +357,9 @@ const STEPS: &str = "
 plain: f0 = taken, one; f1 = taken, two
 plain: f0 = taken, one; f1 types:1,1 core:1,1 instances:3,2 callee:walk = taken, apart
 plain: f0 = taken, one; f0 callee:walk = duplicate name, one; f1 types:1,1 core:1,1 instances:3,2 callee:walk = taken, apart
-plain: f0 = taken, one; f1 callee:walk types:2,2 core:2,2 lift-memory:m,16 lift-realloc:r lower-memory:n,16 = not built, one; f1 types:1,1 core:1,1 instances:3,2 callee:walk = taken, apart
+plain: f0 = taken, one; f1 callee:walk types:2,2 core:2,2 lift-memory:m,16 lift-realloc:r lower-memory:n,16 = taken, any
+concurrency: f0 = taken, told; f1 callee:walk lift-async = not built, told; f1 types:1,1 core:1,1 instances:3,2 callee:walk = taken, any
+concurrency: f0 = taken, told; f1 lift-async transparent = not built, told; f1 transparent = taken, any
 concurrency: f0 = taken, told
 concurrency: f0 lift-async = not built, empty; f0 = taken, told
 concurrency: f0 transparent = taken, one; f1 transparent = taken, two
@@ -398,8 +400,6 @@ import conflict: types:2,2 core:2,2 lift-memory:m,16 lift-realloc:r lower-memory
 import conflict: lift-post-return:run
 import conflict: lift-callback:run
 import conflict: lower-memory:run,16
-not built: callee:walk types:2,2 core:2,2 lift-memory:m,16 lift-realloc:r lower-memory:n,16
-not built: callee:walk types:2,2 core:2,2 lift-memory:m,16 lift-realloc:r lower-memory:n,16 transparent
 ";
 
 /// Types, each as its kind, its number of names and the options around it; and the answers and the pages where one side has it, and

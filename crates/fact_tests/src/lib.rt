@@ -39,6 +39,10 @@ mod stated;
 #[cfg(test)]
 mod streams;
 #[cfg(test)]
+mod strings;
+#[cfg(test)]
+mod texts;
+#[cfg(test)]
 mod types;
 #[cfg(test)]
 mod variants;

@@ -24,8 +24,7 @@ BadMemory at adapter 0: "core_type":0} => "core_type":0,"realloc":0}
 ImportConflict at adapter 0: "core_type":0} => "core_type":0,"callback":0}
 ImportConflict at adapter 0: "core_type":0} => "core_type":0,"post_return":0}
 ImportConflict at adapter 0: "core_type":0} => "core_type":0,"memory":{"def":0}}
-# Texts, and an adapter whose parts wait for one another, are not built.
-sound: "u32" => "string" | ["i32"] => ["i32","i32"] | {"export":[0,"run"]} => {"export":[0,"run"]},{"export":[1,"memory"]},{"export":[1,"realloc"]},{"export":[0,"memory"]} | "core_type":0}, => "core_type":0,"memory":{"def":1},"realloc":2}, | "core_type":0}}] => "core_type":0,"memory":{"def":3}}}]
+# An adapter whose parts wait for one another is not built.
 sound: "core_type":0}, => "core_type":0,"async":true}, | }}]} => }}],"tunables":{"concurrency":true}}
 sound: "results":[]}],"core_types" => "results":[],"async":true}],"core_types" | }}]} => }}],"tunables":{"concurrency":true}}
 "#;
@@ -47,6 +46,8 @@ worked: }}]} => }}],"tunables":{"debug":false}}
 worked: "results":[]}],"core_types" => "results":[],"async":false}],"core_types"
 worked: "func":0 => "func":0,"transparent":false
 worked: "core_type":0} => "core_type":0,"encoding":"utf8","async":false,"memory":null,"realloc":null,"callback":null,"post_return":null}
+# A text.
+built: "u32" => "string" | ["i32"] => ["i32","i32"] | {"export":[0,"run"]} => {"export":[0,"run"]},{"export":[1,"memory"]},{"export":[1,"realloc"]},{"export":[0,"memory"]} | "core_type":0}, => "core_type":0,"memory":{"def":1},"realloc":2}, | "core_type":0}}] => "core_type":0,"memory":{"def":3}}}]
 # Further plans, each with its module.
 0061736d0100000001080260017f0060000002430405666c61677309696e7374616e636531037f0105666c61677309696e7374616e636530037f010663616c6c656502663000000772756e74696d6505747261703000010302010007060102663000020a2a012801027f0240230122010d001001000b2300210241002400200020022400100041002401200124010b: "u32" => "s32"
 0061736d0100000001080260017f0060000002500505666c61677309696e7374616e636531037f01066d656d6f7279026d3002000005666c61677309696e7374616e636530037f010663616c6c656502663000000772756e74696d6505747261703000010302010007060102663000020a2a012801027f0240230122010d001001000b2300210241002400200020022400100041002401200124010b: {"export":[0,"run"]} => {"export":[0,"run"]},{"trampoline":0} | "core_type":0} => "core_type":0,"memory":{"def":1}}

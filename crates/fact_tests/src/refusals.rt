@@ -206,8 +206,8 @@ BadOptions at adapter 3: {"concurrency":true} => {}
 BadOptions at adapter 3: {"concurrency":true} => {"exceptions":true,"debug":true}
 BadOptions at adapter 3: {"concurrency":true} => {} | "core_type":4 => "core_type":4,"async":true | "core_type":5,"async":true => "core_type":4
 BadOptions at adapter 3: {"concurrency":true} => {} | "k","u32"]],"results":[] => "k","u32"]],"results":[],"async":true | "core_type":5,"async":true => "core_type":4
-sound: {"concurrency":true} => {} | "core_type":5,"async":true => "core_type":4
-sound: {"concurrency":true} => {} | "core_type":4 => "core_type":4,"async":true | "ty":5,"instance":1 => "ty":5,"instance":2 | "ty":5,"instance":0 => "ty":5,"instance":2
+built: {"concurrency":true} => {} | "core_type":5,"async":true => "core_type":4
+built: {"concurrency":true} => {} | "core_type":4 => "core_type":4,"async":true | "ty":5,"instance":1 => "ty":5,"instance":2 | "ty":5,"instance":0 => "ty":5,"instance":2
 BadOptions at adapter 2: "name":"h" => "name":"h","transparent":true
 BadOptions at adapter 3: {"error-context":0} => {"error-context":0},{"tuple":[9]} | ["k","u32"] => ["k",10] | "name":"k" => "name":"k","transparent":true
 BadOptions at adapter 0: {"error-context":0} => {"stream":[null,2]} | ["v",2]],"results":[] => ["v",2]],"results":[9] | ["v",3]],"results":[] => ["v",3]],"results":[9] | "i32"],"results":[] => "i32"],"results":["i32"] | "name":"f" => "name":"f","transparent":true
@@ -309,7 +309,7 @@ DuplicateName at adapter 4: "async":true}} => "async":true}},{"name":"[adapter-c
 DuplicateName at adapter 4: "async":true}} => "async":true}},{"name":"[async-start]k","func":3,"lift":{"ty":5,"instance":1,"core_type":4},"lower":{"ty":5,"instance":0,"core_type":5,"async":true}}
 sound: "async":true}} => "async":true}},{"name":"[async-start]f","func":0,"lift":{"ty":1,"instance":1,"core_type":0},"lower":{"ty":0,"instance":0,"core_type":0}}
 sound: "name":"k" => "name":""
-sound: "name":"f" => "name":"[async-start]k" | "ty":5,"instance":1 => "ty":5,"instance":0
+built: "name":"f" => "name":"[async-start]k" | "ty":5,"instance":1 => "ty":5,"instance":0
 # Two faults, of one adapter and of two entries.
 UnknownIndex at adapter 1: "realloc":5 => "realloc":5,"post_return":9 | "def":6 => "def":10
 BadOptions at adapter 0: {"concurrency":true} => {} | ["v",2]],"results":[] => ["v",2]],"results":[],"async":true
@@ -384,9 +384,9 @@ BadMemory at adapter 0: [["x",0]],"results":["u32","u32"] => [["x",1]],"results"
 BadMemory at adapter 0: [["x",0]],"results":["u32","u32"] => [["x",1]],"results":[] | ["i32"],"results":["i32"] => ["i32","i32"],"results":[] | {"def":1} => null
 built: [["x",0]],"results":["u32","u32"] => [["x",1]],"results":[] | ["i32"],"results":["i32"] => ["i32","i32"],"results":[] | }}}]} => }}}],"tunables":{"concurrency":true}}
 BadMemory at adapter 0: ["u32","u32"] => ["string"]
-sound: ["u32","u32"] => ["string"] | {"def":1} => {"def":1},"realloc":4
+built: ["u32","u32"] => ["string"] | {"def":1} => {"def":1},"realloc":4
 built: [["x",0]],"results":["u32","u32"] => [["x",1]],"results":[1] | ["i32","i32"] => ["i64","i64","i64"] | ["i32"],"results":["i32"] => ["i32","i32"],"results":["i32"] | {"def":1} => {"def":1,"memory64":true},"realloc":4 | "realloc":4}}]} => "realloc":4}}],"tunables":{"concurrency":true}}
-sound: [["x",0]],"results":["u32","u32"] => [["x",2]],"results":[2] | {"def":2},"realloc":3 => null | "core_type":0,"memory":{"def":1} => "core_type":1
+built: [["x",0]],"results":["u32","u32"] => [["x",2]],"results":[2] | {"def":2},"realloc":3 => null | "core_type":0,"memory":{"def":1} => "core_type":1
 BadSignature at adapter 0: ["u32",17] => ["u32",16]
 BadSignature at adapter 0: ["u32","u32"] => ["u32"]
 "#;
