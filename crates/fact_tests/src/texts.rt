@@ -123,13 +123,13 @@ fn texts_are_carried_among_other_values(rt: HostRuntime) -> Result<(), AllocErro
 
 #[test]
 fn transcoders_are_imported_once(rt: HostRuntime) -> Result<(), AllocError> {
-    let mut plan = "";
-    for line in IMPORTED.trim().lines() {
-        if line.starts_with('{') {
-            plan = line;
-        } else {
-            assert!(rt; imports_are(rt.alloc(), plan, line)?, "{line}");
-        }
+    for part in IMPORTED.trim().split("\n{") {
+        let part = part.strip_prefix("{").unwrap_or(part);
+        let (plan, lines) = part.split_once("\n").unwrap_or((part, ""));
+        let plan = format!(in rt.alloc(); "{{{plan}")?;
+        let are = imports_are(rt.alloc(), plan.as_str(), lines);
+        drop(plan);
+        assert!(rt; are?, "{lines}");
     }
     Ok(())
 }
