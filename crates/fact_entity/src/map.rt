@@ -1,8 +1,11 @@
 //! A table whose entries have keys of a type of their own.
 
 ghost use Rattle.std.specs.Prelude.{◌≡◌, ◌↔◌, ◌<◌, ◌≤◌, ◌++◌, ◌∷◌, [], ℕ, length, slice_get, option_copied, IfOk, OnOk, OnErr, Some, None, Err};
+ghost use Rattle.std.specs.Option.{option_copied_mut};
 ghost use Rattle.std.specs.Map.Iter.{ShowsInOrder};
+ghost use Rattle.std.specs.Borrow.{sem};
 ghost use Rattle.fact_entity.specs.Entries.{entries_from, shown};
+ghost use Rattle.fact_entity.specs.Lending.{LendsEntry};
 
 use crate::error::PushError;
 use crate::key::{EntityRef, key_at};
@@ -71,6 +74,15 @@ impl<K: EntityRef, V> PrimaryMap<K, V> {
         ensures none { (result ≡ None) ↔ (length self.now ≤ K.number k) }
     {
         self.entries.get(k.as_u32() as usize)
+    }
+
+    /// The entry of a key, to change it, or `None` where the key is not live.
+    pub fn get_mut(&mut self, k: K) -> Option<&mut V>
+        ensures* writes_back { sem 𝓛 (LendsEntry K.row V.row K.EntityRef self.entry (K.number k) result) }
+        ensures value { option_copied_mut result ≡ slice_get self.old (K.number k) }
+        ensures none { (result ≡ None) ↔ (length self.old ≤ K.number k) }
+    {
+        self.entries.get_mut(k.as_u32() as usize)
     }
 
     /// The pairs of key and entry, in order.
