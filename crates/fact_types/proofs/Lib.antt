@@ -1,4 +1,5 @@
 pub mod AlignLaws
+pub mod AlikeLaws
 pub mod CountLaws
 pub mod FieldLaws
 pub mod FindLaws
@@ -15,4 +16,5 @@ pub mod ShapeSound
 pub mod SoundLaws
 pub mod StandLaws
 pub mod TestLaws
+pub mod TraceLaws
 pub mod ValidLaws

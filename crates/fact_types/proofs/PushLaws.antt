@@ -652,6 +652,22 @@ links_types t m h table = keeps_links t (record t { module_types = m }) (longer_
 pub types_set : (t : Tables) (m : Option (List FuncType)) → IsSound t → IsSound (record t { module_types = m })
 types_set t m k = pushed t _ None (record { longer = longer_types t m; step = step_types t m; linked = links_types t m k.linked; more = omega arith }) k tt
 
+-- ---- other core modules, as many as before
+longer_modules : (t : Tables) (ms : List ModuleType) → length ms ≡ length t.modules → (table : Table) → entries_in t table ≤ entries_in (record t { modules = ms }) table
+longer_modules t ms e of_modules = omega (arith, e)
+longer_modules t ms e table = le_refl (entries_in t table)
+
+step_modules : (t : Tables) (ms : List ModuleType) (ty : InterfaceType) → Step (node_of t ty) (node_of (record t { modules = ms }) ty) (IsLive t ty) (IsLive (record t { modules = ms }) ty) (is_plain ty) None
+step_modules t ms (t_record i) = step_same _ _ _ _
+step_modules t ms ty = step_same (node_of t ty) (IsLive t ty) (is_plain ty) _
+
+links_modules : (t : Tables) (ms : List ModuleType) → length ms ≡ length t.modules → ((table : Table) → IsLinkedIn t t table) → (table : Table) → IsLinkedIn (record t { modules = ms }) (record t { modules = ms }) table
+links_modules t ms e h of_modules = tt
+links_modules t ms e h table = keeps_links t (record t { modules = ms }) (longer_modules t ms e) table (h table)
+
+pub modules_set : (t : Tables) (ms : List ModuleType) → length ms ≡ length t.modules → IsSound t → IsSound (record t { modules = ms })
+modules_set t ms e k = pushed t _ None (record { longer = longer_modules t ms e; step = step_modules t ms; linked = links_modules t ms e k.linked; more = omega arith }) k tt
+
 -- ---- no entries
 no_entry : {X Y : Type 0} (f : X → Y) (i : ℕ) (y : Y) → option_map f (slice_get [] i) ≡ Some y → ⊥
 no_entry f i y h = cc

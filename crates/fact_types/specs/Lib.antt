@@ -22,5 +22,6 @@ pub mod Signatures
 pub mod Sound
 pub mod Steps
 pub mod Tables
+pub mod Traces
 pub mod Tuples
 pub mod Valid

@@ -22,6 +22,7 @@ mod records;
 mod signature;
 mod sizes;
 mod tables;
+mod trace;
 mod variants;
 mod widths;
 
@@ -60,4 +61,5 @@ pub use outside::{
 pub use signature::{SideSig, Signature};
 pub use sizes::{DiscriminantSize, FlagsSize};
 pub use tables::ComponentTypes;
+pub use trace::TypeTrace;
 pub use variants::VariantInfo;
