@@ -64,3 +64,15 @@ refused_anew r t id e h = inr (inr h)
 pub refused_by_table : (r : KnownResources) (t : Tables) (id : Id SourceResources) (x : TypeResourceTable) (res : Result (Id TypeResourceTables) PushError) (e : PushError) → new_table r id ≡ Ok x → res ≡ Err e → (res ≡ Err push.TooLarge ↔ (length t.resource_tables ≡ 4294967295)) → MayRefuseTable r t id (build_error e)
 refused_by_table r t id x res push.OutOfMemory h q l = inl refl
 refused_by_table r t id x res push.TooLarge h q l = inr (inl (refl, (x, h), l.0 q))
+
+-- ---- the last entry is taken off: what is left is what it was put behind
+pub last_off : {X : Type 0} (xs ys : List X) (x y : X) → xs ++ x ∷ [] ≡ ys ++ y ∷ [] → xs ≡ ys
+last_off [] [] x y e = refl
+last_off [] (z ∷ []) x y e = cc
+last_off [] (z ∷ w ∷ ys) x y e = cc
+last_off (z ∷ []) [] x y e = cc
+last_off (z ∷ w ∷ xs) [] x y e = cc
+last_off (z ∷ xs) (w ∷ ys) x y e =
+    let first : z ≡ w = cc in
+    let others : xs ++ x ∷ [] ≡ ys ++ y ∷ [] = cc in
+    λ i. first i ∷ last_off xs ys x y others i

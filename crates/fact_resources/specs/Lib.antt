@@ -1,3 +1,4 @@
+pub mod Beside
 pub mod Errors
 pub mod Known
 pub mod Walk

@@ -4,6 +4,7 @@
 //! it gets one, which is kept from then on.
 #![tactic(auto)]
 
+mod beside;
 mod error;
 mod registering;
 mod registration;
@@ -14,3 +15,4 @@ pub use error::BuildError;
 pub use fact_entity::{OutOfMemory, ResourceId};
 pub use registration::Registration;
 pub use resources::ResourcesBuilder;
+pub use walk::{FoundResource, find_resources};

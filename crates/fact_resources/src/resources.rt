@@ -2,14 +2,16 @@
 
 ghost use Rattle.std.specs.Prelude.{◌≡◌, ◌<◌, length, is_some, Ok, Some, None, IfOk, IfErr, IsErr, OnOk, OnErr};
 ghost use Rattle.fact_entity.specs.declared.id.Id.{Id};
+ghost use Rattle.fact_entity.specs.declared.table.SourceResources.{SourceResources};
 ghost use Rattle.fact_entity.specs.declared.table.TypeResourceTables.{TypeResourceTables};
 ghost use Rattle.fact_resources.specs.declared.registration.Registration.TheVariants as is;
-ghost use Rattle.fact_resources.specs.Known.{no_resources, kept_table, registration, with_registration, AreKeptLive, new_table, MakesTable, MayRefuseTable};
+ghost use Rattle.fact_resources.specs.Known.{KnownResources, no_resources, with_table, kept_table, registration, with_registration, AreKeptLive, new_table, MakesTable, MayRefuseTable};
 
 use crate::error::BuildError;
 use crate::registration::Registration;
 use fact_entity::{
-    OutOfMemory, ResourceId, ResourceIndex, RuntimeComponentInstanceIndex, TypeResourceTableIndex,
+    AbstractResourceIndex, OutOfMemory, ResourceId, ResourceIndex, RuntimeComponentInstanceIndex,
+    TypeResourceTableIndex,
 };
 use fact_types::{ComponentTypes, TypeResourceTable};
 use indexmap::IndexMap;
@@ -69,8 +71,8 @@ impl ResourcesBuilder {
         })
     }
 
-    // The table that is kept for a resource.
-    fn kept(&self, id: ResourceId) -> Option<TypeResourceTableIndex>
+    /// The table that is kept for a resource.
+    pub fn kept_table(&self, id: ResourceId) -> Option<TypeResourceTableIndex>
         ensures { result ≡ kept_table self.now id }
     {
         self.tables.get(&id).copied()
@@ -105,6 +107,44 @@ impl ResourcesBuilder {
         Ok(())
     }
 
+    /// Registers a resource that is not registered as an abstract one. Nothing changes after a refusal.
+    #[tactic(auto, using(crate::proofs::TableLaws::new_entry))]
+    pub fn register_abstract_resource(
+        &mut self,
+        id: ResourceId,
+        ty: AbstractResourceIndex,
+    ) -> Result<(), OutOfMemory>
+        requires { registration self.old id ≡ None }
+        ensures registered { OnOk result (self.new ≡ with_registration self.old id (is.Abstract ty)) }
+        ensures refused { OnErr result (self.new ≡ self.old) }
+    {
+        self.registered.insert(id, Registration::Abstract(ty))?;
+        Ok(())
+    }
+
+    /// Keeps a table for a resource that has none. Nothing changes after a refusal.
+    #[tactic(auto, using(crate::proofs::TableLaws::new_entry))]
+    pub fn keep_table(
+        &mut self,
+        id: ResourceId,
+        table: TypeResourceTableIndex,
+    ) -> Result<(), OutOfMemory>
+        requires { kept_table self.old id ≡ None }
+        ensures kept { OnOk result (self.new ≡ with_table self.old id table) }
+        ensures refused { OnErr result (self.new ≡ self.old) }
+    {
+        self.tables.insert(id, table)?;
+        Ok(())
+    }
+
+    /// Keeps the last table no longer.
+    #[tactic(auto, using(crate::proofs::TableLaws::last_off))]
+    pub fn take_table_back(&mut self)
+        ensures { (r : KnownResources) (id : Id SourceResources) (t : Id TypeResourceTables) → self.old ≡ with_table r id t → self.new ≡ r }
+    {
+        let _taken = self.tables.pop();
+    }
+
     /// Sets the instance whose tables are made from now on.
     pub fn set_current_instance(&mut self, instance: RuntimeComponentInstanceIndex)
         ensures { self.new ≡ record self.old { instance = Some instance } }
@@ -119,8 +159,8 @@ impl ResourcesBuilder {
         self.instance
     }
 
-    // The table that a resource without one gets.
-    fn table_to_make(&self, id: ResourceId) -> Result<TypeResourceTable, BuildError>
+    /// The table that a resource without one gets, or why it gets none.
+    pub fn table_to_make(&self, id: ResourceId) -> Result<TypeResourceTable, BuildError>
         ensures { result ≡ new_table self.now id }
     {
         match (self.registered_as(id), self.instance) {
@@ -167,7 +207,7 @@ impl ResourcesBuilder {
         ensures live { IfOk result (λ i. i.number < length types.new.resource_tables) }
         ensures kept_live { AreKeptLive self.new types.new }
     {
-        match self.kept(id) {
+        match self.kept_table(id) {
             Some(table) => Ok(table),
             None => self.make_table(id, types),
         }

@@ -8,11 +8,11 @@ use fact_source::{ComponentAnyTypeId, ComponentEntityType, SourceTypes};
 use fact_wasm::{Seq, Text};
 
 /// A resource, behind the names of the exports that lead to it, outermost first.
-pub(crate) type FoundResource = (Seq<Text>, ResourceId);
+pub type FoundResource = (Seq<Text>, ResourceId);
 
 /// Puts the resources that an item makes known behind those that were found. The path leads to the item.
 #[cycle(walking)]
-pub(crate) fn find_resources(
+pub fn find_resources(
     types: &SourceTypes,
     ty: ComponentEntityType,
     path: &mut Seq<Text>,
