@@ -5,6 +5,7 @@ pub mod GrowthLaws
 pub mod HandleLaws
 pub mod IndexLaws
 pub mod InformationLaws
+pub mod ItemLaws
 pub mod KeptLaws
 pub mod MemberLaws
 pub mod PlainLaws

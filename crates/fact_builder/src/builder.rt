@@ -1,6 +1,6 @@
 //! The builder of component types.
 
-ghost use Rattle.std.specs.Prelude.{◌≡◌, ◌↔◌, ◌++◌, ◌∷◌, [], length, IfOk, OnOk, OnErr, Err};
+ghost use Rattle.std.specs.Prelude.{◌≡◌, ◌↔◌, ◌++◌, ◌∷◌, [], length, Some, IfOk, OnOk, OnErr, Err};
 ghost use Rattle.std.specs.Borrow.{sem};
 ghost use Rattle.fact_builder.specs.Builder.{no_types};
 ghost use Rattle.fact_builder.specs.Keeps.{Keeps};
@@ -208,5 +208,52 @@ impl ComponentTypesBuilder {
         ensures { result ≡ length self.now.tables.error_context_tables }
     {
         self.error_context_tables.len()
+    }
+
+    /// The tables, with the core function types.
+    pub fn into_types(self) -> ComponentTypes
+        ensures { result ≡ record self.tables { module_types = Some self.module_types } }
+    {
+        let ComponentTypesBuilder {
+            source: _,
+            types,
+            module_types,
+            functions,
+            records,
+            flags,
+            tuples,
+            fixed_length_lists,
+            variants,
+            enums,
+            options,
+            results,
+            lists,
+            maps,
+            futures,
+            future_tables,
+            streams,
+            stream_tables,
+            error_context_tables,
+            resource_table_count: _,
+        } = self;
+        drop(error_context_tables);
+        drop(stream_tables);
+        drop(streams);
+        drop(future_tables);
+        drop(futures);
+        drop(maps);
+        drop(lists);
+        drop(results);
+        drop(options);
+        drop(enums);
+        drop(variants);
+        drop(fixed_length_lists);
+        drop(tuples);
+        drop(flags);
+        drop(records);
+        drop(functions);
+        let mut tables = types.into_tables();
+        tables.set_module_types(module_types.finish());
+        tables
     }
 }

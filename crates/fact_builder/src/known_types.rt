@@ -53,6 +53,15 @@ impl KnownTypes {
         *self.kept.allocator()
     }
 
+    /// The tables, without what is known of the types in them.
+    pub(crate) fn into_tables(self) -> ComponentTypes
+        ensures { result ≡ self }
+    {
+        let KnownTypes { types, kept } = self;
+        drop(kept);
+        types
+    }
+
     /// The tables.
     pub(crate) fn tables(&self) -> &ComponentTypes
         ensures { result.now ≡ self.now }

@@ -9,6 +9,7 @@ mod facts;
 mod flat_list;
 mod index;
 mod information;
+mod items;
 mod known;
 mod known_types;
 mod pushes;
