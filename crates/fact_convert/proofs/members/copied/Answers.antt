@@ -1,0 +1,5 @@
+use Rattle.std.proofs.Common.{◌∙◌}
+use Rattle.fact_convert.proofs.members.copied.Goals as goal
+
+pub returns : goal.returns
+returns c = c.from_vec.ensures ∙ c.in_ok-copies.ensures.items_if_clones_equal (λ x y h. h)

@@ -1,0 +1,11 @@
+pub mod Conversion
+pub mod Converted
+pub mod Converters
+pub mod Finished
+pub mod Interning
+pub mod Lending
+pub mod Merging
+pub mod Performing
+pub mod SourceShapes
+pub mod Steps
+pub mod Tasks
