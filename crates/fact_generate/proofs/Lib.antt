@@ -1,0 +1,16 @@
+mod AdapterLaws
+mod AdaptersFaultless
+mod Adding
+mod Consistent
+mod Counts
+mod Faultless
+mod FormTypes
+mod Fronts
+mod Functions
+mod Layouts
+mod Linking
+mod NestFlats
+mod Sound
+mod SoundFuncs
+mod Standing
+mod TypesFaultless

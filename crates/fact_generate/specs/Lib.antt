@@ -1,0 +1,4 @@
+pub mod Forms
+pub mod Generated
+pub mod Laws
+pub mod Linked
