@@ -1,6 +1,6 @@
 -- How the ends of a run follow from what was read and written.
-use Rattle.std.proofs.Common.{◌≡◌, ◌≢◌, ℕ, zero, suc, ◌≤◌, ◌<◌, Bool, true, false, true≢false, List, [], ◌++◌, length, Option, None, Some, Result, Ok, Err, OnOk, OnErr, IfSome, ◌⊎◌, inl, inr, refl, sym, subst, ap, ◌∙◌, arith, append-nil, length-append, string_bytes}
-use Rattle.std.specs.Prelude.{⊤, IsSome, nat_lt}
+use Rattle.std.proofs.Common.{◌≡◌, ◌≢◌, ℕ, zero, suc, ◌≤◌, ◌<◌, Bool, true, false, List, [], ◌++◌, length, Option, None, Some, Result, Ok, Err, OnOk, OnErr, IfSome, ◌⊎◌, inl, inr, refl, sym, subst, ap, ◌∙◌, arith, append-nil, length-append, string_bytes}
+use Rattle.std.specs.Prelude.{⊤, IsSome, IsSomeAnd, nat_lt}
 use Rattle.std.proofs.lemmas.Bool.{lt-ltb, le-ltb}
 use Rattle.std.specs.Io.KnownBytes.{Appends}
 use Rattle.std.proofs.KnownBytes.{Consumes-nil}
@@ -22,12 +22,12 @@ use Rattle.fact_run.specs.declared.status.Status.{Status}
 use Rattle.fact_run.specs.declared.status.Status.TheVariants as status
 use Rattle.fact_run.specs.declared.answer.Reply.{Reply}
 use Rattle.fact_run.specs.declared.answer.Reply.TheVariants as reply
-use Rattle.fact_run.specs.Answer.{IsEnding, IsReply, IsReplyTo, IsReplyToFault, IsReplyToPlan, TellsFault, TellsRefusalIn}
+use Rattle.fact_run.specs.Answer.{IsEnding, IsReply, IsReplyTo, IsReplyToFault, IsReplyToPlan, IsReplyUnder, IsReplyUnread, TellsFault, TellsRefusalIn, ending_with}
 use Rattle.fact_run.specs.declared.command.CommandOptions.{CommandOptions}
 use Rattle.fact_run.specs.Command.{reading}
 use Rattle.fact_run.specs.Refusal.{refusal_line}
 use Rattle.fact_run.specs.Status.{line_of}
-use Rattle.fact_run.specs.Run.{HoldsBuilt, HoldsFault, HoldsNoJson, HoldsPlan, HoldsRefusal, HoldsUnbuilt, IsOrMemory, IsTooLong, IsUndisturbed, Read, SendsPage, TellsLine, limit}
+use Rattle.fact_run.specs.Run.{Counts, GeneratesPlan, HoldsBuilt, HoldsFault, HoldsNoJson, HoldsPlan, HoldsRefusal, HoldsUnbuilt, IsEndUnread, IsOrMemory, IsTooLong, IsUndisturbed, Read, ReadsPlan, Sends, SendsBy, SendsCounts, SendsPage, TellsLine, limit}
 
 -- ---- from what was read to a reply
 
@@ -96,13 +96,72 @@ replied o left left' fault bytes reply.OutOfMemory all h = tt
 sent-as : (o : CommandOptions) (bytes : List ℕ) (P Q : List ℕ → Type 0) → ((t : List ℕ) → P t → Q t) → SendsPage o bytes P → SendsPage o bytes Q
 sent-as o bytes P Q f a = record { holds = a.holds; text = a.text; prints = a.prints; sent = f a.text a.sent }
 
--- the text that a source comes to was sent
-pub sent-of : (o : CommandOptions) (left left' : Option (List ℕ)) (text : List ℕ) (Q : List ℕ → Type 0) → Read left left' (λ bytes. SendsPage o bytes (λ sent. sent ≡ text)) → Q text → Read left left' (λ bytes. SendsPage o bytes Q)
-sent-of o left left' text Q r q = record {
+sent-counts : (o : CommandOptions) (n : ℕ) (text : List ℕ) (Q : List ℕ → Type 0) → SendsCounts o n (λ sent. sent ≡ text) → Q text → SendsCounts o n Q
+sent-counts o n text Q a q = record { text = a.text; counted = a.counted; sent = subst Q (sym a.sent) q }
+
+sent-by : (m : Option ℕ) (o : CommandOptions) (left left' : Option (List ℕ)) (text : List ℕ) (Q : List ℕ → Type 0) → SendsBy m o left left' (λ sent. sent ≡ text) → Q text → SendsBy m o left left' Q
+sent-by None o left left' text Q r q = record {
   bytes = r.bytes;
   all = r.all;
   is_so = sent-as o r.bytes (λ sent. sent ≡ text) Q (λ t e. subst Q (sym e) q) r.is_so;
 }
+sent-by (Some n) o left left' text Q a q = sent-counts o n text Q a q
+
+-- the text that a run comes to was sent
+pub sent-of : (o : CommandOptions) (left left' : Option (List ℕ)) (text : List ℕ) (Q : List ℕ → Type 0) → Sends o left left' (λ sent. sent ≡ text) → Q text → Sends o left left' Q
+sent-of o left left' text Q r q = sent-by o.generate o left left' text Q r q
+
+-- ---- modes
+
+-- what a source comes to, where a plan is read
+pub replied-read : (o : CommandOptions) (left left' : Option (List ℕ)) (fault : Type 0) (r : Reply) → o.generate ≡ None → IsReply o left left' fault r → IsReplyUnder o left left' fault r
+replied-read o left left' fault (reply.Page text) none h = let P : Option ℕ → Type 0 = λ m. SendsBy m o left left' (λ sent. sent ≡ string_bytes text) in subst P (sym none) h
+replied-read o left left' fault reply.ReadFault none h = h
+replied-read o left left' fault reply.TooLong none h = h
+replied-read o left left' fault reply.NotJson none h = h
+replied-read o left left' fault (reply.BadPlan line) none h = h
+replied-read o left left' fault (reply.Refused line) none h = h
+replied-read o left left' fault reply.NotBuilt none h = h
+replied-read o left left' fault reply.OutOfMemory none h = h
+
+-- counts that were made of a plan that is generated
+pub replied-counts : (o : CommandOptions) (n : ℕ) (left left' : Option (List ℕ)) (text : List ℕ) → o.generate ≡ Some n → Counts o n text → Sends o left left' (λ sent. sent ≡ text)
+replied-counts o n left left' text some made =
+    let P : Option ℕ → Type 0 = λ m. SendsBy m o left left' (λ sent. sent ≡ text) in subst P (sym some) (record { text = text; counted = made; sent = refl })
+
+-- a run that reads nothing ends as such runs do
+pub ended-unread : (r : Reply) → IsReplyUnread r → IsEndUnread (ending_with r).status
+ended-unread (reply.Page text) h = inl refl
+ended-unread reply.OutOfMemory h = inr (inr refl)
+ended-unread reply.ReadFault h = absurd h
+ended-unread reply.TooLong h = absurd h
+ended-unread reply.NotJson h = absurd h
+ended-unread (reply.BadPlan line) h = absurd h
+ended-unread (reply.Refused line) h = absurd h
+ended-unread reply.NotBuilt h = absurd h
+
+pub unread-done : (s : Status) → IsEndUnread s → (s ≡ status.WriteFault → ⊥) → IsOrMemory status.Done s
+unread-done s (inl done) clean = inl done
+unread-done s (inr (inl fault)) clean = absurd (clean fault)
+unread-done s (inr (inr memory)) clean = inr memory
+
+-- the words ask for a plan that is generated, or for one that is read
+pub options-generate : (words : List (List ℕ)) (o : CommandOptions) → reading words ≡ Some o → GeneratesPlan words → IsSome o.generate
+options-generate words o e g = let P : Option CommandOptions → Type 0 = λ r. IsSomeAnd r (λ x. IsSome x.generate) in subst P e g
+
+options-read : (words : List (List ℕ)) (o : CommandOptions) → reading words ≡ Some o → ReadsPlan words → o.generate ≡ None
+options-read words o e g = let P : Option CommandOptions → Type 0 = λ r. IsSomeAnd r (λ x. x.generate ≡ None) in subst P e g
+
+pub none-generates : (words : List (List ℕ)) → reading words ≡ None → GeneratesPlan words → ⊥
+none-generates words e g = let P : Option CommandOptions → Type 0 = λ r. IsSomeAnd r (λ x. IsSome x.generate) in subst P e g
+
+none-reads : (words : List (List ℕ)) → reading words ≡ None → ReadsPlan words → ⊥
+none-reads words e g = let P : Option CommandOptions → Type 0 = λ r. IsSomeAnd r (λ x. x.generate ≡ None) in subst P e g
+
+-- what was sent of a plan that was read
+sent-read : (words : List (List ℕ)) (o : CommandOptions) (left left' : Option (List ℕ)) (Sent : List ℕ → Type 0) → reading words ≡ Some o → ReadsPlan words → Sends o left left' Sent
+    → Read left left' (λ bytes. SendsPage o bytes Sent)
+sent-read words o left left' Sent e reads h = let P : Option ℕ → Type 0 = λ m. SendsBy m o left left' Sent in subst P (options-read words o e reads) h
 
 -- ---- each input comes to one end
 
@@ -175,11 +234,11 @@ past bytes (Some ys) r = omega (arith, r.past, ap length r.taken, length-append 
 
 -- an end without a fault, of a run whose words are read, tells what the bytes hold
 end-of : (words : List (List ℕ)) (bytes : List ℕ) (left' : Option (List ℕ)) (read : Type 0) (old new : Option (List ℕ)) (write : Type 0) (s : Status) (line : List ℕ)
-    → IsEnding words (Some bytes) left' read old new write s line → IsSome (reading words) → (read → ⊥) → IsOf s bytes ⊎ (s ≡ status.OutOfMemory)
-end-of words bytes left' read old new write status.Done line h given none = inl (so bytes left' (λ b. SendsPage h.0 b (λ text. Appends old new text)) h.2.0).holds
-end-of words bytes left' read old new write status.Usage line h given none = absurd (true≢false (sym (subst IsSome h.0 given)))
+    → IsEnding words (Some bytes) left' read old new write s line → ReadsPlan words → (read → ⊥) → IsOf s bytes ⊎ (s ≡ status.OutOfMemory)
+end-of words bytes left' read old new write status.Done line h given none = inl (so bytes left' (λ b. SendsPage h.0 b (λ text. Appends old new text)) (sent-read words h.0 (Some bytes) left' (λ text. Appends old new text) h.1 given h.2.0)).holds
+end-of words bytes left' read old new write status.Usage line h given none = absurd (none-reads words h.0 given)
 end-of words bytes left' read old new write status.ReadFault line h given none = absurd (none h.2.0)
-end-of words bytes left' read old new write status.WriteFault line h given none = inl (so bytes left' (λ b. SendsPage h.0 b (λ text. AppendsFront old new text)) h.2.1).holds
+end-of words bytes left' read old new write status.WriteFault line h given none = inl (so bytes left' (λ b. SendsPage h.0 b (λ text. AppendsFront old new text)) (sent-read words h.0 (Some bytes) left' (λ text. AppendsFront old new text) h.1 given h.2.1)).holds
 end-of words bytes left' read old new write status.TooLong line h given none = inl (past bytes left' h.2.0)
 end-of words bytes left' read old new write status.NotJson line h given none = inl (so bytes left' HoldsNoJson h.2.0)
 end-of words bytes left' read old new write status.BadPlan line h given none = let t = so bytes left' _ h.2.0 in inl (t.fault, t.holds)
@@ -289,7 +348,7 @@ pub exactly : (words : List (List ℕ)) (left left' : Option (List ℕ)) (before
     → IsEnding words left left' (Rose before now) old new write s line → IsUndisturbed words before now → IfSome left (λ bytes. P bytes → IsOrMemory wanted s)
 exactly words None left' before now old new write s wanted line P decides h calm = tt
 exactly words (Some bytes) left' before now old new write s wanted line P decides h calm =
-    λ p. decides bytes p (end-of words bytes left' (Rose before now) old new write s line h calm.are_words calm.no_fault)
+    λ p. decides bytes p (end-of words bytes left' (Rose before now) old new write s line h calm.reads calm.no_fault)
 
 -- a write fault has its cause
 pub no-write-fault : (words : List (List ℕ)) (left left' : Option (List ℕ)) (read : Type 0) (old new : Option (List ℕ)) (write : Type 0) (s : Status) (line : List ℕ)
@@ -338,12 +397,12 @@ is-end words left left' read old new write s t line h e =
 -- what was written at an end that says so
 pub printed : (words : List (List ℕ)) (left left' : Option (List ℕ)) (read : Type 0) (old new : Option (List ℕ)) (write : Type 0) (s : Status) (line : List ℕ)
     → IsEnding words left left' read old new write s line → s ≡ status.Done
-    → (o : CommandOptions) × (reading words ≡ Some o) × Read left left' (λ bytes. SendsPage o bytes (λ text. Appends old new text))
+    → (o : CommandOptions) × (reading words ≡ Some o) × Sends o left left' (λ text. Appends old new text)
 printed words left left' read old new write s line h e = let k = is-end words left left' read old new write s status.Done line h e in (k.0, k.1, k.2.0)
 
 pub printed-front : (words : List (List ℕ)) (left left' : Option (List ℕ)) (read : Type 0) (old new : Option (List ℕ)) (write : Type 0) (s : Status) (line : List ℕ)
     → IsEnding words left left' read old new write s line → s ≡ status.WriteFault
-    → (o : CommandOptions) × (reading words ≡ Some o) × Read left left' (λ bytes. SendsPage o bytes (λ text. AppendsFront old new text))
+    → (o : CommandOptions) × (reading words ≡ Some o) × Sends o left left' (λ text. AppendsFront old new text)
 printed-front words left left' read old new write s line h e = let k = is-end words left left' read old new write s status.WriteFault line h e in (k.0, k.1, k.2.1)
 
 -- a line that was written, whole or in part

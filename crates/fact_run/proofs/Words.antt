@@ -23,7 +23,8 @@ use Rattle.clap.specs.Simple.{App, is_simple, matches_of}
 use Rattle.clap.specs.Faults.{fault_of, is_simple_and_free}
 use Rattle.std.specs.Prelude.{Bool, true, false, codes, if◌then◌else◌, IfSome}
 use Rattle.fact_run.specs.declared.command.CommandOptions.{CommandOptions}
-use Rattle.fact_run.specs.Command.{are_taken, command, fuel_in, fuel_or_default, is_from_words, is_fuel, is_plain_number, is_used, options_in, reading, source_of}
+use Rattle.fact_generate.specs.Generated.{most_generated}
+use Rattle.fact_run.specs.Command.{are_taken, command, fuel_or_default, generated_in, is_from_words, is_number, is_plain_number, is_used, least_fuel, most_fuel, number_in, options_in, reading, source_of}
 
 source-rows : (f : Found) (id : List ℕ) → option_and_then (λ (a : MatchedArg). a.source) (matched_of f id) ≡ source_of id (rows_of f)
 source-rows f id = go (find (λ (e : Entry). bytes_eq e.0.now id) f.entries.items) ∙ ap (option_and_then (λ (r : Row). r.source)) (sym (find_row f.entries.items id))
@@ -49,21 +50,23 @@ numerals = numerals_by_value _ (search rules)
 
 digits-of : (text : List ℕ) → is_plain_number text ≡ true → (list_all is_ascii_digit text ≡ true) × (0 < length text)
 digits-of [] h = absurd (true≢false (sym h))
-digits-of (d ∷ ds) h = ((and_parts _ _ h).1, omega arith)
+digits-of (d ∷ []) h = (rw h refl, omega arith)
+digits-of (d ∷ e ∷ ds) h = ((and_parts _ _ h).1, omega arith)
 
 -- and the other way round
-pub plain-of : (text : List ℕ) → 1 ≤ length text → (get_or text 0 0 ≡ 48 → ⊥) → list_all is_ascii_digit text ≡ is_plain_number text
+pub plain-of : (text : List ℕ) → 2 ≤ length text → (get_or text 0 0 ≡ 48 → ⊥) → list_all is_ascii_digit text ≡ is_plain_number text
 plain-of [] some first = absurd (omega arith)
-plain-of (d ∷ ds) some first = grind (arith, nat_tests)
+plain-of (d ∷ []) some first = absurd (omega arith)
+plain-of (d ∷ e ∷ ds) some first = grind (arith, nat_tests)
 
 -- what such a text is parsed to
 pub parsed : {E : Type 0} (text : List ℕ) (r : Result ℕ E) → is_plain_number text ≡ true → ParsesUnsigned 32 10 text r → OkIff r ((0 < length text) × (digits_value 10 text < 2 ^ 32)) (digits_value 10 text)
 parsed text r h p = parse_digits numerals 32 text r p (digits-of text h).0
 
--- a number that is too large for its type has not its form
-pub too-large : (text : List ℕ) → is_plain_number text ≡ true → ((0 < length text) × (digits_value 10 text < 2 ^ 32) → ⊥) → None ≡ fuel_in text
-too-large text h large =
-    let past : 1000000 < digits_value 10 text = elim (cases_lt (digits_value 10 text) (2 ^ 32)) [
+-- a number that is too large for its type is past each bound
+pub too-large : (least most : ℕ) (text : List ℕ) → most < 2 ^ 32 → is_plain_number text ≡ true → ((0 < length text) × (digits_value 10 text < 2 ^ 32) → ⊥) → None ≡ number_in least most text
+too-large least most text small h large =
+    let past : most < digits_value 10 text = elim (cases_lt (digits_value 10 text) (2 ^ 32)) [
       | inl low ↦ absurd (large ((digits-of text h).1, low))
       | inr high ↦ omega arith
     ] in
@@ -86,30 +89,65 @@ bare-unread words bare = rw bare refl
 pub fuel : (f : Found) (o : Option (List ℕ)) → o ≡ first_value f (codes "fuel") → fuel_or_default o ≡ fuel_or_default (first_of (codes "fuel") (rows_of f))
 fuel f o e = ap fuel_or_default (e ∙ first_value-rows f (codes "fuel"))
 
--- ---- the fuel is not 0
+-- and so the number of adapters to generate
+pub generated-behind : (f : Found) (o : Option (List ℕ)) → o ≡ first_value f (codes "generate") → generated_in o ≡ generated_in (first_of (codes "generate") (rows_of f))
+generated-behind f o e = ap generated_in (e ∙ first_value-rows f (codes "generate"))
 
-abbrev HasFuel : Option CommandOptions → Type 0
-HasFuel o = IfSome o (λ options. 1 ≤ options.fuel)
+-- ---- the numbers are within their bounds
 
-fuel-in : (text : List ℕ) (b : Bool) → is_fuel text ≡ b → IfSome (if b then Some (digits_value 10 text) else None) (λ n. 1 ≤ n)
-fuel-in text true e = leb-true 1 (digits_value 10 text) (and_parts _ _ (and_parts _ _ e).1).0
-fuel-in text false e = tt
+abbrev IsWithinBounds : CommandOptions → Type 0
+IsWithinBounds o = (1 ≤ o.fuel) × IfSome o.generate (λ n. n ≤ most_generated)
+
+number-within : (least most : ℕ) (text : List ℕ) → IfSome (number_in least most text) (λ n. (least ≤ n) × (n ≤ most))
+number-within least most text = go (is_number least most text) refl
+  where
+    go : (b : Bool) → is_number least most text ≡ b → IfSome (if b then Some (digits_value 10 text) else None) (λ n. (least ≤ n) × (n ≤ most))
+    go true e = let bounds = and_parts _ _ (and_parts _ _ e).1 in (leb-true least (digits_value 10 text) bounds.0, leb-true (digits_value 10 text) most bounds.1)
+    go false e = tt
 
 fuel-behind : (o : Option (List ℕ)) → IfSome (fuel_or_default o) (λ n. 1 ≤ n)
 fuel-behind None = omega arith
-fuel-behind (Some text) = fuel-in text (is_fuel text) refl
+fuel-behind (Some text) = go (number_in least_fuel most_fuel text) (number-within least_fuel most_fuel text)
+  where
+    go : (o : Option ℕ) → IfSome o (λ n. (least_fuel ≤ n) × (n ≤ most_fuel)) → IfSome o (λ n. 1 ≤ n)
+    go None h = tt
+    go (Some n) h = h.0
 
-with-fuel : (o : Option ℕ) (debug imports : Bool) → IfSome o (λ n. 1 ≤ n) → HasFuel (option_map (λ n. record { debug = debug; imports = imports; fuel = n }) o)
-with-fuel None debug imports h = tt
-with-fuel (Some n) debug imports h = h
+number-behind : (o : Option (List ℕ)) → IfSome (generated_in o) (λ g. IfSome g (λ n. n ≤ most_generated))
+number-behind None = tt
+number-behind (Some text) = go (number_in 0 most_generated text) (number-within 0 most_generated text)
+  where
+    go : (o : Option ℕ) → IfSome o (λ n. (0 ≤ n) × (n ≤ most_generated)) → IfSome (option_map Some o) (λ g. IfSome g (λ n. n ≤ most_generated))
+    go None h = tt
+    go (Some n) h = h.1
 
-where-taken : (b : Bool) (o : Option CommandOptions) → HasFuel o → HasFuel (if b then o else None)
+with-numbers : (fuel : Option ℕ) (generate : Option (Option ℕ)) (debug imports : Bool) → IfSome fuel (λ n. 1 ≤ n) → IfSome generate (λ g. IfSome g (λ n. n ≤ most_generated))
+    → IfSome (option_and_then (λ n. option_map (λ g. record { debug = debug; imports = imports; fuel = n; generate = g }) generate) fuel) IsWithinBounds
+with-numbers None generate debug imports h k = tt
+with-numbers (Some n) None debug imports h k = tt
+with-numbers (Some n) (Some g) debug imports h k = (h, k)
+
+where-taken : (b : Bool) (o : Option CommandOptions) → IfSome o IsWithinBounds → IfSome (if b then o else None) IsWithinBounds
 where-taken true o h = h
 where-taken false o h = tt
 
-pub has-fuel : (words : List (List ℕ)) → IfSome (reading words) (λ options. 1 ≤ options.fuel)
+within : (words : List (List ℕ)) → IfSome (reading words) IsWithinBounds
 unfolding reading
-has-fuel words =
+within words =
     let rows = matches_of command words in
-    where-taken (are_taken words) (options_in rows) (with-fuel (fuel_or_default (first_of (codes "fuel") rows)) (is_used (codes "debug") rows) (is_used (codes "imports") rows)
-    (fuel-behind (first_of (codes "fuel") rows)))
+    where-taken (are_taken words) (options_in rows) (with-numbers (fuel_or_default (first_of (codes "fuel") rows)) (generated_in (first_of (codes "generate") rows))
+    (is_used (codes "debug") rows) (is_used (codes "imports") rows) (fuel-behind (first_of (codes "fuel") rows)) (number-behind (first_of (codes "generate") rows)))
+
+pub has-fuel : (words : List (List ℕ)) → IfSome (reading words) (λ options. 1 ≤ options.fuel)
+has-fuel words = go (reading words) (within words)
+  where
+    go : (o : Option CommandOptions) → IfSome o IsWithinBounds → IfSome o (λ options. 1 ≤ options.fuel)
+    go None h = tt
+    go (Some o) h = h.0
+
+pub has-number : (words : List (List ℕ)) → IfSome (reading words) (λ options. IfSome options.generate (λ n. n ≤ most_generated))
+has-number words = go (reading words) (within words)
+  where
+    go : (o : Option CommandOptions) → IfSome o IsWithinBounds → IfSome o (λ options. IfSome options.generate (λ n. n ≤ most_generated))
+    go None h = tt
+    go (Some o) h = h.1

@@ -18,7 +18,7 @@ use Rattle.fact_plan_types.specs.Faults.{Fault}
 use Rattle.fact_checks.specs.FirstFault.{IsFaultlessPlan, IsFirstAt}
 use Rattle.fact_run.specs.Command.{reading}
 use Rattle.fact_run.specs.Refusal.{refusal_line}
-use Rattle.fact_run.specs.Run.{HoldsFault, HoldsNoJson, HoldsRefusal, HoldsUnbuilt, Prints, Read, SendsPage, limit}
+use Rattle.fact_run.specs.Run.{HoldsFault, HoldsNoJson, HoldsRefusal, HoldsUnbuilt, Prints, Read, Sends, SendsPage, limit}
 use Rattle.fact_run.specs.Status.{line_of}
 
 -- the line tells the fault that the bytes hold
@@ -79,6 +79,17 @@ IsReply o left left' fault reply.TooLong = TakesPast left left' limit
 IsReply o left left' fault reply.OutOfMemory = Unit {0}
 IsReply o left left' fault r = Read left left' (λ bytes. IsReplyTo o bytes r)
 
+-- what a run with these options comes to
+abbrev pub IsReplyUnder : CommandOptions → Option (List ℕ) → Option (List ℕ) → Type 0 → Reply → Type 0
+IsReplyUnder o left left' fault (reply.Page text) = Sends o left left' (λ sent. sent ≡ string_bytes text)
+IsReplyUnder o left left' fault r = IsReply o left left' fault r
+
+-- the replies of a run that reads nothing
+abbrev pub IsReplyUnread : Reply → Type 0
+IsReplyUnread (reply.Page text) = Unit {0}
+IsReplyUnread reply.OutOfMemory = Unit {0}
+IsReplyUnread _ = ⊥
+
 -- how a run ends with a reply, where the page of one that has a page was written
 abbrev pub ending_with : Reply → Ending
 ending_with (reply.Page text) = record { status = status.Done; told = None }
@@ -97,10 +108,10 @@ line_in s (Some line) = line
 
 -- how a run with these options ends, with the line that tells it
 abbrev pub IsEndUnder : CommandOptions → Option (List ℕ) → Option (List ℕ) → Type 0 → Option (List ℕ) → Option (List ℕ) → Type 0 → Status → List ℕ → Type 0
-IsEndUnder o left left' read old new write status.Done line = Read left left' (λ bytes. SendsPage o bytes (λ text. Appends old new text)) × (line ≡ line_of status.Done)
+IsEndUnder o left left' read old new write status.Done line = Sends o left left' (λ text. Appends old new text) × (line ≡ line_of status.Done)
 IsEndUnder o left left' read old new write status.Usage line = ⊥
 IsEndUnder o left left' read old new write status.ReadFault line = read × Keeps old new × (line ≡ line_of status.ReadFault)
-IsEndUnder o left left' read old new write status.WriteFault line = write × Read left left' (λ bytes. SendsPage o bytes (λ text. AppendsFront old new text)) × (line ≡ line_of status.WriteFault)
+IsEndUnder o left left' read old new write status.WriteFault line = write × Sends o left left' (λ text. AppendsFront old new text) × (line ≡ line_of status.WriteFault)
 IsEndUnder o left left' read old new write status.TooLong line = TakesPast left left' limit × Keeps old new × (line ≡ line_of status.TooLong)
 IsEndUnder o left left' read old new write status.NotJson line = Read left left' HoldsNoJson × Keeps old new × (line ≡ line_of status.NotJson)
 IsEndUnder o left left' read old new write status.BadPlan line = Read left left' (λ bytes. TellsFault bytes line) × Keeps old new

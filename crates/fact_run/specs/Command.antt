@@ -11,6 +11,7 @@ use Rattle.clap.specs.Faults.{fault_of}
 use Rattle.clap.specs.declared.builder.action.ArgAction.TheVariants.{Set, SetTrue}
 use Rattle.clap.specs.declared.parser.matches.ValueSource.{ValueSource}
 use Rattle.clap.specs.declared.parser.matches.ValueSource.TheVariants as source
+use Rattle.fact_generate.specs.Generated.{most_generated}
 use Rattle.fact_run.specs.declared.command.CommandOptions.{CommandOptions}
 
 -- ---- the command
@@ -33,7 +34,7 @@ bare_command = record {
 abbrev pub command : App
 command = record {
   top = record (new_shape (codes "factc")) {
-    rules = flag (codes "debug") ∷ option (codes "fuel") ∷ flag (codes "imports") ∷ [];
+    rules = flag (codes "debug") ∷ option (codes "fuel") ∷ flag (codes "imports") ∷ option (codes "generate") ∷ [];
     no_binary_name = true;
     disable_help_flag = true;
     disable_version_flag = true;
@@ -41,7 +42,7 @@ command = record {
   subs = [];
 }
 
--- ---- the number behind `--fuel`
+-- ---- numbers behind options
 
 abbrev pub least_fuel : ℕ
 least_fuel = 1
@@ -55,17 +56,24 @@ default_fuel = 1000
 -- decimal digits, without a sign and without a leading zero
 abbrev pub is_plain_number : List ℕ → Bool
 is_plain_number [] = false
-is_plain_number (d ∷ ds) = not (d == 48) && list_all is_ascii_digit (d ∷ ds)
+is_plain_number (d ∷ []) = is_ascii_digit d
+is_plain_number (d ∷ e ∷ ds) = not (d == 48) && list_all is_ascii_digit (d ∷ e ∷ ds)
 
-abbrev pub is_fuel : List ℕ → Bool
-is_fuel text = is_plain_number text && (nat_le least_fuel (digits_value 10 text) && nat_le (digits_value 10 text) most_fuel)
+abbrev pub is_number : (least most : ℕ) → List ℕ → Bool
+is_number least most text = is_plain_number text && (nat_le least (digits_value 10 text) && nat_le (digits_value 10 text) most)
 
-abbrev pub fuel_in : List ℕ → Option ℕ
-fuel_in text = if is_fuel text then Some (digits_value 10 text) else None
+-- the number that a text is, where it is within bounds
+abbrev pub number_in : (least most : ℕ) → List ℕ → Option ℕ
+number_in least most text = if is_number least most text then Some (digits_value 10 text) else None
 
 abbrev pub fuel_or_default : Option (List ℕ) → Option ℕ
 fuel_or_default None = Some default_fuel
-fuel_or_default (Some text) = fuel_in text
+fuel_or_default (Some text) = number_in least_fuel most_fuel text
+
+-- how many adapters are generated, where any number of them is asked for
+abbrev pub generated_in : Option (List ℕ) → Option (Option ℕ)
+generated_in None = Some None
+generated_in (Some text) = option_map Some (number_in 0 most_generated text)
 
 -- ---- the reading
 
@@ -80,13 +88,14 @@ source_of name rows = option_and_then (λ r. r.source) (find (λ r. bytes_eq r.i
 abbrev pub is_used : List ℕ → List Row → Bool
 is_used name rows = option_map_or is_from_words (source_of name rows) false
 
--- what the matches ask for, where the number has its form
+-- what the matches ask for, where the numbers have their form
 abbrev pub options_in : List Row → Option CommandOptions
-options_in rows = option_map (λ fuel. record {
+options_in rows = option_and_then (λ fuel. option_map (λ generate. record {
   debug = is_used (codes "debug") rows;
   imports = is_used (codes "imports") rows;
   fuel = fuel;
-}) (fuel_or_default (first_of (codes "fuel") rows))
+  generate = generate;
+}) (generated_in (first_of (codes "generate") rows))) (fuel_or_default (first_of (codes "fuel") rows))
 
 -- `clap` finds no fault in the words, and none is a bare `--`
 abbrev pub are_taken : List (List ℕ) → Bool

@@ -1,6 +1,7 @@
 -- What a run reads and writes.
-use Rattle.std.specs.Prelude.{ℕ, ◌≡◌, ◌≤◌, ◌<◌, List, [], ◌∷◌, ◌++◌, length, Bool, ◌||◌, if◌then◌else◌, Option, Some, None, IsSome, Ok, Err, ◌⊎◌}
+use Rattle.std.specs.Prelude.{ℕ, ◌≡◌, ◌≤◌, ◌<◌, List, [], ◌∷◌, ◌++◌, length, Bool, ◌||◌, if◌then◌else◌, Option, Some, None, IsSome, IsSomeAnd, Ok, Err, ◌⊎◌, codes}
 use Rattle.std.specs.Io.KnownBytes.{Appends}
+use Rattle.std.specs.Fmt.{decimal}
 use Rattle.hex.specs.Hex.{encode_lower}
 use Rattle.serde_json.specs.Data.{Data}
 use Rattle.fact_wasm.specs.declared.module.WasmModule.{WasmModule}
@@ -16,6 +17,7 @@ use Rattle.fact_forms.specs.Built.{IsBuiltPlan}
 use Rattle.fact_plan_types.specs.declared.error.Place.{Place}
 use Rattle.fact_plan_types.specs.Faults.{Fault}
 use Rattle.fact_checks.specs.FirstFault.{IsFaultlessPlan, IsFirstAt}
+use Rattle.fact_generate.specs.Generated.{generated}
 use Rattle.fact_module.specs.declared.fusion.Fused.{Fused}
 use Rattle.fact_types.specs.declared.import.Import.{Import}
 use Rattle.fact_module.specs.Fused.{IsFused}
@@ -74,6 +76,12 @@ pub record HoldsBuilt (bytes : List ℕ) : Type 0 where
   pub faultless : IsFaultlessPlan plan
   pub is_built : IsBuiltPlan plan
 
+-- All that the source had was taken, and it is so.
+pub record Read (left left' : Option (List ℕ)) (P : List ℕ → Type 0) : Type 0 where
+  pub bytes : List ℕ
+  pub all : TakesAll left left' bytes
+  pub is_so : P bytes
+
 -- ---- what is written
 
 -- the plan with the tunables of the run: debug checks where the plan or the words ask for them, and the words' fuel
@@ -102,22 +110,60 @@ pub record SendsPage (o : CommandOptions) (bytes : List ℕ) (Sent : List ℕ �
   pub prints : Prints o holds.plan text
   pub sent : Sent text
 
--- ---- sources and lines
+-- a line of a name and a number in decimal
+abbrev pub count_line : List ℕ → ℕ → List ℕ
+count_line name n = name ++ (codes " " ++ (decimal n ++ 10 ∷ []))
 
--- All that the source had was taken, and it is so.
-pub record Read (left left' : Option (List ℕ)) (P : List ℕ → Type 0) : Type 0 where
-  pub bytes : List ℕ
-  pub all : TakesAll left left' bytes
-  pub is_so : P bytes
+-- how many adapters a plan has, and of its module how many functions it defines, how many imports it has and how many bytes spell it
+abbrev pub counts : FusePlan → Fused → List ℕ
+counts p f =
+    count_line (codes "adapters") (length p.adapters) ++ (count_line (codes "functions") (length f.«module».funcs)
+    ++ (count_line (codes "imports") (length f.«module».imports) ++ count_line (codes "bytes") (length f.bytes)))
+
+-- The text tells the counts of a module of the plan that is generated for so many adapters.
+pub record Counts (o : CommandOptions) (n : ℕ) (text : List ℕ) : Type 0 where
+  pub fused : Fused
+  pub is_fused : IsFused fused (configured o (generated n))
+  pub is_counts : text ≡ counts (generated n) fused
+
+-- Of the text that tells these counts this was sent.
+pub record SendsCounts (o : CommandOptions) (n : ℕ) (Sent : List ℕ → Type 0) : Type 0 where
+  pub text : List ℕ
+  pub counted : Counts o n text
+  pub sent : Sent text
+
+-- ---- the mode
+
+-- What was sent: where a plan is generated of its counts, and else of the text that prints the module of the plan that was read.
+abbrev pub SendsBy : Option ℕ → CommandOptions → (left left' : Option (List ℕ)) → (List ℕ → Type 0) → Type 0
+SendsBy None o left left' Sent = Read left left' (λ bytes. SendsPage o bytes Sent)
+SendsBy (Some n) o left left' Sent = SendsCounts o n Sent
+
+abbrev pub Sends : CommandOptions → (left left' : Option (List ℕ)) → (List ℕ → Type 0) → Type 0
+Sends o left left' Sent = SendsBy o.generate o left left' Sent
+
+-- The command takes the words, and a plan is read.
+abbrev pub ReadsPlan : List (List ℕ) → Type 0
+ReadsPlan words = IsSomeAnd (reading words) (λ o. o.generate ≡ None)
+
+-- The command takes the words, and a plan is generated.
+abbrev pub GeneratesPlan : List (List ℕ) → Type 0
+GeneratesPlan words = IsSomeAnd (reading words) (λ o. IsSome o.generate)
+
+-- the ends of a run that reads nothing
+abbrev pub IsEndUnread : Status → Type 0
+IsEndUnread s = (s ≡ status.Done) ⊎ ((s ≡ status.WriteFault) ⊎ (s ≡ status.OutOfMemory))
+
+-- ---- sources and lines
 
 -- A front of the line was appended, and all of it where no fault rose.
 pub record TellsLine (old new : Option (List ℕ)) (before now : ℕ) (line : List ℕ) : Type 0 where
   pub front : AppendsFront old new line
   pub whole : (Rose before now → ⊥) → Appends old new line
 
--- The command takes the words, and no read failed.
+-- The command takes the words, a plan is read, and no read failed.
 pub record IsUndisturbed (words : List (List ℕ)) (before now : ℕ) : Type 0 where
-  pub are_words : IsSome (reading words)
+  pub reads : ReadsPlan words
   pub no_fault : Rose before now → ⊥
 
 -- The end is this one, or a want of memory.

@@ -18,7 +18,7 @@ exit_status_of status.NotBuilt = 10
 -- the line of an end that is told alike for every input; nothing for the others
 abbrev pub line_of : Status → List ℕ
 line_of status.Done = []
-line_of status.Usage = codes "usage: factc [--debug] [--fuel N] [--imports]\n"
+line_of status.Usage = codes "usage: factc [--debug] [--fuel N] [--imports] [--generate N]\n"
 line_of status.ReadFault = codes "read fault\n"
 line_of status.WriteFault = codes "write fault\n"
 line_of status.TooLong = codes "input too long\n"

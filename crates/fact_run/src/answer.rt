@@ -24,7 +24,7 @@ use std::alloc::{AllocError, Global};
 /// What a run has to tell.
 #[derive(Drop)]
 pub enum Reply {
-    /// The text that prints the module.
+    /// The text that is written: what prints the module, or the counts of one that was generated.
     Page(String),
     ReadFault,
     TooLong,
@@ -73,7 +73,7 @@ fn plan_in(alloc: Global, bytes: &[u8]) -> Result<FusePlan, Reply>
 }
 
 /// The plan with the tunables that the words ask for.
-fn configure(plan: FusePlan, options: CommandOptions) -> FusePlan
+pub fn configure(plan: FusePlan, options: CommandOptions) -> FusePlan
     ensures { result ≡ configured options plan }
 {
     let tunables = PlanTunables {

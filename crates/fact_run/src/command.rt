@@ -8,11 +8,13 @@ ghost use Rattle.std.specs.Str.{bytes_eq};
 ghost use Rattle.clap.specs.Simple.{app_of, with_rule};
 ghost use Rattle.clap.specs.Walk.{first_of, rows_of, rule_of};
 ghost use Rattle.clap.specs.Matches.{found_of};
-ghost use Rattle.fact_run.specs.Command.{bare_command, command, flag, fuel_in, fuel_or_default, is_from_words, is_plain_number, is_used, option, options_in, reading};
+ghost use Rattle.fact_generate.specs.Generated.{most_generated};
+ghost use Rattle.fact_run.specs.Command.{bare_command, command, flag, fuel_or_default, generated_in, is_from_words, is_plain_number, is_used, number_in, option, options_in, reading};
 
 use clap::error::ErrorKind;
 use clap::parser::ValueSource;
 use clap::{Arg, ArgAction, ArgMatches, Command};
+use fact_generate::MOST_GENERATED;
 use fact_wasm::OutOfMemory;
 use std::alloc::{AllocError, Global};
 
@@ -31,6 +33,8 @@ pub struct CommandOptions {
     pub imports: bool,
     /// How much translation a function may hold before parts of it become helpers.
     pub fuel: u32,
+    /// A plan of so many adapters is generated, and none is read.
+    pub generate: Option<u32>,
 }
 
 fn flag<'a>(alloc: Global, name: &'a str) -> Arg<'a>
@@ -72,7 +76,8 @@ fn command<'a>(alloc: Global) -> Result<Command<'a>, OutOfMemory>
     let bare = bare_command(alloc);
     let with_debug = with(bare, flag(alloc, "debug"))?;
     let with_fuel = with(with_debug, option(alloc, "fuel"))?;
-    with(with_fuel, flag(alloc, "imports"))
+    let with_imports = with(with_fuel, flag(alloc, "imports"))?;
+    with(with_imports, option(alloc, "generate"))
 }
 
 fn are_digits(text: &[u8]) -> bool
@@ -86,22 +91,23 @@ fn is_plain_number(text: &[u8]) -> bool
 {
     match text {
         [] => false,
+        [digit] => digit.is_ascii_digit(),
         [first, ..] => *first != b'0' && are_digits(text),
     }
 }
 
-/// The number behind `--fuel`, where it has its form.
-fn fuel_in(text: &str) -> Option<u32>
-    ensures { result ≡ fuel_in text.now }
+/// The number that a text is, where it is in its form and within bounds.
+fn number_in(text: &str, least: u32, most: u32) -> Option<u32>
+    ensures { result ≡ number_in least most text.now }
 {
     if !is_plain_number(text.as_bytes()) {
         return None;
     }
-    let Ok(fuel) = text.parse::<u32>() else {
+    let Ok(number) = text.parse::<u32>() else {
         return None;
     };
-    if MIN_FUEL <= fuel && fuel <= MAX_FUEL {
-        Some(fuel)
+    if least <= number && number <= most {
+        Some(number)
     } else {
         None
     }
@@ -125,8 +131,18 @@ fn fuel_of(matches: &ArgMatches) -> Option<u32>
     ensures { result ≡ fuel_or_default (first_of (codes "fuel") (rows_of (found_of matches.now))) }
 {
     match matches.get_str("fuel") {
-        Some(text) => fuel_in(text),
+        Some(text) => number_in(text, MIN_FUEL, MAX_FUEL),
         None => Some(DEFAULT_FUEL),
+    }
+}
+
+/// The number of adapters to generate, where there is one, and where the value of `--generate` has its form.
+fn generated_of(matches: &ArgMatches) -> Option<Option<u32>>
+    ensures { result ≡ generated_in (first_of (codes "generate") (rows_of (found_of matches.now))) }
+{
+    match matches.get_str("generate") {
+        Some(text) => Some(Some(number_in(text, 0, MOST_GENERATED)?)),
+        None => Some(None),
     }
 }
 
@@ -134,10 +150,12 @@ fn options_in(matches: &ArgMatches) -> Option<CommandOptions>
     ensures { result ≡ options_in (rows_of (found_of matches.now)) }
 {
     let fuel = fuel_of(matches)?;
+    let generate = generated_of(matches)?;
     Some(CommandOptions {
         debug: is_used(matches, "debug"),
         imports: is_used(matches, "imports"),
         fuel,
+        generate,
     })
 }
 
@@ -153,6 +171,7 @@ fn has_bare_dashes(words: &[String]) -> bool
 pub fn command_of(alloc: Global, words: &[String]) -> Result<Option<CommandOptions>, OutOfMemory>
     ensures reading { IfOk result (λ options. options ≡ reading (map string_bytes words.now)) }
     ensures fuel { IfOk result (λ options. IfSome options (λ o. 1 ≤ o.fuel)) }
+    ensures generate { IfOk result (λ options. IfSome options (λ o. IfSome o.generate (λ n. n ≤ most_generated))) }
 {
     if has_bare_dashes(words) {
         return Ok(None);

@@ -1,16 +1,19 @@
 //! The program's top call: a plan in JSON from a source, the adapter module in hex to a sink, with its imports where the words
-//! ask for them.
+//! ask for them; or the counts of the module of a plan that is generated.
 #![tactic(auto)]
 
 mod answer;
 mod command;
+mod counts;
 mod ending;
 mod import_lines;
+mod mode;
 mod page;
 mod refusal;
 mod status;
 mod top;
 
+pub use fact_generate::generate;
 pub use fact_io::{
     BytesSink, BytesSource, ReadFailed, Sink, Source, StderrSink, StdinSource, StdoutSink,
     WriteFailed,

@@ -6,7 +6,7 @@ ghost use Rattle.fact_run.specs.Status.{line_of, exit_status_of};
 /// How a run ended.
 #[derive(Clone, Copy, Debug, Drop, PartialEq, Eq)]
 pub enum Status {
-    /// The module was printed.
+    /// The module was printed, or the counts of the one that was generated.
     Done,
     /// The words are no command.
     Usage,
@@ -54,7 +54,7 @@ impl Status {
     {
         match self {
             Status::Done | Status::BadPlan | Status::Refused => "",
-            Status::Usage => "usage: factc [--debug] [--fuel N] [--imports]\n",
+            Status::Usage => "usage: factc [--debug] [--fuel N] [--imports] [--generate N]\n",
             Status::ReadFault => "read fault\n",
             Status::WriteFault => "write fault\n",
             Status::TooLong => "input too long\n",

@@ -1,23 +1,25 @@
 //! The top call.
 
-ghost use Rattle.std.specs.Prelude.{◌≡◌, ◌≢◌, ◌≤◌, ◌+◌, IfSome, None, Some, map, option_map, string_bytes};
+ghost use Rattle.std.specs.Prelude.{◌≡◌, ◌≢◌, ◌≤◌, ◌+◌, IfSome, IsSome, None, Some, map, option_map, string_bytes};
 ghost use Rattle.std.specs.Io.KnownBytes.{Appends, Keeps};
 ghost use Rattle.fact_io.specs.Faults.{Rose};
 ghost use Rattle.fact_io.specs.Transfers.{AppendsFront, TakesPast, TakesUpTo};
 ghost use Rattle.fact_plan.specs.Fault.{fault_line};
 ghost use Rattle.fact_plan.specs.declared.fault.PlanFault.{PlanFault};
+ghost use Rattle.fact_generate.specs.Generated.{most_generated};
 ghost use Rattle.fact_plan_types.specs.declared.error.Place.{Place};
 ghost use Rattle.fact_plan_types.specs.Faults.{Fault};
 ghost use Rattle.fact_run.specs.declared.command.CommandOptions.{CommandOptions};
 ghost use Rattle.fact_run.specs.Command.{reading};
 ghost use Rattle.fact_run.specs.Refusal.{refusal_line};
 ghost use Rattle.fact_run.specs.Answer.{IsEndUnder, IsEnding, ending_with, line_in};
-ghost use Rattle.fact_run.specs.Run.{HoldsBuilt, HoldsFault, HoldsNoJson, HoldsRefusal, HoldsUnbuilt, IsOrMemory, IsTooLong, IsUndisturbed, Read, SendsPage, TellsLine, limit};
+ghost use Rattle.fact_run.specs.Run.{HoldsBuilt, HoldsFault, HoldsNoJson, HoldsRefusal, HoldsUnbuilt, GeneratesPlan, IsEndUnread, IsOrMemory, IsTooLong, IsUndisturbed, Read, Sends, TellsLine, limit};
 ghost use Rattle.fact_run.specs.Status.{line_of};
 
-use crate::answer::{Reply, reply_of};
+use crate::answer::Reply;
 use crate::command::{CommandOptions, command_of};
 use crate::ending::Ending;
+use crate::mode::reply_under;
 use crate::status::Status;
 use fact_io::{Sink, Source, write_text};
 use std::alloc::Global;
@@ -38,22 +40,24 @@ fn ending_with(reply: Reply) -> Ending
     }
 }
 
-/// Reads the source and writes the text of its module.
+/// Writes the text that a run with these options comes to.
 fn end<S: Source, K: Sink>(
     alloc: Global,
     options: CommandOptions,
     source: &mut S,
     out: &mut K,
 ) -> Ending
-    requires { 1 ≤ options.fuel }
+    requires fuel { 1 ≤ options.fuel }
+    requires number { IfSome options.generate (λ n. n ≤ most_generated) }
     ensures end { IsEndUnder options (S.left source.old) (S.left source.new) (Rose (S.faults source.old) (S.faults source.new))
         (K.written out.old) (K.written out.new) (Rose (K.faults out.old) (K.faults out.new)) result.status (line_in result.status (option_map string_bytes result.told)) }
     ensures most { TakesUpTo (S.left source.old) (S.left source.new) (limit + 1) }
     ensures taken { result.status ≢ Status.Usage }
+    ensures unread { IsSome options.generate → (source.new ≡ source.old) × IsEndUnread result.status }
     ensures no_read_fault { result.status ≢ Status.ReadFault → S.faults source.new ≡ S.faults source.old }
     ensures no_write_fault { result.status ≢ Status.WriteFault → K.faults out.new ≡ K.faults out.old }
 {
-    match reply_of(alloc, source, options) {
+    match reply_under(alloc, source, options) {
         Reply::Page(text) => match write_text(out, text.as_bytes()) {
             Ok(()) => Ending::of(Status::Done),
             Err(_) => Ending::of(Status::WriteFault),
@@ -62,7 +66,7 @@ fn end<S: Source, K: Sink>(
     }
 }
 
-/// Reads the words, and where they are a command the source.
+/// Reads the words, and where they are a command that asks for it the source.
 fn ending_of<S: Source, K: Sink>(
     alloc: Global,
     words: &[String],
@@ -73,6 +77,7 @@ fn ending_of<S: Source, K: Sink>(
         (K.written out.old) (K.written out.new) (Rose (K.faults out.old) (K.faults out.new)) result.status (line_in result.status (option_map string_bytes result.told)) }
     ensures most { TakesUpTo (S.left source.old) (S.left source.new) (limit + 1) }
     ensures untouched { result.status ≡ Status.Usage → source.new ≡ source.old }
+    ensures unread { GeneratesPlan (map string_bytes words.now) → (source.new ≡ source.old) × IsEndUnread result.status }
     ensures no_read_fault { result.status ≢ Status.ReadFault → S.faults source.new ≡ S.faults source.old }
     ensures no_write_fault { result.status ≢ Status.WriteFault → K.faults out.new ≡ K.faults out.old }
 {
@@ -86,8 +91,9 @@ fn ending_of<S: Source, K: Sink>(
 /// Reads a plan in JSON from the source, to its end, and writes the bytes of its module to `out`, in lower-case hex and
 /// with a newline, and behind it one line an import where the words ask for them. What went wrong is told on `err` by one
 /// line. `words` are those after the program's name: `--debug` adds debug checks, `--fuel N` says how much translation a
-/// function may hold (1 to 1,000,000, else 1,000), `--imports` asks for the lines of the imports. Want of memory may be
-/// answered at any point.
+/// function may hold (1 to 1,000,000, else 1,000), `--imports` asks for the lines of the imports. `--generate N` (0 to 4,096)
+/// reads nothing: the plan is the one that is generated for N adapters, and four lines are written, `adapters A`, `functions F`,
+/// `imports I` and `bytes B`, F counting the functions that its module defines. Want of memory may be answered at any point.
 pub fn run<S: Source, K: Sink, E: Sink>(
     alloc: Global,
     words: &[String],
@@ -107,16 +113,17 @@ pub fn run<S: Source, K: Sink, E: Sink>(
     ensures not_built { result ≡ Status.NotBuilt → Read (S.left source.old) (S.left source.new) HoldsUnbuilt }
     ensures write_fault { result ≡ Status.WriteFault → Rose (K.faults out.old) (K.faults out.new) }
     ensures done { result ≡ Status.Done → (o : CommandOptions) × (reading (map string_bytes words.now) ≡ Some o)
-        × Read (S.left source.old) (S.left source.new) (λ bytes. SendsPage o bytes (λ text. Appends (K.written out.old) (K.written out.new) text)) }
+        × Sends o (S.left source.old) (S.left source.new) (λ text. Appends (K.written out.old) (K.written out.new) text) }
 
     // Which calls failed, and what was taken: a read failed at a read fault alone, and a write to `out` at a write fault alone;
-    // where the words are no command, nothing was taken, and never more than one byte past the limit.
+    // where the words are no command or a plan is generated, nothing was taken, and never more than one byte past the limit.
     ensures no_read_fault { result ≢ Status.ReadFault → S.faults source.new ≡ S.faults source.old }
     ensures no_write_fault { result ≢ Status.WriteFault → K.faults out.new ≡ K.faults out.old }
     ensures untouched { result ≡ Status.Usage → source.new ≡ source.old }
+    ensures unread { GeneratesPlan (map string_bytes words.now) → (source.new ≡ source.old) × IsEndUnread result }
     ensures most { TakesUpTo (S.left source.old) (S.left source.new) (limit + 1) }
 
-    // The other way round: of the words, and where these are read, the source tells its bytes and no read failed, of the bytes.
+    // The other way round: of the words, and where a plan is read, the source tells its bytes and no read failed, of the bytes.
     ensures exactly_usage { reading (map string_bytes words.now) ≡ None → IsOrMemory Status.Usage result }
     ensures exactly_too_long { IsUndisturbed (map string_bytes words.now) (S.faults source.old) (S.faults source.new)
         → IfSome (S.left source.old) (λ bytes. IsTooLong bytes → IsOrMemory Status.TooLong result) }
@@ -131,10 +138,11 @@ pub fn run<S: Source, K: Sink, E: Sink>(
     ensures complete { IsUndisturbed (map string_bytes words.now) (S.faults source.old) (S.faults source.new)
         → (Rose (K.faults out.old) (K.faults out.new) → ⊥)
         → IfSome (S.left source.old) (λ bytes. HoldsBuilt bytes → IsOrMemory Status.Done result) }
+    ensures complete_generated { GeneratesPlan (map string_bytes words.now) → (Rose (K.faults out.old) (K.faults out.new) → ⊥) → IsOrMemory Status.Done result }
 
     // What was written.
     ensures part { result ≡ Status.WriteFault → (o : CommandOptions) × (reading (map string_bytes words.now) ≡ Some o)
-        × Read (S.left source.old) (S.left source.new) (λ bytes. SendsPage o bytes (λ text. AppendsFront (K.written out.old) (K.written out.new) text)) }
+        × Sends o (S.left source.old) (S.left source.new) (λ text. AppendsFront (K.written out.old) (K.written out.new) text) }
     ensures kept { result ≢ Status.Done → result ≢ Status.WriteFault → Keeps (K.written out.old) (K.written out.new) }
     ensures told { result ≢ Status.BadPlan → result ≢ Status.Refused
         → TellsLine (E.written err.old) (E.written err.new) (E.faults err.old) (E.faults err.new) (line_of result) }

@@ -1,5 +1,5 @@
 use Rattle.fact_run.specs.declared.status.Status.TheVariants as status
-use Rattle.fact_run.proofs.Ends.{built-end, exactly, no-write-fault, printed, printed-front, usage-end, fault-end, json-end, long-end, refused-end, unbuilt-end, plain-line, told, told-fault, told-refusal, is-end}
+use Rattle.fact_run.proofs.Ends.{built-end, exactly, no-write-fault, printed, printed-front, usage-end, fault-end, json-end, long-end, refused-end, unbuilt-end, unread-done, plain-line, told, told-fault, told-refusal, is-end}
 use Rattle.fact_run.proofs.top.run.Goals as goal
 
 pub returns-clause-exactly_too_long : goal.returns-clause-exactly_too_long
@@ -20,6 +20,10 @@ returns-clause-exactly_not_built g c = exactly _ _ _ _ _ _ _ _ _ _ _ _ (unbuilt-
 pub returns-clause-complete : goal.returns-clause-complete
 returns-clause-complete g c = λ calm unfaulted.
     exactly _ _ _ _ _ _ _ _ _ _ _ _ (λ bytes. built-end _ bytes (no-write-fault _ _ _ _ _ _ _ _ _ c.ending_of-ending.ensures.end unfaulted)) c.ending_of-ending.ensures.end calm
+
+pub returns-clause-complete_generated : goal.returns-clause-complete_generated
+returns-clause-complete_generated g c =
+    λ generates unfaulted. unread-done _ (c.ending_of-ending.ensures.unread generates).1 (no-write-fault _ _ _ _ _ _ _ _ _ c.ending_of-ending.ensures.end unfaulted)
 
 pub returns-clause-bad_plan : goal.returns-clause-bad_plan
 returns-clause-bad_plan g c =

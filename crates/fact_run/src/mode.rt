@@ -1,0 +1,70 @@
+//! What a run comes to, by its mode.
+
+ghost use Rattle.std.specs.Prelude.{◌≡◌, ◌≢◌, ◌≤◌, ◌+◌, IfOk, IfSome, IsSome, string_bytes};
+ghost use Rattle.fact_io.specs.Faults.{Rose};
+ghost use Rattle.fact_io.specs.Transfers.{TakesUpTo};
+ghost use Rattle.fact_generate.specs.Generated.{generated, most_generated};
+ghost use Rattle.fact_run.specs.Answer.{IsReplyUnder, IsReplyUnread};
+ghost use Rattle.fact_run.specs.Run.{Counts, configured, counts, limit};
+
+use crate::answer::{Reply, configure, reply_of};
+use crate::command::CommandOptions;
+use crate::counts::counts_text;
+use fact_generate::{generate, laws_of_generated};
+use fact_io::Source;
+use fact_module::{FusePlan, fuse};
+use fact_wasm::OutOfMemory;
+use std::alloc::{AllocError, Global};
+
+/// The counts of a plan that was generated and is configured, and of its module.
+fn fused_counts(
+    alloc: Global,
+    plan: &FusePlan,
+    options: CommandOptions,
+    n: u32,
+) -> Result<String, OutOfMemory>
+    requires number { n ≤ most_generated }
+    requires fuel { 1 ≤ options.fuel }
+    requires plan { plan.now ≡ configured options (generated n) }
+    ensures { IfOk result (λ text. Counts options n (string_bytes text)) }
+{
+    laws_of_generated();
+    match fuse(alloc, plan) {
+        Ok(fused) => {
+            let text = counts_text(alloc, plan, &fused);
+            drop(fused);
+            text
+        }
+        Err(_) => Err(AllocError),
+    }
+}
+
+/// The counts of the plan of so many adapters, and of its module.
+fn generated_counts(alloc: Global, n: u32, options: CommandOptions) -> Result<String, OutOfMemory>
+    requires number { n ≤ most_generated }
+    requires fuel { 1 ≤ options.fuel }
+    ensures { IfOk result (λ text. Counts options n (string_bytes text)) }
+{
+    let configured = configure(generate(alloc, n)?, options);
+    let text = fused_counts(alloc, &configured, options, n);
+    drop(configured);
+    text
+}
+
+/// What a run with these options comes to: where a plan is generated nothing is read.
+pub fn reply_under<S: Source>(alloc: Global, source: &mut S, options: CommandOptions) -> Reply
+    requires fuel { 1 ≤ options.fuel }
+    requires number { IfSome options.generate (λ n. n ≤ most_generated) }
+    ensures reply { IsReplyUnder options (S.left source.old) (S.left source.new) (Rose (S.faults source.old) (S.faults source.new)) result }
+    ensures most { TakesUpTo (S.left source.old) (S.left source.new) (limit + 1) }
+    ensures no_fault { result ≢ Reply.ReadFault → S.faults source.new ≡ S.faults source.old }
+    ensures unread { IsSome options.generate → (source.new ≡ source.old) × IsReplyUnread result }
+{
+    match options.generate {
+        Some(n) => match generated_counts(alloc, n, options) {
+            Ok(text) => Reply::Page(text),
+            Err(_) => Reply::OutOfMemory,
+        },
+        None => reply_of(alloc, source, options),
+    }
+}
