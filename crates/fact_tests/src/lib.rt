@@ -7,6 +7,8 @@ mod adapted;
 #[cfg(test)]
 mod adapters;
 #[cfg(test)]
+mod counts;
+#[cfg(test)]
 mod ends;
 #[cfg(test)]
 mod entry_faults;
@@ -16,6 +18,8 @@ mod events;
 mod faults;
 #[cfg(test)]
 mod fused;
+#[cfg(test)]
+mod generated;
 #[cfg(test)]
 mod handles;
 #[cfg(test)]
@@ -34,6 +38,8 @@ mod refusals;
 mod rows;
 #[cfg(test)]
 mod runs;
+#[cfg(test)]
+mod same_plan;
 #[cfg(test)]
 mod stated;
 #[cfg(test)]

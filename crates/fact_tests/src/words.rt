@@ -101,9 +101,33 @@ const NOT_TAKEN: &str = "
 |--fuel5
 |--fuel:5
 |--generate
-|--generate|0
-|--generate=0
-|--generate=1|--imports
+|--generate=
+|--generate|
+|--generate|--debug
+|--debug|--generate
+|--generate|1|2
+|--generate=1|--generate=1
+|--generate|1|--generate|2
+|--generate=4097
+|--generate|4097
+|--generate=00
+|--generate=01
+|--generate|007
+|--generate=+1
+|--generate|-1
+|--generate=4294967296
+|--generate=4294967297
+|--generate=18446744073709551617
+|--generate=1.0
+|--generate=1e3
+|--generate=one
+|--generate= 1
+|--generate=1 
+|--generate1
+|--generate=1|--fuel=0
+|--generate=1|plan.json
+|--check
+|--check|--generate=1
 |--help
 |-h
 |help
@@ -142,7 +166,7 @@ fn are_refused(alloc: Global, words: &str) -> Result<bool, AllocError> {
         failing_read: 1,
         ..plain(PLAN)
     };
-    let usage = "usage: factc [--debug] [--fuel N] [--imports]";
+    let usage = "usage: factc [--debug] [--fuel N] [--imports] [--generate N]";
     ends_with(alloc, &given, 2, "", usage)
 }
 
