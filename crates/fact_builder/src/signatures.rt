@@ -4,10 +4,10 @@ ghost use Rattle.std.specs.Prelude.{◌≡◌, ◌<◌, List, [], ◌∷◌, ◌
 ghost use Rattle.fact_types.specs.Flat.{value_type};
 ghost use Rattle.fact_types.specs.Functions.{HaveShapes, HasSignature};
 ghost use Rattle.fact_types.specs.Shapes.{Shape};
-ghost use Rattle.fact_types.specs.Signatures.{width, address as address_of, flat_values, flat_params as flat_params_of, lower_signature as lower_signature_of, lift_signature as lift_signature_of, async_lower};
+ghost use Rattle.fact_types.specs.Signatures.{width, address as address_of, flat_values, flat_params as flat_params_of, lower_signature as lower_signature_of, lift_signature as lift_signature_of, async_lower, async_start_signature as async_start_signature_of, async_return_signature as async_return_signature_of, lower_limit as lower_limit_of, lift_results_limit as lift_results_limit_of};
 ghost use Rattle.fact_types.specs.FlatShapes.{flat_types as flat_types_of};
 ghost use Rattle.fact_types.specs.Tables.{IsLive, HasShape};
-ghost use Rattle.fact_builder.specs.Pointers.{pointer_where_any};
+ghost use Rattle.fact_builder.specs.Pointers.{pointer_where_any, with_results};
 
 use crate::builder::ComponentTypesBuilder;
 use fact_types::{
@@ -21,6 +21,28 @@ fn address(memory64: bool) -> ValType
     ensures { result ≡ address_of memory64 }
 {
     if memory64 { ValType::I64 } else { ValType::I32 }
+}
+
+/// How many flat parameters a side that lowers takes.
+fn lower_limit(async_: bool) -> usize
+    ensures { result ≡ lower_limit_of async_ }
+{
+    if async_ {
+        MAX_FLAT_ASYNC_PARAMS
+    } else {
+        MAX_FLAT_PARAMS
+    }
+}
+
+/// How many flat results a side that lifts gives: an async one hands them on as parameters.
+fn lift_results_limit(async_: bool) -> usize
+    ensures { result ≡ lift_results_limit_of async_ }
+{
+    if async_ {
+        MAX_FLAT_PARAMS
+    } else {
+        MAX_FLAT_RESULTS
+    }
 }
 
 /// Appends the value types of flat types.
@@ -95,11 +117,26 @@ impl ComponentTypesBuilder {
         if side.async_ {
             return self.async_lower_signature(side.memory64, taken, given);
         }
-        let mut params = self.flat_params(side.memory64, MAX_FLAT_PARAMS, taken)?;
-        match self.flatten_types(side.memory64, MAX_FLAT_RESULTS, given)? {
+        let params = self.flat_params(side.memory64, MAX_FLAT_PARAMS, taken)?;
+        self.sync_results(params, side.memory64, given)
+    }
+
+    /// The core signature of these core parameters and of results of live types that a sync side lowers: they are flat, or written
+    /// behind one more pointer.
+    fn sync_results(
+        &self,
+        params: Seq<ValType>,
+        memory64: bool,
+        given: &[InterfaceType],
+    ) -> Result<Signature, OutOfMemory>
+        requires { All (IsLive self.now.tables) given.now }
+        ensures { (results : List Shape) → HaveShapes self.now.tables given.now results → IfOk result (λ s. s ≡ with_results params memory64 results) }
+    {
+        let mut params = params;
+        match self.flatten_types(memory64, MAX_FLAT_RESULTS, given)? {
             Some(results) => Ok(Signature { params, results }),
             None => {
-                params.push(address(side.memory64))?;
+                params.push(address(memory64))?;
                 let results = self.no_values();
                 Ok(Signature { params, results })
             }
@@ -139,6 +176,47 @@ impl ComponentTypesBuilder {
         }
         let results = self.no_values();
         Ok(Signature { params, results })
+    }
+
+    /// The core signature of the function of an async adapter that the runtime calls when the callee is to start: it takes the
+    /// parameters of the side that lowers, without its return pointer, and gives those of the side that lifts.
+    pub fn async_start_signature(
+        &self,
+        lower: &SideSig,
+        lift: &SideSig,
+    ) -> Result<Signature, OutOfMemory>
+        requires lower_live { lower.now.ty.number < length self.now.tables.functions }
+        requires lift_live { lift.now.ty.number < length self.now.tables.functions }
+        ensures { (ps rs qs ss : List Shape) → HasSignature self.now.tables lower.now.ty ps rs → HasSignature self.now.tables lift.now.ty qs ss → IfOk result (λ s. s ≡ async_start_signature_of lower.now lift.now ps qs) }
+    {
+        let (taken, _) = self.types_of(lower.ty);
+        let (wanted, _) = self.types_of(lift.ty);
+        let params = self.flat_params(lower.memory64, lower_limit(lower.async_), taken)?;
+        let results = self.flat_params(lift.memory64, MAX_FLAT_PARAMS, wanted)?;
+        Ok(Signature { params, results })
+    }
+
+    /// The core signature of the function of an async adapter that the runtime calls with the callee's results: it takes those of the
+    /// side that lifts, and behind them the return pointer of the side that lowers, where it has one; it gives the flat results of a
+    /// sync side that lowers. The return pointer is an address of the memory of the side that lowers.
+    pub fn async_return_signature(
+        &self,
+        lower: &SideSig,
+        lift: &SideSig,
+    ) -> Result<Signature, OutOfMemory>
+        requires lower_live { lower.now.ty.number < length self.now.tables.functions }
+        requires lift_live { lift.now.ty.number < length self.now.tables.functions }
+        ensures { (ps rs qs ss : List Shape) → HasSignature self.now.tables lower.now.ty ps rs → HasSignature self.now.tables lift.now.ty qs ss → IfOk result (λ s. s ≡ async_return_signature_of lower.now lift.now rs ss) }
+    {
+        let (_, given) = self.types_of(lift.ty);
+        let (_, wanted) = self.types_of(lower.ty);
+        let params = self.flat_params(lift.memory64, lift_results_limit(lift.async_), given)?;
+        if lower.async_ {
+            let params = with_pointer(params, lower.memory64, wanted)?;
+            let results = self.no_values();
+            return Ok(Signature { params, results });
+        }
+        self.sync_results(params, lower.memory64, wanted)
     }
 
     /// The types of the parameters and of the results of a live function.
