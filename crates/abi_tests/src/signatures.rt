@@ -1,5 +1,7 @@
 //! Functions: their core signatures, as the canonical ABI gives them, and which of them hold handles.
 
+ghost use Rattle.std.specs.Prelude.{◌≡◌, ◌<◌, length};
+
 use crate::questions::{Question, say_table, yes_or_no};
 use crate::words::{make_tuple_of, types_of};
 use fact_builder::{ComponentTypesBuilder, SideSig, Signature};
@@ -45,7 +47,8 @@ fn func_of(
     })
 }
 
-/// A side, `wide` with a memory of 64 bits, of a function, its core parameters and results, and whether the function holds a handle.
+/// A side, `wide` with a memory of 64 bits, of a function, its core parameters and results, and whether the function holds a handle; or
+/// `start` or `return`, for the functions of an async adapter that move values, and behind commas both sides.
 const ROWS: &str = "
 lower: u32 u64 > f64 = [I32, I64] [F64] no
 lower wide: u32 u32 u32 u32 u32 u32 u32 u32 u32 u32 u32 u32 u32 u32 u32 u32 u32 > string = [I64, I64] [] no
@@ -58,22 +61,70 @@ lift async: u32 u64 > f64 = [I32, I64] [] no
 lower: u32 own > = [I32, I32] [] yes
 lower: string > u8 stream = [I32, I32] [I32] yes
 lower: u32 string > string = [I32, I32, I32, I32] [] no
+start, lower, lift: u32 u64 > f64 = [I32, I64] [I32, I64] no
+start, lower async, lift: u32 u32 u32 u32 > f64 = [I32, I32, I32, I32] [I32, I32, I32, I32] no
+start, lower async, lift: u32 u32 u32 u32 u32 > = [I32] [I32, I32, I32, I32, I32] no
+start, lower async wide, lift async: u32 u32 u32 u32 u32 > = [I64] [I32, I32, I32, I32, I32] no
+start, lower async, lift async wide: u32 u32 u32 u32 u32 u32 u32 u32 u32 u32 u32 u32 u32 u32 u32 u32 u32 > = [I32] [I64] no
+start, lower wide, lift: u32 u32 u32 u32 u32 u32 u32 u32 u32 u32 u32 u32 u32 u32 u32 u32 u32 > = [I64] [I32] no
+start, lower wide, lift: string > u8 own = [I64, I64] [I32, I32] yes
+return, lower, lift: u32 > f64 = [F64] [F64] no
+return, lower async, lift: u32 > f64 = [F64, I32] [] no
+return, lower async wide, lift: u32 > f64 = [F64, I64] [] no
+return, lower async, lift wide: u32 > f64 = [F64, I32] [] no
+return, lower async wide, lift async callback: u32 > = [] [] no
+return, lower wide, lift: u32 > u8 f64 = [I32, I64] [] no
+return, lower, lift wide: u32 > u8 f64 = [I64, I32] [] no
+return, lower, lift async: u32 > u8 = [I32] [I32] no
+return, lower, lift async: u32 > u8 f64 = [I32, F64, I32] [] no
+return, lower wide, lift async callback: u32 > u8 f64 = [I32, F64, I64] [] no
+return, lower wide, lift async: u32 > u32 u32 u32 u32 u32 u32 u32 u32 u32 u32 u32 u32 u32 u32 u32 u32 u32 = [I32, I64] [] no
+return, lower async, lift async wide: u32 > u32 u32 u32 u32 u32 u32 u32 u32 u32 u32 u32 u32 u32 u32 u32 u32 u32 = [I64, I32] [] no
+return, lower, lift async wide: u32 > string = [I64, I64, I32] [] no
 ";
 
-/// The core signature of a side in words.
+/// A side of a function in words.
+fn side_of(ty: TypeFuncIndex, words: &str) -> SideSig
+    ensures { result.ty ≡ ty }
+{
+    SideSig {
+        ty,
+        async_: words.contains("async"),
+        callback: words.contains("callback"),
+        memory64: words.contains("wide"),
+    }
+}
+
+/// The core signature of a function of an async adapter between sides in words.
+fn part_signature_of(
+    builder: &ComponentTypesBuilder,
+    ty: TypeFuncIndex,
+    part: &str,
+    sides: &str,
+) -> Result<Signature, PushError>
+    requires { ty.number < length builder.now.tables.functions }
+{
+    let (lower, lift) = sides.split_once(", ").unwrap_or((sides, ""));
+    let lower = side_of(ty, lower);
+    let lift = side_of(ty, lift);
+    if part == "start" {
+        return Ok(builder.async_start_signature(&lower, &lift)?);
+    }
+    Ok(builder.async_return_signature(&lower, &lift)?)
+}
+
+/// The core signature of a side in words, or of a function between two.
 fn signature_of(
     rt: &impl Abort,
     builder: &ComponentTypesBuilder,
     ty: TypeFuncIndex,
     words: &str,
 ) -> Result<Signature, PushError> {
-    let side = SideSig {
-        ty,
-        async_: words.contains("async"),
-        callback: words.contains("callback"),
-        memory64: words.contains("wide"),
-    };
     assert!(rt; builder.component_types().get(ty).is_some());
+    if let Some((part, sides)) = words.split_once(", ") {
+        return part_signature_of(builder, ty, part, sides);
+    }
+    let side = side_of(ty, words);
     if words.starts_with("lower") {
         return Ok(builder.lower_signature(&side)?);
     }
