@@ -360,7 +360,7 @@ module _ (instances : Id RuntimeInstances) where
   -- ---- bodies that go astray
 
   -- A module has what the adapter names, core functions give what it takes them to give, and answers are typed.
-  record ExcludesStray (p : ImportPlaces) (a : LinkedAdapter) (core : CoreDef → List ValType) (start : List ValType) (w : World) (e : Ended (List CoreValue)) : Type 0 where
+  record ExcludesStray (p : ImportPlaces) (a : LinkedAdapter) (core : CoreDef → List ValType) (start : (callback post_return : Option CoreDef) → List ValType) (w : World) (e : Ended (List CoreValue)) : Type 0 where
     has_places : HasPlaces p a
     have_types : HaveCoreTypes core a
     broken : EndsTyped p (result_types core start) w e → ⊥
@@ -389,7 +389,7 @@ module _ (instances : Id RuntimeInstances) where
   abbrev mistaken : Ended (List CoreValue)
   mistaken = run at (Ask (import.CoreDef (exported instances 1 (codes "run"))) [] (val.I64 ∷ []) (λ rs. Give [])) (first_world (state 1 1 [] []) (Returns [] (state 1 1 [] []) ∷ []))
 
-  results_mistaken : ExcludesStray at idle gives [] (first_world (state 1 1 [] []) (Returns [] (state 1 1 [] []) ∷ [])) mistaken
+  results_mistaken : ExcludesStray at idle gives (λ callback post_return. []) (first_world (state 1 1 [] []) (Returns [] (state 1 1 [] []) ∷ [])) mistaken
   results_mistaken = record { has_places = idle_places; have_types = idle_types; broken = λ h. (h refl (refl, tt)).0 }
 
   -- A memory is read, where no side has one and the module none.
@@ -402,7 +402,7 @@ module _ (instances : Id RuntimeInstances) where
   abbrev flags_alone : World
   flags_alone = first_world (record { memories = []; globals = I32 1 ∷ I32 1 ∷ [] }) []
 
-  memory_mistaken : ExcludesStray at_flags without_memories gives [] flags_alone (run at_flags (Read 1 (exported instances 1 (codes "memory")) 0 (λ x. Give [])) flags_alone)
+  memory_mistaken : ExcludesStray at_flags without_memories gives (λ callback post_return. []) flags_alone (run at_flags (Read 1 (exported instances 1 (codes "memory")) 0 (λ x. Give [])) flags_alone)
   memory_mistaken = record {
     has_places = record { lift_memory = λ m e. absurd (none_some None m refl e); lower_memory = λ m e. absurd (none_some None m refl e); lift_flags = refl; lower_flags = refl };
     have_types = record { callee = refl; lift_realloc = λ f e. absurd (none_some None f refl e); lower_realloc = λ f e. absurd (none_some None f refl e); post_return = λ f e. absurd (none_some None f refl e) };

@@ -1,6 +1,8 @@
 -- How many calls a sync adapter makes, and what adapters come to that only call.
-use Rattle.std.proofs.Common.{◌≡◌, ℕ, ◌+◌, ◌*◌, ◌≤◌, Bool, true, false, List, [], ◌∷◌, refl, ap, ◌∙◌, arith, length}
+use Rattle.std.proofs.Common.{◌≡◌, ℕ, ◌+◌, ◌*◌, ◌≤◌, Bool, true, false, List, [], ◌∷◌, ◌++◌, refl, ap, ◌∙◌, append-nil, arith, length}
+use Rattle.std.specs.List.{filter}
 use Rattle.std.proofs.lemmas.List.{length-append}
+use Rattle.std.proofs.lemmas.List.Elements.{filter-append}
 use Rattle.fact_types.specs.declared.outside.Trap.TheVariants.{CannotEnterComponent, UncaughtException}
 use Rattle.fact_machine.specs.declared.types.CoreValue.{CoreValue}
 use Rattle.fact_machine.specs.declared.types.MachineState.{MachineState}
@@ -9,18 +11,20 @@ use Rattle.fact_machine.specs.declared.types.Answer.TheVariants.{Returns, Traps,
 use Rattle.fact_machine.specs.declared.types.End.TheVariants.{Returned, Trapped}
 use Rattle.fact_machine.specs.World.{World, Trap, Throw, Lack}
 use Rattle.fact_types.specs.declared.import.Import.TheVariants as import
+use Rattle.fact_machine.specs.declared.types.Event.{Event}
 use Rattle.fact_machine.specs.declared.types.TraceEntry.{TraceEntry}
+use Rattle.fact_machine.specs.declared.types.TraceEntry.TheVariants.{Called}
 use Rattle.fact_wasm.specs.declared.types.ValType.{ValType}
 use Rattle.fact_types.specs.declared.import.Import.{Import}
 use Rattle.fact_types.specs.Adapters.{LinkedAdapter}
 use Rattle.fact_moves.specs.Sides.{options_of}
 use Rattle.fact_moves.specs.Actions.{Action, Give, Ask, Unreachable, trap}
-use Rattle.fact_moves.specs.Running.{ImportPlaces, Call, Ended, Gave, Halted, Strayed, moved_weight, calls_in, heavier, later, if_typed, is_answer, run}
+use Rattle.fact_moves.specs.Running.{ImportPlaces, Call, call_of, Ended, Gave, Halted, Strayed, moved_weight, calls_in, heavier, later, if_typed, is_answer, run, world_in}
 use Rattle.fact_moves.specs.Adapters.{async_start, async_return, AdapterTunables, References, def_of_memory, prepare_args, start_args, same_instance, async_call, make_call, lower_signature_of}
 use Rattle.fact_machine.specs.Exits.{first_world}
 use Rattle.fact_moves.specs.Plain.{NamedOutcome, named_outcome, action_outcome, guarded_if, ended_sync}
 use Rattle.fact_moves.specs.Honest.{IsStraight}
-use Rattle.fact_moves.specs.AdapterLaws.{IsFew, begins}
+use Rattle.fact_moves.specs.AdapterLaws.{AsyncCallsWriteNothing, IsFew, begins, is_write}
 use Rattle.fact_moves.proofs.Few.{Few, traps_few, sync_few, start_few, return_few}
 
 -- ---- calls
@@ -99,3 +103,36 @@ pub async_calls_twice : (p : ImportPlaces) (a : LinkedAdapter) (r : References) 
 async_calls_twice p a r args state answers t =
     begins_call p (import.PrepareCall (def_of_memory (options_of a.lift))) (prepare_args a r args) [] (λ rs. make_call (import.StartCall a.lift.callback a.lift.post_return) (start_args a r) (lower_signature_of a).results) _ (λ rs w h.
     begins_call p (import.StartCall a.lift.callback a.lift.post_return) (start_args a r) (lower_signature_of a).results (λ rs'. Give rs') _ (λ results w' h'. refl) w.state w.answers w.trace h) state answers [] t
+
+-- ---- what is written behind calls
+
+-- a call stands in the trace, and writes nothing
+called_writes : (trace : List TraceEntry) (e : Event) → filter is_write (trace ++ Called e ∷ []) ≡ filter is_write trace
+called_writes trace e = filter-append is_write trace (Called e ∷ []) ∙ append-nil (filter is_write trace)
+
+world_later : {A : Type 0} (cs : List Call) (e : Ended A) → world_in (later cs e) ≡ world_in e
+world_later cs (Gave n ds a w) = refl
+world_later cs (Halted n ds s w) = refl
+world_later cs (Strayed n ds w) = refl
+
+module _ (p : ImportPlaces) (i : Import) (args : List CoreValue) (ts : List ValType) (k : List CoreValue → Action (List CoreValue))
+    (still : (rs : List CoreValue) (w : World) → filter is_write (world_in (run p (k rs) w)).trace ≡ filter is_write w.trace) where
+  typed_still : (b : Bool) (rs : List CoreValue) (w : World) → filter is_write (world_in (if_typed b w (run p (k rs) w))).trace ≡ filter is_write w.trace
+  typed_still true rs w = still rs w
+  typed_still false rs w = refl
+
+  -- a call, behind which nothing is written
+  call_still : (state : MachineState) (answers : List Answer) (trace : List TraceEntry)
+      → filter is_write (world_in (run p (Ask i args ts k) (record { state = state; answers = answers; trace = trace }))).trace ≡ filter is_write trace
+  call_still state [] trace = refl
+  call_still state (Traps ∷ more) trace = called_writes trace _
+  call_still state (Throws ∷ more) trace = called_writes trace _
+  call_still state (Returns rs after ∷ more) trace =
+      let b = is_answer p ts state rs after in
+      ap (λ (w : World). filter is_write w.trace) (world_later (call_of i args state (Returns rs after ∷ more)) (if_typed b _ (run p (k rs) _))) ∙ typed_still b rs _ ∙ called_writes trace _
+
+pub async_calls_write_nothing : AsyncCallsWriteNothing
+async_calls_write_nothing p a r args state answers =
+    call_still p (import.PrepareCall (def_of_memory (options_of a.lift))) (prepare_args a r args) [] (λ rs. make_call (import.StartCall a.lift.callback a.lift.post_return) (start_args a r) (lower_signature_of a).results)
+    (λ rs w. call_still p (import.StartCall a.lift.callback a.lift.post_return) (start_args a r) (lower_signature_of a).results (λ rs'. Give rs') (λ rs' w'. refl) w.state w.answers w.trace)
+    state answers []

@@ -33,7 +33,7 @@ pub record IsKept (tr : Transfer) (P : ℕ → (A : Type 0) → Action A → Typ
   pub writes : (c : ℕ) (A : Type 0) (size : ℕ) (m : MemoryOption) (a x : ℕ) (q : Action A) → tr.to.memory ≡ Some m → P c A q → P c A (Write size m.def a x q)
   pub visits : (n : ℕ) (A : Type 0) (q : Action A) → 1 ≤ n → P 30 A q → P 0 A (Visit n q)
   pub values : (c : ℕ) (A : Type 0) (i : Import) (args : List CoreValue) (ts : List ValType) (k : List CoreValue → Action A)
-      → IsValueCall tr.from tr.to i → ((core : CoreDef → List ValType) (start : List ValType) → ts ≡ result_types core start i) → ((rs : List CoreValue) → P c A (k rs)) → P (1 + c) A (Ask i args ts k)
+      → IsValueCall tr.from tr.to i → ((core : CoreDef → List ValType) (start : (callback post_return : Option CoreDef) → List ValType) → ts ≡ result_types core start i) → ((rs : List CoreValue) → P c A (k rs)) → P (1 + c) A (Ask i args ts k)
   pub requests : (c : ℕ) (A : Type 0) (t : Trap) (old old_size align new_size : ℕ) (k : ℕ → Action A)
       → ((q : ℕ) → P c A (k q)) → P (7 + c) A (reallocate tr.concurrency tr.to t old old_size align new_size k)
   pub binds : (c d : ℕ) (A B : Type 0) (q : Action A) (f : A → Action B) → P c A q → ((a : A) → P d B (f a)) → P (c + d) B (q >>= f)

@@ -102,7 +102,7 @@ module _ {tr : Transfer} {P : ℕ → (A : Type 0) → Action A → Type 0} (kep
   char_kept : (s : Source) (d : Target) → P 30 (List CoreValue) (move_char tr s d)
   char_kept s d = from_read kept 30 _ 4 s _ (λ n. unless_kept kept.plain 30 _ InvalidChar _ _ (from_none kept.plain 30 _ _ (write_kept kept 4 d n)))
 
-  handle_kept : (i : Import) (t u : ℕ) (s : Source) (d : Target) → IsValueCall tr.from tr.to i → ((core : CoreDef → List ValType) (path_start : List ValType) → (val.I32 ∷ []) ≡ result_types core path_start i) → P 30 (List CoreValue) (move_handle tr i t u s d)
+  handle_kept : (i : Import) (t u : ℕ) (s : Source) (d : Target) → IsValueCall tr.from tr.to i → ((core : CoreDef → List ValType) (path_start : (callback post_return : Option CoreDef) → List ValType) → (val.I32 ∷ []) ≡ result_types core path_start i) → P 30 (List CoreValue) (move_handle tr i t u s d)
   handle_kept i t u s d h e =
       from_read kept 30 _ 4 s _ (λ n.
       kept.plain.more 1 30 _ _ (omega arith) (kept.values 0 _ i _ _ _ h e (λ rs. write_kept kept 4 d _)))

@@ -157,7 +157,7 @@ module _ (p : ImportPlaces) (types : Import → List ValType) where
   cleared_stays : (i saved c : ℕ) (A : Type 0) (q : Action A) → slice_get p.global_types (p.flags i) ≡ Some val.I32 → saved < 2 ^ 32 → Stays c A q → Stays 0 A (cleared i saved q)
   cleared_stays i saved c A q there small h = set_stays i 0 0 A _ there (omega arith) (binds_stay c 0 0 A A q _ h (λ a. set_stays i saved 0 A _ there small (gives_stay 0 A a)))
 
-module _ (p : ImportPlaces) (core : CoreDef → List ValType) (start : List ValType) where
+module _ (p : ImportPlaces) (core : CoreDef → List ValType) (start : (callback post_return : Option CoreDef) → List ValType) where
   abbrev types : Import → List ValType
   types = result_types core start
 
@@ -254,7 +254,7 @@ module _ (p : ImportPlaces) (core : CoreDef → List ValType) (start : List ValT
   same_instance_stays : Stays p types 0 (List CoreValue) same_instance
   same_instance_stays = asks_stay p types 0 0 _ (import.Trap CannotEnterComponent) [] [] _ refl (λ rs. stops_stay p types 0 _)
 
-  async_call_stays : (a : LinkedAdapter) (r : References) (args : List CoreValue) → (lower_signature_of a).results ≡ start → Stays p types 0 (List CoreValue) (async_call a r args)
+  async_call_stays : (a : LinkedAdapter) (r : References) (args : List CoreValue) → (lower_signature_of a).results ≡ start a.lift.callback a.lift.post_return → Stays p types 0 (List CoreValue) (async_call a r args)
   async_call_stays a r args e =
       binds_stay p types 0 0 0 _ _ _ _ (call_stays (import.PrepareCall (def_of_memory (options_of a.lift))) (prepare_args a r args) [] refl) (λ rs.
       call_stays (import.StartCall a.lift.callback a.lift.post_return) (start_args a r) (lower_signature_of a).results e)
@@ -282,4 +282,4 @@ pub typed_same_instance_stays : TypedSameInstanceStays
 typed_same_instance_stays p w core start s t = ((same_instance_stays p core start).at w s).fine t
 
 pub typed_async_calls_stay : TypedAsyncCallsStay
-typed_async_calls_stay p a r args w core s t = ((async_call_stays p core (lower_signature_of a).results a r args refl).at w s).fine t
+typed_async_calls_stay p a r args w core start gives s t = ((async_call_stays p core start a r args (sym gives)).at w s).fine t

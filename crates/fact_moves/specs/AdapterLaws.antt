@@ -1,11 +1,11 @@
 -- Laws of what adapters come to.
-use Rattle.std.specs.Prelude.{◌≡◌, ◌⊎◌, map, Bool, true, false, ℕ, ◌+◌, ◌*◌, ◌≤◌, List, [], ◌∷◌, ◌++◌, filter, length}
+use Rattle.std.specs.Prelude.{◌≡◌, ◌⊎◌, map, Bool, true, false, ℕ, ◌+◌, ◌*◌, ◌≤◌, List, [], ◌∷◌, ◌++◌, filter, length, Option}
 use Rattle.fact_types.specs.declared.outside.Trap.{Trap}
 use Rattle.fact_types.specs.declared.outside.Trap.TheVariants.{DebugAssertUpperBitsUnset, DebugAssertStringEncodingFinished, DebugAssertEqualCodeUnits, CannotEnterComponent, DebugAssertPointerAligned}
 use Rattle.fact_machine.specs.declared.types.CoreValue.{CoreValue}
 use Rattle.fact_machine.specs.declared.types.Event.{Event}
 use Rattle.fact_machine.specs.declared.types.TraceEntry.{TraceEntry}
-use Rattle.fact_machine.specs.declared.types.TraceEntry.TheVariants.{Called}
+use Rattle.fact_machine.specs.declared.types.TraceEntry.TheVariants.{Called, Stored, GlobalSet}
 use Rattle.fact_machine.specs.declared.types.MachineState.{MachineState}
 use Rattle.fact_machine.specs.declared.types.Answer.{Answer}
 use Rattle.fact_machine.specs.declared.types.Answer.TheVariants.{Returns, Traps, Throws}
@@ -92,7 +92,7 @@ abbrev pub EndsTyped : ImportPlaces → (Import → List ValType) → World → 
 EndsTyped p types w e = is_state p w.state ≡ true → HaveTypedAnswers p types (calls_in e) → IsStraight e × (is_state p (world_in e).state ≡ true)
 
 abbrev pub StaysTyped : ImportPlaces → LinkedAdapter → World → Ended (List CoreValue) → Type 0
-StaysTyped p a w e = (core : CoreDef → List ValType) (start : List ValType) → HasPlaces p a → HaveCoreTypes core a → EndsTyped p (result_types core start) w e
+StaysTyped p a w e = (core : CoreDef → List ValType) (start : (callback post_return : Option CoreDef) → List ValType) → HasPlaces p a → HaveCoreTypes core a → EndsTyped p (result_types core start) w e
 
 abbrev pub TypedRunsStay : Type 0
 TypedRunsStay = EachSync StaysTyped
@@ -250,6 +250,12 @@ ReturnLeavesSource =
 
 -- ---- adapters that only call
 
+-- whether an entry of a trace is a write to a memory or to a global
+abbrev pub is_write : TraceEntry → Bool
+is_write (Called e) = false
+is_write (Stored memory address size value) = true
+is_write (GlobalSet index value) = true
+
 -- An outcome that begins with a call of these arguments, and goes on where that returns.
 abbrev pub begins : Import → (args : List CoreValue) → MachineState → List Answer → (List CoreValue → MachineState → List Answer → NamedOutcome) → NamedOutcome
 begins i args state [] k = record { end = Lacks; state = state; log = [] }
@@ -269,18 +275,26 @@ SameInstanceTraps =
 
 -- On typed answers neither goes astray.
 abbrev pub TypedSameInstanceStays : Type 0
-TypedSameInstanceStays = (p : ImportPlaces) (w : World) (core : CoreDef → List ValType) (start : List ValType) → EndsTyped p (result_types core start) w (run p same_instance w)
+TypedSameInstanceStays = (p : ImportPlaces) (w : World) (core : CoreDef → List ValType) (start : (callback post_return : Option CoreDef) → List ValType) → EndsTyped p (result_types core start) w (run p same_instance w)
 
 abbrev pub TypedAsyncCallsStay : Type 0
 TypedAsyncCallsStay =
-    (p : ImportPlaces) (a : LinkedAdapter) (r : References) (args : List CoreValue) (w : World) (core : CoreDef → List ValType)
-    → EndsTyped p (result_types core (lower_signature_of a).results) w (run p (async_call a r args) w)
+    (p : ImportPlaces) (a : LinkedAdapter) (r : References) (args : List CoreValue) (w : World) (core : CoreDef → List ValType) (start : (callback post_return : Option CoreDef) → List ValType)
+    → start a.lift.callback a.lift.post_return ≡ (lower_signature_of a).results → EndsTyped p (result_types core start) w (run p (async_call a r args) w)
 
 -- The function that has an async adapter's name makes its two calls, and returns what the second answers.
+abbrev pub entry_outcome : LinkedAdapter → References → (args : List CoreValue) → MachineState → List Answer → NamedOutcome
+entry_outcome a r args state answers =
+    begins (import.PrepareCall (def_of_memory (options_of a.lift))) (prepare_args a r args) state answers (λ rs after more.
+    begins (import.StartCall a.lift.callback a.lift.post_return) (start_args a r) after more (λ results last left. record { end = Returned results; state = last; log = [] }))
+
 abbrev pub AsyncCallsTwice : Type 0
 AsyncCallsTwice =
     (p : ImportPlaces) (a : LinkedAdapter) (r : References) (args : List CoreValue) (state : MachineState) (answers : List Answer)
-    → IsStraight (run p (async_call a r args) (first_world state answers))
-    → action_outcome p (async_call a r args) state answers
-    ≡ begins (import.PrepareCall (def_of_memory (options_of a.lift))) (prepare_args a r args) state answers (λ rs after more.
-    begins (import.StartCall a.lift.callback a.lift.post_return) (start_args a r) after more (λ results last left. record { end = Returned results; state = last; log = [] }))
+    → IsStraight (run p (async_call a r args) (first_world state answers)) → action_outcome p (async_call a r args) state answers ≡ entry_outcome a r args state answers
+
+-- It writes nothing itself, to no memory and to no global.
+abbrev pub AsyncCallsWriteNothing : Type 0
+AsyncCallsWriteNothing =
+    (p : ImportPlaces) (a : LinkedAdapter) (r : References) (args : List CoreValue) (state : MachineState) (answers : List Answer)
+    → filter is_write (world_in (run p (async_call a r args) (first_world state answers))).trace ≡ []

@@ -78,14 +78,16 @@ into_params tr ts k =
           reallocate tr.concurrency tr.to MemoryOutOfBounds 0 0 e.align e.size (λ q. k (Into q) >> Give (address_value tr.to q ∷ []))
     ]
 
--- the flat results of a side that lowers, where it has no return pointer
+-- The flat results of a side that lowers, by its async mark and whether its addresses have 64 bits: an async one has all results behind a
+-- pointer.
+abbrev pub lowered_flats : (async_side memory64 : Bool) → List Shape → Option (List ValType)
+lowered_flats false memory64 ts = flat_values memory64 1 ts
+lowered_flats true memory64 [] = Some []
+lowered_flats true memory64 (t ∷ ts) = None
+
+-- those of a side, where it has no return pointer
 abbrev pub flat_results : Side → Option (List ValType)
-flat_results s = by_mark s.async_side s.results
-  where
-    by_mark : Bool → List Shape → Option (List ValType)
-    by_mark false ts = flat_values (is_wide s.memory) 1 ts
-    by_mark true [] = Some []
-    by_mark true (t ∷ ts) = None
+flat_results s = lowered_flats s.async_side (is_wide s.memory) s.results
 
 -- the core values of results, or a tuple of them at the return pointer, which is checked
 abbrev pub into_results : Side → (pointer : ℕ) → (Target → Action (List CoreValue)) → Action (List CoreValue)

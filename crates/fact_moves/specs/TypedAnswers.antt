@@ -1,5 +1,5 @@
 -- Typed answers, and which runs have them (canonical ABI, "Canonical ABI options": the types of core functions).
-use Rattle.std.specs.Prelude.{◌≡◌, ◌<◌, true, List, [], ◌∷◌, length, Some, slice_get}
+use Rattle.std.specs.Prelude.{◌≡◌, ◌<◌, true, List, [], ◌∷◌, length, Option, Some, slice_get}
 use Rattle.fact_wasm.specs.declared.types.ValType.{ValType}
 use Rattle.fact_wasm.specs.declared.types.ValType.TheVariants as val
 use Rattle.fact_types.specs.declared.outside.CoreDef.{CoreDef}
@@ -16,8 +16,8 @@ use Rattle.fact_moves.specs.Adapters.{lift_signature_of}
 
 -- ---- the types of results
 
--- The types of what imports give, where core functions give these, and start-calls those.
-abbrev pub result_types : (core : CoreDef → List ValType) → (start : List ValType) → Import → List ValType
+-- The types of what imports give, where core functions give these, and start-calls of a callback and a post-return those.
+abbrev pub result_types : (core : CoreDef → List ValType) → (start : (callback post_return : Option CoreDef) → List ValType) → Import → List ValType
 result_types core start (import.CoreDef d) = core d
 result_types core start (import.Transcode o from from64 to to64) = transcode_types (transcode_kind o) from64 to64
 result_types core start import.ResourceTransferOwn = val.I32 ∷ []
@@ -26,7 +26,7 @@ result_types core start import.FutureTransfer = val.I32 ∷ []
 result_types core start import.StreamTransfer = val.I32 ∷ []
 result_types core start import.ErrorContextTransfer = val.I32 ∷ []
 result_types core start (import.PrepareCall memory) = []
-result_types core start (import.StartCall callback post_return) = start
+result_types core start (import.StartCall callback post_return) = start callback post_return
 result_types core start (import.Trap t) = trap_type.results
 result_types core start import.EnterSyncCall = []
 result_types core start import.ExitSyncCall = []

@@ -1,6 +1,6 @@
 //! Laws of actions and of adapters.
 
-ghost use Rattle.fact_moves.specs.AdapterLaws.{CallsAreFew, StartCallsAreFew, ReturnCallsAreFew, SyncRunsFollow, CallsAreOrdered, CalleeIsCalledOnce, SourcesAreLeft, TypedRunsStay, TypedStartsStay, TypedReturnsStay, WritesAreOwn, StartWritesAreOwn, ReturnWritesAreOwn, OutcomesAreNamed, StartIsTransfer, ReturnIsTransfer, StartLeavesSource, ReturnLeavesSource, RequestsGrow, ChecksOnlyStop, ValidTypesServe, PlacesAreAligned, StartPlacesAreAligned, ReturnPlacesAreAligned, SameInstanceTraps, TypedSameInstanceStays, AsyncCallsTwice, TypedAsyncCallsStay};
+ghost use Rattle.fact_moves.specs.AdapterLaws.{CallsAreFew, StartCallsAreFew, ReturnCallsAreFew, SyncRunsFollow, CallsAreOrdered, CalleeIsCalledOnce, SourcesAreLeft, TypedRunsStay, TypedStartsStay, TypedReturnsStay, WritesAreOwn, StartWritesAreOwn, ReturnWritesAreOwn, OutcomesAreNamed, StartIsTransfer, ReturnIsTransfer, StartLeavesSource, ReturnLeavesSource, RequestsGrow, ChecksOnlyStop, ValidTypesServe, PlacesAreAligned, StartPlacesAreAligned, ReturnPlacesAreAligned, SameInstanceTraps, TypedSameInstanceStays, AsyncCallsTwice, AsyncCallsWriteNothing, TypedAsyncCallsStay};
 ghost use Rattle.fact_moves.specs.Laws.{BindsAssociate, BindsRun, RunsFollow, RunsAreNamed};
 
 /// What holds of actions and their runs, whatever they do. The call does nothing: its contract is the laws.
@@ -44,5 +44,6 @@ pub fn laws_of_async_adapters()
     ensures start_places_are_aligned { StartPlacesAreAligned }
     ensures return_places_are_aligned { ReturnPlacesAreAligned }
     ensures async_calls_twice { AsyncCallsTwice }
+    ensures async_calls_write_nothing { AsyncCallsWriteNothing }
     ensures typed_async_calls_stay { TypedAsyncCallsStay }
 {}

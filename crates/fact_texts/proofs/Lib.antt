@@ -15,7 +15,7 @@ mod Equipped
 mod Fine
 pub mod Finished
 mod FirstRequest
-mod FlaggedRequests
+pub mod FlaggedRequests
 mod ForTypes
 mod Halting
 mod IntoCompact

@@ -1,5 +1,5 @@
 use Rattle.fact_moves.proofs.AlignedMoves.{start_places_aligned, return_places_aligned}
-use Rattle.fact_moves.proofs.AdapterEnds.{few_start_calls, few_return_calls, async_calls_twice}
+use Rattle.fact_moves.proofs.AdapterEnds.{few_start_calls, few_return_calls, async_calls_twice, async_calls_write_nothing}
 use Rattle.fact_moves.proofs.Sources.{start_leaves_source, return_leaves_source}
 use Rattle.fact_moves.proofs.Stays.{typed_starts_stay, typed_returns_stay, typed_async_calls_stay}
 use Rattle.fact_moves.proofs.Confines.{start_confined, return_confined}
@@ -21,5 +21,6 @@ returns c = record {
   start_places_are_aligned = start_places_aligned;
   return_places_are_aligned = return_places_aligned;
   async_calls_twice = async_calls_twice;
+  async_calls_write_nothing = async_calls_write_nothing;
   typed_async_calls_stay = typed_async_calls_stay;
 }
