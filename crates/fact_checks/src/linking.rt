@@ -148,7 +148,8 @@ pub(crate) fn adapter_of(
 ) -> Result<Adapter, OutOfMemory>
     requires types { AreTypesOf plan.now types.now }
     requires there { AdapterLacks plan.now adapter.now → ⊥ }
-    ensures { IfOk result (LinksAdapter plan.now types.now.builder adapter.now) }
+    ensures links { IfOk result (LinksAdapter plan.now types.now.builder adapter.now) }
+    ensures lift_ty { IfOk result (λ a. slice_get types.now.funcs adapter.now.lift.ty ≡ Some a.lift_ty) }
 {
     let func = plan.core_defs.as_slice()[adapter.func as usize].try_clone()?;
     let Ok(lift_options) = options_of(plan, types, &adapter.lift) else {

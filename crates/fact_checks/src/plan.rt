@@ -43,6 +43,7 @@ pub fn linked_adapter(
     requires there { slice_get plan.now.adapters k ≡ Some adapter.now }
     requires few { k ≤ most_entries }
     ensures links { IfOk result (LinksAdapter plan.now types.now.builder adapter.now) }
+    ensures lift_ty { IfOk result (λ a. slice_get types.now.funcs adapter.now.lift.ty ≡ Some a.lift_ty) }
     ensures known { OnOk result (AdapterLacks plan.now adapter.now → ⊥) }
     ensures small { OnOk result (AdapterHas plan.now k adapter.now too_large → ⊥) }
     ensures refused { IfErr result (λ e. IfSome (told e) (λ x. IsFirstHere plan.now k x.0 x.1)) }
