@@ -99,7 +99,7 @@ module _ {a b c d e : Writer} {out body : List Instr} (began : Began a b out) (e
         record {
           place = place;
           body = body;
-          has = serves_imported before.serves barrier.took.there;
+          has = serves_imported refl before.serves barrier.took.there;
           is = refl;
           inner = subst (P M p ls) (sym (ended.body ∙ body_is began.code x.grew)) (x.does M p ls within);
         };

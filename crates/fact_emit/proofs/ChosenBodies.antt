@@ -234,5 +234,5 @@ module _ {a b c : Writer} {local : ℕ} {bodies : List (List Instr)} (aside : Gr
     grew = choice_grew;
     does = λ M p locals l.
         let between : Later w.between M p locals = sooner {a = w.between} (extended_none w.wrote.imports) (same_locals w.between c w.wrote.locals) l in
-        join M p locals w.code (does M p locals (sooner {a = b} w.took.imports (same_locals b w.between w.took.locals) between)) (record { place = w.place; has = serves_imported between.serves w.took.there; chooses = w.chooses });
+        join M p locals w.code (does M p locals (sooner {a = b} w.took.imports (same_locals b w.between w.took.locals) between)) (record { place = w.place; has = serves_imported refl between.serves w.took.there; chooses = w.chooses });
   }

@@ -12,21 +12,21 @@ use Rattle.fact_emit.specs.States.{ModuleSoFar, HasType, IsImported, IsRuntimeIm
 use Rattle.fact_emit.proofs.ImportLaws.{grows_none}
 
 pub defined_same : {a b : ModuleSoFar} → b ≡ a → KeepsDefined a b
-defined_same e = record { functions = ap (λ (s : ModuleSoFar). s.functions) e; exports = ap (λ (s : ModuleSoFar). s.exports) e }
+defined_same e = record { functions = ap (λ (s : ModuleSoFar). s.functions) e; exports = ap (λ (s : ModuleSoFar). s.exports) e; callees = ap (λ (s : ModuleSoFar). s.callees) e }
 
 pub defined_on : {a b c : ModuleSoFar} → KeepsDefined a b → KeepsDefined b c → KeepsDefined a c
-defined_on x y = record { functions = y.functions ∙ x.functions; exports = y.exports ∙ x.exports }
+defined_on x y = record { functions = y.functions ∙ x.functions; exports = y.exports ∙ x.exports; callees = y.callees ∙ x.callees }
 
 pub defined_type : {a b : ModuleSoFar} {ty : FuncType} → HasType a b ty → KeepsDefined a b
 defined_type (inl e) = defined_same e
-defined_type (inr e) = record { functions = ap (λ (s : ModuleSoFar). s.functions) e.1; exports = ap (λ (s : ModuleSoFar). s.exports) e.1 }
+defined_type (inr e) = record { functions = ap (λ (s : ModuleSoFar). s.functions) e.1; exports = ap (λ (s : ModuleSoFar). s.exports) e.1; callees = ap (λ (s : ModuleSoFar). s.callees) e.1 }
 
 pub defined_import : {a b : ModuleSoFar} {w : WasmImport} {i : Import} {place : ℕ} → IsImported a b w i place → KeepsDefined a b
 defined_import {a} {b} {w} {i} h = go h.step
   where
     go : ((b ≡ a) × Contains (imports_of (sort_of w.ty) a.section a.imports) i) ⊎ ((b ≡ with_import a w i) × (Contains (imports_of (sort_of w.ty) a.section a.imports) i → ⊥)) → KeepsDefined a b
     go (inl e) = defined_same e.0
-    go (inr e) = record { functions = ap (λ (s : ModuleSoFar). s.functions) e.0; exports = ap (λ (s : ModuleSoFar). s.exports) e.0 }
+    go (inr e) = record { functions = ap (λ (s : ModuleSoFar). s.functions) e.0; exports = ap (λ (s : ModuleSoFar). s.exports) e.0; callees = ap (λ (s : ModuleSoFar). s.callees) e.0 }
 
 pub defined_runtime : {a b : ModuleSoFar} {f : RuntimeFunction} {place : ℕ} → IsRuntimeImported a b f place → KeepsDefined a b
 defined_runtime h = defined_on (defined_type h.types) (defined_import h.imported)

@@ -21,6 +21,7 @@ use Rattle.fact_emit.specs.declared.writer.Local.{Local}
 use Rattle.fact_emit.specs.declared.writer.Writer.{Writer}
 use Rattle.fact_emit.specs.Emits.{Later, Grew, Piece, Is, Emits, Both}
 use Rattle.fact_emit.specs.Brought.{Brought}
+use Rattle.fact_emit.specs.ImportSection.{is_made_once}
 use Rattle.fact_emit.specs.Imports.{HasImport, HasMemory, HasTranscoder, Extended, AreOnce, Serves}
 use Rattle.fact_emit.specs.NamedFunctions.{imported_named}
 use Rattle.fact_emit.specs.Runtime.{import_of, type_of_runtime}
@@ -30,6 +31,7 @@ use Rattle.fact_emit.proofs.BroughtLaws.{brought_as, brought_before, brought_bet
 use Rattle.fact_emit.proofs.NamedLaws.{ranged_more}
 use Rattle.fact_emit.proofs.ImportLaws.{extended_none, extended_on, grown_get, grows_none, grows_on}
 use Rattle.fact_emit.proofs.ServingLaws.{serves_sooner}
+use Rattle.fact_emit.proofs.ExactItems.{runtime-made-once}
 
 -- ---- growing
 
@@ -129,8 +131,9 @@ emits_nothing {a} d = record { grew = grew_nothing a; does = λ M p locals l. d 
 
 -- ---- imports
 
-pub serves_imported : {M : WasmModule} {p : ImportPlaces} {s : ModuleSoFar} {i : Import} {place : ℕ} {params results : List ValType} → Serves M p s → HasImport s i place params results → KnowsFunction M p i place params results
-serves_imported s i = s.functions _ _ _ _ i
+-- of what is made once the place is known
+pub serves_imported : {M : WasmModule} {p : ImportPlaces} {s : ModuleSoFar} {i : Import} {place : ℕ} {params results : List ValType} → is_made_once i ≡ true → Serves M p s → HasImport s i place params results → KnowsFunction M p i place params results
+serves_imported made s i = s.functions _ _ _ _ made i
 
 -- the memory of a side that was imported
 pub serves_side : {M : WasmModule} {p : ImportPlaces} {s : ModuleSoFar} {place : ℕ} {log2 : Option ℕ} (o : LiftLowerOptions) (m : MemoryOption) → Serves M p s → HasMemory s m.def place m.memory64 log2 → o.memory ≡ Some m → SideMemory M p o m.memory64 place
@@ -158,7 +161,7 @@ module _ {a b c : Writer} {xs : List Instr} (code : b.code.items ≡ a.code.item
 -- a function of the runtime
 pub emits_taking : {a b c : Writer} {f : RuntimeFunction} {place : ℕ} {xs : List Instr} → imported_named xs ≡ place ∷ [] → AreRanged (suc place) 0 xs → TookRuntime a b f place → Wrote b c xs
     → {P : Piece} → ((M : WasmModule) (p : ImportPlaces) (locals : List ValType) → KnowsFunction M p (import_of f) place (type_of_runtime f).params (type_of_runtime f).results → P M p locals xs) → Emits a c P
-emits_taking names ranged x y d = emits_naming x.code x.locals x.imports x.once (brought_runtime names ranged x.imported) y (λ M p locals serves. d M p locals (serves_imported serves x.there))
+emits_taking {f = f} names ranged x y d = emits_naming x.code x.locals x.imports x.once (brought_runtime names ranged x.imported) y (λ M p locals serves. d M p locals (serves_imported (runtime-made-once f) serves x.there))
 
 -- The import of a transcoder is that between the definitions of the memories, whichever have their places.
 abbrev pub KnowsTranscoder : WasmModule → ImportPlaces → Transcoder → (place : ℕ) → Type 0
@@ -170,7 +173,7 @@ pub serves_transcoder : {M : WasmModule} {p : ImportPlaces} {s : ModuleSoFar} (t
 serves_transcoder {M} {p} t place s h d e at at' =
     let from : d ≡ h.from = s.one_memory d h.from t.from_memory.number at h.from_there in
     let to : e ≡ h.to = s.one_memory e h.to t.to_memory.number at' h.to_there in
-    subst (λ x. KnowsFunction M p x place (type_of_transcoder t).params (type_of_transcoder t).results) (λ k. known.Transcode t.op (sym from k) t.from_memory64 (sym to k) t.to_memory64) (serves_imported s h.has)
+    subst (λ x. KnowsFunction M p x place (type_of_transcoder t).params (type_of_transcoder t).results) (λ k. known.Transcode t.op (sym from k) t.from_memory64 (sym to k) t.to_memory64) (serves_imported refl s h.has)
 
 -- a transcoder
 pub emits_transcoding : {a b c : Writer} {t : Transcoder} {place : ℕ} {xs : List Instr} → imported_named xs ≡ place ∷ [] → AreRanged (suc place) 0 xs → TookTranscoder a b t place → Wrote b c xs

@@ -72,8 +72,8 @@ known_within s ms ns within h = record { named = go [] s.section s.imports h.nam
     one before w known.ExitSyncCall n = n
     one before w (known.UnsafeIntrinsic s) n = n
     one before w (known.Transcode a b c d e) n = n
-    one before w (known.PrepareCall a) n = absurd n
-    one before w (known.StartCall a b) n = absurd n
+    one before w (known.PrepareCall a) n = n
+    one before w (known.StartCall a b) n = n
 
     go : (before ws : List WasmImport) (is : List Import) → AreNamed s.types ms before ws is → AreNamed s.types ns before ws is
     go before [] [] n = tt
@@ -110,7 +110,7 @@ known_links old new ms (x ∷ xs) [] l h = absurd l
 
 -- ---- the module grows meanwhile
 
-extended_type : {old new : ModuleSoFar} (ty : FuncType) → HasType old new ty → Extended old new
+pub extended_type : {old new : ModuleSoFar} (ty : FuncType) → HasType old new ty → Extended old new
 extended_type ty (inl there) = extended_none there
 extended_type {old} ty (inr anew) = subst (Extended old) (sym anew.1) (record {
   types = record { more = ty ∷ []; is = refl };

@@ -15,6 +15,7 @@ pub mod ImportLists
 pub mod KnownLaws
 pub mod LinkLaws
 pub mod LinkedLaws
+pub mod ListedCalls
 pub mod ListedLaws
 pub mod Locals
 pub mod Mentions
@@ -34,6 +35,7 @@ pub mod RequestRanged
 pub mod RuntimeMoves
 pub mod RuntimeNamed
 pub mod ScalarMoves
+pub mod SectionPlaces
 pub mod ServingLaws
 pub mod SidesImported
 pub mod StateLaws
@@ -41,5 +43,7 @@ pub mod StringParts
 pub mod StringRanged
 pub mod StringTexts
 pub mod TakenLocals
+pub mod TaskCallsNamed
+pub mod TaskItems
 pub mod TranscodersNamed
 pub mod Using

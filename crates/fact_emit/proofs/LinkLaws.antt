@@ -66,7 +66,7 @@ module _ {M : WasmModule} {p : ImportPlaces} {last : ModuleSoFar} {ms : List Men
         → KnowsFunction M p (known.CoreDef d) place ty.params ty.results
     knows_function d role ty place is there l =
         let at : slice_get (functions_of new) place ≡ Some (known.CoreDef d) = subst (λ q. slice_get (imports_of q new.section new.imports) place ≡ Some (known.CoreDef d)) (function-role role ty is) (linked_at role l) in
-        serves.functions (known.CoreDef d) place ty.params ty.results (function_there last ms are_known d role (alike_to alike d role there) place ty is (grown_get later.functions place _ at))
+        serves.functions (known.CoreDef d) place ty.params ty.results refl (function_there last ms are_known d role (alike_to alike d role there) place ty is (grown_get later.functions place _ at))
 
 -- ---- the memory of a side
 

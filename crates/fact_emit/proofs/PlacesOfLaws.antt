@@ -13,7 +13,8 @@ use Rattle.fact_types.specs.contracts.outside.TranscodeEq.TheImpl.Laws as transc
 use Rattle.fact_types.specs.contracts.outside.TrapEq.TheImpl.Laws as trap_laws
 use Rattle.fact_types.specs.contracts.outside.UnsafeIntrinsicEq.TheImpl.Laws as intrinsic_laws
 use Rattle.fact_emit.specs.ImportedPlaces.{AreImportPlaces}
-use Rattle.fact_emit.specs.Imports.{AreOnce, StandsOnce}
+use Rattle.fact_emit.specs.ImportSection.{is_made_once}
+use Rattle.fact_emit.specs.Imports.{AreOnce, StandOnce}
 use Rattle.fact_emit.specs.PlacesOf.{import_places, place_among, same_bool, same_import, same_option}
 use Rattle.fact_emit.specs.States.{ModuleSoFar, functions_of, memories_of}
 use Rattle.fact_emit.proofs.ExactItems.{exact_slot, exact_transcode, exact_trap}
@@ -72,7 +73,7 @@ option_self (Some d) = def_laws.laws-law.refl d
 both : {a b : Bool} → a ≡ true → b ≡ true → (a && b) ≡ true
 both {a} {b} h g = rw (h, g) refl
 
-import_self : (i : Import) → same_import i i ≡ true
+pub import_self : (i : Import) → same_import i i ≡ true
 import_self (known.CoreDef d) = def_laws.laws-law.refl d
 import_self (known.Transcode o d v e w) = both (transcode_laws.laws-law.refl o) (both (def_laws.laws-law.refl d) (both (same_self v) (both (def_laws.laws-law.refl e) (same_self w))))
 import_self known.ResourceTransferOwn = refl
@@ -90,8 +91,8 @@ import_self (known.UnsafeIntrinsic f) = intrinsic_laws.laws-law.refl f
 -- ---- places
 
 -- an import that stands once is found where it stands
-found_at : (is : List Import) → StandsOnce is → (i : Import) (n : ℕ) → slice_get is n ≡ Some i → place_among i is ≡ n
-found_at is o i n at =
+found_at : (is : List Import) → StandOnce is → (i : Import) → is_made_once i ≡ true → (n : ℕ) → slice_get is n ≡ Some i → place_among i is ≡ n
+found_at is o i made n at =
     let within = slice_get_within is n i at in
     position_or_len_is (same_import i) is n i (omega (arith, within)) (λ k lt. before k lt (same_import i (get_or is k i)) refl) (λ lt. ap (same_import i) (get_or_from_slice_get is n i i at) ∙ import_self i)
   where
@@ -100,7 +101,7 @@ found_at is o i n at =
     before k lt true e =
         let within = slice_get_within is n i at in
         let there : slice_get is k ≡ Some i = slice_get-get_or is k i (omega (arith, within, lt)) ∙ ap Some (sym (exact_import i (get_or is k i) e)) in
-        let is_n : k ≡ n = o.one k n i there at in
+        let is_n : k ≡ n = o.one k n i made there at in
         absurd (omega (arith, is_n, lt))
 
 def_once : (d e : CoreDef) → known.CoreDef e ≡ known.CoreDef d → d ≡ e
@@ -114,10 +115,10 @@ placed_is i j is h =
 
 pub are_import_places : (s : ModuleSoFar) → AreOnce s → AreImportPlaces s (import_places s)
 are_import_places s o = record {
-  functions = found_at (functions_of s) o.functions;
-  memories = λ d n at. found_at _ o.memories (known.CoreDef d) n at;
+  functions = λ i n made at. found_at (functions_of s) o.functions i made n at;
+  memories = λ d n at. found_at _ o.memories (known.CoreDef d) refl n at;
   one_memory = λ d e n is at. def_once d e (placed_is (known.CoreDef d) (known.CoreDef e) (memories_of s) (ap (slice_get (memories_of s)) is ∙ at));
-  flags = λ i n at. found_at _ o.globals _ n at;
+  flags = λ i n at. found_at _ o.globals _ refl n at;
   memory_types = refl;
   global_types = refl;
 }

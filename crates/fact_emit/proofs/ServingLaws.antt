@@ -17,7 +17,8 @@ use Rattle.fact_emit.proofs.ImportLaws.{global_at, grown_get, later_flags, later
 -- It has what was imported earlier.
 pub serves_sooner : {M : WasmModule} {p : ImportPlaces} {old new : ModuleSoFar} → Extended old new → Serves M p new → Serves M p old
 serves_sooner e s = record {
-  functions = λ i place params results h. s.functions i place params results (later_import e h);
+  imports = λ i place params results h. s.imports i place params results (later_import e h);
+  functions = λ i place params results made h. s.functions i place params results made (later_import e h);
   memories = λ d place memory64 log2 h. s.memories d place memory64 log2 (later_memory e h);
   flags = λ instance place h. s.flags instance place (later_flags e h);
   one_memory = λ d f place at there. s.one_memory d f place at (grown_get e.memories place (known.CoreDef f) there);
@@ -26,9 +27,14 @@ serves_sooner e s = record {
 module _ (M : WasmModule) (p : ImportPlaces) (s : ModuleSoFar) (imports : M.imports ≡ s.section) (types : M.types ≡ s.types) (places : AreImportPlaces s p) where
   pub serves_all : Serves M p s
   serves_all = record {
-    functions = λ i n params results h. record {
+    imports = λ i n params results h. record {
       type_at = h.type_at;
-      placed = places.functions i n h.there;
+      imported = ap (λ ws. func_import ws n) imports ∙ h.imported;
+      type_is = ap (λ ts. slice_get ts h.type_at) types ∙ h.type_is;
+    };
+    functions = λ i n params results made h. record {
+      type_at = h.type_at;
+      placed = places.functions i n made h.there;
       imported = ap (λ ws. func_import ws n) imports ∙ h.imported;
       type_is = ap (λ ts. slice_get ts h.type_at) types ∙ h.type_is;
     };

@@ -17,15 +17,19 @@ use Rattle.fact_types.specs.declared.import.Import.{Import}
 use Rattle.fact_types.specs.declared.import.Import.TheVariants as known
 use Rattle.fact_emit.specs.declared.imported.ImportedItem.{ImportedItem}
 use Rattle.fact_emit.specs.declared.imported.ImportedItem.TheVariants as item
+use Rattle.fact_emit.specs.declared.imported.PrepareCallItem.{PrepareCallItem}
+use Rattle.fact_emit.specs.declared.imported.StartCallItem.{StartCallItem}
 use Rattle.fact_emit.specs.declared.transcoders.Transcoder.{Transcoder}
-use Rattle.fact_emit.specs.ImportSection.{Sort, a_function, a_memory, a_global, imports_of, imported_type, is_of, same_sort, sort_of}
-use Rattle.fact_emit.specs.Imports.{AreOnce, Extended, HasImport, HasTranscoder, StandsOnce}
+use Rattle.fact_emit.specs.ImportSection.{Sort, a_function, a_memory, a_global, imports_of, imported_type, is_of, is_made_once, same_sort, sort_of}
+use Rattle.fact_emit.specs.Imports.{AreOnce, Extended, HasImport, HasTranscoder, StandOnce}
 use Rattle.fact_emit.specs.State.{IsAdded, IsIndexed, IsItemOf, IsKept, by_sort}
-use Rattle.fact_emit.specs.States.{HasType, IsImported, ModuleSoFar, functions_of, known_as, memories_of, type_of_item, type_of_transcoder, with_import}
-use Rattle.fact_emit.proofs.ExactItems.{known-once}
+use Rattle.fact_emit.specs.TaskCalls.{IsItemImported, IsItemThere}
+use Rattle.fact_emit.specs.TaskTypes.{start_call_type}
+use Rattle.fact_emit.specs.States.{HasType, MayImport, ModuleSoFar, functions_of, known_as, memories_of, type_of_item, type_of_transcoder, with_import}
 use Rattle.fact_emit.proofs.ImportLaws.{extended_none, grown_get, grows_none, later_import}
-use Rattle.fact_emit.proofs.ImportLists.{count-of, func-last, get-last, get-map, get-there, imports-append, last-or-before, map-push, there-get, unmap}
+use Rattle.fact_emit.proofs.ImportLists.{count-of, func-last, get-last, get-there, imports-append, last-or-before, map-push, there-get}
 use Rattle.fact_emit.proofs.Once.{once_more}
+use Rattle.fact_emit.proofs.TaskItems.{absent-known, item-absent, item-there, known-there, start-there, untyped-found, untyped-made-once, untyped-there}
 
 -- ---- sorts
 
@@ -78,60 +82,28 @@ module _ (s : ModuleSoFar) (same : length s.section ≡ length s.imports) (w : W
     globals = grown-of a_global;
   }
 
-  module _ (absent : Contains (imports_of (sort_of w.ty) s.section s.imports) i → ⊥) where
-    once-of : (q : Sort) → StandsOnce (imports_of q s.section s.imports) → StandsOnce (imports_of q (s.section ++ w ∷ []) (s.imports ++ i ∷ []))
-    once-of q o = subst StandsOnce (sym (more q)) (go (same_sort q (sort_of w.ty)) refl)
+  module _ (absent : is_made_once i ≡ true → Contains (imports_of (sort_of w.ty) s.section s.imports) i → ⊥) where
+    pub once-of : (q : Sort) → StandOnce (imports_of q s.section s.imports) → StandOnce (imports_of q (s.section ++ w ∷ []) (s.imports ++ i ∷ []))
+    once-of q o = subst StandOnce (sym (more q)) (go (same_sort q (sort_of w.ty)) refl)
       where
-        go : (b : Bool) → same_sort q (sort_of w.ty) ≡ b → StandsOnce (imports_of q s.section s.imports ++ cond b (i ∷ []) [])
-        go true e = once_more (λ c. absent (subst (λ r. Contains (imports_of r s.section s.imports) i) (same-sort q _ e) c)) o
-        go false e = subst StandsOnce (sym (append-nil _)) o
-
-    pub once-added : AreOnce s → AreOnce (with_import s w i)
-    once-added o = record { functions = once-of a_function o.functions; memories = once-of a_memory o.memories; globals = once-of a_global o.globals }
+        go : (b : Bool) → same_sort q (sort_of w.ty) ≡ b → StandOnce (imports_of q s.section s.imports ++ cond b (i ∷ []) [])
+        go true e = once_more (λ made c. absent made (subst (λ r. Contains (imports_of r s.section s.imports) i) (same-sort q _ e) c)) o
+        go false e = subst StandOnce (sym (append-nil _)) o
 
 -- ---- items
 
--- an item that stands in its list
-pub known-there : (is : List Import) (xs : List ImportedItem) (x : ImportedItem) (k : ℕ) → is ≡ map known_as xs → slice_get xs k ≡ Some x → slice_get is k ≡ Some (known_as x)
-known-there is xs x k e at = ap (λ ys. slice_get ys k) e ∙ get-map known_as xs k x at
-
--- an item that does not stand in its list
-pub absent-known : (is : List Import) (xs : List ImportedItem) (x : ImportedItem) → is ≡ map known_as xs → (Contains xs x → ⊥) → Contains is (known_as x) → ⊥
-absent-known is xs x e absent c =
-    let at = get-there (map known_as xs) (known_as x) (subst (λ ys. Contains ys (known_as x)) e c) in
-    let y = unmap known_as xs at.0 (known_as x) at.1 in
-    absent (there-get xs at.0 x (y.1 ∙ ap Some (known-once y.0 x y.2)))
-
 -- the number of a type that there is
-type-number : (s : ModuleSoFar) (ty : ImportType) (t : FuncType) → imported_type s.types ty ≡ Some t → (k : ℕ) × (ty ≡ import.Func k) × (slice_get s.types k ≡ Some t)
+pub type-number : (s : ModuleSoFar) (ty : ImportType) (t : FuncType) → imported_type s.types ty ≡ Some t → (k : ℕ) × (ty ≡ import.Func k) × (slice_get s.types k ≡ Some t)
 type-number s (import.Func k) t h = (k, refl, h)
 type-number s (import.Memory least wide page) t h = cc
 type-number s (import.Global u mutable) t h = cc
 
 module _ (s : ModuleSoFar) (gs ms fs : List ImportedItem) (h : IsIndexed s gs ms fs) where
   -- One more item among those of its kind.
-  module _ (w : WasmImport) (x : ImportedItem) (typed : (f : FuncType) → type_of_item x ≡ Some f → imported_type s.types w.ty ≡ Some f) where
+  module _ (w : WasmImport) (x : ImportedItem) (typed : (f : FuncType) → type_of_item x ≡ Some f → imported_type s.types w.ty ≡ Some f)
+      (placed : (c : PrepareCallItem) → x ≡ item.PrepareCall c → c.place ≡ length (functions_of s)) where
     abbrev new : ModuleSoFar
     new = with_import s w (known_as x)
-
-    added-typed : (n : ℕ) (y : ImportedItem) (ty : FuncType) → type_of_item y ≡ Some ty → (n ≡ length (functions_of s)) × (known_as x ≡ known_as y) → slice_get (functions_of new) n ≡ Some (known_as y) → HasImport new (known_as y) n ty.params ty.results
-    added-typed n y ty is_typed last there =
-        let (k, is, at) = type-number s w.ty ty (typed ty (ap type_of_item (known-once x y last.1) ∙ is_typed)) in
-        record { there = there; type_at = k; imported = rw last.0 (func-last s.section s.imports w k h.same_length is); type_is = at }
-
-    typed-added : (n : ℕ) (y : ImportedItem) (ty : FuncType) → type_of_item y ≡ Some ty → slice_get (functions_of new) n ≡ Some (known_as y) → HasImport new (known_as y) n ty.params ty.results
-    typed-added n y ty is_typed at = go (is_of a_function w) (ap (λ l. slice_get l n) (sym (more s h.same_length w (known_as x) a_function)) ∙ at)
-      where
-        before : slice_get (functions_of s) n ≡ Some (known_as y) → HasImport new (known_as y) n ty.params ty.results
-        before e = later_import (extended-by s h.same_length w (known_as x)) (h.typed n y ty is_typed e)
-
-        by_place : (slice_get (functions_of s) n ≡ Some (known_as y)) ⊎ ((n ≡ length (functions_of s)) × (known_as x ≡ known_as y)) → HasImport new (known_as y) n ty.params ty.results
-        by_place (inl e) = before e
-        by_place (inr last) = added-typed n y ty is_typed last at
-
-        go : (b : Bool) → slice_get (functions_of s ++ cond b (known_as x ∷ []) []) n ≡ Some (known_as y) → HasImport new (known_as y) n ty.params ty.results
-        go true e = by_place (last-or-before (functions_of s) (known_as x) n (known_as y) e)
-        go false e = before (ap (λ l. slice_get l n) (sym (append-nil (functions_of s))) ∙ e)
 
     module _ (gs' ms' fs' : List ImportedItem) (items : (q : Sort) → by_sort gs' ms' fs' q ≡ by_sort gs ms fs q ++ if_of q (sort_of w.ty) x) (room : length fs' + length s.functions < 2 ^ 32) where
       list-added : (q : Sort) → imports_of q new.section new.imports ≡ map known_as (by_sort gs' ms' fs' q)
@@ -159,6 +131,33 @@ module _ (s : ModuleSoFar) (gs ms fs : List ImportedItem) (h : IsIndexed s gs ms
             | inr last ↦ ap type_of_item (sym last.1) ∙ no-memory w.ty refl e (type_of_item x) refl
           ]
 
+      -- the last function is this item
+      added-typed : (n : ℕ) (ty : FuncType) → type_of_item x ≡ Some ty → n ≡ length (functions_of s) → slice_get fs' n ≡ Some x → HasImport new (known_as x) n ty.params ty.results
+      added-typed n ty is_typed last at =
+          let (k, is, found) = type-number s w.ty ty (typed ty is_typed) in
+          record { there = known-there _ fs' x n (list-added a_function) at; type_at = k; imported = rw last (func-last s.section s.imports w k h.same_length is); type_is = found }
+
+      by-place : (P : ImportedItem → Type 0) (n : ℕ) (y : ImportedItem) → slice_get fs' n ≡ Some y → (slice_get fs n ≡ Some y → P y) → (n ≡ length (functions_of s) → x ≡ y → P y) → P y
+      by-place P n y at old last = go (same_sort a_function (sort_of w.ty)) (ap (λ l. slice_get l n) (sym (items a_function)) ∙ at)
+        where
+          go : (b : Bool) → slice_get (fs ++ cond b (x ∷ []) []) n ≡ Some y → P y
+          go false e = old (ap (λ l. slice_get l n) (sym (append-nil fs)) ∙ e)
+          go true e = elim (last-or-before fs x n y e) [
+            | inl before ↦ old before
+            | inr end ↦ last (end.0 ∙ sym (length-map fs known_as) ∙ ap length (sym (h.lists a_function))) end.1
+          ]
+
+      typed-added : (n : ℕ) (y : ImportedItem) (ty : FuncType) → type_of_item y ≡ Some ty → slice_get fs' n ≡ Some y → HasImport new (known_as y) n ty.params ty.results
+      typed-added n y ty is_typed at =
+          by-place (λ z. type_of_item z ≡ Some ty → slice_get fs' n ≡ Some z → HasImport new (known_as z) n ty.params ty.results) n y at
+          (λ before is_typed at. later_import (extended-by s h.same_length w (known_as x)) (h.typed n y ty is_typed before))
+          (λ last same. subst (λ z. type_of_item z ≡ Some ty → slice_get fs' n ≡ Some z → HasImport new (known_as z) n ty.params ty.results) same (λ is_typed at. added-typed n ty is_typed last at))
+          is_typed at
+
+      prepared-added : (n : ℕ) (c : PrepareCallItem) → slice_get fs' n ≡ Some (item.PrepareCall c) → c.place ≡ n
+      prepared-added n c at =
+          by-place (λ z. z ≡ item.PrepareCall c → c.place ≡ n) n (item.PrepareCall c) at (λ before is. h.prepared n c before) (λ last same is. placed c same ∙ sym last) refl
+
       pub indexed-with : IsIndexed new gs' ms' fs'
       indexed-with = record {
         same_length = omega (arith, h.same_length, length-append s.section (w ∷ []), length-append s.imports (known_as x ∷ []));
@@ -166,20 +165,50 @@ module _ (s : ModuleSoFar) (gs ms fs : List ImportedItem) (h : IsIndexed s gs ms
         memory_defs = memory-added;
         numbered = room;
         typed = typed-added;
+        prepared = prepared-added;
       }
+
+      -- an item stands at a number among those that stood there, or is the new one
+      abbrev IsPlaced : ℕ → ImportedItem → Type 0
+      IsPlaced n z = (slice_get fs n ≡ Some z) ⊎ ((n ≡ length (functions_of s)) × (x ≡ z))
+
+      -- A start-call of one callback, one post-return and one type stands once, where one more is new.
+      pub starts-added : ((c : StartCallItem) → x ≡ item.StartCall c → Contains fs (item.StartCall c) → ⊥) → AreOnce s → (i j : ℕ) (callback post_return : Option CoreDef) (params results : List ValType)
+          → HasImport new (known.StartCall callback post_return) i params results → HasImport new (known.StartCall callback post_return) j params results → i ≡ j
+      starts-added fresh o i j callback post_return params results g k =
+          let first = start-there new gs' ms' fs' indexed-with callback post_return i params results g in
+          let second = start-there new gs' ms' fs' indexed-with callback post_return j params results k in
+          go first.call second.call
+          (λ n. record { callback = (first.callback_is ∙ sym second.callback_is) n; post_return = (first.post_return_is ∙ sym second.post_return_is) n; results = (sym first.results_are ∙ second.results_are) n })
+          (place-of i first.call first.at) (place-of j second.call second.at)
+        where
+          place-of : (n : ℕ) (c : StartCallItem) → slice_get fs' n ≡ Some (item.StartCall c) → IsPlaced n (item.StartCall c)
+          place-of n c at = by-place (IsPlaced n) n (item.StartCall c) at (λ before. inl before) (λ last same. inr (last, same))
+
+          go : (c d : StartCallItem) → c ≡ d → IsPlaced i (item.StartCall c) → IsPlaced j (item.StartCall d) → i ≡ j
+          go c d same (inl a) (inl b) =
+              o.starts i j c.callback c.post_return (start_call_type c.results).params c.results (h.typed i (item.StartCall c) (start_call_type c.results) refl a)
+              (h.typed j (item.StartCall c) (start_call_type c.results) refl (b ∙ ap (λ e. Some (item.StartCall e)) (sym same)))
+          go c d same (inl a) (inr b) = absurd (fresh d b.1 (there-get fs i (item.StartCall d) (a ∙ ap (λ e. Some (item.StartCall e)) same)))
+          go c d same (inr a) (inl b) = absurd (fresh c a.1 (there-get fs j (item.StartCall c) (b ∙ ap (λ e. Some (item.StartCall e)) (sym same))))
+          go c d same (inr a) (inr b) = a.0 ∙ sym b.0
 
 -- ---- an item that is looked up among those of its kind
 
 -- What a step leaves: the lists stand as they have to, and the item is imported.
 pub record Leaves (old new : ModuleSoFar) (gs ms fs xs : List ImportedItem) (w : WasmImport) (x : ImportedItem) : Type 0 where
   pub indexed : IsIndexed new gs ms fs
-  pub imported : (n : ℕ) → slice_get xs n ≡ Some x → IsImported old new w (known_as x) n
+  pub imported : (n : ℕ) → slice_get xs n ≡ Some x → IsItemImported old new w x n
   pub keeps : Extended old new
   pub once : AreOnce old → AreOnce new
 
 module _ (v : ModuleSoFar) (xs xs' : List ImportedItem) (G M F : List ImportedItem → List ImportedItem) (h : IsIndexed v (G xs) (M xs) (F xs))
     (w : WasmImport) (x : ImportedItem) (section' : List WasmImport) (imports' : List Import)
     (typed : (f : FuncType) → type_of_item x ≡ Some f → imported_type v.types w.ty ≡ Some f)
+    (placed : (c : PrepareCallItem) → x ≡ item.PrepareCall c → c.place ≡ length (functions_of v))
+    (item_there : (n : ℕ) → slice_get xs n ≡ Some x → IsItemThere v (sort_of w.ty) x)
+    (item_absent : (Contains xs x → ⊥) → IsItemThere v (sort_of w.ty) x → ⊥)
+    (fresh_start : (Contains xs x → ⊥) → (c : StartCallItem) → x ≡ item.StartCall c → Contains (F xs) (item.StartCall c) → ⊥)
     (items : (q : Sort) → by_sort (G (xs ++ x ∷ [])) (M (xs ++ x ∷ [])) (F (xs ++ x ∷ [])) q ≡ by_sort (G xs) (M xs) (F xs) q ++ if_of q (sort_of w.ty) x)
     (of : (ys : List ImportedItem) → by_sort (G ys) (M ys) (F ys) (sort_of w.ty) ≡ ys)
     (Room : Type 0) (room : Room → length (F (xs ++ x ∷ [])) + length v.functions < 2 ^ 32)
@@ -195,7 +224,7 @@ module _ (v : ModuleSoFar) (xs xs' : List ImportedItem) (G M F : List ImportedIt
 
   step-indexed : IsKept v.section section' v.imports imports' xs xs' ⊎ (Room × IsAdded v.section section' v.imports imports' xs xs' x w) → IsIndexed after (G xs') (M xs') (F xs')
   step-indexed (inl k) = rw (k.section, k.imports, k.items) h
-  step-indexed (inr a) = rw (a.1.section, a.1.imports, a.1.items) (indexed-with v (G xs) (M xs) (F xs) h w x typed (G (xs ++ x ∷ [])) (M (xs ++ x ∷ [])) (F (xs ++ x ∷ [])) items (room a.0))
+  step-indexed (inr a) = rw (a.1.section, a.1.imports, a.1.items) (indexed-with v (G xs) (M xs) (F xs) h w x typed placed (G (xs ++ x ∷ [])) (M (xs ++ x ∷ [])) (F (xs ++ x ∷ [])) items (room a.0))
 
   before : imports_of (sort_of w.ty) v.section v.imports ≡ map known_as xs
   before = h.lists (sort_of w.ty) ∙ ap (map known_as) (of xs)
@@ -203,16 +232,23 @@ module _ (v : ModuleSoFar) (xs xs' : List ImportedItem) (G M F : List ImportedIt
   there : imports_of (sort_of w.ty) section' imports' ≡ map known_as xs'
   there = (step-indexed step).lists (sort_of w.ty) ∙ ap (map known_as) (of xs')
 
-  absent : IsAdded v.section section' v.imports imports' xs xs' x w → Contains (imports_of (sort_of w.ty) v.section v.imports) (known_as x) → ⊥
-  absent a = absent-known _ xs x before a.absent
+  absent : IsAdded v.section section' v.imports imports' xs xs' x w → is_made_once (known_as x) ≡ true → Contains (imports_of (sort_of w.ty) v.section v.imports) (known_as x) → ⊥
+  absent a made = absent-known _ xs x before made a.absent
 
-  step-imported : (n : ℕ) → slice_get xs' n ≡ Some x → IsImported v after w (known_as x) n
-  step-imported n at = record { there = known-there _ xs' x n there at; step = go step }
+  step-imported : (n : ℕ) → slice_get xs' n ≡ Some x → IsItemImported v after w x n
+  step-imported n at = record { there = known-there _ xs' x n there at; step = go step; last = λ none. end step none }
     where
+      end : IsKept v.section section' v.imports imports' xs xs' ⊎ (Room × IsAdded v.section section' v.imports imports' xs xs' x w) → (IsItemThere v (sort_of w.ty) x → ⊥) → n ≡ length (imports_of (sort_of w.ty) v.section v.imports)
+      end (inl k) none = absurd (none (item_there n (ap (λ ys. slice_get ys n) (sym k.items) ∙ at)))
+      end (inr a) none = elim (last-or-before xs x n x (ap (λ ys. slice_get ys n) (sym a.1.items) ∙ at)) [
+        | inl there ↦ absurd (a.1.absent (there-get xs n x there))
+        | inr last ↦ last.0 ∙ sym (length-map xs known_as) ∙ ap length (sym before)
+      ]
+
       go : IsKept v.section section' v.imports imports' xs xs' ⊎ (Room × IsAdded v.section section' v.imports imports' xs xs' x w)
-          → ((after ≡ v) × Contains (imports_of (sort_of w.ty) v.section v.imports) (known_as x)) ⊎ ((after ≡ with_import v w (known_as x)) × (Contains (imports_of (sort_of w.ty) v.section v.imports) (known_as x) → ⊥))
-      go (inl k) = inl (same-after k, there-get _ n (known_as x) (known-there _ xs x n before (ap (λ ys. slice_get ys n) (sym k.items) ∙ at)))
-      go (inr a) = inr (more-after a.1, absent a.1)
+          → ((after ≡ v) × IsItemThere v (sort_of w.ty) x) ⊎ ((after ≡ with_import v w (known_as x)) × (IsItemThere v (sort_of w.ty) x → ⊥))
+      go (inl k) = inl (same-after k, item_there n (ap (λ ys. slice_get ys n) (sym k.items) ∙ at))
+      go (inr a) = inr (more-after a.1, item_absent a.1.absent)
 
   step-keeps : IsKept v.section section' v.imports imports' xs xs' ⊎ (Room × IsAdded v.section section' v.imports imports' xs xs' x w) → Extended v after
   step-keeps (inl k) = extended_none (same-after k)
@@ -220,16 +256,33 @@ module _ (v : ModuleSoFar) (xs xs' : List ImportedItem) (G M F : List ImportedIt
 
   step-once : IsKept v.section section' v.imports imports' xs xs' ⊎ (Room × IsAdded v.section section' v.imports imports' xs xs' x w) → AreOnce v → AreOnce after
   step-once (inl k) o = subst AreOnce (sym (same-after k)) o
-  step-once (inr a) o = subst AreOnce (sym (more-after a.1)) (once-added v h.same_length w (known_as x) (absent a.1) o)
+  step-once (inr a) o = subst AreOnce (sym (more-after a.1)) (record {
+    functions = once-of v h.same_length w (known_as x) (absent a.1) a_function o.functions;
+    memories = once-of v h.same_length w (known_as x) (absent a.1) a_memory o.memories;
+    globals = once-of v h.same_length w (known_as x) (absent a.1) a_global o.globals;
+    starts = starts-added v (G xs) (M xs) (F xs) h w x typed placed (G (xs ++ x ∷ [])) (M (xs ++ x ∷ [])) (F (xs ++ x ∷ [])) items (room a.0) (fresh_start a.1.absent) o;
+  })
 
   leaves : Leaves v after (G xs') (M xs') (F xs') xs' w x
   leaves = record { indexed = step-indexed step; imported = step-imported; keeps = step-keeps step; once = step-once step }
 
 -- The state that contracts see, and the import that is asked for.
 module _ (v t : ModuleSoFar) (same : v ≡ t) (gs ms fs : List ImportedItem) (h : IsIndexed v gs ms fs) (w w' : WasmImport) (is_w : w ≡ w') (x : ImportedItem)
-    (typed : (f : FuncType) → type_of_item x ≡ Some f → imported_type t.types w'.ty ≡ Some f) (section' : List WasmImport) (imports' : List Import) (xs' : List ImportedItem) where
+    (may : MayImport t x w'.ty) (section' : List WasmImport) (imports' : List Import) (xs' : List ImportedItem) where
   typed-here : (f : FuncType) → type_of_item x ≡ Some f → imported_type v.types w.ty ≡ Some f
-  typed-here = rw (same, is_w) typed
+  typed-here = rw (same, is_w) may.typed
+
+  placed-here : (c : PrepareCallItem) → x ≡ item.PrepareCall c → c.place ≡ length (functions_of v)
+  placed-here = rw same may.placed
+
+  -- what is imported as a memory or a global has no type
+  untyped : (ty : ImportType) → w.ty ≡ ty → imported_type v.types ty ≡ None → (f : Option FuncType) → type_of_item x ≡ f → f ≡ None
+  untyped ty is none None e = refl
+  untyped ty is none (Some f) e = let no : None ≡ Some f = sym none ∙ ap (imported_type v.types) (sym is) ∙ typed-here f e in cc
+
+  -- and so is no start-call
+  no-start : type_of_item x ≡ None → (c : StartCallItem) → x ≡ item.StartCall c → Contains fs (item.StartCall c) → ⊥
+  no-start none c is there = let no : None ≡ Some (start_call_type c.results) = sym none ∙ ap type_of_item is in cc
 
   seen : {new : ModuleSoFar} {gs' ms' fs' : List ImportedItem} → Leaves v new gs' ms' fs' xs' w x → Leaves t new gs' ms' fs' xs' w' x
   seen {new} {gs'} {ms'} {fs'} l = subst (λ (u : ModuleSoFar). Leaves u new gs' ms' fs' xs' w' x) same (subst (λ (y : WasmImport). Leaves v new gs' ms' fs' xs' y x) is_w l)
@@ -238,7 +291,8 @@ module _ (v t : ModuleSoFar) (same : v ≡ t) (gs ms fs : List ImportedItem) (h 
       → IsKept v.section section' v.imports imports' fs xs' ⊎ (IsTrue (not full) × IsAdded v.section section' v.imports imports' fs xs' x w)
       → Leaves t (record v { section = section'; imports = imports' }) gs ms xs' xs' w' x
   leaves-function k is full room step =
-      seen (leaves v fs xs' (λ ys. gs) (λ ys. ms) (λ ys. ys) h w x section' imports' typed-here (rw is (with-function gs ms fs x)) (λ ys. rw is refl) (IsTrue (not full)) fits step)
+      seen (leaves v fs xs' (λ ys. gs) (λ ys. ms) (λ ys. ys) h w x section' imports' typed-here placed-here (λ n at. rw is (item-there v gs ms fs h x n placed-here at)) (λ absent there. item-absent v gs ms fs h x absent (rw is at there))
+      (λ absent c same there. absent (subst (Contains fs) (sym same) there)) (rw is (with-function gs ms fs x)) (λ ys. rw is refl) (IsTrue (not full)) fits step)
     where
       is-false : (b : Bool) → IsTrue (not b) → IsFalse b
       is-false false e = refl
@@ -251,13 +305,25 @@ module _ (v t : ModuleSoFar) (same : v ≡ t) (gs ms fs : List ImportedItem) (h 
       → IsKept v.section section' v.imports imports' ms xs' ⊎ (IsTrue true × IsAdded v.section section' v.imports imports' ms xs' x w)
       → Leaves t (record v { section = section'; imports = imports' }) gs xs' fs xs' w' x
   leaves-memory least wide page is step =
-      seen (leaves v ms xs' (λ ys. gs) (λ ys. ys) (λ ys. fs) h w x section' imports' typed-here (rw is (with-memory gs ms fs x)) (λ ys. rw is refl) (IsTrue true) (λ u. h.numbered) step)
+      seen (leaves v ms xs' (λ ys. gs) (λ ys. ys) (λ ys. fs) h w x section' imports' typed-here placed-here
+      (λ n at. rw is (untyped-there v a_memory x none (there-get _ n (known_as x) (known-there _ ms x n (h.lists a_memory) at))))
+      (λ absent there. absent-known _ ms x (h.lists a_memory) (untyped-made-once x none) absent (untyped-found v a_memory x none (rw is at there)))
+      (λ absent. no-start none) (rw is (with-memory gs ms fs x)) (λ ys. rw is refl) (IsTrue true) (λ u. h.numbered) step)
+    where
+      none : type_of_item x ≡ None
+      none = untyped (import.Memory least wide page) is refl (type_of_item x) refl
 
   pub leaves-global : (ty : ValType) (mutable : Bool) → w.ty ≡ import.Global ty mutable
       → IsKept v.section section' v.imports imports' gs xs' ⊎ (IsTrue true × IsAdded v.section section' v.imports imports' gs xs' x w)
       → Leaves t (record v { section = section'; imports = imports' }) xs' ms fs xs' w' x
   leaves-global ty mutable is step =
-      seen (leaves v gs xs' (λ ys. ys) (λ ys. ms) (λ ys. fs) h w x section' imports' typed-here (rw is (with-global gs ms fs x)) (λ ys. rw is refl) (IsTrue true) (λ u. h.numbered) step)
+      seen (leaves v gs xs' (λ ys. ys) (λ ys. ms) (λ ys. fs) h w x section' imports' typed-here placed-here
+      (λ n at. rw is (untyped-there v a_global x none (there-get _ n (known_as x) (known-there _ gs x n (h.lists a_global) at))))
+      (λ absent there. absent-known _ gs x (h.lists a_global) (untyped-made-once x none) absent (untyped-found v a_global x none (rw is at there)))
+      (λ absent. no-start none) (rw is (with-global gs ms fs x)) (λ ys. rw is refl) (IsTrue true) (λ u. h.numbered) step)
+    where
+      none : type_of_item x ≡ None
+      none = untyped (import.Global ty mutable) is refl (type_of_item x) refl
 
 -- a memory or a global is no function, so none of the runtime
 pub memory-untyped : (types : List FuncType) {w w' : WasmImport} {least : ℕ} {wide : Bool} {page : Option ℕ} {t : FuncType} → w ≡ w' → w.ty ≡ import.Memory least wide page → imported_type types w'.ty ≡ Some t → ⊥
@@ -268,7 +334,7 @@ global-untyped types {t = t} is_w is h = let none : None ≡ Some t = ap (import
 
 -- a function of the runtime that is there has its type
 pub typed-there : (s : ModuleSoFar) (gs ms fs : List ImportedItem) (h : IsIndexed s gs ms fs) (x : ImportedItem) (n : ℕ) → slice_get fs n ≡ Some x → (f : FuncType) → type_of_item x ≡ Some f → HasImport s (known_as x) n f.params f.results
-typed-there s gs ms fs h x n at f e = h.typed n x f e (known-there _ fs x n (h.lists a_function) at)
+typed-there s gs ms fs h x n at f e = h.typed n x f e at
 
 -- A transcoder that is imported as an item is the function of this place.
 pub has_transcoder : {s t : ModuleSoFar} (x : Transcoder) (y : ImportedItem) (place : ℕ) → IsItemOf x s y → Extended s t → ((f : FuncType) → type_of_item y ≡ Some f → HasImport t (known_as y) place f.params f.results) → HasTranscoder t x place
@@ -299,7 +365,30 @@ typed-indexed v types gs ms fs h keeps = record {
   memory_defs = h.memory_defs;
   numbered = h.numbered;
   typed = λ n y ty e at. let i = h.typed n y ty e at in record { there = i.there; type_at = i.type_at; imported = i.imported; type_is = keeps i.type_at _ i.type_is };
+  prepared = h.prepared;
 }
+
+-- They are no further start-calls.
+pub typed-once : (v t : ModuleSoFar) → v ≡ t → (types : List FuncType) (gs ms fs : List ImportedItem) → IsIndexed v gs ms fs → ((k : ℕ) (ty : FuncType) → slice_get v.types k ≡ Some ty → slice_get types k ≡ Some ty)
+    → AreOnce t → AreOnce (record v { types = types })
+typed-once v t same types gs ms fs h keeps once = record { functions = o.functions; memories = o.memories; globals = o.globals; starts = starts }
+  where
+    o : AreOnce v
+    o = subst AreOnce (sym same) once
+
+    -- the type of a start-call was there before
+    before : (callback post_return : Option CoreDef) (results : List ValType) (n : ℕ) (c : StartCallItem) → c.callback ≡ callback → c.post_return ≡ post_return → results ≡ c.results → slice_get fs n ≡ Some (item.StartCall c)
+        → HasImport v (known.StartCall callback post_return) n (start_call_type results).params results
+    before callback post_return results n c callback_is post_return_is results_are at =
+        rw (← callback_is, ← post_return_is, results_are) (h.typed n (item.StartCall c) (start_call_type c.results) refl at)
+
+    starts : (i j : ℕ) (callback post_return : Option CoreDef) (params results : List ValType) → HasImport (record v { types = types }) (known.StartCall callback post_return) i params results → HasImport (record v { types = types }) (known.StartCall callback post_return) j params results → i ≡ j
+    starts i j callback post_return params results g k =
+        let first = start-there (record v { types = types }) gs ms fs (typed-indexed v types gs ms fs h keeps) callback post_return i params results g in
+        let second = start-there (record v { types = types }) gs ms fs (typed-indexed v types gs ms fs h keeps) callback post_return j params results k in
+        o.starts i j callback post_return (start_call_type results).params results
+        (before callback post_return results i first.call first.callback_is first.post_return_is first.results_are first.at)
+        (before callback post_return results j second.call second.callback_is second.post_return_is second.results_are second.at)
 
 -- A function was defined, or one was exported.
 module _ (v : ModuleSoFar) (gs ms fs : List ImportedItem) (h : IsIndexed v gs ms fs) where
@@ -310,6 +399,7 @@ module _ (v : ModuleSoFar) (gs ms fs : List ImportedItem) (h : IsIndexed v gs ms
     memory_defs = h.memory_defs;
     numbered = omega (arith, ap length is, length-append v.functions (f ∷ []), length-map fs known_as, ap length (h.lists a_function), subst (λ (u : ModuleSoFar). length (functions_of u) + length u.functions + 1 < 2 ^ 32) (sym same) room);
     typed = λ n y ty e at. let i = h.typed n y ty e at in record { there = i.there; type_at = i.type_at; imported = i.imported; type_is = i.type_is };
+    prepared = h.prepared;
   }
 
   pub exported-indexed : (exports : List WasmExport) → IsIndexed (record v { exports = exports }) gs ms fs
@@ -319,6 +409,17 @@ module _ (v : ModuleSoFar) (gs ms fs : List ImportedItem) (h : IsIndexed v gs ms
     memory_defs = h.memory_defs;
     numbered = h.numbered;
     typed = λ n y ty e at. let i = h.typed n y ty e at in record { there = i.there; type_at = i.type_at; imported = i.imported; type_is = i.type_is };
+    prepared = h.prepared;
+  }
+
+  pub callees-indexed : (callees : List WasmExport) → IsIndexed (record v { callees = callees }) gs ms fs
+  callees-indexed callees = record {
+    same_length = h.same_length;
+    lists = h.lists;
+    memory_defs = h.memory_defs;
+    numbered = h.numbered;
+    typed = λ n y ty e at. let i = h.typed n y ty e at in record { there = i.there; type_at = i.type_at; imported = i.imported; type_is = i.type_is };
+    prepared = h.prepared;
   }
 
 -- A list to which a type came, or in which it was, has it at one place.
@@ -349,3 +450,7 @@ counted v t same gs ms fs h q n is =
 -- each function has a number
 pub all_numbered : (v t : ModuleSoFar) → v ≡ t → (gs ms fs : List ImportedItem) → IsIndexed v gs ms fs → length (functions_of t) + length t.functions < 2 ^ 32
 all_numbered v t same gs ms fs h = subst (λ (u : ModuleSoFar). length (functions_of u) + length u.functions < 2 ^ 32) same (omega (arith, h.numbered, length-map fs known_as, ap length (h.lists a_function)))
+
+-- a place behind them has their number
+pub functions-counted : (v t : ModuleSoFar) → v ≡ t → (gs ms fs : List ImportedItem) → IsIndexed v gs ms fs → (n : ℕ) → n ≡ length fs → n ≡ length (functions_of t)
+functions-counted v t same gs ms fs h n is = is ∙ sym (length-map fs known_as) ∙ ap length (sym (h.lists a_function)) ∙ ap (λ (u : ModuleSoFar). length (functions_of u)) same

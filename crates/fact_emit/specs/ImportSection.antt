@@ -1,6 +1,6 @@
 -- The core definitions that adapters mention, and the import section that names them.
-use Rattle.std.specs.Prelude.{◌≡◌, ◌≢◌, ℕ, Bool, true, false, nat_eq, List, [], ◌∷◌, ◌++◌, AllPairs, Contains, Option, Some, None, slice_get, map, codes, count_by, if◌then◌else◌}
-use Rattle.std.specs.List.{list_any, flat_map, filter_map}
+use Rattle.std.specs.Prelude.{◌≡◌, ◌≢◌, ℕ, ◌<◌, Bool, true, false, ◌&&◌, nat_eq, List, [], ◌∷◌, ◌++◌, AllPairs, Contains, Option, Some, None, filter, slice_get, map, codes, count_by, if◌then◌else◌}
+use Rattle.std.specs.List.{AllZip, list_any, flat_map, filter_map}
 use Rattle.std.specs.Fmt.{decimal}
 use Rattle.fact_wasm.specs.declared.types.ValType.{ValType}
 use Rattle.fact_wasm.specs.declared.types.ValType.TheVariants as val
@@ -17,12 +17,15 @@ use Rattle.fact_types.specs.declared.import.Import.{Import}
 use Rattle.fact_types.specs.declared.import.Import.TheVariants as known
 use Rattle.fact_types.specs.declared.outside.MemoryOption.{MemoryOption}
 use Rattle.fact_types.specs.declared.outside.Transcode.{Transcode}
-use Rattle.fact_types.specs.Adapters.{LinkedAdapter, Side, is_wide, same_def}
+use Rattle.fact_types.specs.Adapters.{LinkedAdapter, Side, is_async, is_crossing, is_wide, same_def}
 use Rattle.fact_types.specs.ImportTypes.{callback_type, post_return_type, realloc_type}
+use Rattle.fact_moves.specs.Adapters.{def_of_memory}
+use Rattle.fact_moves.specs.Sides.{options_of}
 use Rattle.fact_pieces.specs.StringCode.{transcoder_type}
 use Rattle.fact_emit.specs.declared.imported.RuntimeFunction.{RuntimeFunction}
 use Rattle.fact_emit.specs.declared.imported.RuntimeFunction.TheVariants as runtime
 use Rattle.fact_emit.specs.Runtime.{name_of_runtime, origin_of_runtime, type_of_runtime}
+use Rattle.fact_emit.specs.TaskTypes.{prepare_call_name, prepare_call_type, start_call_name, start_call_type}
 use Rattle.fact_emit.specs.TranscoderNames.{transcoder_name}
 
 -- ---- what the adapters mention
@@ -130,8 +133,8 @@ abbrev pub IsRuntime : List FuncType → RuntimeFunction → WasmImport → Type
 IsRuntime types f w = IsImportedFunction types w (origin_of_runtime f) (name_of_runtime f) (type_of_runtime f)
 
 -- The import, behind these others, has the names and the type of what it is: a core definition those of the role in which it is
--- mentioned. A transcoder has its type; how it is named hangs on the places of memories, as is said below. Adapters that are built so
--- far import no others.
+-- mentioned. Transcoders, start-calls and prepare-calls have their types; how a transcoder is named hangs on the places of memories, and how
+-- the others are on the adapters, as is said below.
 abbrev pub IsNamed : List FuncType → List Mention → List WasmImport → WasmImport → Import → Type 0
 IsNamed types ms before w (known.CoreDef d) = (role : Role) × Contains ms (record { def = d; role = role }) × StandsFor types before role w
 IsNamed types ms before w (known.Trap t) = IsRuntime types (runtime.Trap t) w
@@ -144,7 +147,8 @@ IsNamed types ms before w known.EnterSyncCall = IsRuntime types runtime.EnterSyn
 IsNamed types ms before w known.ExitSyncCall = IsRuntime types runtime.ExitSyncCall w
 IsNamed types ms before w (known.UnsafeIntrinsic s) = IsRuntime types (runtime.UnsafeIntrinsic s) w
 IsNamed types ms before w (known.Transcode o from from64 to to64) = imported_type types w.ty ≡ Some (transcoder_type o from64 to64)
-IsNamed types ms before w _ = ⊥
+IsNamed types ms before w (known.StartCall callback post_return) = (results : List ValType) × (imported_type types w.ty ≡ Some (start_call_type results))
+IsNamed types ms before w (known.PrepareCall memory) = (params : List ValType) × (imported_type types w.ty ≡ Some (prepare_call_type params))
 
 -- The imports `ws`, behind `before`, are what `is` says, one by one.
 abbrev pub AreNamed : List FuncType → List Mention → List WasmImport → List WasmImport → List Import → Type 0
@@ -178,13 +182,82 @@ abbrev pub def_of : Import → Option CoreDef
 def_of (known.CoreDef d) = Some d
 def_of _ = None
 
+-- ---- the calls by which async adapters hand their calls to the runtime
+
+-- an async adapter between two instances, in whose stead the runtime calls the callee
+abbrev pub is_awaited : LinkedAdapter → Bool
+is_awaited a = is_async a && is_crossing a
+
+-- The import is the start-call of this adapter: of the callback and the post-return of its lift side, and of what its core type gives.
+pub record IsStartOf (types : List FuncType) (a : LinkedAdapter) (w : WasmImport) (callback post_return : Option CoreDef) : Type 0 where
+  pub awaited : is_awaited a ≡ true
+  pub callback_is : a.lift.callback ≡ callback
+  pub post_return_is : a.lift.post_return ≡ post_return
+  pub typed : imported_type types w.ty ≡ Some (start_call_type a.lower.core_type.results)
+
+-- A start-call has the name of the first of the adapters whose start-call it is.
+pub record IsStartNamed (types : List FuncType) (adapters : List LinkedAdapter) (w : WasmImport) (callback post_return : Option CoreDef) : Type 0 where
+  pub number : ℕ
+  pub first : LinkedAdapter
+  pub first_there : slice_get adapters number ≡ Some first
+  pub is : IsStartOf types first w callback post_return
+  pub none_before : (k : ℕ) (a : LinkedAdapter) → k < number → slice_get adapters k ≡ Some a → IsStartOf types a w callback post_return → ⊥
+  pub named : IsImportedFunction types w (codes "async") (start_call_name first.name) (start_call_type first.lower.core_type.results)
+
+-- the prepare-calls among imports, in order, each with the memory that it is told of
+abbrev pub if_prepare : WasmImport → Import → List (WasmImport × Option CoreDef)
+if_prepare w (known.PrepareCall memory) = (w, memory) ∷ []
+if_prepare w _ = []
+
+abbrev pub prepares_in : List WasmImport → List Import → List (WasmImport × Option CoreDef)
+prepares_in (w ∷ ws) (i ∷ is) = if_prepare w i ++ prepares_in ws is
+prepares_in _ _ = []
+
+-- one is that of an adapter: it has the adapter's name, the adapter's core parameters behind the fixed ones, and the memory of its lift side
+pub record IsPrepareNamed (types : List FuncType) (x : WasmImport × Option CoreDef) (a : LinkedAdapter) : Type 0 where
+  pub memory : x.1 ≡ def_of_memory (options_of a.lift)
+  pub named : IsImportedFunction types x.0 (codes "sync") (prepare_call_name a.name) (prepare_call_type a.lower.core_type.params)
+
+-- The start-call of this adapter is among the imports.
+pub record HasStartOf (types : List FuncType) (ws : List WasmImport) (is : List Import) (a : LinkedAdapter) : Type 0 where
+  pub place : ℕ
+  pub import : WasmImport
+  pub there : slice_get ws place ≡ Some import
+  pub is_call : slice_get is place ≡ Some (known.StartCall a.lift.callback a.lift.post_return)
+  pub typed : imported_type types import.ty ≡ Some (start_call_type a.lower.core_type.results)
+
+-- Each start-call among the imports is that of an adapter, one for each callback, post-return and type; and each async adapter between two
+-- instances has its own there.
+pub record AreStartCallsNamed (types : List FuncType) (adapters : List LinkedAdapter) (ws : List WasmImport) (is : List Import) : Type 0 where
+  pub named : (k : ℕ) (w : WasmImport) (callback post_return : Option CoreDef) → slice_get ws k ≡ Some w → slice_get is k ≡ Some (known.StartCall callback post_return)
+      → IsStartNamed types adapters w callback post_return
+  pub once : (j k : ℕ) (v w : WasmImport) (callback post_return : Option CoreDef) → slice_get ws j ≡ Some v → slice_get ws k ≡ Some w
+      → slice_get is j ≡ Some (known.StartCall callback post_return) → slice_get is k ≡ Some (known.StartCall callback post_return)
+      → imported_type types v.ty ≡ imported_type types w.ty → j ≡ k
+  pub each : (k : ℕ) (a : LinkedAdapter) → slice_get adapters k ≡ Some a → is_awaited a ≡ true → HasStartOf types ws is a
+
+-- So are the start-calls; and the prepare-calls are those of the async adapters between two instances, one for each, in order.
+pub record AreTaskCallsNamed (types : List FuncType) (adapters : List LinkedAdapter) (ws : List WasmImport) (is : List Import) : Type 0 where
+  pub starts : AreStartCallsNamed types adapters ws is
+  pub prepares : AllZip (IsPrepareNamed types) (prepares_in ws is) (filter is_awaited adapters)
+
+-- ---- the whole
+
+-- all imports are made once but prepare-calls, of which each async adapter has one of its own, and start-calls, of which there may be one for
+-- each result
+abbrev pub is_made_once : Import → Bool
+is_made_once (known.PrepareCall memory) = false
+is_made_once (known.StartCall callback post_return) = false
+is_made_once _ = true
+
 -- The import section names these imports: the core definitions among them are, in order, those that the adapters mention, each
--- import has the names and the type of what it is, nothing is imported twice, and no type stands twice.
+-- import has the names and the type of what it is, nothing that is made once is imported twice, and no type stands twice.
 pub record NamesImports (m : WasmModule) (is : List Import) (adapters : List LinkedAdapter) : Type 0 where
   pub defs : filter_map def_of is ≡ map (λ r. r.def) (mentions adapters)
   pub named : AreNamed m.types (mentions adapters) [] m.imports is
   pub transcoders : AreTranscodersNamed m.types m.imports is
-  pub once : AllPairs (λ i j. i ≢ j) is
+  pub task_calls : AreTaskCallsNamed m.types adapters m.imports is
+  pub once : AllPairs (λ i j. i ≢ j) (filter is_made_once is)
   pub signatures : AllPairs (λ t u. t ≢ u) m.types
 
 -- ---- what an index of the module names

@@ -13,6 +13,7 @@ use Rattle.fact_types.specs.declared.outside.CoreDef.TheVariants as def
 use Rattle.fact_moves.specs.Running.{ImportPlaces}
 use Rattle.fact_pieces.specs.Knows.{KnowsFlags, KnowsFunction, KnowsMemory}
 use Rattle.fact_emit.specs.declared.transcoders.Transcoder.{Transcoder}
+use Rattle.fact_emit.specs.ImportSection.{is_made_once}
 use Rattle.fact_emit.specs.States.{ModuleSoFar, functions_of, globals_of, memories_of, type_of_transcoder}
 
 -- an import is the function of this place, with this type
@@ -49,19 +50,29 @@ pub record Extended (old new : ModuleSoFar) : Type 0 where
   pub memories : Grows (memories_of old) (memories_of new)
   pub globals : Grows (globals_of old) (globals_of new)
 
--- no item stands at two places
-pub record StandsOnce {A : Type 0} (xs : List A) : Type 0 where
-  pub one : (i j : ℕ) (x : A) → slice_get xs i ≡ Some x → slice_get xs j ≡ Some x → i ≡ j
+-- none that is made once stands at two places
+pub record StandOnce (is : List Import) : Type 0 where
+  pub one : (i j : ℕ) (x : Import) → is_made_once x ≡ true → slice_get is i ≡ Some x → slice_get is j ≡ Some x → i ≡ j
 
--- no import of a kind was imported twice
+-- No import of a kind was imported twice, and no start-call of one callback, one post-return and one type.
 pub record AreOnce (s : ModuleSoFar) : Type 0 where
-  pub functions : StandsOnce (functions_of s)
-  pub memories : StandsOnce (memories_of s)
-  pub globals : StandsOnce (globals_of s)
+  pub functions : StandOnce (functions_of s)
+  pub memories : StandOnce (memories_of s)
+  pub globals : StandOnce (globals_of s)
+  pub starts : (i j : ℕ) (callback post_return : Option CoreDef) (params results : List ValType)
+      → HasImport s (known.StartCall callback post_return) i params results → HasImport s (known.StartCall callback post_return) j params results → i ≡ j
 
--- A module and places that have all that was imported so far. A definition that has the place of a memory is that which is imported there.
+-- a module imports a function at a place, with this type
+pub record ImportsFunction (M : WasmModule) (place : ℕ) (params results : List ValType) : Type 0 where
+  pub type_at : ℕ
+  pub imported : func_import M.imports place ≡ Some type_at
+  pub type_is : slice_get M.types type_at ≡ Some (record { params = params; results = results })
+
+-- A module and places that have all that was imported so far, what is made once at its one place. A definition that has the place of a memory
+-- is that which is imported there.
 pub record Serves (M : WasmModule) (p : ImportPlaces) (s : ModuleSoFar) : Type 0 where
-  pub functions : (i : Import) (place : ℕ) (params results : List ValType) → HasImport s i place params results → KnowsFunction M p i place params results
+  pub imports : (i : Import) (place : ℕ) (params results : List ValType) → HasImport s i place params results → ImportsFunction M place params results
+  pub functions : (i : Import) (place : ℕ) (params results : List ValType) → is_made_once i ≡ true → HasImport s i place params results → KnowsFunction M p i place params results
   pub memories : (d : CoreDef) (place : ℕ) (memory64 : Bool) (log2 : Option ℕ) → HasMemory s d place memory64 log2 → KnowsMemory M p d place memory64 log2
   pub flags : (instance place : ℕ) → HasFlags s instance place → KnowsFlags M p instance place
   pub one_memory : (d e : CoreDef) (place : ℕ) → p.memory d ≡ place → slice_get (memories_of s) place ≡ Some (known.CoreDef e) → d ≡ e

@@ -31,6 +31,8 @@ pub mod State
 pub mod States
 pub mod StringPaths
 pub mod StringPieces
+pub mod TaskCalls
+pub mod TaskTypes
 pub mod TranscoderNames
 pub mod WidthLaws
 pub mod Widths

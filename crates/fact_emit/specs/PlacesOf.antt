@@ -1,5 +1,5 @@
 -- The places at which a module imports what actions name, found by what the imports are.
-use Rattle.std.specs.Prelude.{ℕ, Bool, true, false, ◌&&◌, not, List, Option, None, Some}
+use Rattle.std.specs.Prelude.{ℕ, Bool, true, false, ◌&&◌, not, List, Option, None, Some, if◌then◌else◌}
 use Rattle.std.specs.List.{filter_map, position_or_len}
 use Rattle.fact_machine.specs.Typed.{type_of_global, type_of_memory}
 use Rattle.fact_types.specs.declared.outside.CoreDef.{CoreDef}
@@ -42,6 +42,10 @@ same_import _ _ = false
 -- the first place of an import, or the number of imports where it is not there
 abbrev pub place_among : Import → List Import → ℕ
 place_among i is = position_or_len (same_import i) is
+
+-- The same places, but that an import is at this one: of those that are not made once there may be more than one in a module.
+abbrev pub with_place : Import → ℕ → ImportPlaces → ImportPlaces
+with_place i n p = record p { function = λ j. if same_import i j then n else p.function j }
 
 abbrev pub import_places : ModuleSoFar → ImportPlaces
 import_places s = record {

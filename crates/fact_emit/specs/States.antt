@@ -16,26 +16,29 @@ use Rattle.fact_types.specs.declared.import.Import.TheVariants as known
 use Rattle.fact_pieces.specs.StringCode.{transcoder_type}
 use Rattle.fact_emit.specs.declared.imported.ImportedItem.{ImportedItem}
 use Rattle.fact_emit.specs.declared.imported.ImportedItem.TheVariants as item
+use Rattle.fact_emit.specs.declared.imported.PrepareCallItem.{PrepareCallItem}
 use Rattle.fact_emit.specs.declared.imported.RuntimeFunction.{RuntimeFunction}
 use Rattle.fact_emit.specs.declared.imported.RuntimeFunction.TheVariants as runtime
 use Rattle.fact_emit.specs.declared.transcoders.Transcoder.{Transcoder}
-use Rattle.fact_emit.specs.ImportSection.{a_function, a_memory, a_global, imports_of, sort_of}
+use Rattle.fact_emit.specs.ImportSection.{a_function, a_memory, a_global, imported_type, imports_of, sort_of}
 use Rattle.fact_emit.specs.Runtime.{import_of, name_of_runtime, origin_of_runtime, type_of_runtime}
+use Rattle.fact_emit.specs.TaskTypes.{prepare_call_type, start_call_type}
 use Rattle.fact_emit.specs.TranscoderNames.{transcoder_name}
 
--- The sections of a module so far, and what its imports are.
+-- The sections of a module so far, and what its imports are. The exports of imported functions stand behind the others.
 pub record ModuleSoFar : Type 0 where
   pub types : List FuncType
   pub section : List WasmImport
   pub imports : List Import
   pub functions : List WasmFunc
   pub exports : List WasmExport
+  pub callees : List WasmExport
 
 abbrev pub nothing_so_far : ModuleSoFar
-nothing_so_far = record { types = []; section = []; imports = []; functions = []; exports = [] }
+nothing_so_far = record { types = []; section = []; imports = []; functions = []; exports = []; callees = [] }
 
 abbrev pub module_of : ModuleSoFar → WasmModule
-module_of s = record { types = s.types; imports = s.section; funcs = s.functions; exports = s.exports }
+module_of s = record { types = s.types; imports = s.section; funcs = s.functions; exports = s.exports ++ s.callees }
 
 -- the imported functions, memories and globals, in order
 abbrev pub functions_of : ModuleSoFar → List Import
@@ -51,12 +54,21 @@ abbrev pub known_as : ImportedItem → Import
 known_as (item.Def d) = known.CoreDef d
 known_as (item.Runtime f) = import_of f
 known_as (item.Transcoder t) = known.Transcode t.op t.from t.from64 t.to t.to64
+known_as (item.StartCall c) = known.StartCall c.callback c.post_return
+known_as (item.PrepareCall c) = known.PrepareCall c.memory
 
 -- the type of a function of the runtime; a core definition has that of its role
 abbrev pub type_of_item : ImportedItem → Option FuncType
 type_of_item (item.Def d) = None
 type_of_item (item.Runtime f) = Some (type_of_runtime f)
 type_of_item (item.Transcoder t) = Some (transcoder_type t.op t.from64 t.to64)
+type_of_item (item.StartCall c) = Some (start_call_type c.results)
+type_of_item (item.PrepareCall c) = Some (prepare_call_type c.params)
+
+-- An item may be imported with a type: a function of the runtime has its own, and a prepare-call the place behind all imported functions.
+pub record MayImport (s : ModuleSoFar) (x : ImportedItem) (ty : ImportType) : Type 0 where
+  pub typed : (f : FuncType) → type_of_item x ≡ Some f → imported_type s.types ty ≡ Some f
+  pub placed : (c : PrepareCallItem) → x ≡ item.PrepareCall c → c.place ≡ length (functions_of s)
 
 abbrev pub name_of_transcoder : Transcoder → List ℕ
 name_of_transcoder t = transcoder_name t.op t.from_memory.number t.to_memory.number
@@ -80,6 +92,10 @@ export_as name func = record { name = name; func = func }
 -- one more function, under its name
 abbrev pub with_exported : ModuleSoFar → List ℕ → WasmFunc → ModuleSoFar
 with_exported s name f = record s { functions = s.functions ++ f ∷ []; exports = s.exports ++ export_as name (func.Defined (length s.functions)) ∷ [] }
+
+-- an imported function is exported too
+abbrev pub with_callee : ModuleSoFar → List ℕ → (place : ℕ) → ModuleSoFar
+with_callee s name place = record s { callees = s.callees ++ export_as name (func.Import place) ∷ [] }
 
 abbrev pub with_import : ModuleSoFar → WasmImport → Import → ModuleSoFar
 with_import s w i = record s { section = s.section ++ w ∷ []; imports = s.imports ++ i ∷ [] }
@@ -125,6 +141,7 @@ pub record IsTranscoderImported (old new : ModuleSoFar) (t : Transcoder) (place 
 pub record KeepsDefined (old new : ModuleSoFar) : Type 0 where
   pub functions : new.functions ≡ old.functions
   pub exports : new.exports ≡ old.exports
+  pub callees : new.callees ≡ old.callees
 
 -- at most types were added
 abbrev pub OnlyTypesAdded : (old new : ModuleSoFar) → Type 0

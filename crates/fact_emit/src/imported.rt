@@ -6,7 +6,7 @@ ghost use Rattle.fact_emit.specs.Runtime.{import_of};
 ghost use Rattle.fact_emit.specs.States.{known_as};
 
 use fact_types::{CoreDef, Import, Transcode, Trap, UnsafeIntrinsic};
-use fact_wasm::OutOfMemory;
+use fact_wasm::{OutOfMemory, Seq, ValType};
 
 /// A function of the runtime that adapter code calls, and that a module imports once: a trap, the transfer of a handle from a table
 /// of one component instance to one of another, a call that is told of, or a slot of the task's context (canonical ABI).
@@ -53,12 +53,33 @@ pub struct TranscoderItem {
     pub to64: bool,
 }
 
-/// What an import is that is made once.
+/// A start-call, by which the runtime is told to start the callee of an async adapter: the callback and the post-return of the side that
+/// lifts, and what the call gives.
+#[derive(Drop, PartialEq, Eq, Hash)]
+pub struct StartCallItem {
+    pub callback: Option<CoreDef>,
+    pub post_return: Option<CoreDef>,
+    pub results: Seq<ValType>,
+}
+
+/// A prepare-call, by which the runtime is told of a call of an async adapter: the memory of the side that lifts, the core parameters
+/// of the adapter, and its own place among the imported functions, since each adapter has one of its own.
+#[derive(Drop, PartialEq, Eq, Hash)]
+pub struct PrepareCallItem {
+    pub memory: Option<CoreDef>,
+    pub params: Seq<ValType>,
+    pub place: u32,
+}
+
+/// What an import is that is made once: a start-call once for each callback, post-return and results, a prepare-call once for each async
+/// adapter.
 #[derive(Drop, PartialEq, Eq, Hash)]
 pub enum ImportedItem {
     Def(CoreDef),
     Runtime(RuntimeFunction),
     Transcoder(TranscoderItem),
+    StartCall(StartCallItem),
+    PrepareCall(PrepareCallItem),
 }
 
 impl TranscoderItem {
@@ -76,6 +97,29 @@ impl TranscoderItem {
     }
 }
 
+impl StartCallItem {
+    /// It as an import.
+    fn import(&self) -> Result<Import, OutOfMemory>
+        ensures { IfOk result (λ i. i ≡ known.StartCall self.now.callback self.now.post_return) }
+    {
+        Ok(Import::StartCall {
+            callback: CoreDef::try_clone_option(&self.callback)?,
+            post_return: CoreDef::try_clone_option(&self.post_return)?,
+        })
+    }
+}
+
+impl PrepareCallItem {
+    /// It as an import.
+    fn import(&self) -> Result<Import, OutOfMemory>
+        ensures { IfOk result (λ i. i ≡ known.PrepareCall self.now.memory) }
+    {
+        Ok(Import::PrepareCall {
+            memory: CoreDef::try_clone_option(&self.memory)?,
+        })
+    }
+}
+
 impl ImportedItem {
     /// It as an import.
     pub fn import(&self) -> Result<Import, OutOfMemory>
@@ -85,6 +129,8 @@ impl ImportedItem {
             ImportedItem::Def(def) => Ok(Import::CoreDef(def.try_clone()?)),
             ImportedItem::Runtime(function) => Ok(function.import()),
             ImportedItem::Transcoder(transcoder) => transcoder.import(),
+            ImportedItem::StartCall(call) => call.import(),
+            ImportedItem::PrepareCall(call) => call.import(),
         }
     }
 }

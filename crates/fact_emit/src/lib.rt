@@ -25,6 +25,7 @@ pub mod state;
 pub mod string_code;
 pub mod string_locals;
 pub mod strings;
+pub mod task_calls;
 pub mod transcoders;
 pub mod tunables;
 pub mod width;

@@ -1,14 +1,16 @@
 //! A module that is being made: its sections, and what it is made with.
 
-ghost use Rattle.std.specs.Prelude.{◌≡◌, ◌⊎◌, ◌+◌, ◌++◌, ◌∷◌, [], ◌<◌, ◌≤◌, ◌^◌, Contains, IsTrue, None, Some, position, slice_get, length, IfOk, IsFalse, OnErr, OnOk, count_by};
+ghost use Rattle.std.specs.Prelude.{◌≡◌, ◌⊎◌, ◌+◌, ◌++◌, ◌∷◌, [], ◌<◌, ◌≤◌, ◌^◌, Contains, IsTrue, None, Some, position, slice_get, length, IfOk, IfSome, IsFalse, OnErr, OnOk, count_by};
 ghost use Rattle.fact_wasm.specs.CoreTypes.{signature};
 ghost use Rattle.fact_types.specs.declared.import.Import.TheVariants as known;
+ghost use Rattle.fact_wasm.specs.declared.instr.FuncName.TheVariants as func_named;
 ghost use Rattle.fact_wasm.specs.declared.types.FuncType.{FuncType};
 ghost use Rattle.fact_emit.specs.ImportSection.{a_function, a_memory, imported_type, is_of};
 ghost use Rattle.fact_emit.specs.Imports.{AreOnce, Extended, HasImport};
 ghost use Rattle.fact_emit.specs.Settings.{OnlySectionsChanged};
 ghost use Rattle.fact_emit.specs.State.{IsAdded, IsKept};
-ghost use Rattle.fact_emit.specs.States.{HasType, IsImported, export_as, functions_of, import_as, known_as, memories_of, module_of, nothing_so_far, type_of_item, type_of_transcoder};
+ghost use Rattle.fact_emit.specs.States.{HasType, IsImported, MayImport, export_as, functions_of, import_as, known_as, memories_of, module_of, nothing_so_far, type_of_item, type_of_transcoder};
+ghost use Rattle.fact_emit.specs.TaskCalls.{IsItemImported};
 
 use crate::imported::ImportedItem;
 use crate::transcoders::Transcoder;
@@ -22,6 +24,7 @@ use fact_wasm::{
 };
 use std::alloc::{AllocError, Global};
 use std::marker::Model;
+use std::mem;
 
 /// The most functions that a module has, imported and defined.
 const MOST_FUNCTIONS: usize = 4_294_967_295;
@@ -40,6 +43,8 @@ pub struct ModuleSections {
     module: WasmModule,
     // What the imports of the module are.
     imports: Seq<Import>,
+    // The exports of imported functions, which stand behind those of the functions that the module defines.
+    callees: Seq<WasmExport>,
 }
 
 impl Model for ModuleSections {
@@ -52,9 +57,9 @@ impl Model for ModuleSections {
 
     ghost coded = { Prim.hlevel (coded_as, instr.the_row.coded) };
 
-    ghost view = { λ s. record { types = s.types; section = s.module.imports; imports = s.imports; functions = s.module.funcs; exports = s.module.exports } };
+    ghost view = { λ s. record { types = s.types; section = s.module.imports; imports = s.imports; functions = s.module.funcs; exports = s.module.exports; callees = s.callees } };
 
-    ghost invariant = { λ s. IsIndexed (record { types = s.types; section = s.module.imports; imports = s.imports; functions = s.module.funcs; exports = s.module.exports }) s.globals s.memories s.functions };
+    ghost invariant = { λ s. IsIndexed (record { types = s.types; section = s.module.imports; imports = s.imports; functions = s.module.funcs; exports = s.module.exports; callees = s.callees }) s.globals s.memories s.functions };
 }
 
 /// An import by its two names.
@@ -73,6 +78,20 @@ fn import_named(
         name,
         ty,
     })
+}
+
+/// Puts copies of exports behind others.
+fn add_exports(exports: &mut Seq<WasmExport>, more: &[WasmExport]) -> Result<(), OutOfMemory>
+    ensures { OnOk result (exports.new ≡ exports.old ++ more.now) }
+{
+    for export in more {
+        let name = export.name.try_clone()?;
+        exports.push(WasmExport {
+            name,
+            func: export.func,
+        })?;
+    }
+    Ok(())
 }
 
 /// Puts an import, and what it is, behind the others.
@@ -174,6 +193,7 @@ impl ModuleSections {
                 exports: Seq::new(alloc),
             },
             imports: Seq::new(alloc),
+            callees: Seq::new(alloc),
         }
     }
 
@@ -196,6 +216,13 @@ impl ModuleSections {
         self.functions.len()
     }
 
+    /// The place behind all imported functions.
+    pub(crate) fn next_function(&self) -> u32
+        ensures { result ≡ length (functions_of self.now) }
+    {
+        self.functions.len() as u32
+    }
+
     /// The definition of the imported memory of this place.
     pub(crate) fn memory_def(&self, place: MemoryIndex) -> &CoreDef
         requires { place.number < length (memories_of self.now) }
@@ -205,7 +232,19 @@ impl ModuleSections {
             Some(ImportedItem::Def(def)) => def,
             Some(ImportedItem::Runtime(_)) => unreachable!(),
             Some(ImportedItem::Transcoder(_)) => unreachable!(),
+            Some(ImportedItem::StartCall(_)) => unreachable!(),
+            Some(ImportedItem::PrepareCall(_)) => unreachable!(),
             None => unreachable!(),
+        }
+    }
+
+    /// The definition of the imported function of this place, where it is a core function.
+    pub(crate) fn function_def(&self, place: FuncIndex) -> Option<&CoreDef>
+        ensures { IfSome result (λ def. slice_get (functions_of self.now) place.number ≡ Some (known.CoreDef def.now)) }
+    {
+        match self.functions.get(place) {
+            Some(ImportedItem::Def(def)) => Some(def),
+            _ => None,
         }
     }
 
@@ -321,35 +360,42 @@ impl ModuleSections {
         Ok(())
     }
 
+    /// Exports an imported function under a name. Such exports stand behind those of the functions that the module defines.
+    pub fn export_callee(&mut self, name: &str, func: FuncIndex) -> Result<(), OutOfMemory>
+        ensures exported { OnOk result (self.new ≡ record self.old { callees = self.old.callees ++ export_as name.now (func_named.Import func.number) ∷ [] }) }
+        ensures refused { OnErr result (self.new ≡ self.old) }
+    {
+        let name = Text::from_str(self.alloc, name)?;
+        let func = FuncName::Import(func.number);
+        self.callees.push(WasmExport { name, func })?;
+        Ok(())
+    }
+
     /// A copy of the module so far.
     pub fn copy(&self) -> Result<WasmModule, OutOfMemory>
         ensures copy { IfOk result (λ m. m ≡ module_of self.now) }
         ensures numbered { length (functions_of self.now) + length self.now.functions < 2 ^ 32 }
     {
-        let WasmModule {
-            types: none,
-            imports,
-            funcs,
-            exports,
-        } = self.module.try_clone()?;
-        drop(none);
-        let Ok(types) = self.types.copied_types() else {
-            drop(imports);
-            drop(funcs);
-            drop(exports);
-            return Err(AllocError);
-        };
-        Ok(WasmModule {
-            types,
-            imports,
-            funcs,
-            exports,
-        })
+        let mut module = self.module.try_clone()?;
+        if let Err(error) = self.complete(&mut module) {
+            drop(module);
+            return Err(error);
+        }
+        Ok(module)
+    }
+
+    /// Puts a copy of the types into a module, and copies of the exports of imported functions behind its exports.
+    fn complete(&self, module: &mut WasmModule) -> Result<(), OutOfMemory>
+        ensures { OnOk result («module».new ≡ record «module».old { types = self.now.types; exports = «module».old.exports ++ self.now.callees }) }
+    {
+        let types = self.types.copied_types()?;
+        drop(mem::replace(&mut module.types, types));
+        add_exports(&mut module.exports, self.callees.as_slice())
     }
 
     /// The module, and what its imports are.
-    pub fn into_parts(self) -> (WasmModule, Seq<Import>)
-        ensures parts { (result.0 ≡ module_of self) × (result.1 ≡ self.imports) }
+    pub fn into_parts(self) -> Result<(WasmModule, Seq<Import>), OutOfMemory>
+        ensures parts { IfOk result (λ parts. (parts.0 ≡ module_of self) × (parts.1 ≡ self.imports)) }
         ensures numbered { length (functions_of self) + length self.functions < 2 ^ 32 }
     {
         let ModuleSections {
@@ -359,6 +405,7 @@ impl ModuleSections {
             functions,
             module,
             imports,
+            callees,
             ..
         } = self;
         drop(globals);
@@ -371,13 +418,23 @@ impl ModuleSections {
             exports,
         } = module;
         drop(none);
+        let mut exports = exports;
+        let said = add_exports(&mut exports, callees.as_slice());
+        drop(callees);
         let module = WasmModule {
             types: types.into_types(),
             imports: section,
             funcs,
             exports,
         };
-        (module, imports)
+        match said {
+            Ok(()) => Ok((module, imports)),
+            Err(error) => {
+                drop(module);
+                drop(imports);
+                Err(error)
+            }
+        }
     }
 
     /// Whether no further function has a number.
@@ -388,7 +445,7 @@ impl ModuleSections {
     }
 
     /// The place of an item among the imports of its kind. A new one is imported last, under these names, with this type. A function
-    /// of the runtime, a transcoder too, has its own type.
+    /// of the runtime has its type, be it a transcoder, a start-call or a prepare-call, and a prepare-call the place behind all others.
     pub(crate) fn import(
         &mut self,
         item: ImportedItem,
@@ -396,8 +453,8 @@ impl ModuleSections {
         name: &str,
         ty: ImportType,
     ) -> Result<u32, OutOfMemory>
-        requires typed { (f : FuncType) → type_of_item item ≡ Some f → imported_type self.old.types ty ≡ Some f }
-        ensures imported { IfOk result (λ place. IsImported self.old self.new (import_as origin.now name.now ty) (known_as item) place) }
+        requires may { MayImport self.old item ty }
+        ensures imported { IfOk result (λ place. IsItemImported self.old self.new (import_as origin.now name.now ty) item place) }
         ensures typed { IfOk result (λ place. (f : FuncType) → type_of_item item ≡ Some f → HasImport self.new (known_as item) place f.params f.results) }
         ensures keeps { Extended self.old self.new }
         ensures once { AreOnce self.old → AreOnce self.new }

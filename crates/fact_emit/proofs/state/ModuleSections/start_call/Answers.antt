@@ -1,0 +1,15 @@
+use Rattle.std.proofs.Common.{◌∙◌}
+use Rattle.fact_emit.proofs.ImportLaws.{extended_on}
+use Rattle.fact_emit.proofs.TaskItems.{start-imported, start-may}
+use Rattle.fact_emit.proofs.state.ModuleSections.start_call.Goals as goal
+
+pub import-requires : goal.import-requires
+import-requires c = record { may = start-may c.args.call c.args.results.now c.in_ok-item.item _ c.in_ok-item.ensures c.in_ok-ty.ensures.place }
+
+pub returns-clause-imported : goal.returns-clause-imported
+returns-clause-imported c =
+    start-imported c.args.adapter.now c.deref.result.now c.in_ok-ty.ty c.in_ok-place.place c.args.call c.args.results.now c.in_ok-item.item (c.deref.ensures ∙ c.in_ok-name.ensures.ok)
+    c.in_ok-ty.ensures.types c.in_ok-ty.ensures.place c.in_ok-item.ensures c.in_ok-place.ensures.imported c.in_ok-place.ensures.typed
+
+pub returns-clause-keeps : goal.returns-clause-keeps
+returns-clause-keeps c = extended_on c.function.ensures.keeps c.import.ensures.keeps
