@@ -7,14 +7,14 @@ use Rattle.fact_wasm.specs.declared.module.WasmModule.{WasmModule}
 use Rattle.fact_wasm.specs.declared.types.FuncType.{FuncType}
 use Rattle.fact_wasm.specs.declared.types.ValType.{ValType}
 use Rattle.fact_types.specs.Adapters.{Side, LinkedAdapter, is_wide}
-use Rattle.fact_types.specs.Signatures.{address, flat_values}
+use Rattle.fact_types.specs.Signatures.{address, flat_values, lift_results_limit, lower_limit}
 use Rattle.fact_machine.specs.Typing.{address_type}
 use Rattle.fact_moves.specs.Sides.{options_of}
 use Rattle.fact_types.specs.declared.import.Import.TheVariants as import
 use Rattle.fact_types.specs.ImportTypes.{post_return_type}
 use Rattle.fact_types.specs.declared.outside.CoreDef.{CoreDef}
 use Rattle.fact_types.proofs.ShapeLaws.{same_some}
-use Rattle.fact_moves.specs.Adapters.{lift_signature_of}
+use Rattle.fact_moves.specs.Adapters.{flat_results, lift_signature_of}
 use Rattle.fact_moves.specs.Running.{ImportPlaces}
 use Rattle.fact_pieces.specs.Knows.{KnowsFlags, KnowsFunction, KnowsMemory}
 use Rattle.fact_emit.specs.Areas.{IsLinearMemoryOf}
@@ -68,11 +68,8 @@ module _ (M : WasmModule) (p : ImportPlaces) where
     new_tuple_memory (Some flats) needs = tt
     new_tuple_memory None needs = (side_memory (needs refl).0, side_realloc (needs refl).1)
 
-    links_side : (flat_values (is_wide s.memory) 1 s.results ≡ None → HasMemoryOption s) → KnowsSideData M p o s
-    links_side needs = record {
-      flags = subst (λ n. KnowsFlags M p s.instance n) (sym options.flags) knows.flags;
-      memory = tuple_memory (flat_values (is_wide s.memory) 1 s.results) needs;
-    }
+    links_side : KnowsSideData M p o s
+    links_side = record { flags = subst (λ n. KnowsFlags M p s.instance n) (sym options.flags) knows.flags }
 
   -- The callee's core type is that of the lift side's signature.
   pub links_adapter : (a : LinkedAdapter) (at : AdapterLinks) (d : AdapterData) → KnowsAdapter M p a at → IsDataOf a at d
@@ -81,9 +78,11 @@ module _ (M : WasmModule) (p : ImportPlaces) where
       let lift_memory = side_memory a.lift at.lift d.lift knows.lift is.lift in
       let lower_memory = side_memory a.lower at.lower d.lower knows.lower is.lower in
       record {
-        lift = links_side a.lift at.lift d.lift knows.lift is.lift needs.lift_results;
-        lower = links_side a.lower at.lower d.lower knows.lower is.lower needs.lower_results;
-        params_memory = tuple_memory a.lower at.lower d.lower knows.lower is.lower (flat_values (is_wide a.lower.memory) 16 a.lower.params) needs.lower_params;
+        lift = links_side a.lift at.lift d.lift knows.lift is.lift;
+        lower = links_side a.lower at.lower d.lower knows.lower is.lower;
+        results_memory = tuple_memory a.lift at.lift d.lift knows.lift is.lift (flat_values (is_wide a.lift.memory) (lift_results_limit a.lift.async_side) a.lift.results) needs.lift_results;
+        return_memory = tuple_memory a.lower at.lower d.lower knows.lower is.lower (flat_results a.lower) needs.lower_results;
+        params_memory = tuple_memory a.lower at.lower d.lower knows.lower is.lower (flat_values (is_wide a.lower.memory) (lower_limit a.lower.async_side) a.lower.params) needs.lower_params;
         params_area = new_tuple_memory a.lift at.lift d.lift knows.lift is.lift (flat_values (is_wide a.lift.memory) 16 a.lift.params) needs.lift_params;
         params_lists = λ some. let n = needs.params_lists some in record { from_memory = lower_memory n.0; to_memory = lift_memory n.1; realloc = side_realloc a.lift at.lift d.lift knows.lift is.lift n.2 };
         results_lists = λ some. let n = needs.results_lists some in record { from_memory = lift_memory n.0; to_memory = lower_memory n.1; realloc = side_realloc a.lower at.lower d.lower knows.lower is.lower n.2 };

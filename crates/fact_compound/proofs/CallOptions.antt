@@ -26,7 +26,7 @@ lends_tuple ss = lends_placed 0 ss
 pub asks_calls : {t : Tables} {d : AdapterData} {debug concurrency exceptions : Bool} {o : CallOptions} {u : AdapterTunables} {a : LinkedAdapter} → AsksCalls t d concurrency exceptions o → DescribesAdapter t d debug u a → AreSetTo concurrency exceptions u → AreCallOptions o u a
 asks_calls {o = o} {u} {a} asks h set = record {
   concurrency = asks.same_concurrency ∙ sym set.concurrency_is;
-  told = asks.told a.lower.params a.lower.results h.lower.signature ∙ (λ i. (sym set.concurrency_is i && not (h.transparent i)) || list_any has_borrow a.lower.params);
+  told = asks.told a.lower.params a.lower.results h.transfers.lower.signature ∙ (λ i. (sym set.concurrency_is i && not (h.transparent i)) || list_any has_borrow a.lower.params);
   context = asks.context ∙ (λ i. sym set.concurrency_is i && h.post_return i);
   barrier = asks.barrier ∙ sym set.exceptions_are;
 }

@@ -12,12 +12,13 @@ use Rattle.fact_types.specs.Flat.{value_type, flat_within}
 use Rattle.fact_types.specs.FlatShapes.{flat, flat_members, upto, flat_types, after_flat, flat_each, when_upto, AreCounted}
 use Rattle.fact_types.proofs.CountLaws.{count_is_length}
 use Rattle.fact_types.specs.Shapes.{Shape, layout_of}
-use Rattle.fact_types.specs.Signatures.{width, flat_values}
+use Rattle.fact_types.specs.Signatures.{width, flat_values, lift_results_limit, lower_limit}
 use Rattle.fact_types.specs.Tuples.{members_from, tuple_members, tuple_of}
+use Rattle.fact_moves.specs.Adapters.{lowered_flats}
 use Rattle.fact_pieces.specs.Places.{Slot}
 use Rattle.fact_emit.specs.Fitting.{IsSlotFor, AreRoom}
 
-upto_some : {X : Type 0} (n : ℕ) (xs : List X) → length xs ≤ n → upto n xs ≡ Some xs
+pub upto_some : {X : Type 0} (n : ℕ) (xs : List X) → length xs ≤ n → upto n xs ≡ Some xs
 upto_some n xs h = ap (λ b. if b then Some xs else None) (le-leb (length xs) n h)
 
 upto_is : {X : Type 0} (n : ℕ) (xs ys : List X) → upto n xs ≡ Some ys → xs ≡ ys
@@ -28,7 +29,7 @@ upto_is n xs ys = go (nat_le (length xs) n)
     go false h = cc
 
 -- the flat types of each one behind the other are those of the tuple
-each_are : (w : MemoryWidth) (n : ℕ) (ss : List Shape) (xs : List FlatType) → flat_each w ss ≡ Some xs → xs ≡ flat_members w (members_from n ss)
+pub each_are : (w : MemoryWidth) (n : ℕ) (ss : List Shape) (xs : List FlatType) → flat_each w ss ≡ Some xs → xs ≡ flat_members w (members_from n ss)
 each_are w n [] xs h = cc
 each_are w n (s ∷ ss) xs h = go (flat_types w s) (flat_each w ss) refl refl (λ zs e. each_are w (suc n) ss zs e) h
   where
@@ -48,11 +49,11 @@ each_few w n (s ∷ ss) h =
     let rest = each_few w (suc n) ss (omega (arith, both, h)) in
     (λ i. after_flat (one i) (rest i))
 
-abbrev values_of : Option (List FlatType) → Option (List ValType)
+abbrev pub values_of : Option (List FlatType) → Option (List ValType)
 values_of None = None
 values_of (Some fs) = Some (map value_type fs)
 
-by_each : (m : Bool) (limit : ℕ) (ss : List Shape) → flat_values m limit ss ≡ values_of (when_upto limit (flat_each (width m) ss))
+pub by_each : (m : Bool) (limit : ℕ) (ss : List Shape) → flat_values m limit ss ≡ values_of (when_upto limit (flat_each (width m) ss))
 by_each m limit ss = go (when_upto limit (flat_each (width m) ss))
   where
     flat_of : Option (List FlatType) → Option (List ValType)
@@ -86,6 +87,31 @@ are_flat m limit ss ts h = go (flat_each (width m) ss) refl (sym (by_each m limi
     go : (o : Option (List FlatType)) → flat_each (width m) ss ≡ o → values_of (when_upto limit o) ≡ Some ts → AreFlat m limit ss ts
     go None e h = cc
     go (Some xs) e h = limited xs (nat_le (length xs) limit) refl e h
+
+-- ---- flat on a side, be it sync or async
+
+flat_less : (m : Bool) (limit : ℕ) (ss : List Shape) (ts : List ValType) → limit ≤ 16 → AreFlat m limit ss ts → AreFlat m 16 ss ts
+flat_less m limit ss ts small f = record { are = f.are; few = omega (arith, f.few, small) }
+
+pub lower_limit_small : (mark : Bool) → lower_limit mark ≤ 16
+lower_limit_small true = omega arith
+lower_limit_small false = omega arith
+
+pub lift_results_small : (mark : Bool) → lift_results_limit mark ≤ 16
+lift_results_small true = omega arith
+lift_results_small false = omega arith
+
+pub params_flat : (m mark : Bool) (ss : List Shape) (ts : List ValType) → flat_values m (lower_limit mark) ss ≡ Some ts → AreFlat m 16 ss ts
+params_flat m mark ss ts e = flat_less m (lower_limit mark) ss ts (lower_limit_small mark) (are_flat m (lower_limit mark) ss ts e)
+
+pub given_flat : (m mark : Bool) (ss : List Shape) (ts : List ValType) → flat_values m (lift_results_limit mark) ss ≡ Some ts → AreFlat m 16 ss ts
+given_flat m mark ss ts e = flat_less m (lift_results_limit mark) ss ts (lift_results_small mark) (are_flat m (lift_results_limit mark) ss ts e)
+
+-- an async side that lowers gets no flat values: there are no results then
+pub lowered_flat : (m mark : Bool) (ss : List Shape) (ts : List ValType) → lowered_flats mark m ss ≡ Some ts → AreFlat m 16 ss ts
+lowered_flat m false ss ts e = flat_less m 1 ss ts (omega arith) (are_flat m 1 ss ts e)
+lowered_flat m true [] ts e = let none : [] ≡ ts = cc in record { are = sym none; few = omega arith }
+lowered_flat m true (s ∷ ss) ts e = cc
 
 -- ---- room
 

@@ -1,6 +1,7 @@
 -- The tuples of a function's parameters and results have their shapes.
-use Rattle.std.proofs.Common.{◌≡◌, ℕ, zero, suc, ◌<◌, List, [], ◌∷◌, Some, refl, sym, ◌∙◌, ap, subst, arith, length, slice_get}
-use Rattle.std.specs.Prelude.{option_map}
+use Rattle.std.proofs.Common.{◌≡◌, ℕ, zero, suc, ◌<◌, Bool, true, List, [], ◌∷◌, Some, refl, sym, ◌∙◌, ap, subst, arith, length, slice_get}
+use Rattle.std.specs.Prelude.{option_map, is_some, nat_eq}
+use Rattle.std.proofs.lemmas.Bool.{ne_eqb}
 use Rattle.fact_entity.specs.declared.id.Id.{Id}
 use Rattle.fact_entity.specs.declared.table.TypeFuncs.{TypeFuncs}
 use Rattle.fact_entity.specs.declared.table.TypeTuples.{TypeTuples}
@@ -10,8 +11,9 @@ use Rattle.fact_types.specs.declared.kinds.TypeFunc.{TypeFunc}
 use Rattle.fact_types.specs.declared.kinds.TypeTuple.{TypeTuple}
 use Rattle.fact_types.specs.Functions.{HaveShapes, HasSignature}
 use Rattle.fact_types.specs.Shapes.{Shape}
-use Rattle.fact_types.specs.Tables.{Tables, tuple_node, placed, HasShape, HasMembers, IsLive}
+use Rattle.fact_types.specs.Tables.{Tables, Node, tuple_node, placed, HasShape, HasMembers, IsLive}
 use Rattle.fact_types.specs.Tuples.{members_from, tuple_of}
+use Rattle.fact_moves.specs.Adapters.{lowered_flats}
 
 have_members : (t : Tables) (n : ℕ) (xs : List InterfaceType) (ss : List Shape) → HaveShapes t xs ss → HasMembers t (placed n xs) (members_from n ss)
 have_members t n [] [] h = tt
@@ -42,3 +44,16 @@ module _ {t : Tables} {i : Id TypeFuncs} {f : TypeFunc} (there : slice_get t.fun
 
   pub results_live : IsLive t (t_tuple f.results)
   results_live = subst (λ (g : TypeFunc). g.results.number < length t.tuples) same_func (get_below t.tuples h.func.results.number h.given h.given_there)
+
+-- a tuple without types is that of no shapes
+pub none_lowered : (t : Tables) (i : Id TypeTuples) {e : TypeTuple} (m : Bool) (ss : List Shape) → slice_get t.tuples i.number ≡ Some e → HasShape t (t_tuple i) (tuple_of ss) → nat_eq (length e.types) 0 ≡ is_some (lowered_flats true m ss)
+none_lowered t i {e} m ss there h = go e.types ss members
+  where
+    members : HasMembers t (placed 0 e.types) (members_from 0 ss)
+    members = let is : h.0 ≡ tuple_node e = let same : Some h.0 ≡ Some (tuple_node e) = sym h.1 ∙ ap (option_map tuple_node) there in cc in subst (λ (n : Node). HasMembers t n.members (members_from 0 ss)) is h.3
+
+    go : (xs : List InterfaceType) (ss : List Shape) → HasMembers t (placed 0 xs) (members_from 0 ss) → nat_eq (length xs) 0 ≡ is_some (lowered_flats true m ss)
+    go [] [] h = refl
+    go [] (s ∷ ss) h = absurd h
+    go (x ∷ xs) [] h = absurd h
+    go (x ∷ xs) (s ∷ ss) h = ne_eqb (length (x ∷ xs)) 0 (λ e. omega (arith, e))

@@ -1,6 +1,12 @@
 pub mod AdapterPlaced
 pub mod Addresses
+pub mod AsyncBodies
+pub mod AsyncFunctions
 pub mod CallOptions
+pub mod CoreCounts
+pub mod EntryFacts
+pub mod EntryFunctions
+pub mod EntrySteps
 pub mod FlagGuards
 pub mod Flats
 pub mod Fronts
@@ -14,6 +20,7 @@ pub mod PassedOnCode
 pub mod PassedOnMoves
 pub mod RangedSteps
 pub mod ResultMoves
+pub mod ResultPlaces
 pub mod Runs
 pub mod SameInstanceFunctions
 pub mod SameNumbers

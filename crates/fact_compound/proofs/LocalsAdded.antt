@@ -45,10 +45,10 @@ last_off_slots ls few e = ap slots_of_locals e ∙ slots_take (length ls - 1) ls
 added_none : (a : Writer) → AddedLocals a a [] []
 added_none a = record { code = refl; imports = refl; locals = sym (append-nil a.locals.items); slots_are = refl }
 
-added_one : {a b : Writer} {t : ValType} {i : ℕ} → AddedLocal a b t i → AddedLocals a b (t ∷ []) ((i, t) ∷ [])
+pub added_one : {a b : Writer} {t : ValType} {i : ℕ} → AddedLocal a b t i → AddedLocals a b (t ∷ []) ((i, t) ∷ [])
 added_one {t = t} x = record { code = x.code; imports = x.imports; locals = x.locals; slots_are = ap (λ k. (k, t) ∷ []) x.place }
 
-added_then : {a b c : Writer} {ts us : List ValType} {ss rs : List Slot} → AddedLocals a b ts ss → AddedLocals b c us rs → AddedLocals a c (ts ++ us) (ss ++ rs)
+pub added_then : {a b c : Writer} {ts us : List ValType} {ss rs : List Slot} → AddedLocals a b ts ss → AddedLocals b c us rs → AddedLocals a c (ts ++ us) (ss ++ rs)
 added_then {a} {b} {c} {ts} {us} {ss} {rs} x y = record {
   code = y.code ∙ x.code;
   imports = y.imports ∙ x.imports;

@@ -39,12 +39,12 @@ use Rattle.fact_emit.specs.NewAreas.{HoldsArea}
 use Rattle.fact_emit.specs.Places.{AreDistinctSlots, HasDistinctSlots, TargetTaken, setting_of, Using}
 use Rattle.fact_emit.specs.Requests.{IsReallocOf}
 use Rattle.fact_emit.specs.declared.places.LinearMemory.{LinearMemory}
-use Rattle.fact_compound.specs.Described.{DescribesAdapter, HasListsOf, HasNewTupleMemory, HasTupleMemory, linear_of}
+use Rattle.fact_compound.specs.Described.{DescribesTransfers, HasListsOf, HasNewTupleMemory, HasTupleMemory, linear_of}
 use Rattle.fact_compound.specs.Passed.{MovesParams, params_sides}
 use Rattle.fact_compound.specs.Passing.{AsksTuple, last_local, tuple_from, tuple_to, tuple_size, tuple_align}
 use Rattle.fact_compound.specs.declared.adapters.AdapterData.{AdapterData}
 use Rattle.fact_compound.proofs.Addresses.{pointed, pointed_local}
-use Rattle.fact_compound.proofs.Flats.{are_flat}
+use Rattle.fact_compound.proofs.Flats.{are_flat, params_flat}
 use Rattle.fact_compound.proofs.Fronts.{fields_front}
 use Rattle.fact_compound.proofs.ResultMoves.{IsPassed, IsReached, checks_on, from_is, goes_passed, passed, passed_address, passed_binds, passed_from, passed_to, passes, passes_typed, reads_passed, stands_passed, writes_passed}
 use Rattle.fact_compound.proofs.Slots.{HeldParts, held_parts, keeps_less, slots_long, values_long}
@@ -153,17 +153,17 @@ module _ (u : AdapterTunables) (a : LinkedAdapter) where
       go None = refl
 
   -- the move, whether or not parameters are flat on either side
-  params_by : (args : List CoreValue) (fs gs : Option (List ValType)) → a.lower.async_side ≡ false → flat_values (is_wide a.lower.memory) 16 a.lower.params ≡ fs → flat_values (is_wide a.lift.memory) 16 a.lift.params ≡ gs
+  params_by : (args : List CoreValue) (fs gs : Option (List ValType)) → flat_values (is_wide a.lower.memory) (lower_limit a.lower.async_side) a.lower.params ≡ fs → flat_values (is_wide a.lift.memory) 16 a.lift.params ≡ gs
       → move_params u a args ≡ passed fs (options_of a.lower) a.lower.params (first_bits args) (asked u.concurrency gs (options_of a.lift) a.lift.params (λ at. finished gs (options_of a.lift) at (fields (passed_from fs args) (passed_to gs at))))
-  params_by args fs gs sync e f =
-      from_is u a (options_of a.lower) (lower_limit a.lower.async_side) a.lower.params args (λ s. into_params (params_transfer u a) a.lift.params (λ d. fields s d)) fs (ap (λ b. flat_values (is_wide a.lower.memory) (lower_limit b) a.lower.params) sync ∙ e)
+  params_by args fs gs e f =
+      from_is u a (options_of a.lower) (lower_limit a.lower.async_side) a.lower.params args (λ s. into_params (params_transfer u a) a.lift.params (λ d. fields s d)) fs e
       ∙ ap (passed fs (options_of a.lower) a.lower.params (first_bits args)) (into_is (λ d. fields (passed_from fs args) d) gs f)
 
 -- ---- what is known of the locals
 
 -- The locals of parameters: those of the lower side are kept, and those of the callee's are not.
 pub record ParamLocals (a : LinkedAdapter) (fs gs : Option (List ValType)) (params core : List Slot) (locals : List ValType) (kept taken : ℕ → Bool) : Type 0 where
-  pub lower_is : flat_values (is_wide a.lower.memory) 16 a.lower.params ≡ fs
+  pub lower_is : flat_values (is_wide a.lower.memory) (lower_limit a.lower.async_side) a.lower.params ≡ fs
   pub lift_is : flat_values (is_wide a.lift.memory) 16 a.lift.params ≡ gs
   pub params_types : slot_types params ≡ flat_or (address (is_wide a.lower.memory) ∷ []) fs
   pub core_types : slot_types core ≡ flat_or (address (is_wide a.lift.memory) ∷ []) gs
@@ -196,7 +196,7 @@ AskedBy None M p o m = IsLinearMemoryOf M p o m × IsReallocOf M p o m
 pub record IsAsked (flats : Option (List ValType)) (M : WasmModule) (p : ImportPlaces) (o : LiftLowerOptions) (m : LinearMemory) : Type 0 where
   pub by : AskedBy flats M p o m
 
-last_used : (u : ℕ → Bool) (ss : List Slot) (t : ValType) → slot_types ss ≡ t ∷ [] → AreUsed u ss → u (last_local ss) ≡ true
+pub last_used : (u : ℕ → Bool) (ss : List Slot) (t : ValType) → slot_types ss ≡ t ∷ [] → AreUsed u ss → u (last_local ss) ≡ true
 last_used u [] t e h = cc
 last_used u (s ∷ r ∷ ss) t e h = cc
 last_used u (s ∷ []) t e h = h.0
@@ -278,7 +278,7 @@ during_within None kept taken core t types inside used i u = go (nat_eq i (last_
 -- ---- the move
 
 -- what was given to the slots of the parameters, whatever stands behind them
-first_same : (front rest : List CoreValue) (ls : Locals) (ss : List Slot) (t : ValType) → slot_types ss ≡ t ∷ [] → AreHeld ls ss front → first_bits (front ++ rest) ≡ first_bits front
+pub first_same : (front rest : List CoreValue) (ls : Locals) (ss : List Slot) (t : ValType) → slot_types ss ≡ t ∷ [] → AreHeld ls ss front → first_bits (front ++ rest) ≡ first_bits front
 first_same [] rest ls [] t e h = cc
 first_same [] rest ls (s ∷ ss) t e h = absurd h
 first_same (v ∷ front) rest ls ss t e h = refl
@@ -289,7 +289,7 @@ goes_core : (flats : Option (List ValType)) (flat : Bool) (M : WasmModule) (p : 
 goes_core (Some fs) false M p o m ts core at wide few f e types l un s = absurd (let no : false ≡ true = f in cc)
 goes_core None true M p o m ts core at wide few f e types l un s = absurd (let no : true ≡ false = f in cc)
 goes_core (Some fs) true M p {locals} {kept} o m ts core at wide few f e types l un s =
-    goes_passed M p locals kept o m ts wide few 16 (omega arith) (Some fs) true core core at refl e (λ us same. let is : fs ≡ us = cc in types ∙ is) l un (record { by = tt })
+    goes_passed M p locals kept o m ts wide few (Some fs) true core core at refl e (λ us same. let is : fs ≡ us = cc in types ∙ is) l un (record { by = tt })
 goes_core None false M p o m ts core at wide few f e types l un s = record { start = at; there = s.by.there; is = omega arith }
 
 -- the core values are in their locals
@@ -307,7 +307,7 @@ finishes None false {kept = kept} o m core at wide f types s d =
       keeps_less (local_more kept (last_local core)) r.1,
     )) d
 
-module _ {t : Tables} {d : AdapterData} {debug concurrency : Bool} {u : AdapterTunables} {a : LinkedAdapter} (h : DescribesAdapter t d debug u a) (same : concurrency ≡ u.concurrency) {M : WasmModule} {p : ImportPlaces} {locals : List ValType} {taken kept : ℕ → Bool} {code : List Instr} (params core : List Slot)
+module _ {t : Tables} {d : AdapterData} {debug concurrency : Bool} {u : AdapterTunables} {a : LinkedAdapter} (h : DescribesTransfers t d debug u a) (same : concurrency ≡ u.concurrency) {M : WasmModule} {p : ImportPlaces} {locals : List ValType} {taken kept : ℕ → Bool} {code : List Instr} (params core : List Slot)
     (k : MovesParams d debug concurrency params core taken a.lower.params a.lift.params M p locals code) (fs gs : Option (List ValType)) (r : ParamLocals a fs gs params core locals kept taken)
     (lists : HasListsOf M p (linear_of d.lower) (linear_of d.lift) (options_of a.lower) (options_of a.lift) a.lower.params) (memory : HasTupleMemory M p d.lower a.lower fs) (area : HasNewTupleMemory M p d.lift a.lift gs) where
   abbrev rooms : Rooms
@@ -326,7 +326,7 @@ module _ {t : Tables} {d : AdapterData} {debug concurrency : Bool} {u : AdapterT
   lift = linear_of d.lift
 
   abbrev lower_flat : Bool
-  lower_flat = is_some (flat_values lower.memory64 16 a.lower.params)
+  lower_flat = is_some (flat_values lower.memory64 (lower_limit d.lower.options.async_) a.lower.params)
 
   abbrev lift_flat : Bool
   lift_flat = is_some (flat_values lift.memory64 16 a.lift.params)
@@ -335,7 +335,7 @@ module _ {t : Tables} {d : AdapterData} {debug concurrency : Bool} {u : AdapterT
   used = during gs kept core
 
   lower_flat_is : lower_flat ≡ is_some fs
-  lower_flat_is = ap (λ m. is_some (flat_values m 16 a.lower.params)) (sym h.lower.wide) ∙ ap is_some r.lower_is
+  lower_flat_is = sym (λ i. is_some (flat_values (h.lower.wide i) (lower_limit (h.lower.mark i)) a.lower.params)) ∙ ap is_some r.lower_is
 
   lift_flat_is : lift_flat ≡ is_some gs
   lift_flat_is = ap (λ m. is_some (flat_values m 16 a.lift.params)) (sym h.lift.wide) ∙ ap is_some r.lift_is
@@ -375,8 +375,8 @@ module _ {t : Tables} {d : AdapterData} {debug concurrency : Bool} {u : AdapterT
   params_fit = record {
     from_wide = h.lower.wide;
     to_wide = h.lift.wide;
-    reads = reads_passed M p locals kept (options_of a.lower) lower a.lower.params h.lower.wide k.lower_size 16 (omega arith) fs lower_flat params lower_flat_is r.lower_is (λ ts e. r.params_types ∙ ap (flat_or (address (is_wide a.lower.memory) ∷ [])) e) r.params_typed params_reached;
-    writes = writes_passed M p locals kept (options_of a.lift) lift a.lift.params h.lift.wide k.lift_size 16 (omega arith) gs lift_flat core core lift_flat_is r.lift_is (λ ts e. r.core_types ∙ ap (flat_or (address (is_wide a.lift.memory) ∷ [])) e) r.core_typed
+    reads = reads_passed M p locals kept (options_of a.lower) lower a.lower.params h.lower.wide k.lower_size fs lower_flat params lower_flat_is (λ ts e. params_flat (is_wide a.lower.memory) a.lower.async_side a.lower.params ts (r.lower_is ∙ e)) (λ ts e. r.params_types ∙ ap (flat_or (address (is_wide a.lower.memory) ∷ [])) e) r.params_typed params_reached;
+    writes = writes_passed M p locals kept (options_of a.lift) lift a.lift.params h.lift.wide k.lift_size gs lift_flat core core lift_flat_is (λ ts e. are_flat (is_wide a.lift.memory) 16 a.lift.params ts (r.lift_is ∙ e)) (λ ts e. r.core_types ∙ ap (flat_or (address (is_wide a.lift.memory) ∷ [])) e) r.core_typed
         (area_reached gs (options_of a.lift) lift core is_asked core_types r.core_typed);
     within = record { source = from_within lower (is_wide a.lower.memory) a.lower.params lower_flat params h.lower.wide; target = to_within lift (is_wide a.lift.memory) a.lift.params lift_flat core core h.lift.wide };
     lists = lists;
@@ -421,9 +421,9 @@ module _ {t : Tables} {d : AdapterData} {debug concurrency : Bool} {u : AdapterT
   source_is : (ls : Locals) (front rest : List CoreValue) → AreHeld ls params front → length front ≡ length params → (d' : Target) → fields u a (passed_from fs (front ++ rest)) d' ≡ fields u a (passed_from fs front) d'
   source_is ls front rest g long d' = go fs r.lower_is params_types
     where
-      go : (fs : Option (List ValType)) → flat_values (is_wide a.lower.memory) 16 a.lower.params ≡ fs → slot_types params ≡ flat_or (address lower.memory64 ∷ []) fs → fields u a (passed_from fs (front ++ rest)) d' ≡ fields u a (passed_from fs front) d'
+      go : (fs : Option (List ValType)) → flat_values (is_wide a.lower.memory) (lower_limit a.lower.async_side) a.lower.params ≡ fs → slot_types params ≡ flat_or (address lower.memory64 ∷ []) fs → fields u a (passed_from fs (front ++ rest)) d' ≡ fields u a (passed_from fs front) d'
       go (Some flats) e types =
-          let one = are_flat (is_wide a.lower.memory) 16 a.lower.params flats e in
+          let one = params_flat (is_wide a.lower.memory) a.lower.async_side a.lower.params flats e in
           fields_front (params_transfer u a) (tuple_members a.lower.params) (tuple_members a.lift.params) 0 front rest d' h.params.from_counted one.few
           (long ∙ sym (slots_long params) ∙ ap length (types ∙ one.are) ∙ values_long (flat_members (width (is_wide a.lower.memory)) (tuple_members a.lower.params)))
       go None e types = ap (λ n. fields u a (AtAddress n) d') (first_same front rest ls params (address lower.memory64) types g)
@@ -452,7 +452,7 @@ module _ {t : Tables} {d : AdapterData} {debug concurrency : Bool} {u : AdapterT
         target = to_room gs lift_flat lift core core ls2 at rooms.to lift_flat_is (area_address gs s) (area_room gs s);
       } in
       let moved = (k.moves.moves o o' rooms used params_using params_fit).effect ls2 (passed_from fs front) (passed_to gs at) held2
-      (stands_passed M p locals kept o lower a.lower.params h.lower.wide k.lower_size 16 (omega arith) fs lower_flat params front lower_flat_is given (params_passed ls2 front given))
+      (stands_passed M p locals kept o lower a.lower.params h.lower.wide k.lower_size fs lower_flat params front lower_flat_is given (params_passed ls2 front given))
       (goes_core gs lift_flat M p o' lift a.lift.params core at h.lift.wide k.lift_size lift_flat_is held2 core_types r.core_typed r.core_unused s) roomy in
       finishes gs lift_flat o' lift core at h.lift.wide lift_flat_is core_types s
       (subst (λ tr. Does M p Onward 0 0 [] ls2 k.move (move_fields tr (tuple_members a.lower.params) (tuple_members a.lift.params) 0 (passed_from fs front) (passed_to gs at)) (λ vs. []) (λ vs ls'. Stood ls' (tuple_to lift lift_flat core core) vs × KeepsLocals used ls2 ls'))
@@ -465,7 +465,7 @@ module _ {t : Tables} {d : AdapterData} {debug concurrency : Bool} {u : AdapterT
       ∙ ap (passed fs o a.lower.params (first_bits front)) (asked_binds u.concurrency gs o' a.lift.params (λ at. Give at) (λ at. finished gs o' at (q at)))
       ∙ (λ i. passed fs o a.lower.params (first_bits front) (asked u.concurrency gs o' a.lift.params (λ at. finished gs o' at (sym (source_is ls front parts.rest parts.in_front parts.long (passed_to gs at)) i))))
       ∙ pointer_is ls front parts.rest (asked u.concurrency gs o' a.lift.params (λ at. finished gs o' at (fields u a (passed_from fs (front ++ parts.rest)) (passed_to gs at)))) parts.in_front
-      ∙ sym (params_by u a (front ++ parts.rest) fs gs h.lower.sync r.lower_is r.lift_is) ∙ ap (move_params u a) (sym parts.all) in
+      ∙ sym (params_by u a (front ++ parts.rest) fs gs r.lower_is r.lift_is) ∙ ap (move_params u a) (sym parts.all) in
       subst (λ q. Does M p Onward 384 0 [] ls code q (λ vs. []) (λ vs ls'. AreHeld ls' core vs × KeepsLocals kept ls ls')) is
       (subst (λ c. Does M p Onward 384 0 [] ls c (passed fs o a.lower.params (first_bits front) (Give []) >>= (λ (no : List CoreValue). asked u.concurrency gs o' a.lift.params (λ at. Give at) >>= (λ at. finished gs o' at (q at)))) (λ vs. []) (λ vs ls'. AreHeld ls' core vs × KeepsLocals kept ls ls')) (sym k.is)
       (within {extra = 100} {spare = 0} (omega arith) all))

@@ -1,5 +1,5 @@
 -- Results are moved behind the checks of the areas that they are passed through.
-use Rattle.std.proofs.Common.{◌≡◌, ℕ, ◌+◌, ◌^◌, ◌<◌, ◌≤◌, Bool, true, false, List, [], ◌∷◌, ◌++◌, Option, Some, None, refl, sym, ap, ◌∙◌, subst, arith, slice_get}
+use Rattle.std.proofs.Common.{◌≡◌, ℕ, ◌+◌, ◌^◌, ◌<◌, ◌≤◌, Bool, true, false, List, [], ◌++◌, Option, Some, None, refl, sym, ap, ◌∙◌, subst, arith, slice_get}
 use Rattle.std.specs.Prelude.{is_some}
 use Rattle.fact_wasm.specs.declared.types.ValType.{ValType}
 use Rattle.fact_wasm.specs.declared.instr.Instr.{Instr}
@@ -30,11 +30,11 @@ use Rattle.fact_emit.specs.Fitting.{CanRead, CanWrite, MovesTuple, FitsShapes, A
 use Rattle.fact_emit.specs.Places.{checks_at, setting_of, Using}
 use Rattle.fact_emit.specs.declared.places.LinearMemory.{LinearMemory}
 use Rattle.fact_types.proofs.PlaceLaws.{sound_in}
-use Rattle.fact_compound.specs.Described.{DescribesAdapter, HasListsOf, linear_of}
+use Rattle.fact_compound.specs.Described.{DescribesTransfers, HasListsOf, linear_of}
 use Rattle.fact_compound.specs.Passed.{results_sides}
 use Rattle.fact_compound.specs.Passing.{last_local, tuple_from, tuple_to, tuple_size, tuple_align, ChecksTuple}
 use Rattle.fact_compound.specs.declared.adapters.AdapterData.{AdapterData}
-use Rattle.fact_compound.proofs.Flats.{are_flat}
+use Rattle.fact_compound.proofs.Flats.{AreFlat, given_flat, lowered_flat}
 use Rattle.fact_compound.proofs.Slots.{slots_free, flats_fit}
 use Rattle.fact_compound.proofs.StepRules.{unvisited, region_binds}
 use Rattle.fact_compound.proofs.SyncSteps.{slot_types, AreUnused}
@@ -65,7 +65,7 @@ passed_binds (Some flats) o ts pointer q f = refl
 passed_binds None o ts pointer q f = region_binds o MemoryOutOfBounds pointer _ _ q f
 
 module _ (u : AdapterTunables) (a : LinkedAdapter) where
-  abbrev fields : Source → Target → Action (List CoreValue)
+  abbrev pub fields : Source → Target → Action (List CoreValue)
   fields s d = move_fields (results_transfer u a) (tuple_members a.lift.results) (tuple_members a.lower.results) 0 s d
 
   pub from_is : (o : LiftLowerOptions) (limit : ℕ) (ts : List Shape) (vs : List CoreValue) (k : Source → Action (List CoreValue)) (flats : Option (List ValType)) → flat_values (is_wide o.memory) limit ts ≡ flats
@@ -79,30 +79,21 @@ module _ (u : AdapterTunables) (a : LinkedAdapter) where
       go (Some fs) = refl
       go None = refl
 
-  into_is : (s : Side) (pointer : ℕ) (k : Target → Action (List CoreValue)) (flats : Option (List ValType)) → s.async_side ≡ false → flat_values (is_wide s.memory) 1 s.results ≡ flats
-      → into_results s pointer k ≡ passed flats (options_of s) s.results pointer (k (passed_to flats pointer))
-  into_is s pointer k flats sync e = ap by_flats (flat_is ∙ e) ∙ go flats
+  into_is : (s : Side) (pointer : ℕ) (k : Target → Action (List CoreValue)) (flats : Option (List ValType)) → flat_results s ≡ flats → into_results s pointer k ≡ passed flats (options_of s) s.results pointer (k (passed_to flats pointer))
+  into_is s pointer k flats e = ap by_flats e ∙ go flats
     where
       by_flats : Option (List ValType) → Action (List CoreValue)
       by_flats x = elim x as (λ (x : Option (List ValType)). Action (List CoreValue)) [ Some flats ↦ k (Slots flats) | None ↦ check_tuple (options_of s) s.results pointer (k (Into pointer)) ]
-
-      by_mark : Bool → List Shape → Option (List ValType)
-      by_mark false ts = flat_values (is_wide s.memory) 1 ts
-      by_mark true [] = Some []
-      by_mark true (t ∷ ts) = None
-
-      flat_is : flat_results s ≡ flat_values (is_wide s.memory) 1 s.results
-      flat_is = ap (λ b. by_mark b s.results) sync
 
       go : (x : Option (List ValType)) → by_flats x ≡ passed x (options_of s) s.results pointer (k (passed_to x pointer))
       go (Some fs) = refl
       go None = refl
 
-  results_are : (given : List CoreValue) (pointer : ℕ) (fs gs : Option (List ValType)) → a.lift.async_side ≡ false → a.lower.async_side ≡ false → flat_values (is_wide a.lift.memory) 1 a.lift.results ≡ fs → flat_values (is_wide a.lower.memory) 1 a.lower.results ≡ gs
+  pub results_are : (given : List CoreValue) (pointer : ℕ) (fs gs : Option (List ValType)) → flat_values (is_wide a.lift.memory) (lift_results_limit a.lift.async_side) a.lift.results ≡ fs → flat_results a.lower ≡ gs
       → move_results u a given pointer ≡ passed fs (options_of a.lift) a.lift.results (first_bits given) (passed gs (options_of a.lower) a.lower.results pointer (fields (passed_from fs given) (passed_to gs pointer)))
-  results_are given pointer fs gs lift lower e f =
-      from_is (options_of a.lift) (lift_results_limit a.lift.async_side) a.lift.results given (λ s. into_results a.lower pointer (λ d. fields s d)) fs (ap (λ b. flat_values (is_wide a.lift.memory) (lift_results_limit b) a.lift.results) lift ∙ e)
-      ∙ ap (λ q. passed fs (options_of a.lift) a.lift.results (first_bits given) q) (into_is a.lower pointer (λ d. fields (passed_from fs given) d) gs lower f)
+  results_are given pointer fs gs e f =
+      from_is (options_of a.lift) (lift_results_limit a.lift.async_side) a.lift.results given (λ s. into_results a.lower pointer (λ d. fields s d)) fs e
+      ∙ ap (λ q. passed fs (options_of a.lift) a.lift.results (first_bits given) q) (into_is a.lower pointer (λ d. fields (passed_from fs given) d) gs f)
 
 -- ---- the checks
 
@@ -170,29 +161,29 @@ passes_typed None false taken o m address size align f h c = c.typed o h.by.0 h.
 
 -- ---- the places
 
-module _ (M : WasmModule) (p : ImportPlaces) (locals : List ValType) (kept : ℕ → Bool) (o : LiftLowerOptions) (m : LinearMemory) (ts : List Shape) (wide : is_wide o.memory ≡ m.memory64) (few : tuple_size m.memory64 ts ≤ 4294967295) (limit : ℕ) (least : limit ≤ 16) where
+module _ (M : WasmModule) (p : ImportPlaces) (locals : List ValType) (kept : ℕ → Bool) (o : LiftLowerOptions) (m : LinearMemory) (ts : List Shape) (wide : is_wide o.memory ≡ m.memory64) (few : tuple_size m.memory64 ts ≤ 4294967295) where
   -- the area has offsets
   reached : (address : ℕ) → IsLinearMemoryOf M p o m × (slice_get locals address ≡ Some (address_type m.memory64)) → AddressFits M p locals o m.memory64 m.memory address 0 (tuple_size (is_wide o.memory) ts)
   reached address h =
       let same : tuple_size (is_wide o.memory) ts ≡ tuple_size m.memory64 ts = ap (λ b. tuple_size b ts) wide in
       record { side = h.0.side; local = h.1; reach = omega (arith, same, few) }
 
-  pub reads_passed : (flats : Option (List ValType)) (flat : Bool) (given : List Slot) → flat ≡ is_some flats → flat_values (is_wide o.memory) limit ts ≡ flats → ((fs : List ValType) → flats ≡ Some fs → slot_types given ≡ fs) → AreLocals locals given
+  pub reads_passed : (flats : Option (List ValType)) (flat : Bool) (given : List Slot) → flat ≡ is_some flats → ((fs : List ValType) → flats ≡ Some fs → AreFlat (is_wide o.memory) 16 ts fs) → ((fs : List ValType) → flats ≡ Some fs → slot_types given ≡ fs) → AreLocals locals given
       → IsReached flats M p o m locals (last_local given) → CanRead M p locals o m.memory64 (tuple_from m flat given) (flat_members (width (is_wide o.memory)) (tuple_members ts)) (tuple_size (is_wide o.memory) ts)
   reads_passed (Some fs) false given f e types l h = absurd (let no : false ≡ true = f in cc)
   reads_passed None true given f e types l h = absurd (let no : true ≡ false = f in cc)
   reads_passed (Some fs) true given f e types l h =
-      let one = are_flat (is_wide o.memory) limit ts fs e in
-      flats_fit locals given (flat_members (width (is_wide o.memory)) (tuple_members ts)) (types fs refl ∙ one.are) l (omega (arith, one.few, least))
+      let one = e fs refl in
+      flats_fit locals given (flat_members (width (is_wide o.memory)) (tuple_members ts)) (types fs refl ∙ one.are) l one.few
   reads_passed None false given f e types l h = reached (last_local given) h.by
 
-  pub writes_passed : (flats : Option (List ValType)) (flat : Bool) (results args : List Slot) → flat ≡ is_some flats → flat_values (is_wide o.memory) limit ts ≡ flats → ((fs : List ValType) → flats ≡ Some fs → slot_types results ≡ fs) → AreLocals locals results
+  pub writes_passed : (flats : Option (List ValType)) (flat : Bool) (results args : List Slot) → flat ≡ is_some flats → ((fs : List ValType) → flats ≡ Some fs → AreFlat (is_wide o.memory) 16 ts fs) → ((fs : List ValType) → flats ≡ Some fs → slot_types results ≡ fs) → AreLocals locals results
       → IsReached flats M p o m locals (last_local args) → CanWrite M p locals o m.memory64 (tuple_to m flat results args) (flat_members (width (is_wide o.memory)) (tuple_members ts)) (tuple_size (is_wide o.memory) ts)
   writes_passed (Some fs) false results args f e types l h = absurd (let no : false ≡ true = f in cc)
   writes_passed None true results args f e types l h = absurd (let no : true ≡ false = f in cc)
   writes_passed (Some fs) true results args f e types l h =
-      let one = are_flat (is_wide o.memory) limit ts fs e in
-      flats_fit locals results (flat_members (width (is_wide o.memory)) (tuple_members ts)) (types fs refl ∙ one.are) l (omega (arith, one.few, least))
+      let one = e fs refl in
+      flats_fit locals results (flat_members (width (is_wide o.memory)) (tuple_members ts)) (types fs refl ∙ one.are) l one.few
   writes_passed None false results args f e types l h = reached (last_local args) h.by
 
   pub stands_passed : (flats : Option (List ValType)) (flat : Bool) (given : List Slot) (vs : List CoreValue) {ls : Locals} → flat ≡ is_some flats → AreHeld ls given vs → IsPassed flats M p o m locals kept ls (last_local given) (first_bits vs)
@@ -221,8 +212,8 @@ stood_passed None false m results args vs ls f none h =
 
 -- The locals of results: those of the callee's results are kept, and the adapter's own results are not.
 pub record ResultLocals (a : LinkedAdapter) (fs gs : Option (List ValType)) (given results : List Slot) (locals : List ValType) (kept : ℕ → Bool) : Type 0 where
-  pub lift_is : flat_values (is_wide a.lift.memory) 1 a.lift.results ≡ fs
-  pub lower_is : flat_values (is_wide a.lower.memory) 1 a.lower.results ≡ gs
+  pub lift_is : flat_values (is_wide a.lift.memory) (lift_results_limit a.lift.async_side) a.lift.results ≡ fs
+  pub lower_is : flat_results a.lower ≡ gs
   pub given_types : (ts : List ValType) → fs ≡ Some ts → slot_types given ≡ ts
   pub results_types : (ts : List ValType) → gs ≡ Some ts → slot_types results ≡ ts
   pub no_results : gs ≡ None → results ≡ []
@@ -230,7 +221,7 @@ pub record ResultLocals (a : LinkedAdapter) (fs gs : Option (List ValType)) (giv
   pub results_typed : AreLocals locals results
   pub results_unused : AreUnused kept results
 
-module _ {t : Tables} {d : AdapterData} {debug concurrency : Bool} {u : AdapterTunables} {a : LinkedAdapter} (h : DescribesAdapter t d debug u a) (same : concurrency ≡ u.concurrency) where
+module _ {t : Tables} {d : AdapterData} {debug concurrency : Bool} {u : AdapterTunables} {a : LinkedAdapter} (h : DescribesTransfers t d debug u a) (same : concurrency ≡ u.concurrency) where
   abbrev rooms : Rooms
   rooms = tuple_rooms (linear_of d.lift) (linear_of d.lower) a.lift.results a.lower.results
 
@@ -249,8 +240,8 @@ module _ {t : Tables} {d : AdapterData} {debug concurrency : Bool} {u : AdapterT
   results_fit {M} {p} {locals} kept fs gs lift_flat lower_flat given results args lf wf r few few' from to lists = record {
     from_wide = h.lift.wide;
     to_wide = h.lower.wide;
-    reads = reads_passed M p locals kept (options_of a.lift) (linear_of d.lift) a.lift.results h.lift.wide few 1 (omega arith) fs lift_flat given lf r.lift_is r.given_types r.given_typed from;
-    writes = writes_passed M p locals kept (options_of a.lower) (linear_of d.lower) a.lower.results h.lower.wide few' 1 (omega arith) gs lower_flat results args wf r.lower_is r.results_types r.results_typed to;
+    reads = reads_passed M p locals kept (options_of a.lift) (linear_of d.lift) a.lift.results h.lift.wide few fs lift_flat given lf (λ ts e. given_flat (is_wide a.lift.memory) a.lift.async_side a.lift.results ts (r.lift_is ∙ e)) r.given_types r.given_typed from;
+    writes = writes_passed M p locals kept (options_of a.lower) (linear_of d.lower) a.lower.results h.lower.wide few' gs lower_flat results args wf (λ ts e. lowered_flat (is_wide a.lower.memory) a.lower.async_side a.lower.results ts (r.lower_is ∙ e)) r.results_types r.results_typed to;
     within = record {
       source = from_within (linear_of d.lift) (is_wide a.lift.memory) a.lift.results lift_flat given h.lift.wide;
       target = to_within (linear_of d.lower) (is_wide a.lower.memory) a.lower.results lower_flat results args h.lower.wide;
@@ -296,8 +287,8 @@ module _ {t : Tables} {d : AdapterData} {debug concurrency : Bool} {u : AdapterT
         target = to_room gs lower_flat (linear_of d.lower) results args ls2 pointer rooms.to wf (passed_address gs to2) target;
       } in
       let moved = (z.moves (options_of a.lift) (options_of a.lower) rooms kept using fits).effect ls2 (passed_from fs vs) (passed_to gs pointer) (k.types ∙ held)
-      (stands_passed M p locals kept (options_of a.lift) (linear_of d.lift) a.lift.results h.lift.wide few 1 (omega arith) fs lift_flat given vs lf (held_kept k given vs used g) from2)
-      (goes_passed M p locals kept (options_of a.lower) (linear_of d.lower) a.lower.results h.lower.wide few' 1 (omega arith) gs lower_flat results args pointer wf (k.types ∙ held) r.results_types r.results_typed r.results_unused to2) roomy in
+      (stands_passed M p locals kept (options_of a.lift) (linear_of d.lift) a.lift.results h.lift.wide few fs lift_flat given vs lf (held_kept k given vs used g) from2)
+      (goes_passed M p locals kept (options_of a.lower) (linear_of d.lower) a.lower.results h.lower.wide few' gs lower_flat results args pointer wf (k.types ∙ held) r.results_types r.results_typed r.results_unused to2) roomy in
       weaker (λ vs. refl) (λ us ls' s. (stood_passed gs lower_flat (linear_of d.lower) results args us ls' wf r.no_results s.0, keeps_then k s.1))
       (subst (λ tr. Does M p Onward 384 0 [] ls2 c3 (move_fields tr (tuple_members a.lift.results) (tuple_members a.lower.results) 0 (passed_from fs vs) (passed_to gs pointer)) (λ vs. [])
       (λ us ls'. Stood ls' (tuple_to (linear_of d.lower) lower_flat results args) us × KeepsLocals kept ls2 ls')) (results_transfer_is M p locals) (within (omega arith) (unvisited {n = 1} moved))) in
@@ -307,5 +298,5 @@ module _ {t : Tables} {d : AdapterData} {debug concurrency : Bool} {u : AdapterT
       let is : (passed fs (options_of a.lift) a.lift.results (first_bits vs) (Give []) >>= (λ no. passed gs (options_of a.lower) a.lower.results pointer (Give []) >>= (λ no. q))) ≡ move_results u a vs pointer =
       passed_binds fs (options_of a.lift) a.lift.results (first_bits vs) (Give []) (λ no. passed gs (options_of a.lower) a.lower.results pointer (Give []) >>= (λ no. q))
       ∙ ap (λ q. passed fs (options_of a.lift) a.lift.results (first_bits vs) q) (passed_binds gs (options_of a.lower) a.lower.results pointer (Give []) (λ no. q))
-      ∙ sym (results_are u a vs pointer fs gs h.lift.sync h.lower.sync r.lift_is r.lower_is) in
+      ∙ sym (results_are u a vs pointer fs gs r.lift_is r.lower_is) in
       subst (λ q. Does M p Onward 464 0 [] ls (c1 ++ (c2 ++ c3)) q (λ vs. []) (λ vs ls'. AreHeld ls' results vs × KeepsLocals kept ls ls')) is (within (omega arith) all)

@@ -73,7 +73,7 @@ trap_function {place = place} {f} imported there imports once ty none is = recor
   imported = imported;
   imports = imports;
   once = once;
-  serves = λ M p s a. is_same_instance (serves_imported s there) f none is a;
+  serves = λ M p s a. is_same_instance (serves_imported refl s there) f none is a;
   ty = ty;
   locals = none;
   body = is;
@@ -119,7 +119,7 @@ module _ {t : Tables} {d : AdapterData} {lower : Signature} (side : SideSig) (lo
         functions = ap (λ (s : ModuleSoFar). s.functions) same ∙ ap (λ fs. fs ++ f ∷ []) (kept.functions ∙ before.functions);
         exports = ap (λ (s : ModuleSoFar). s.exports) same ∙ ap (λ es. es ++ export_as d.name (func.Defined k) ∷ []) (kept.exports ∙ before.exports) ∙ ap (λ j. s0.exports ++ export_as d.name (func.Defined j) ∷ []) count;
         imports = extended_on keeps (extended_on w.imports last);
-        once = λ o. once_same (ap functions_of same) (ap memories_of same) (ap globals_of same) (w.once (once o));
+        once = λ o. once_same (ap functions_of same) (ap memories_of same) (ap globals_of same) (ap (λ (s : ModuleSoFar). s.types) same) (ap (λ (s : ModuleSoFar). s.section) same) (w.once (once o));
         typed = λ a h.
             let at : slice_get s4.types n ≡ Some (signature lower.params lower.results) = grown_get last.types n _ (grown_get w.imports.types n _ place) in
             ap (slice_get s4.types) w.ty ∙ at ∙ ap (λ (s : Signature). Some (signature s.params s.results)) (lower_of h);

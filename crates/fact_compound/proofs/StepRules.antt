@@ -54,7 +54,7 @@ unvisited {p = p} {n = n} {q = q} d = record { by = λ w. record { by = λ ty be
 
 -- ---- locals on the stack
 
-reversed_cons : (v : CoreValue) (vs ins : List CoreValue) → reverse (v ∷ vs) ++ ins ≡ reverse vs ++ (v ∷ ins)
+pub reversed_cons : (v : CoreValue) (vs ins : List CoreValue) → reverse (v ∷ vs) ++ ins ≡ reverse vs ++ (v ∷ ins)
 reversed_cons v vs ins = ap (λ us. us ++ ins) (reverse-append (v ∷ []) vs) ∙ append_assoc (reverse vs) (v ∷ []) ins
 
 module _ {A : Type 0} {M : WasmModule} {p : ImportPlaces} {way : Way} {extra spare : ℕ} {c : List Instr} {q : Action A} {out : A → List CoreValue} {Holds : A → Locals → Type 0} where

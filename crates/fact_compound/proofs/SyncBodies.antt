@@ -1,12 +1,12 @@
 -- The code that was written for a sync adapter does the adapter's action.
-use Rattle.std.proofs.Common.{◌≡◌, ℕ, ◌≤◌, Bool, true, false, ◌&&◌, List, [], ◌∷◌, ◌++◌, Option, Some, None, refl, sym, ap, ◌∙◌, subst, arith, length, reverse, slice_get}
+use Rattle.std.proofs.Common.{◌≡◌, ℕ, ◌≤◌, Bool, true, false, ◌&&◌, List, [], ◌∷◌, ◌++◌, Option, Some, None, refl, sym, ap, ◌∙◌, subst, arith, length, reverse}
 use Rattle.std.specs.Prelude.{is_some, nat_eq}
 use Rattle.fact_wasm.specs.declared.types.ValType.{ValType}
 use Rattle.fact_wasm.specs.declared.types.ValType.TheVariants as val
 use Rattle.fact_wasm.specs.declared.instr.Instr.{Instr}
 use Rattle.fact_wasm.specs.declared.module.WasmModule.{WasmModule}
 use Rattle.fact_types.specs.Adapters.{LinkedAdapter, is_wide}
-use Rattle.fact_types.specs.Signatures.{address, flat_values, flat_or, unless_flat, lift_by, lower_by}
+use Rattle.fact_types.specs.Signatures.{address, flat_params, flat_values, flat_or, unless_flat, lift_by, lift_results_limit, lower_by, lower_limit}
 use Rattle.fact_types.specs.Shapes.{Shape}
 use Rattle.fact_types.specs.Tables.{Tables}
 use Rattle.fact_entity.specs.declared.id.Id.{Id}
@@ -16,39 +16,36 @@ use Rattle.fact_types.specs.declared.outside.CoreDef.{CoreDef}
 use Rattle.fact_machine.specs.Machine.{have_types}
 use Rattle.fact_machine.specs.declared.types.CoreValue.{CoreValue}
 use Rattle.fact_moves.specs.Plain.{ended_sync}
-use Rattle.fact_moves.specs.Adapters.{AdapterTunables, lower_signature_of, lift_signature_of, last_bits, move_params, move_results}
+use Rattle.fact_moves.specs.Adapters.{AdapterTunables, lowered_flats, lower_signature_of, lift_signature_of, move_params}
 use Rattle.fact_moves.specs.Running.{ImportPlaces}
-use Rattle.fact_moves.specs.Sides.{options_of, first_bits}
 use Rattle.fact_pieces.specs.Does.{Locals, Onward, held_types, EndsSo, Does}
 use Rattle.fact_pieces.specs.Knows.{KnowsFunction}
 use Rattle.fact_pieces.specs.Typed.{OnStack, IsTyped}
-use Rattle.fact_machine.specs.Typing.{address_type}
-use Rattle.fact_pieces.specs.Places.{Slot, FromUsed, ToUsed, AreHeld, AreLocals, AreUsed, KeepsLocals}
+use Rattle.fact_pieces.specs.Places.{Slot, AreHeld, AreLocals, AreUsed, KeepsLocals}
 use Rattle.fact_pieces.proofs.ContextSteps.{MayHoldSlotsIf, AreSlotsKeptIf}
 use Rattle.fact_pieces.proofs.Rules.{within}
-use Rattle.fact_emit.specs.Places.{AreDistinctSlots, TargetTaken, HasDistinctSlots, Using}
+use Rattle.fact_emit.specs.Places.{AreDistinctSlots}
 use Rattle.fact_emit.specs.RuntimeCalls.{slots_of}
 use Rattle.fact_emit.specs.declared.context.ContextLocals.{ContextLocals}
 use Rattle.fact_emit.specs.declared.imported.RuntimeFunction.TheVariants as runtime
 use Rattle.fact_compound.specs.Code.{SyncParts, pushed_code, sync_code, with_barrier}
 use Rattle.fact_compound.specs.Events.{AreCallOptions, CanFinish, CanReturnPost, KnowsRuntimeIf}
-use Rattle.fact_compound.specs.Described.{DescribesAdapter, KnowsAdapterData, KnowsPostReturn, HasTupleMemory, linear_of, number_if_any}
-use Rattle.fact_compound.specs.Passing.{last_local, tuple_from, tuple_to, tuple_size}
+use Rattle.fact_compound.specs.Described.{DescribesAdapter, KnowsAdapterData, KnowsPostReturn, linear_of, number_if_any}
+use Rattle.fact_compound.specs.Passing.{tuple_size}
 use Rattle.fact_compound.specs.Syncs.{EmitsSync, EndsAsSync}
 use Rattle.fact_emit.specs.declared.writer.Writer.{Writer}
 use Rattle.fact_emit.proofs.Emitting.{emits_as}
 use Rattle.fact_compound.specs.Written.{SyncPlaces, parts_of, IsSyncCode, KnowsUncaught, context_slots, kept_slots, written_slots, CoreLocals, HasLocals}
 use Rattle.fact_compound.specs.declared.adapters.AdapterData.{AdapterData}
 use Rattle.fact_compound.specs.declared.syncs.CallOptions.{CallOptions}
-use Rattle.fact_compound.proofs.Addresses.{pointed, pointed_local, last_slot, last_value}
 use Rattle.fact_compound.proofs.Flats.{AreFlat, are_flat}
 use Rattle.fact_compound.proofs.KeptLocals.{equal_back, among_front, among_self, among_used, used_front, used_behind, used_by, locals_front, locals_behind, distinct_front, distinct_behind, unused_behind, unused_front, unused_rest, unused_both, used_both, none_of}
 use Rattle.fact_compound.specs.Passed.{ParamsCode}
 use Rattle.fact_pieces.proofs.TypingLaws.{typed_done}
 use Rattle.fact_compound.proofs.PassedOnCode.{same_flats, passed_flat, passes_on}
 use Rattle.fact_compound.proofs.ParamMoves.{ParamLocals, params_moved, params_typed}
-use Rattle.fact_compound.proofs.ResultMoves.{IsPassed, IsReached, Pointed, ResultLocals, results_moved, results_typed}
-use Rattle.fact_compound.proofs.Slots.{held_parts, slots_long, values_long}
+use Rattle.fact_compound.proofs.ResultPlaces.{ResultPlaces, results_do, results_code_typed}
+use Rattle.fact_compound.proofs.Slots.{slots_long, values_long}
 use Rattle.fact_compound.proofs.SyncTyping.{typed_sync}
 use Rattle.fact_compound.proofs.SyncSteps.{among, slot_types, AreUnused, SyncLocals, SyncImports, TellsIf, IsPostReturn, syncs, held_have_types, ends_so_holds, ends_so_within, steps_assoc}
 use Rattle.fact_compound.proofs.SyncWritten.{WrittenSync}
@@ -64,23 +61,12 @@ lift_results_are a sync = ap (λ b. (lift_by b (is_some a.lift.callback) (is_wid
 lower_results_are : (a : LinkedAdapter) → a.lower.async_side ≡ false → (lower_signature_of a).results ≡ flat_or [] (flat_values (is_wide a.lower.memory) 1 a.lower.results)
 lower_results_are a sync = ap (λ b. (lower_by b (is_wide a.lower.memory) a.lower.params a.lower.results).results) sync
 
-no_slots : (ss : List Slot) → slot_types ss ≡ [] → ss ≡ []
-no_slots [] e = refl
-no_slots (s ∷ ss) e = cc
-
-one_held : (ls : Locals) (ss : List Slot) (vs : List CoreValue) (t : ValType) → slot_types ss ≡ t ∷ [] → AreHeld ls ss vs → (v : CoreValue) × (vs ≡ v ∷ [])
-one_held ls [] vs t e h = cc
-one_held ls (s ∷ r ∷ ss) vs t e h = cc
-one_held ls (s ∷ []) [] t e h = absurd h
-one_held ls (s ∷ []) (v ∷ []) t e h = (v, refl)
-one_held ls (s ∷ []) (v ∷ w ∷ vs) t e h = absurd h.1
-
 -- at most so many where they are flat or an address
-few_slots : (limit : ℕ) (o : Option (List ValType)) (ts : List ValType) (ss : List Slot) → length ts ≤ limit → ((fs : List ValType) → o ≡ Some fs → length fs ≤ limit) → slot_types ss ≡ flat_or ts o → length ss ≤ limit
+pub few_slots : (limit : ℕ) (o : Option (List ValType)) (ts : List ValType) (ss : List Slot) → length ts ≤ limit → ((fs : List ValType) → o ≡ Some fs → length fs ≤ limit) → slot_types ss ≡ flat_or ts o → length ss ≤ limit
 few_slots limit None ts ss few h e = omega (arith, sym (slots_long ss) ∙ ap length e, few)
 few_slots limit (Some fs) ts ss few h e = omega (arith, sym (slots_long ss) ∙ ap length e, h fs refl)
 
-flat_few : (m : Bool) (limit : ℕ) {ss : List Shape} (fs : List ValType) → AreFlat m limit ss fs → length fs ≤ limit
+pub flat_few : (m : Bool) (limit : ℕ) {ss : List Shape} (fs : List ValType) → AreFlat m limit ss fs → length fs ≤ limit
 flat_few m limit fs f = omega (arith, ap length f.are ∙ values_long _, f.few)
 
 -- locals of the slots of the context may be set, and are kept
@@ -273,14 +259,14 @@ module _ {t : Tables} {d : AdapterData} {debug : Bool} {o : CallOptions} {u : Ad
   params_part : (b : Bool) → CoreLocals b a l → AreLocals locals (written_slots b o.context l) → AreUnused kept (written_slots b o.context l) → AreUsed taken (written_slots b o.context l) → AreDistinctSlots (written_slots b o.context l)
       → ParamsCode b d debug o.concurrency l.params l.core taken a.lower.params a.lift.params M p locals params → ParamsPart
   params_part false core typed unused used distinct moves =
-      let fs = flat_values (is_wide a.lower.memory) 16 a.lower.params in
+      let fs = flat_values (is_wide a.lower.memory) (lower_limit a.lower.async_side) a.lower.params in
       let gs = flat_values (is_wide a.lift.memory) 16 a.lift.params in
       let core_local : AreLocals locals l.core = locals_front locals l.core (l.given ++ behind_given) typed in
       let of_params : ParamLocals a fs gs l.params l.core locals kept taken = record {
         lower_is = refl;
         lift_is = refl;
-        params_types = room.params_types;
-        core_types = core ∙ lift_params_or a h.lift.sync;
+        params_types = room.params_types ∙ sym (ap (λ b. flat_params (is_wide a.lower.memory) (lower_limit b) a.lower.params) h.lower_sync);
+        core_types = core ∙ lift_params_or a h.lift_sync;
         params_typed = params_local;
         core_typed = core_local;
         params_kept = used_front kept l.params room.rest (subst (λ ss. AreUsed kept ss) room.args args_kept);
@@ -289,8 +275,8 @@ module _ {t : Tables} {d : AdapterData} {debug : Bool} {o : CallOptions} {u : Ad
         core_distinct = distinct_front l.core (l.given ++ behind_given) distinct;
         inside = among_used taken (kept_slots l) all_used;
       } in (
-        λ ls args held there. params_moved h asks.concurrency l.params l.core moves fs gs of_params links.params_lists links.params_memory links.params_area room.rest ls args held (subst (λ ss. AreHeld ls ss args) room.args there),
-        params_typed h asks.concurrency l.params l.core moves fs gs of_params links.params_lists links.params_memory links.params_area,
+        λ ls args held there. params_moved h.transfers asks.concurrency l.params l.core moves fs gs of_params links.params_lists links.params_memory links.params_area room.rest ls args held (subst (λ ss. AreHeld ls ss args) room.args there),
+        params_typed h.transfers asks.concurrency l.params l.core moves fs gs of_params links.params_lists links.params_memory links.params_area,
         core,
         core_local,
       )
@@ -301,9 +287,9 @@ module _ {t : Tables} {d : AdapterData} {debug : Bool} {o : CallOptions} {u : Ad
         λ ls args held there.
             subst (λ ss. Does M p Onward 384 0 [] ls params (move_params u a args) (λ vs. []) (λ vs ls'. AreHeld ls' ss vs × KeepsLocals kept ls ls')) (sym core.0)
             (subst (λ c. Does M p Onward 384 0 [] ls c (move_params u a args) (λ vs. []) (λ vs ls'. AreHeld ls' l.params vs × KeepsLocals kept ls ls')) (sym none)
-            (within (omega arith) (passes_on u a kept l.params room.rest ls args h.lower.sync core.1 e f types (subst (λ ss. AreHeld ls ss args) room.args there)))),
+            (within (omega arith) (passes_on u a kept l.params room.rest ls args h.lower_sync core.1 e f types (subst (λ ss. AreHeld ls ss args) room.args there)))),
         subst (λ c. IsTyped M locals [] c [] (OnStack [])) (sym none) typed_done,
-        ap slot_types core.0 ∙ types ∙ same_flats a core.1 e f ∙ sym (lift_params_or a h.lift.sync ∙ ap (flat_or (address (is_wide a.lift.memory) ∷ [])) f),
+        ap slot_types core.0 ∙ types ∙ same_flats a core.1 e f ∙ sym (lift_params_or a h.lift_sync ∙ ap (flat_or (address (is_wide a.lift.memory) ∷ [])) f),
         subst (λ ss. AreLocals locals ss) (sym core.0) params_local,
       )
 
@@ -335,132 +321,34 @@ module _ {t : Tables} {d : AdapterData} {debug : Bool} {o : CallOptions} {u : Ad
 
   -- ---- the results
 
-  abbrev lift_flats : Option (List ValType)
-  lift_flats = flat_values (is_wide a.lift.memory) 1 a.lift.results
-
-  abbrev lower_flats : Option (List ValType)
-  lower_flats = flat_values (is_wide a.lower.memory) 1 a.lower.results
-
-  given_are : slot_types l.given ≡ flat_or (address (is_wide a.lift.memory) ∷ []) lift_flats
-  given_are = room.given_types ∙ lift_results_are a h.lift.sync
-
-  results_are_flat : slot_types l.results ≡ flat_or [] lower_flats
-  results_are_flat = room.results_types ∙ lower_results_are a h.lower.sync
-
   given_kept : AreUsed with_slots l.given
   given_kept = used_by (among_front (kept_slots l ++ l.given) callee_slots) l.given (used_behind with_given (kept_slots l) l.given (among_self (kept_slots l ++ l.given)))
 
   args_kept_too : AreUsed with_slots l.args
   args_kept_too = used_by (among_front (kept_slots l ++ l.given) callee_slots) l.args (used_by (among_front (kept_slots l) l.given) l.args args_kept)
 
-  rest_kept : AreUsed with_slots room.rest
-  rest_kept = used_behind with_slots l.params room.rest (subst (λ ss. AreUsed with_slots ss) room.args args_kept_too)
-
-  rest_typed : AreLocals locals room.rest
-  rest_typed = locals_behind locals l.params room.rest (subst (λ ss. AreLocals locals ss) room.args args_typed)
-
-  lift_passed : (flats : Option (List ValType)) → HasTupleMemory M p d.lift a.lift flats → slot_types l.given ≡ flat_or (address (is_wide a.lift.memory) ∷ []) flats → (ls : Locals) (rs : List CoreValue) → AreHeld ls l.given rs
-      → IsPassed flats M p (options_of a.lift) (linear_of d.lift) locals with_slots ls (last_local l.given) (first_bits rs)
-  lift_passed (Some fs) m e ls rs g = record { by = tt }
-  lift_passed None m e ls rs g = record {
-    by = (m, subst (λ b. Pointed b locals with_slots ls (last_local l.given) (first_bits rs)) h.lift.wide (pointed (is_wide a.lift.memory) locals with_slots ls l.given rs e given_typed given_kept g));
-  }
-
-  lower_passed : (flats : Option (List ValType)) → HasTupleMemory M p d.lower a.lower flats → slot_types room.rest ≡ unless_flat (address (is_wide a.lower.memory) ∷ []) flats → (ls : Locals) (args : List CoreValue) → AreHeld ls l.args args
-      → IsPassed flats M p (options_of a.lower) (linear_of d.lower) locals with_slots ls (last_local l.args) (last_bits args)
-  lower_passed (Some fs) m e ls args g = record { by = tt }
-  lower_passed None m e ls args g =
-      let parts = held_parts ls l.params room.rest args (subst (λ ss. AreHeld ls ss args) room.args g) in
-      let (v, one) = one_held ls room.rest parts.rest (address (is_wide a.lower.memory)) e parts.in_rest in
-      let there : last_local l.args ≡ last_local room.rest = ap last_local room.args ∙ last_slot l.params room.rest (address (is_wide a.lower.memory)) e in
-      let is : last_bits args ≡ first_bits parts.rest = ap last_bits parts.all ∙ last_value parts.front parts.rest v one in
-      let point = pointed (is_wide a.lower.memory) locals with_slots ls room.rest parts.rest e rest_typed rest_kept parts.in_rest in
-      record {
-        by = (
-          m,
-          subst (λ b. Pointed b locals with_slots ls (last_local l.args) (last_bits args)) h.lower.wide
-              (subst (λ i. Pointed (is_wide a.lower.memory) locals with_slots ls i (last_bits args)) (sym there) (subst (λ n. Pointed (is_wide a.lower.memory) locals with_slots ls (last_local room.rest) n) (sym is) point)),
-        );
-      }
-
-  last_used : (u : ℕ → Bool) (ss : List Slot) (t : ValType) → slot_types ss ≡ t ∷ [] → AreUsed u ss → u (last_local ss) ≡ true
-  last_used u [] t e h = cc
-  last_used u (s ∷ []) t e h = h.0
-  last_used u (s ∷ r ∷ ss) t e h = cc
-
-  from_kept : (flats : Option (List ValType)) (flat : Bool) → flat ≡ is_some flats → slot_types l.given ≡ flat_or (address (is_wide a.lift.memory) ∷ []) flats → FromUsed with_slots (tuple_from (linear_of d.lift) flat l.given)
-  from_kept flats true f e = given_kept
-  from_kept (Some fs) false f e = absurd (let no : false ≡ true = f in cc)
-  from_kept None false f e = last_used with_slots l.given (address (is_wide a.lift.memory)) e given_kept
-
-  to_kept : (flats : Option (List ValType)) (flat : Bool) → flat ≡ is_some flats → slot_types room.rest ≡ unless_flat (address (is_wide a.lower.memory) ∷ []) flats → ToUsed with_slots (tuple_to (linear_of d.lower) flat l.results l.args)
-  to_kept flats true f e = tt
-  to_kept (Some fs) false f e = absurd (let no : false ≡ true = f in cc)
-  to_kept None false f e =
-      ap with_slots (ap last_local room.args ∙ last_slot l.params room.rest (address (is_wide a.lower.memory)) e) ∙ last_used with_slots room.rest (address (is_wide a.lower.memory)) e rest_kept
-
-  to_taken : (flat : Bool) → TargetTaken taken (tuple_to (linear_of d.lower) flat l.results l.args)
-  to_taken true = used_front taken l.results own_slots last_used_too
-  to_taken false = tt
-
-  to_distinct : (flat : Bool) → HasDistinctSlots (tuple_to (linear_of d.lower) flat l.results l.args)
-  to_distinct true = distinct_front l.results own_slots last_distinct
-  to_distinct false = tt
-
-  lift_flat_is : is_some (flat_values (linear_of d.lift).memory64 1 a.lift.results) ≡ is_some lift_flats
-  lift_flat_is = ap (λ m. is_some (flat_values m 1 a.lift.results)) (sym h.lift.wide)
-
-  lower_flat_is : is_some (flat_values (linear_of d.lower).memory64 1 a.lower.results) ≡ is_some lower_flats
-  lower_flat_is = ap (λ m. is_some (flat_values m 1 a.lower.results)) (sym h.lower.wide)
-
-  result_locals : ResultLocals a lift_flats lower_flats l.given l.results locals with_slots
-  result_locals = record {
-    lift_is = refl;
-    lower_is = refl;
-    given_types = λ ts e. given_are ∙ ap (flat_or (address (is_wide a.lift.memory) ∷ [])) e;
-    results_types = λ ts e. results_are_flat ∙ ap (flat_or []) e;
-    no_results = λ e. no_slots l.results (results_are_flat ∙ ap (flat_or []) e);
-    given_typed = given_typed;
-    results_typed = locals_front locals l.results own_slots last_typed;
-    results_unused = unused_front with_slots l.results own_slots last_unused;
-  }
-
   results_local : AreLocals locals l.results
   results_local = locals_front locals l.results own_slots last_typed
 
-  results_using : Using taken with_slots (tuple_from (linear_of d.lift) (is_some (flat_values (linear_of d.lift).memory64 1 a.lift.results)) l.given) (tuple_to (linear_of d.lower) (is_some (flat_values (linear_of d.lower).memory64 1 a.lower.results)) l.results l.args)
-  results_using = record {
-    within = among_used taken ((kept_slots l ++ l.given) ++ callee_slots) (used_both taken (kept_slots l ++ l.given) callee_slots (used_both taken (kept_slots l) l.given all_used (used_front taken l.given behind_given outs_used)) (used_front taken callee_slots (l.results ++ own_slots) behind_used));
-    from = from_kept lift_flats (is_some (flat_values (linear_of d.lift).memory64 1 a.lift.results)) lift_flat_is given_are;
-    to = to_kept lower_flats (is_some (flat_values (linear_of d.lower).memory64 1 a.lower.results)) lower_flat_is room.rest_types;
-    target = to_taken (is_some (flat_values (linear_of d.lower).memory64 1 a.lower.results));
-    distinct = to_distinct (is_some (flat_values (linear_of d.lower).memory64 1 a.lower.results));
+  result_places : ResultPlaces a l.given l.results l.args locals with_slots taken
+  result_places = record {
+    front = l.params;
+    rest = room.rest;
+    args_are = room.args;
+    given_types = room.given_types ∙ lift_results_are a h.lift_sync ∙ sym (ap (λ b. flat_or (address (is_wide a.lift.memory) ∷ []) (flat_values (is_wide a.lift.memory) (lift_results_limit b) a.lift.results)) h.lift_sync);
+    results_types = room.results_types ∙ lower_results_are a h.lower_sync ∙ sym (ap (λ b. flat_or [] (lowered_flats b (is_wide a.lower.memory) a.lower.results)) h.lower_sync);
+    rest_types = room.rest_types ∙ sym (ap (λ b. unless_flat (address (is_wide a.lower.memory) ∷ []) (lowered_flats b (is_wide a.lower.memory) a.lower.results)) h.lower_sync);
+    given_typed = given_typed;
+    results_typed = results_local;
+    args_typed = args_typed;
+    given_kept = given_kept;
+    args_kept = args_kept_too;
+    results_unused = unused_front with_slots l.results own_slots last_unused;
+    results_taken = used_front taken l.results own_slots last_used_too;
+    results_distinct = distinct_front l.results own_slots last_distinct;
+    inside = among_used taken ((kept_slots l ++ l.given) ++ callee_slots)
+        (used_both taken (kept_slots l ++ l.given) callee_slots (used_both taken (kept_slots l) l.given all_used (used_front taken l.given behind_given outs_used)) (used_front taken callee_slots (l.results ++ own_slots) behind_used));
   }
-
-  results_do : (args : List CoreValue) (ls : Locals) (rs : List CoreValue) → held_types ls ≡ locals → AreHeld ls l.args args → AreHeld ls l.given rs
-      → Does M p Onward 464 0 [] ls results (move_results u a rs (last_bits args)) (λ vs. []) (λ vs ls'. AreHeld ls' l.results vs × KeepsLocals with_slots ls ls')
-  results_do args ls rs held there g =
-      let r = k.are_steps.returns.moves_results in
-      subst (λ c. Does M p Onward 464 0 [] ls c (move_results u a rs (last_bits args)) (λ vs. []) (λ vs ls'. AreHeld ls' l.results vs × KeepsLocals with_slots ls ls')) (sym r.is)
-      (results_moved h asks.concurrency r.lift_check r.lower_check r.move lift_flats lower_flats (is_some (flat_values (linear_of d.lift).memory64 1 a.lift.results)) (is_some (flat_values (linear_of d.lower).memory64 1 a.lower.results)) l.given l.results l.args lift_flat_is lower_flat_is result_locals lift_size lower_size r.checks_lift r.checks_lower r.moves
-      results_using links.results_lists ls rs (last_bits args) held given_kept g (lift_passed lift_flats links.lift.memory given_are ls rs g) (lower_passed lower_flats links.lower.memory room.rest_types ls args there))
-
-  lift_reached : (flats : Option (List ValType)) → HasTupleMemory M p d.lift a.lift flats → slot_types l.given ≡ flat_or (address (is_wide a.lift.memory) ∷ []) flats → IsReached flats M p (options_of a.lift) (linear_of d.lift) locals (last_local l.given)
-  lift_reached (Some fs) m e = record { by = tt }
-  lift_reached None m e = record { by = (m, subst (λ b. slice_get locals (last_local l.given) ≡ Some (address_type b)) h.lift.wide (pointed_local (is_wide a.lift.memory) locals l.given e given_typed)) }
-
-  lower_reached : (flats : Option (List ValType)) → HasTupleMemory M p d.lower a.lower flats → slot_types room.rest ≡ unless_flat (address (is_wide a.lower.memory) ∷ []) flats → IsReached flats M p (options_of a.lower) (linear_of d.lower) locals (last_local l.args)
-  lower_reached (Some fs) m e = record { by = tt }
-  lower_reached None m e =
-      let there : last_local l.args ≡ last_local room.rest = ap last_local room.args ∙ last_slot l.params room.rest (address (is_wide a.lower.memory)) e in
-      record { by = (m, ap (slice_get locals) there ∙ subst (λ b. slice_get locals (last_local room.rest) ≡ Some (address_type b)) h.lower.wide (pointed_local (is_wide a.lower.memory) locals room.rest e rest_typed)) }
-
-  results_code_typed : IsTyped M locals [] results [] (OnStack [])
-  results_code_typed =
-      let r = k.are_steps.returns.moves_results in
-      subst (λ c. IsTyped M locals [] c [] (OnStack [])) (sym r.is)
-      (results_typed h asks.concurrency r.lift_check r.lower_check r.move lift_flats lower_flats (is_some (flat_values (linear_of d.lift).memory64 1 a.lift.results)) (is_some (flat_values (linear_of d.lower).memory64 1 a.lower.results)) l.given l.results l.args lift_flat_is lower_flat_is result_locals lift_size lower_size r.checks_lift r.checks_lower r.moves
-      results_using (lift_reached lift_flats links.lift.memory given_are) (lower_reached lower_flats links.lower.memory room.rest_types) links.results_lists)
 
   -- ---- the whole
 
@@ -474,14 +362,14 @@ module _ {t : Tables} {d : AdapterData} {debug : Bool} {o : CallOptions} {u : Ad
   -- The code comes to what the adapter comes to, in at most 1,000 steps beside those of the weight, and leaves results of their types.
   pub sync_does : (args : List CoreValue) (ls : Locals) → held_types ls ≡ locals → AreHeld ls l.args args → EndsAsSync u a M p args ls code
   sync_does args ls held there =
-      let core : length l.core ≤ 16 = few_slots 16 (flat_values (is_wide a.lift.memory) 16 a.lift.params) (address (is_wide a.lift.memory) ∷ []) l.core (omega arith) (λ gs f. flat_few (is_wide a.lift.memory) 16 gs (are_flat (is_wide a.lift.memory) 16 a.lift.params gs f)) (parts.2 ∙ lift_params_or a h.lift.sync) in
-      let given : length l.given ≤ 1 = few_slots 1 lift_flats (address (is_wide a.lift.memory) ∷ []) l.given (omega arith) (λ fs e. flat_few (is_wide a.lift.memory) 1 fs (are_flat (is_wide a.lift.memory) 1 a.lift.results fs e)) given_are in
-      let outs : length l.results ≤ 1 = few_slots 1 lower_flats [] l.results (omega arith) (λ fs e. flat_few (is_wide a.lower.memory) 1 fs (are_flat (is_wide a.lower.memory) 1 a.lower.results fs e)) results_are_flat in
+      let core : length l.core ≤ 16 = few_slots 16 (flat_values (is_wide a.lift.memory) 16 a.lift.params) (address (is_wide a.lift.memory) ∷ []) l.core (omega arith) (λ gs f. flat_few (is_wide a.lift.memory) 16 gs (are_flat (is_wide a.lift.memory) 16 a.lift.params gs f)) (parts.2 ∙ lift_params_or a h.lift_sync) in
+      let given : length l.given ≤ 1 = few_slots 1 (flat_values (is_wide a.lift.memory) 1 a.lift.results) (address (is_wide a.lift.memory) ∷ []) l.given (omega arith) (λ fs e. flat_few (is_wide a.lift.memory) 1 fs (are_flat (is_wide a.lift.memory) 1 a.lift.results fs e)) (room.given_types ∙ lift_results_are a h.lift_sync) in
+      let outs : length l.results ≤ 1 = few_slots 1 (flat_values (is_wide a.lower.memory) 1 a.lower.results) [] l.results (omega arith) (λ fs e. flat_few (is_wide a.lower.memory) 1 fs (are_flat (is_wide a.lower.memory) 1 a.lower.results fs e)) (room.results_types ∙ lower_results_are a h.lower_sync) in
       record {
         by = λ w.
             ends_so_holds (λ vs ls' x. ap (have_types vs) (sym room.results_types) ∙ held_have_types ls' l.results vs x)
             (subst (λ c. EndsSo M p Onward 1000 0 w [] ls c reverse (λ vs ls'. AreHeld ls' l.results vs) (ended_sync p u a args w)) (sym code_is)
-            (ends_so_within (omega (arith, core, given, outs)) (syncs u a s args all_imports all_locals (λ ls e g. parts.0 ls args e g) (λ ls rs e g g'. results_do args ls rs e g g') ls held there w)));
+            (ends_so_within (omega (arith, core, given, outs)) (syncs u a s args all_imports all_locals (λ ls e g. parts.0 ls args e g) (λ ls rs e g g'. results_do h.transfers asks.concurrency links l.given l.results l.args result_places lift_size lower_size k.are_steps.returns.moves_results ls args rs e g g') ls held there w)));
       }
 
   -- It is typed, with the results on the stack.
@@ -489,20 +377,20 @@ module _ {t : Tables} {d : AdapterData} {debug : Bool} {o : CallOptions} {u : Ad
   sync_typed =
       subst (λ ts. IsTyped M locals [] code [] (OnStack (reverse ts))) room.results_types
       (subst (λ c. IsTyped M locals [] c [] (OnStack (reverse (slot_types l.results)))) (sym code_is)
-      (typed_sync a s all_imports all_locals parts.3 results_local parts.1 results_code_typed))
+      (typed_sync a s all_imports all_locals parts.3 results_local parts.1 (results_code_typed h.transfers asks.concurrency links l.given l.results l.args result_places lift_size lower_size k.are_steps.returns.moves_results)))
 
 -- what was written for a sync adapter does its action
 pub sync_emits : {t : Tables} {d : AdapterData} {debug : Bool} {o : CallOptions} (l : SyncPlaces) {old new : Writer} → WrittenSync t d debug o l old new → EmitsSync t d debug o l old new
 sync_emits l w = record {
   grew = w.grew;
   emits = λ u a h asks.
-      let lower = h.lower.signature in
-      let lift = h.lift.signature in
+      let lower = h.transfers.lower.signature in
+      let lift = h.transfers.lift.signature in
       let lift_size = w.lift_size a.lift.params a.lift.results lift in
       let lower_size = w.lower_size a.lower.params a.lower.results lower in
       emits_as (λ M p locals code k. record {
         does = λ links room args ls held there. sync_does h asks links l room lift_size lower_size k args ls held there;
         typed = λ links room. sync_typed h asks links l room lift_size lower_size k;
       })
-      (w.emits a.lower.params a.lower.results a.lift.params a.lift.results lower lift h.params h.results);
+      (w.emits a.lower.params a.lower.results a.lift.params a.lift.results lower lift h.transfers.params h.transfers.results);
 }

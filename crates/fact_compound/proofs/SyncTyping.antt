@@ -25,11 +25,11 @@ use Rattle.fact_compound.proofs.FlagGuards.{takes_local_tee}
 use Rattle.fact_compound.proofs.SyncSteps.{slot_types, SyncLocals, TellsIf, IsPostReturn, SyncImports}
 use Rattle.fact_compound.specs.Written.{KnowsUncaught}
 
-reversed_types : (t : ValType) (ts ins : List ValType) → reverse ts ++ (t ∷ ins) ≡ reverse (t ∷ ts) ++ ins
+pub reversed_types : (t : ValType) (ts ins : List ValType) → reverse ts ++ (t ∷ ins) ≡ reverse (t ∷ ts) ++ ins
 reversed_types t ts ins = sym (ap (λ us. us ++ ins) (reverse-append (t ∷ []) ts) ∙ append_assoc (reverse ts) (t ∷ []) ins)
 
 module _ {M : WasmModule} {locals : List ValType} where
-  typed_pushed : (ss : List Slot) (ins : List ValType) → AreLocals locals ss → IsTyped M locals [] (pushed_code ss) ins (OnStack (reverse (slot_types ss) ++ ins))
+  pub typed_pushed : (ss : List Slot) (ins : List ValType) → AreLocals locals ss → IsTyped M locals [] (pushed_code ss) ins (OnStack (reverse (slot_types ss) ++ ins))
   typed_pushed [] ins l = typed_done
   typed_pushed (s ∷ ss) ins l = typed_next (takes_local_get l.0) (subst (λ us. IsTyped M locals [] (pushed_code ss) (s.1 ∷ ins) (OnStack us)) (reversed_types s.1 (slot_types ss) ins) (typed_pushed ss (s.1 ∷ ins) l.1))
 
@@ -38,7 +38,7 @@ module _ {M : WasmModule} {locals : List ValType} where
   typed_popped (s ∷ ss) ins l =
       subst (λ us. IsTyped M locals [] (popped_code (s ∷ ss)) us (OnStack ins)) (reversed_types s.1 (slot_types ss) ins) (typed_then (typed_popped ss (s.1 ∷ ins) l.1) (typed_one (takes_local_set l.0)))
 
-  typed_cleared : {p : ImportPlaces} {i flags : ℕ} (saved : ℕ) {c : List Instr} → KnowsFlags M p i flags → slice_get locals saved ≡ Some val.I32 → IsTyped M locals [] c [] (OnStack []) → IsTyped M locals [] (cleared_code flags saved c) [] (OnStack [])
+  pub typed_cleared : {p : ImportPlaces} {i flags : ℕ} (saved : ℕ) {c : List Instr} → KnowsFlags M p i flags → slice_get locals saved ≡ Some val.I32 → IsTyped M locals [] c [] (OnStack []) → IsTyped M locals [] (cleared_code flags saved c) [] (OnStack [])
   typed_cleared saved h l x =
       typed_next (takes_plain (op.I32Const _) (I.outs-I32Const _) refl) (typed_next (takes_global_set h) (typed_then x (typed_next (takes_local_get l) (typed_one (takes_global_set h)))))
 

@@ -97,10 +97,10 @@ no_finish a (Some f) context callee own given is = absurd (let no : Some f ≡ N
 
 -- ---- up to the call
 
-abbrev zero_code : ℕ → List Instr
+abbrev pub zero_code : ℕ → List Instr
 zero_code flags = I.I32Const 0 ∷ I.GlobalSet flags ∷ []
 
-abbrev back_code : (flags saved : ℕ) → List Instr
+abbrev pub back_code : (flags saved : ℕ) → List Instr
 back_code flags saved = I.LocalGet saved ∷ I.GlobalSet flags ∷ []
 
 abbrev callee_code : AdapterData → SyncPlaces → List Instr

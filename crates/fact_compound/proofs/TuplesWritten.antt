@@ -7,11 +7,12 @@ use Rattle.fact_types.specs.FlatShapes.{AreCounted}
 use Rattle.fact_types.specs.Functions.{HasSignature}
 use Rattle.fact_types.specs.Layout.{extent}
 use Rattle.fact_types.specs.Shapes.{Shape, IsWithin, layout_of}
-use Rattle.fact_types.specs.Signatures.{width, flat_values}
+use Rattle.fact_types.specs.Signatures.{width, flat_values, lift_results_limit, lower_limit}
 use Rattle.fact_types.specs.Tables.{Tables, HasShape}
 use Rattle.fact_types.specs.Tuples.{tuple_members, tuple_of}
 use Rattle.fact_types.specs.declared.abi.CanonicalAbiInfo.{CanonicalAbiInfo}
 use Rattle.fact_types.specs.declared.interface.InterfaceType.TheVariants as ty
+use Rattle.fact_moves.specs.Adapters.{lowered_flats}
 use Rattle.fact_pieces.specs.Places.{Slot, From, To}
 use Rattle.fact_emit.specs.Areas.{ChecksArea}
 use Rattle.fact_wasm.specs.declared.instr.Instr.{Instr}
@@ -73,60 +74,63 @@ module _ {t : Tables} {tuple : Id TypeTuples} {l : CanonicalAbiInfo} (m : Linear
       let aligned : align ≡ tuple_align m.memory64 ss = e.1 ∙ ap (λ b. (extent (width b) l).align) (sym is) ∙ ap (λ (l : CanonicalAbiInfo). (extent (width m.memory64) l).align) (laid (tuple_of ss) h) in
       subst (λ n. Emits old new (P (tuple_size m.memory64 ss) n)) aligned (subst (λ n. Emits old new (P n align)) sized x)
 
-  module _ {limit address : ℕ} {flat : Bool} (flats : (memory64 : Bool) (ss : List Shape) → HasShape t (ty.Tuple tuple) (tuple_of ss) → AreCounted (tuple_members ss) → flat ≡ is_some (flat_values memory64 limit ss)) where
-    pub checked_tuple : {size align : ℕ} {old new : Writer} (wide : Bool) → m.memory64 ≡ wide → flat ≡ false → HasExtent wide l size align → Emits old new (ChecksArea m (taken_in old) address size align) → CheckedTuple t tuple m limit address old new
-    checked_tuple {old = old} {new} wide is none e x = record {
-      grew = x.grew;
-      size = area_small;
-      emits = λ ss h counted. subst (λ b. Emits old new (ChecksTuple m (taken_in old) b address (tuple_size m.memory64 ss) (tuple_align m.memory64 ss))) (sym none ∙ flats m.memory64 ss h counted) (area_written (λ size align. ChecksArea m (taken_in old) address size align) wide is e x ss h);
-    }
+  pub checked_tuple : {address size align : ℕ} {flat : Bool} {old new : Writer} (wide : Bool) → m.memory64 ≡ wide → flat ≡ false → HasExtent wide l size align → Emits old new (ChecksArea m (taken_in old) address size align) → CheckedTuple t tuple m flat address old new
+  checked_tuple {address} {old = old} {new} wide is none e x = record {
+    grew = x.grew;
+    size = area_small;
+    emits = λ ss h. subst (λ b. Emits old new (ChecksTuple m (taken_in old) b address (tuple_size m.memory64 ss) (tuple_align m.memory64 ss))) (sym none) (area_written (λ size align. ChecksArea m (taken_in old) address size align) wide is e x ss h);
+  }
 
-    -- no code where the values are flat
-    pub unchecked_tuple : {old : Writer} → flat ≡ true → CheckedTuple t tuple m limit address old old
-    unchecked_tuple {old} all = record {
-      grew = (emits_nothing {P = λ M p locals code. code ≡ []} (λ M p locals. refl)).grew;
-      size = area_small;
-      emits = λ ss h counted. subst (λ b. Emits old old (ChecksTuple m (taken_in old) b address (tuple_size m.memory64 ss) (tuple_align m.memory64 ss))) (sym all ∙ flats m.memory64 ss h counted) (emits_nothing (λ M p locals. refl));
-    }
+  -- no code where the values are flat
+  pub unchecked_tuple : {address : ℕ} {flat : Bool} {old : Writer} → flat ≡ true → CheckedTuple t tuple m flat address old old
+  unchecked_tuple {address} {old = old} all = record {
+    grew = (emits_nothing {P = λ M p locals code. code ≡ []} (λ M p locals. refl)).grew;
+    size = area_small;
+    emits = λ ss h. subst (λ b. Emits old old (ChecksTuple m (taken_in old) b address (tuple_size m.memory64 ss) (tuple_align m.memory64 ss))) (sym all) (emits_nothing (λ M p locals. refl));
+  }
 
-  module _ {concurrency : Bool} {address : ℕ} {flat : Bool} (flats : (memory64 : Bool) (ss : List Shape) → HasShape t (ty.Tuple tuple) (tuple_of ss) → AreCounted (tuple_members ss) → flat ≡ is_some (flat_values memory64 16 ss)) where
-    pub asked_tuple : {size align : ℕ} {old new : Writer} (wide : Bool) → m.memory64 ≡ wide → flat ≡ false → HasExtent wide l size align → Emits old new (AsksArea concurrency m (taken_in old) address size align) → AskedTuple t tuple concurrency m address old new
-    asked_tuple {old = old} {new} wide is none e x = record {
-      grew = x.grew;
-      size = area_small;
-      emits = λ ss h counted. subst (λ b. Emits old new (AsksTuple concurrency m (taken_in old) b address (tuple_size m.memory64 ss) (tuple_align m.memory64 ss))) (sym none ∙ flats m.memory64 ss h counted) (area_written (λ size align. AsksArea concurrency m (taken_in old) address size align) wide is e x ss h);
-    }
+  pub asked_tuple : {concurrency : Bool} {address size align : ℕ} {flat : Bool} {old new : Writer} (wide : Bool) → m.memory64 ≡ wide → flat ≡ false → HasExtent wide l size align → Emits old new (AsksArea concurrency m (taken_in old) address size align)
+      → AskedTuple t tuple concurrency m flat address old new
+  asked_tuple {concurrency} {address} {old = old} {new} wide is none e x = record {
+    grew = x.grew;
+    size = area_small;
+    emits = λ ss h. subst (λ b. Emits old new (AsksTuple concurrency m (taken_in old) b address (tuple_size m.memory64 ss) (tuple_align m.memory64 ss))) (sym none) (area_written (λ size align. AsksArea concurrency m (taken_in old) address size align) wide is e x ss h);
+  }
 
-    pub unasked_tuple : {old : Writer} → flat ≡ true → AskedTuple t tuple concurrency m address old old
-    unasked_tuple {old} all = record {
-      grew = (emits_nothing {P = λ M p locals code. code ≡ []} (λ M p locals. refl)).grew;
-      size = area_small;
-      emits = λ ss h counted. subst (λ b. Emits old old (AsksTuple concurrency m (taken_in old) b address (tuple_size m.memory64 ss) (tuple_align m.memory64 ss))) (sym all ∙ flats m.memory64 ss h counted) (emits_nothing (λ M p locals. refl));
-    }
+  pub unasked_tuple : {concurrency : Bool} {address : ℕ} {flat : Bool} {old : Writer} → flat ≡ true → AskedTuple t tuple concurrency m flat address old old
+  unasked_tuple {concurrency} {address} {old = old} all = record {
+    grew = (emits_nothing {P = λ M p locals code. code ≡ []} (λ M p locals. refl)).grew;
+    size = area_small;
+    emits = λ ss h. subst (λ b. Emits old old (AsksTuple concurrency m (taken_in old) b address (tuple_size m.memory64 ss) (tuple_align m.memory64 ss))) (sym all) (emits_nothing (λ M p locals. refl));
+  }
 
 -- both checks and the move
 results_by : {t : Tables} (d : AdapterData) (debug concurrency : Bool) (given results args : List Slot) (from to : Id TypeTuples) (address address' : ℕ) {src : From} {dst : To} {lift_flat lower_flat : Bool} {a b c e : Writer} → address ≡ last_local given → address' ≡ last_local args
     → src ≡ tuple_from (linear_of d.lift) lift_flat given → dst ≡ tuple_to (linear_of d.lower) lower_flat results args
-    → ((memory64 : Bool) (ss : List Shape) → HasShape t (ty.Tuple from) (tuple_of ss) → AreCounted (tuple_members ss) → lift_flat ≡ is_some (flat_values memory64 1 ss))
-    → ((memory64 : Bool) (ss : List Shape) → HasShape t (ty.Tuple to) (tuple_of ss) → AreCounted (tuple_members ss) → lower_flat ≡ is_some (flat_values memory64 1 ss))
+    → ((memory64 : Bool) (ss : List Shape) → HasShape t (ty.Tuple from) (tuple_of ss) → AreCounted (tuple_members ss) → lift_flat ≡ is_some (flat_values memory64 (lift_results_limit d.lift.options.async_) ss))
+    → ((memory64 : Bool) (ss : List Shape) → HasShape t (ty.Tuple to) (tuple_of ss) → AreCounted (tuple_members ss) → lower_flat ≡ is_some (lowered_flats d.lower.options.async_ memory64 ss))
     → ((qs ss : List Shape) → HasSignature t d.lift.ty qs ss → HasShape t (ty.Tuple from) (tuple_of ss)) → ((ps rs : List Shape) → HasSignature t d.lower.ty ps rs → HasShape t (ty.Tuple to) (tuple_of rs))
-    → CheckedTuple t from (linear_of d.lift) 1 address a b → CheckedTuple t to (linear_of d.lower) 1 address' b c → MovedTuple t (ty.Tuple from) (ty.Tuple to) (results_sides d debug concurrency) src dst c e → MovedResults t d debug concurrency given results args a e
+    → CheckedTuple t from (linear_of d.lift) lift_flat address a b → CheckedTuple t to (linear_of d.lower) lower_flat address' b c → MovedTuple t (ty.Tuple from) (ty.Tuple to) (results_sides d debug concurrency) src dst c e → MovedResults t d debug concurrency given results args a e
 results_by d debug concurrency given results args from to address address' {src} {dst} {lift_flat} {lower_flat} {a} {b} {c} {e} first second is is' lift lower sx sy x y z = record {
   grew = grew_on x.grew (grew_on y.grew z.grew);
   lift_size = λ qs ss h. x.size ss (sx qs ss h);
   lower_size = λ ps rs h. y.size rs (sy ps rs h);
   emits = λ ps rs qs ss h k can.
-      let f : Bool = is_some (flat_values (linear_of d.lift).memory64 1 ss) in
-      let g : Bool = is_some (flat_values (linear_of d.lower).memory64 1 rs) in
+      let f : Bool = is_some (flat_values (linear_of d.lift).memory64 (lift_results_limit d.lift.options.async_) ss) in
+      let g : Bool = is_some (lowered_flats d.lower.options.async_ (linear_of d.lower).memory64 rs) in
+      let f_is : lift_flat ≡ f = lift (linear_of d.lift).memory64 ss (sx qs ss k) can.from_counted in
+      let g_is : lower_flat ≡ g = lower (linear_of d.lower).memory64 rs (sy ps rs h) can.to_counted in
       let from_b : taken_in b ≡ taken_in a = λ j. λ i. (x.grew.still i) j in
       let from_c : taken_in c ≡ taken_in a = (λ j. λ i. (y.grew.still i) j) ∙ from_b in
       let one : Emits a b (ChecksTuple (linear_of d.lift) (taken_in a) f (last_local given) (tuple_size (linear_of d.lift).memory64 ss) (tuple_align (linear_of d.lift).memory64 ss)) =
-      subst (λ n. Emits a b (ChecksTuple (linear_of d.lift) (taken_in a) f n (tuple_size (linear_of d.lift).memory64 ss) (tuple_align (linear_of d.lift).memory64 ss))) first (x.emits ss (sx qs ss k) can.from_counted) in
+      subst (λ n. Emits a b (ChecksTuple (linear_of d.lift) (taken_in a) f n (tuple_size (linear_of d.lift).memory64 ss) (tuple_align (linear_of d.lift).memory64 ss))) first
+      (subst (λ b'. Emits a b (ChecksTuple (linear_of d.lift) (taken_in a) b' address (tuple_size (linear_of d.lift).memory64 ss) (tuple_align (linear_of d.lift).memory64 ss))) f_is (x.emits ss (sx qs ss k))) in
       let two : Emits b c (ChecksTuple (linear_of d.lower) (taken_in a) g (last_local args) (tuple_size (linear_of d.lower).memory64 rs) (tuple_align (linear_of d.lower).memory64 rs)) =
       subst (λ taken. Emits b c (ChecksTuple (linear_of d.lower) taken g (last_local args) (tuple_size (linear_of d.lower).memory64 rs) (tuple_align (linear_of d.lower).memory64 rs))) from_b
-      (subst (λ n. Emits b c (ChecksTuple (linear_of d.lower) (taken_in b) g n (tuple_size (linear_of d.lower).memory64 rs) (tuple_align (linear_of d.lower).memory64 rs))) second (y.emits rs (sy ps rs h) can.to_counted)) in
-      let source : src ≡ tuple_from (linear_of d.lift) f given = is ∙ ap (λ q. tuple_from (linear_of d.lift) q given) (lift (linear_of d.lift).memory64 ss (sx qs ss k) can.from_counted) in
-      let target : dst ≡ tuple_to (linear_of d.lower) g results args = is' ∙ ap (λ q. tuple_to (linear_of d.lower) q results args) (lower (linear_of d.lower).memory64 rs (sy ps rs h) can.to_counted) in
+      (subst (λ n. Emits b c (ChecksTuple (linear_of d.lower) (taken_in b) g n (tuple_size (linear_of d.lower).memory64 rs) (tuple_align (linear_of d.lower).memory64 rs))) second
+      (subst (λ b'. Emits b c (ChecksTuple (linear_of d.lower) (taken_in b) b' address' (tuple_size (linear_of d.lower).memory64 rs) (tuple_align (linear_of d.lower).memory64 rs))) g_is (y.emits rs (sy ps rs h)))) in
+      let source : src ≡ tuple_from (linear_of d.lift) f given = is ∙ ap (λ q. tuple_from (linear_of d.lift) q given) f_is in
+      let target : dst ≡ tuple_to (linear_of d.lower) g results args = is' ∙ ap (λ q. tuple_to (linear_of d.lower) q results args) g_is in
       let three : Emits c e (MovesTuple (results_sides d debug concurrency) (tuple_from (linear_of d.lift) f given) (tuple_to (linear_of d.lower) g results args) (taken_in a) (tuple_of ss) (tuple_of rs)) =
       subst (λ taken. Emits c e (MovesTuple (results_sides d debug concurrency) (tuple_from (linear_of d.lift) f given) (tuple_to (linear_of d.lower) g results args) taken (tuple_of ss) (tuple_of rs))) from_c
       (subst (λ dst. Emits c e (MovesTuple (results_sides d debug concurrency) (tuple_from (linear_of d.lift) f given) dst (taken_in c) (tuple_of ss) (tuple_of rs))) target
@@ -144,37 +148,41 @@ results_by d debug concurrency given results args from to address address' {src}
 
 pub moved_results : {t : Tables} (d : AdapterData) (debug concurrency : Bool) {sides : Sides} → sides ≡ results_sides d debug concurrency → (given results args : List Slot) (from to : Id TypeTuples) (address address' : ℕ) {src : From} {dst : To} {lift_flat lower_flat : Bool} {a b c e : Writer} → address ≡ last_local given → address' ≡ last_local args
     → src ≡ tuple_from sides.from lift_flat given → dst ≡ tuple_to sides.to lower_flat results args
-    → ((memory64 : Bool) (ss : List Shape) → HasShape t (ty.Tuple from) (tuple_of ss) → AreCounted (tuple_members ss) → lift_flat ≡ is_some (flat_values memory64 1 ss))
-    → ((memory64 : Bool) (ss : List Shape) → HasShape t (ty.Tuple to) (tuple_of ss) → AreCounted (tuple_members ss) → lower_flat ≡ is_some (flat_values memory64 1 ss))
+    → ((memory64 : Bool) (ss : List Shape) → HasShape t (ty.Tuple from) (tuple_of ss) → AreCounted (tuple_members ss) → lift_flat ≡ is_some (flat_values memory64 (lift_results_limit d.lift.options.async_) ss))
+    → ((memory64 : Bool) (ss : List Shape) → HasShape t (ty.Tuple to) (tuple_of ss) → AreCounted (tuple_members ss) → lower_flat ≡ is_some (lowered_flats d.lower.options.async_ memory64 ss))
     → ((qs ss : List Shape) → HasSignature t d.lift.ty qs ss → HasShape t (ty.Tuple from) (tuple_of ss)) → ((ps rs : List Shape) → HasSignature t d.lower.ty ps rs → HasShape t (ty.Tuple to) (tuple_of rs))
-    → CheckedTuple t from sides.from 1 address a b → CheckedTuple t to sides.to 1 address' b c → MovedTuple t (ty.Tuple from) (ty.Tuple to) sides src dst c e → MovedResults t d debug concurrency given results args a e
+    → CheckedTuple t from sides.from lift_flat address a b → CheckedTuple t to sides.to lower_flat address' b c → MovedTuple t (ty.Tuple from) (ty.Tuple to) sides src dst c e → MovedResults t d debug concurrency given results args a e
 moved_results {t} d debug concurrency {sides} same given results args from to address address' {src} {dst} {lift_flat} {lower_flat} {a} {b} {c} {e} first second is is' lift lower sx sy x y z =
     results_by d debug concurrency given results args from to address address' first second (subst (λ (s : Sides). src ≡ tuple_from s.from lift_flat given) same is) (subst (λ (s : Sides). dst ≡ tuple_to s.to lower_flat results args) same is')
-    lift lower sx sy (subst (λ (s : Sides). CheckedTuple t from s.from 1 address a b) same x) (subst (λ (s : Sides). CheckedTuple t to s.to 1 address' b c) same y) (subst (λ s. MovedTuple t (ty.Tuple from) (ty.Tuple to) s src dst c e) same z)
+    lift lower sx sy (subst (λ (s : Sides). CheckedTuple t from s.from lift_flat address a b) same x) (subst (λ (s : Sides). CheckedTuple t to s.to lower_flat address' b c) same y) (subst (λ s. MovedTuple t (ty.Tuple from) (ty.Tuple to) s src dst c e) same z)
 
 -- the check, the request and the move of parameters
 params_by : {t : Tables} (d : AdapterData) (debug concurrency : Bool) (params core : List Slot) (from to : Id TypeTuples) (address address' : ℕ) {src : From} {dst : To} {lower_flat lift_flat : Bool} {a b c e : Writer} → address ≡ last_local params → address' ≡ last_local core
     → src ≡ tuple_from (linear_of d.lower) lower_flat params → dst ≡ tuple_to (linear_of d.lift) lift_flat core core
-    → ((memory64 : Bool) (ss : List Shape) → HasShape t (ty.Tuple from) (tuple_of ss) → AreCounted (tuple_members ss) → lower_flat ≡ is_some (flat_values memory64 16 ss))
+    → ((memory64 : Bool) (ss : List Shape) → HasShape t (ty.Tuple from) (tuple_of ss) → AreCounted (tuple_members ss) → lower_flat ≡ is_some (flat_values memory64 (lower_limit d.lower.options.async_) ss))
     → ((memory64 : Bool) (ss : List Shape) → HasShape t (ty.Tuple to) (tuple_of ss) → AreCounted (tuple_members ss) → lift_flat ≡ is_some (flat_values memory64 16 ss))
     → ((ps rs : List Shape) → HasSignature t d.lower.ty ps rs → HasShape t (ty.Tuple from) (tuple_of ps)) → ((qs ss : List Shape) → HasSignature t d.lift.ty qs ss → HasShape t (ty.Tuple to) (tuple_of qs))
-    → CheckedTuple t from (linear_of d.lower) 16 address a b → AskedTuple t to concurrency (linear_of d.lift) address' b c → MovedTuple t (ty.Tuple from) (ty.Tuple to) (params_sides d debug concurrency) src dst c e → MovedParams t d debug concurrency params core a e
+    → CheckedTuple t from (linear_of d.lower) lower_flat address a b → AskedTuple t to concurrency (linear_of d.lift) lift_flat address' b c → MovedTuple t (ty.Tuple from) (ty.Tuple to) (params_sides d debug concurrency) src dst c e → MovedParams t d debug concurrency params core a e
 params_by d debug concurrency params core from to address address' {src} {dst} {lower_flat} {lift_flat} {a} {b} {c} {e} first second is is' lower lift sx sy x y z = record {
   grew = grew_on x.grew (grew_on y.grew z.grew);
   emits = λ ps rs qs ss h k can.
       let m = linear_of d.lower in
       let m' = linear_of d.lift in
-      let f : Bool = is_some (flat_values m.memory64 16 ps) in
+      let f : Bool = is_some (flat_values m.memory64 (lower_limit d.lower.options.async_) ps) in
       let g : Bool = is_some (flat_values m'.memory64 16 qs) in
+      let f_is : lower_flat ≡ f = lower m.memory64 ps (sx ps rs h) can.from_counted in
+      let g_is : lift_flat ≡ g = lift m'.memory64 qs (sy qs ss k) can.to_counted in
       let from_b : taken_in b ≡ taken_in a = λ j. λ i. (x.grew.still i) j in
       let from_c : taken_in c ≡ taken_in a = (λ j. λ i. (y.grew.still i) j) ∙ from_b in
       let one : Emits a b (ChecksTuple m (taken_in a) f (last_local params) (tuple_size m.memory64 ps) (tuple_align m.memory64 ps)) =
-      subst (λ n. Emits a b (ChecksTuple m (taken_in a) f n (tuple_size m.memory64 ps) (tuple_align m.memory64 ps))) first (x.emits ps (sx ps rs h) can.from_counted) in
+      subst (λ n. Emits a b (ChecksTuple m (taken_in a) f n (tuple_size m.memory64 ps) (tuple_align m.memory64 ps))) first
+      (subst (λ b'. Emits a b (ChecksTuple m (taken_in a) b' address (tuple_size m.memory64 ps) (tuple_align m.memory64 ps))) f_is (x.emits ps (sx ps rs h))) in
       let two : Emits b c (AsksTuple concurrency m' (taken_in a) g (last_local core) (tuple_size m'.memory64 qs) (tuple_align m'.memory64 qs)) =
       subst (λ taken. Emits b c (AsksTuple concurrency m' taken g (last_local core) (tuple_size m'.memory64 qs) (tuple_align m'.memory64 qs))) from_b
-      (subst (λ n. Emits b c (AsksTuple concurrency m' (taken_in b) g n (tuple_size m'.memory64 qs) (tuple_align m'.memory64 qs))) second (y.emits qs (sy qs ss k) can.to_counted)) in
-      let source : src ≡ tuple_from m f params = is ∙ ap (λ q. tuple_from m q params) (lower m.memory64 ps (sx ps rs h) can.from_counted) in
-      let target : dst ≡ tuple_to m' g core core = is' ∙ ap (λ q. tuple_to m' q core core) (lift m'.memory64 qs (sy qs ss k) can.to_counted) in
+      (subst (λ n. Emits b c (AsksTuple concurrency m' (taken_in b) g n (tuple_size m'.memory64 qs) (tuple_align m'.memory64 qs))) second
+      (subst (λ b'. Emits b c (AsksTuple concurrency m' (taken_in b) b' address' (tuple_size m'.memory64 qs) (tuple_align m'.memory64 qs))) g_is (y.emits qs (sy qs ss k)))) in
+      let source : src ≡ tuple_from m f params = is ∙ ap (λ q. tuple_from m q params) f_is in
+      let target : dst ≡ tuple_to m' g core core = is' ∙ ap (λ q. tuple_to m' q core core) g_is in
       let three : Emits c e (MovesTuple (params_sides d debug concurrency) (tuple_from m f params) (tuple_to m' g core core) (taken_in a) (tuple_of ps) (tuple_of qs)) =
       subst (λ taken. Emits c e (MovesTuple (params_sides d debug concurrency) (tuple_from m f params) (tuple_to m' g core core) taken (tuple_of ps) (tuple_of qs))) from_c
       (subst (λ dst. Emits c e (MovesTuple (params_sides d debug concurrency) (tuple_from m f params) dst (taken_in c) (tuple_of ps) (tuple_of qs))) target
@@ -194,10 +202,10 @@ params_by d debug concurrency params core from to address address' {src} {dst} {
 
 pub moved_params : {t : Tables} (d : AdapterData) (debug concurrency : Bool) {sides : Sides} → sides ≡ params_sides d debug concurrency → (params core : List Slot) (from to : Id TypeTuples) (address address' : ℕ) {src : From} {dst : To} {lower_flat lift_flat : Bool} {a b c e : Writer} → address ≡ last_local params → address' ≡ last_local core
     → src ≡ tuple_from sides.from lower_flat params → dst ≡ tuple_to sides.to lift_flat core core
-    → ((memory64 : Bool) (ss : List Shape) → HasShape t (ty.Tuple from) (tuple_of ss) → AreCounted (tuple_members ss) → lower_flat ≡ is_some (flat_values memory64 16 ss))
+    → ((memory64 : Bool) (ss : List Shape) → HasShape t (ty.Tuple from) (tuple_of ss) → AreCounted (tuple_members ss) → lower_flat ≡ is_some (flat_values memory64 (lower_limit d.lower.options.async_) ss))
     → ((memory64 : Bool) (ss : List Shape) → HasShape t (ty.Tuple to) (tuple_of ss) → AreCounted (tuple_members ss) → lift_flat ≡ is_some (flat_values memory64 16 ss))
     → ((ps rs : List Shape) → HasSignature t d.lower.ty ps rs → HasShape t (ty.Tuple from) (tuple_of ps)) → ((qs ss : List Shape) → HasSignature t d.lift.ty qs ss → HasShape t (ty.Tuple to) (tuple_of qs))
-    → CheckedTuple t from sides.from 16 address a b → AskedTuple t to concurrency sides.to address' b c → MovedTuple t (ty.Tuple from) (ty.Tuple to) sides src dst c e → MovedParams t d debug concurrency params core a e
+    → CheckedTuple t from sides.from lower_flat address a b → AskedTuple t to concurrency sides.to lift_flat address' b c → MovedTuple t (ty.Tuple from) (ty.Tuple to) sides src dst c e → MovedParams t d debug concurrency params core a e
 moved_params {t} d debug concurrency {sides} same params core from to address address' {src} {dst} {lower_flat} {lift_flat} {a} {b} {c} {e} first second is is' lower lift sx sy x y z =
     params_by d debug concurrency params core from to address address' first second (subst (λ (s : Sides). src ≡ tuple_from s.from lower_flat params) same is) (subst (λ (s : Sides). dst ≡ tuple_to s.to lift_flat core core) same is')
-    lower lift sx sy (subst (λ (s : Sides). CheckedTuple t from s.from 16 address a b) same x) (subst (λ (s : Sides). AskedTuple t to concurrency s.to address' b c) same y) (subst (λ s. MovedTuple t (ty.Tuple from) (ty.Tuple to) s src dst c e) same z)
+    lower lift sx sy (subst (λ (s : Sides). CheckedTuple t from s.from lower_flat address a b) same x) (subst (λ (s : Sides). AskedTuple t to concurrency s.to lift_flat address' b c) same y) (subst (λ s. MovedTuple t (ty.Tuple from) (ty.Tuple to) s src dst c e) same z)

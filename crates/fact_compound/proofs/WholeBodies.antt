@@ -114,7 +114,7 @@ module _ {t : Tables} {d : AdapterData} {debug : Bool} {o : CallOptions} (passed
     pointed : IsSplit (flat_values (is_wide a.lower.memory) 1 a.lower.results) (address (is_wide a.lower.memory)) (flat_params (is_wide a.lower.memory) 16 a.lower.params) (slots_of_locals l.args.items) y.params
     pointed =
         split (flat_values (is_wide a.lower.memory) 1 a.lower.results) (address (is_wide a.lower.memory)) (flat_params (is_wide a.lower.memory) 16 a.lower.params) (slots_of_locals l.args.items) y.params
-        (args_are ∙ ap (slots_from 0) (ap (λ (s : Signature). s.params) lower_is ∙ lower_params_are a h.lower.sync)) (y.split a.lower.params a.lower.results h.lower.signature h.results.to_counted (is_wide a.lower.memory))
+        (args_are ∙ ap (slots_from 0) (ap (λ (s : Signature). s.params) lower_is ∙ lower_params_are a h.lower_sync)) (y.split a.lower.params a.lower.results h.transfers.lower.signature h.transfers.results.to_counted (is_wide a.lower.memory))
 
     room : HasLocals a o.context (places_with passed l y.params) (taken_in b) (types_of_locals c)
     room = record {
@@ -122,7 +122,7 @@ module _ {t : Tables} {d : AdapterData} {debug : Bool} {o : CallOptions} (passed
       args = pointed.args_are;
       params_types = pointed.params_types;
       rest_types = pointed.rest_types;
-      core = core_are passed a l lift y.params x.core_types lift_is (λ e. are e a.lower.params a.lower.results a.lift.params a.lift.results h.lower.signature h.lift.signature);
+      core = core_are passed a l lift y.params x.core_types lift_is (λ e. are e a.lower.params a.lower.results a.lift.params a.lift.results h.transfers.lower.signature h.transfers.lift.signature);
       given_types = x.given_types ∙ ap (λ (s : Signature). s.results) lift_is;
       results_types = x.results_types ∙ ap (λ (s : Signature). s.results) lower_is;
       typed = all_typed;

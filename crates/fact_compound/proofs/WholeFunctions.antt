@@ -6,6 +6,8 @@ use Rattle.fact_wasm.specs.declared.instr.Instr.{Instr}
 use Rattle.fact_wasm.specs.declared.module.WasmFunc.{WasmFunc}
 use Rattle.fact_wasm.specs.declared.module.WasmModule.{WasmModule}
 use Rattle.fact_wasm.specs.declared.types.ValType.{ValType}
+use Rattle.fact_machine.specs.Machine.{func_import}
+use Rattle.fact_types.specs.declared.import.Import.{Import}
 use Rattle.fact_wasm.specs.declared.types.ValType.TheVariants as val
 use Rattle.fact_entity.specs.declared.id.Id.{Id}
 use Rattle.fact_entity.specs.declared.table.TypeFuncs.{TypeFuncs}
@@ -32,7 +34,7 @@ use Rattle.fact_pieces.specs.Does.{held_types}
 use Rattle.fact_pieces.specs.Typed.{OperandsBehind, OnStack, IsTyped}
 use Rattle.fact_pieces.proofs.TypedShapes.{typed_body}
 use Rattle.fact_emit.specs.Brought.{Brought}
-use Rattle.fact_emit.specs.Imports.{Extended, StandsOnce, AreOnce, Serves}
+use Rattle.fact_emit.specs.Imports.{Extended, HasImport, StandOnce, AreOnce, Serves}
 use Rattle.fact_emit.specs.States.{ModuleSoFar, HasType, KeepsDefined, export_as, functions_of, memories_of, globals_of}
 use Rattle.fact_emit.specs.Writers.{AreNumberTypes, types_of_locals}
 use Rattle.fact_emit.specs.declared.writer.Local.{Local}
@@ -64,18 +66,18 @@ values_numbers (f ∷ fs) = both (number f) (values_numbers fs)
     number flat_type.F32 = refl
     number flat_type.F64 = refl
 
-flats_numbers : (m : Bool) (limit : ℕ) (ss : List Shape) (others : List ValType) → AreNumberTypes others → AreNumberTypes (flat_or others (flat_values m limit ss))
+pub flats_numbers : (m : Bool) (limit : ℕ) (ss : List Shape) (others : List ValType) → AreNumberTypes others → AreNumberTypes (flat_or others (flat_values m limit ss))
 flats_numbers m limit ss others h = go (flat_values m limit ss) refl
   where
     go : (o : Option (List ValType)) → flat_values m limit ss ≡ o → AreNumberTypes (flat_or others o)
     go None e = h
     go (Some ts) e = let x = are_flat m limit ss ts e in subst (λ ts. AreNumberTypes ts) (sym x.are) (values_numbers (flat_members (width m) (tuple_members ss)))
 
-unless_numbers : (o : Option (List ValType)) (others : List ValType) → AreNumberTypes others → AreNumberTypes (unless_flat others o)
+pub unless_numbers : (o : Option (List ValType)) (others : List ValType) → AreNumberTypes others → AreNumberTypes (unless_flat others o)
 unless_numbers None others h = h
 unless_numbers (Some ts) others h = refl
 
-address_numbers : (m : Bool) → AreNumberTypes (address m ∷ [])
+pub address_numbers : (m : Bool) → AreNumberTypes (address m ∷ [])
 address_numbers true = refl
 address_numbers false = refl
 
@@ -99,17 +101,17 @@ sync_numbers m n ps rs qs ss =
 
 -- ---- the function
 
-drop_mapped : {A B : Type 0} (f : A → B) (n : ℕ) (xs : List A) → map f (drop n xs) ≡ drop n (map f xs)
+pub drop_mapped : {A B : Type 0} (f : A → B) (n : ℕ) (xs : List A) → map f (drop n xs) ≡ drop n (map f xs)
 drop_mapped f zero xs = refl
 drop_mapped f (suc n) [] = refl
 drop_mapped f (suc n) (x ∷ xs) = drop_mapped f n xs
 
-drop_long : {A : Type 0} (xs ys : List A) → drop (length xs) (xs ++ ys) ≡ ys
+pub drop_long : {A : Type 0} (xs ys : List A) → drop (length xs) (xs ++ ys) ≡ ys
 drop_long [] ys = refl
 drop_long (x ∷ xs) ys = drop_long xs ys
 
 -- code that is typed is typed within labels
-typed_within : {M : WasmModule} {locals : List ValType} {labels : List (List ValType)} {code : List Instr} {outs : OperandsBehind} → IsTyped M locals [] code [] outs → IsTyped M locals labels code [] outs
+pub typed_within : {M : WasmModule} {locals : List ValType} {labels : List (List ValType)} {code : List Instr} {outs : OperandsBehind} → IsTyped M locals [] code [] outs → IsTyped M locals labels code [] outs
 typed_within {labels = labels} x = record { by = λ outer below. x.by (labels ++ outer) below }
 
 module _ {t : Tables} {d : AdapterData} {debug : Bool} {o : CallOptions} {lower lift : Signature} {ty : ℕ} {a0 c : Writer} (w : WroteBody t d debug o lower lift a0 c) {old new : ModuleSoFar} (before : a0.imports ≡ old) (after : new ≡ c.imports) (f : WasmFunc)
@@ -129,8 +131,8 @@ module _ {t : Tables} {d : AdapterData} {debug : Bool} {o : CallOptions} {lower 
 
     numbers_are : AreNumberTypes (sync_types false false lower lift)
     numbers_are =
-        subst (λ s. AreNumberTypes (sync_types false false s lift)) (sym (lower_is ∙ lower_is_sync a h.lower.sync))
-        (subst (λ s. AreNumberTypes (sync_types false false (sync_lower (is_wide a.lower.memory) a.lower.params a.lower.results) s)) (sym (lift_is ∙ lift_is_sync a h.lift.sync))
+        subst (λ s. AreNumberTypes (sync_types false false s lift)) (sym (lower_is ∙ lower_is_sync a h.lower_sync))
+        (subst (λ s. AreNumberTypes (sync_types false false (sync_lower (is_wide a.lower.memory) a.lower.params a.lower.results) s)) (sym (lift_is ∙ lift_is_sync a h.lift_sync))
         (sync_numbers (is_wide a.lower.memory) (is_wide a.lift.memory) a.lower.params a.lower.results a.lift.params a.lift.results))
 
     declared_numbers : AreNumberTypes (local_types f.locals)
@@ -161,8 +163,21 @@ module _ {t : Tables} {d : AdapterData} {debug : Bool} {o : CallOptions} {lower 
 -- ---- the module
 
 -- what is imported is the same
-pub once_same : {a b : ModuleSoFar} → functions_of b ≡ functions_of a → memories_of b ≡ memories_of a → globals_of b ≡ globals_of a → AreOnce a → AreOnce b
-once_same f m g o = record { functions = subst StandsOnce (sym f) o.functions; memories = subst StandsOnce (sym m) o.memories; globals = subst StandsOnce (sym g) o.globals }
+pub once_same : {a b : ModuleSoFar} → functions_of b ≡ functions_of a → memories_of b ≡ memories_of a → globals_of b ≡ globals_of a → b.types ≡ a.types → b.section ≡ a.section → AreOnce a → AreOnce b
+once_same {a} {b} f m g types section o = record {
+  functions = subst StandOnce (sym f) o.functions;
+  memories = subst StandOnce (sym m) o.memories;
+  globals = subst StandOnce (sym g) o.globals;
+  starts = λ i j callback post_return params results h k. o.starts i j callback post_return params results (same h) (same k);
+}
+  where
+    same : {i : Import} {n : ℕ} {params results : List ValType} → HasImport b i n params results → HasImport a i n params results
+    same {n = n} h = record {
+      there = ap (λ is. slice_get is n) (sym f) ∙ h.there;
+      type_at = h.type_at;
+      imported = ap (λ ws. func_import ws n) (sym section) ∙ h.imported;
+      type_is = ap (λ ts. slice_get ts h.type_at) (sym types) ∙ h.type_is;
+    }
 
 -- what the core signature of a sync side hangs on
 pub record IsSyncSide (s : SideSig) (ty : Id TypeFuncs) (memory64 : Bool) : Type 0 where
@@ -175,13 +190,13 @@ module _ {t : Tables} {d : AdapterData} {debug : Bool} {lower lift : Signature} 
     (of_lower : IsSyncSide lower_side d.lower.ty d.lower.options.linear.memory64) (of_lift : IsSyncSide lift_side d.lift.ty d.lift.options.linear.memory64) where
   lower_of : {u : AdapterTunables} {a : LinkedAdapter} → DescribesAdapter t d debug u a → lower ≡ lower_signature_of a
   lower_of {u} {a} h =
-      lower_are a.lower.params a.lower.results (subst (λ i. HasSignature t i a.lower.params a.lower.results) (sym of_lower.ty_is) h.lower.signature)
-      ∙ (λ i. lower_by (of_lower.sync i) ((of_lower.wide ∙ sym h.lower.wide) i) a.lower.params a.lower.results) ∙ sym (lower_is_sync a h.lower.sync)
+      lower_are a.lower.params a.lower.results (subst (λ i. HasSignature t i a.lower.params a.lower.results) (sym of_lower.ty_is) h.transfers.lower.signature)
+      ∙ (λ i. lower_by (of_lower.sync i) ((of_lower.wide ∙ sym h.transfers.lower.wide) i) a.lower.params a.lower.results) ∙ sym (lower_is_sync a h.lower_sync)
 
   lift_of : {u : AdapterTunables} {a : LinkedAdapter} → DescribesAdapter t d debug u a → lift ≡ lift_signature_of a
   lift_of {u} {a} h =
-      lift_are a.lift.params a.lift.results (subst (λ i. HasSignature t i a.lift.params a.lift.results) (sym of_lift.ty_is) h.lift.signature)
-      ∙ (λ i. lift_by (of_lift.sync i) lift_side.callback ((of_lift.wide ∙ sym h.lift.wide) i) a.lift.params a.lift.results) ∙ sym (lift_is_sync a h.lift.sync)
+      lift_are a.lift.params a.lift.results (subst (λ i. HasSignature t i a.lift.params a.lift.results) (sym of_lift.ty_is) h.transfers.lift.signature)
+      ∙ (λ i. lift_by (of_lift.sync i) lift_side.callback ((of_lift.wide ∙ sym h.transfers.lift.wide) i) a.lift.params a.lift.results) ∙ sym (lift_is_sync a h.lift_sync)
 
   pub compiled : {o : CallOptions} {concurrency exceptions : Bool} {s0 s1 s2 s3 s4 : ModuleSoFar} {n k : ℕ} {f : WasmFunc} → slice_get s1.types n ≡ Some (signature lower.params lower.results) → HasType s0 s1 (signature lower.params lower.results) → Extended s0 s1 → (AreOnce s0 → AreOnce s1)
       → WroteFunction t d debug o lower lift n s1 s2 f → AsksCalls t d concurrency exceptions o → k ≡ length s2.functions → s3 ≡ record s2 { functions = s2.functions ++ f ∷ [] } → s4 ≡ record s3 { exports = s3.exports ++ export_as d.name (func.Defined k) ∷ [] } → CompiledSync t d debug concurrency exceptions s0 s4
@@ -201,7 +216,7 @@ module _ {t : Tables} {d : AdapterData} {debug : Bool} {lower lift : Signature} 
         is_last = same ∙ ap (λ j. record s2 { functions = s2.functions ++ f ∷ []; exports = s2.exports ++ export_as d.name (func.Defined j) ∷ [] }) number;
         functions = ap (λ (s : ModuleSoFar). s.functions) same ∙ ap (λ fs. fs ++ f ∷ []) (kept.functions ∙ before.functions);
         exports = ap (λ (s : ModuleSoFar). s.exports) same ∙ ap (λ es. es ++ export_as d.name (func.Defined k) ∷ []) (kept.exports ∙ before.exports) ∙ ap (λ j. s0.exports ++ export_as d.name (func.Defined j) ∷ []) count;
-        once = λ o. once_same (ap functions_of same) (ap memories_of same) (ap globals_of same) (w.once (once o));
+        once = λ o. once_same (ap functions_of same) (ap memories_of same) (ap globals_of same) (ap (λ (s : ModuleSoFar). s.types) same) (ap (λ (s : ModuleSoFar). s.section) same) (w.once (once o));
         typed = λ u a h.
             let at : slice_get s4.types n ≡ Some (signature lower.params lower.results) = grown_get last.types n _ (grown_get w.imports.types n _ place) in
             ap (slice_get s4.types) w.ty ∙ at ∙ ap (λ (s : Signature). Some (signature s.params s.results)) (lower_of h);

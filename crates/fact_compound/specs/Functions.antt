@@ -1,5 +1,5 @@
 -- Whole functions of adapters, as they are put into a module.
-use Rattle.std.specs.Prelude.{◌≡◌, ◌≢◌, ℕ, suc, ◌-◌, Bool, true, false, List, [], ◌∷◌, ◌++◌, is_some, length, map, reverse, take, Some, slice_get}
+use Rattle.std.specs.Prelude.{◌≡◌, ℕ, suc, ◌-◌, Bool, true, false, List, [], ◌∷◌, ◌++◌, is_some, length, map, reverse, take, Some, slice_get}
 use Rattle.fact_wasm.specs.declared.instr.FuncName.TheVariants as func
 use Rattle.fact_wasm.specs.declared.instr.Instr.{Instr}
 use Rattle.fact_wasm.specs.declared.module.WasmFunc.{WasmFunc}
@@ -31,7 +31,6 @@ use Rattle.fact_emit.specs.declared.writer.Writer.{Writer}
 use Rattle.fact_compound.specs.Code.{slot_types}
 use Rattle.fact_compound.specs.Described.{DescribesAdapter, KnowsAdapterData}
 use Rattle.fact_compound.specs.Events.{AreCallOptions}
-use Rattle.fact_compound.specs.SameInstance.{CompiledSameInstance}
 use Rattle.fact_compound.specs.Syncs.{IsSyncFunction, EmitsSync, EndsAsSync, WritesSync, lower_type_of}
 use Rattle.fact_compound.specs.Written.{SyncPlaces, context_slots}
 use Rattle.fact_compound.specs.declared.adapters.AdapterData.{AdapterData}
@@ -159,9 +158,3 @@ pub record CompiledSync (t : Tables) (d : AdapterData) (debug concurrency except
   pub once : AreOnce old → AreOnce new
   pub typed : (u : AdapterTunables) (a : LinkedAdapter) → DescribesAdapter t d debug u a → slice_get new.types function.ty ≡ Some (lower_type_of a)
   pub writes : WritesSync t d debug concurrency exceptions old new function
-
--- An adapter was compiled: its function traps at each call where both sides have one instance, and is that of a sync adapter where
--- they have two.
-pub record Compiled (t : Tables) (d : AdapterData) (debug concurrency exceptions : Bool) (old new : ModuleSoFar) : Type 0 where
-  pub within : d.lift.instance.number ≡ d.lower.instance.number → CompiledSameInstance t d old new
-  pub between : d.lift.instance.number ≢ d.lower.instance.number → CompiledSync t d debug concurrency exceptions old new

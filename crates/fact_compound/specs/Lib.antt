@@ -1,11 +1,16 @@
+pub mod AsyncParts
+pub mod Asyncs
 pub mod Code
+pub mod Compiled
 pub mod Described
+pub mod Entries
 pub mod Events
 pub mod Functions
 pub mod Passed
 pub mod PassedOn
 pub mod Passing
 pub mod Placed
+pub mod Puts
 pub mod SameInstance
 pub mod Syncs
 pub mod Written

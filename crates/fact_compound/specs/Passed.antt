@@ -5,13 +5,13 @@ use Rattle.fact_wasm.specs.declared.instr.Instr.{Instr}
 use Rattle.fact_wasm.specs.declared.module.WasmModule.{WasmModule}
 use Rattle.fact_entity.specs.declared.id.Id.{Id}
 use Rattle.fact_entity.specs.declared.table.TypeTuples.{TypeTuples}
-use Rattle.fact_types.specs.FlatShapes.{AreCounted}
 use Rattle.fact_types.specs.Functions.{HasSignature}
 use Rattle.fact_types.specs.Shapes.{Shape}
-use Rattle.fact_types.specs.Signatures.{flat_values}
+use Rattle.fact_types.specs.Signatures.{flat_values, lift_results_limit, lower_limit}
 use Rattle.fact_types.specs.Tables.{Tables, HasShape}
-use Rattle.fact_types.specs.Tuples.{tuple_members, tuple_of}
+use Rattle.fact_types.specs.Tuples.{tuple_of}
 use Rattle.fact_types.specs.declared.interface.InterfaceType.TheVariants as ty
+use Rattle.fact_moves.specs.Adapters.{lowered_flats}
 use Rattle.fact_moves.specs.Running.{ImportPlaces}
 use Rattle.fact_pieces.specs.Places.{Slot}
 use Rattle.fact_emit.specs.Emits.{Grew, Emits}
@@ -23,6 +23,9 @@ use Rattle.fact_emit.specs.declared.writer.Writer.{Writer}
 use Rattle.fact_compound.specs.Described.{CanMoveTuple, linear_of}
 use Rattle.fact_compound.specs.Passing.{last_local, tuple_from, tuple_to, tuple_size, tuple_align, AsksTuple, ChecksTuple}
 use Rattle.fact_compound.specs.declared.adapters.AdapterData.{AdapterData}
+use Rattle.fact_compound.specs.declared.asyncs.AsyncPart.{AsyncPart}
+use Rattle.fact_compound.specs.declared.asyncs.AsyncPart.TheVariants as part
+use Rattle.fact_compound.specs.AsyncParts.{PartSlots}
 
 -- the two sides of parameters, and those of results
 abbrev pub params_sides : AdapterData → (debug concurrency : Bool) → Sides
@@ -39,9 +42,9 @@ pub record MovesParams (d : AdapterData) (debug concurrency : Bool) (params core
   pub is : code ≡ lower_check ++ (lift_request ++ move)
   pub lower_size : tuple_size (linear_of d.lower).memory64 from ≤ 4294967295
   pub lift_size : tuple_size (linear_of d.lift).memory64 to ≤ 4294967295
-  pub checks_lower : ChecksTuple (linear_of d.lower) taken (is_some (flat_values (linear_of d.lower).memory64 16 from)) (last_local params) (tuple_size (linear_of d.lower).memory64 from) (tuple_align (linear_of d.lower).memory64 from) M p locals lower_check
+  pub checks_lower : ChecksTuple (linear_of d.lower) taken (is_some (flat_values (linear_of d.lower).memory64 (lower_limit d.lower.options.async_) from)) (last_local params) (tuple_size (linear_of d.lower).memory64 from) (tuple_align (linear_of d.lower).memory64 from) M p locals lower_check
   pub asks_lift : AsksTuple concurrency (linear_of d.lift) taken (is_some (flat_values (linear_of d.lift).memory64 16 to)) (last_local core) (tuple_size (linear_of d.lift).memory64 to) (tuple_align (linear_of d.lift).memory64 to) M p locals lift_request
-  pub moves : MovesTuple (params_sides d debug concurrency) (tuple_from (linear_of d.lower) (is_some (flat_values (linear_of d.lower).memory64 16 from)) params) (tuple_to (linear_of d.lift) (is_some (flat_values (linear_of d.lift).memory64 16 to)) core core) taken (tuple_of from) (tuple_of to) M p locals move
+  pub moves : MovesTuple (params_sides d debug concurrency) (tuple_from (linear_of d.lower) (is_some (flat_values (linear_of d.lower).memory64 (lower_limit d.lower.options.async_) from)) params) (tuple_to (linear_of d.lift) (is_some (flat_values (linear_of d.lift).memory64 16 to)) core core) taken (tuple_of from) (tuple_of to) M p locals move
 
 -- Code was written that moves parameters, whatever the results are.
 pub record MovedParams (t : Tables) (d : AdapterData) (debug concurrency : Bool) (params core : List Slot) (old new : Writer) : Type 0 where
@@ -58,19 +61,17 @@ pub record PassedParams (t : Tables) (d : AdapterData) (debug concurrency passed
   pub grew : Grew old new
   pub emits : (ps rs qs ss : List Shape) → HasSignature t d.lower.ty ps rs → HasSignature t d.lift.ty qs ss → CanMoveTuple ps qs → Emits old new (ParamsCode passed d debug concurrency params core (taken_in old) ps qs)
 
--- The area of a tuple is checked, where its values are more than so many core values. It has at most 4,294,967,295 bytes.
-pub record CheckedTuple (t : Tables) (tuple : Id TypeTuples) (m : LinearMemory) (limit address : ℕ) (old new : Writer) : Type 0 where
+-- The area of a tuple is checked, where its values are not flat. It has at most 4,294,967,295 bytes.
+pub record CheckedTuple (t : Tables) (tuple : Id TypeTuples) (m : LinearMemory) (flat : Bool) (address : ℕ) (old new : Writer) : Type 0 where
   pub grew : Grew old new
   pub size : (ss : List Shape) → HasShape t (ty.Tuple tuple) (tuple_of ss) → tuple_size m.memory64 ss ≤ 4294967295
-  pub emits : (ss : List Shape) → HasShape t (ty.Tuple tuple) (tuple_of ss) → AreCounted (tuple_members ss)
-      → Emits old new (ChecksTuple m (taken_in old) (is_some (flat_values m.memory64 limit ss)) address (tuple_size m.memory64 ss) (tuple_align m.memory64 ss))
+  pub emits : (ss : List Shape) → HasShape t (ty.Tuple tuple) (tuple_of ss) → Emits old new (ChecksTuple m (taken_in old) flat address (tuple_size m.memory64 ss) (tuple_align m.memory64 ss))
 
--- A new area is asked for, where the values of a tuple are more than 16 core values.
-pub record AskedTuple (t : Tables) (tuple : Id TypeTuples) (concurrency : Bool) (m : LinearMemory) (address : ℕ) (old new : Writer) : Type 0 where
+-- A new area is asked for, where they are not.
+pub record AskedTuple (t : Tables) (tuple : Id TypeTuples) (concurrency : Bool) (m : LinearMemory) (flat : Bool) (address : ℕ) (old new : Writer) : Type 0 where
   pub grew : Grew old new
   pub size : (ss : List Shape) → HasShape t (ty.Tuple tuple) (tuple_of ss) → tuple_size m.memory64 ss ≤ 4294967295
-  pub emits : (ss : List Shape) → HasShape t (ty.Tuple tuple) (tuple_of ss) → AreCounted (tuple_members ss)
-      → Emits old new (AsksTuple concurrency m (taken_in old) (is_some (flat_values m.memory64 16 ss)) address (tuple_size m.memory64 ss) (tuple_align m.memory64 ss))
+  pub emits : (ss : List Shape) → HasShape t (ty.Tuple tuple) (tuple_of ss) → Emits old new (AsksTuple concurrency m (taken_in old) flat address (tuple_size m.memory64 ss) (tuple_align m.memory64 ss))
 
 -- the checks of both areas, the callee's first, and the move
 pub record MovesResults (d : AdapterData) (debug concurrency : Bool) (given results args : List Slot) (taken : ℕ → Bool) (from to : List Shape) (M : WasmModule) (p : ImportPlaces) (locals : List ValType) (code : List Instr) : Type 0 where
@@ -78,9 +79,9 @@ pub record MovesResults (d : AdapterData) (debug concurrency : Bool) (given resu
   pub lower_check : List Instr
   pub move : List Instr
   pub is : code ≡ lift_check ++ (lower_check ++ move)
-  pub checks_lift : ChecksTuple (linear_of d.lift) taken (is_some (flat_values (linear_of d.lift).memory64 1 from)) (last_local given) (tuple_size (linear_of d.lift).memory64 from) (tuple_align (linear_of d.lift).memory64 from) M p locals lift_check
-  pub checks_lower : ChecksTuple (linear_of d.lower) taken (is_some (flat_values (linear_of d.lower).memory64 1 to)) (last_local args) (tuple_size (linear_of d.lower).memory64 to) (tuple_align (linear_of d.lower).memory64 to) M p locals lower_check
-  pub moves : MovesTuple (results_sides d debug concurrency) (tuple_from (linear_of d.lift) (is_some (flat_values (linear_of d.lift).memory64 1 from)) given) (tuple_to (linear_of d.lower) (is_some (flat_values (linear_of d.lower).memory64 1 to)) results args) taken (tuple_of from) (tuple_of to) M p locals move
+  pub checks_lift : ChecksTuple (linear_of d.lift) taken (is_some (flat_values (linear_of d.lift).memory64 (lift_results_limit d.lift.options.async_) from)) (last_local given) (tuple_size (linear_of d.lift).memory64 from) (tuple_align (linear_of d.lift).memory64 from) M p locals lift_check
+  pub checks_lower : ChecksTuple (linear_of d.lower) taken (is_some (lowered_flats d.lower.options.async_ (linear_of d.lower).memory64 to)) (last_local args) (tuple_size (linear_of d.lower).memory64 to) (tuple_align (linear_of d.lower).memory64 to) M p locals lower_check
+  pub moves : MovesTuple (results_sides d debug concurrency) (tuple_from (linear_of d.lift) (is_some (flat_values (linear_of d.lift).memory64 (lift_results_limit d.lift.options.async_) from)) given) (tuple_to (linear_of d.lower) (is_some (lowered_flats d.lower.options.async_ (linear_of d.lower).memory64 to)) results args) taken (tuple_of from) (tuple_of to) M p locals move
 
 -- Code was written that moves results, whatever the parameters are. The tuples of the results have at most 4,294,967,295 bytes.
 pub record MovedResults (t : Tables) (d : AdapterData) (debug concurrency : Bool) (given results args : List Slot) (old new : Writer) : Type 0 where
@@ -88,3 +89,10 @@ pub record MovedResults (t : Tables) (d : AdapterData) (debug concurrency : Bool
   pub lift_size : (qs ss : List Shape) → HasSignature t d.lift.ty qs ss → tuple_size (linear_of d.lift).memory64 ss ≤ 4294967295
   pub lower_size : (ps rs : List Shape) → HasSignature t d.lower.ty ps rs → tuple_size (linear_of d.lower).memory64 rs ≤ 4294967295
   pub emits : (ps rs qs ss : List Shape) → HasSignature t d.lower.ty ps rs → HasSignature t d.lift.ty qs ss → CanMoveTuple ss rs → Emits old new (MovesResults d debug concurrency given results args (taken_in old) ss rs)
+
+-- ---- the functions of async adapters that move values
+
+-- Code was written that moves parameters from these values to locals of what is given, or results, behind which the return pointer may stand.
+abbrev pub MovedPart : Tables → AdapterData → (debug concurrency : Bool) → AsyncPart → PartSlots → (old new : Writer) → Type 0
+MovedPart t d debug concurrency part.Start l old new = MovedParams t d debug concurrency l.values l.given old new
+MovedPart t d debug concurrency part.Return l old new = MovedResults t d debug concurrency l.values l.given l.args old new

@@ -2,10 +2,11 @@
 use Rattle.std.specs.Prelude.{◌≡◌, true, Some, None, is_some}
 use Rattle.fact_types.specs.Adapters.{Side, LinkedAdapter, is_wide}
 use Rattle.fact_types.specs.PointerPairs.{have_pointer_pair}
-use Rattle.fact_types.specs.Signatures.{flat_values}
+use Rattle.fact_types.specs.Signatures.{flat_values, lift_results_limit, lower_limit}
 use Rattle.fact_types.specs.Tuples.{tuple_members}
 use Rattle.fact_types.specs.declared.outside.CoreDef.{CoreDef}
 use Rattle.fact_types.specs.declared.outside.MemoryOption.{MemoryOption}
+use Rattle.fact_moves.specs.Adapters.{flat_results}
 use Rattle.fact_emit.specs.AdapterLinks.{AdapterLinks, SideLinks}
 use Rattle.fact_emit.specs.ImportSection.{custom_page_size}
 use Rattle.fact_compound.specs.Described.{linear_of, number_if_any}
@@ -34,9 +35,9 @@ HasReallocOption s = (f : CoreDef) × (s.realloc ≡ Some f)
 -- What the types of an adapter ask of its sides: a memory where parameters or results are not flat, and both memories and the realloc
 -- of the destination where the source's values are or hold lists, maps or strings.
 pub record HasMemoriesFor (a : LinkedAdapter) : Type 0 where
-  pub lift_results : flat_values (is_wide a.lift.memory) 1 a.lift.results ≡ None → HasMemoryOption a.lift
-  pub lower_results : flat_values (is_wide a.lower.memory) 1 a.lower.results ≡ None → HasMemoryOption a.lower
-  pub lower_params : flat_values (is_wide a.lower.memory) 16 a.lower.params ≡ None → HasMemoryOption a.lower
+  pub lift_results : flat_values (is_wide a.lift.memory) (lift_results_limit a.lift.async_side) a.lift.results ≡ None → HasMemoryOption a.lift
+  pub lower_results : flat_results a.lower ≡ None → HasMemoryOption a.lower
+  pub lower_params : flat_values (is_wide a.lower.memory) (lower_limit a.lower.async_side) a.lower.params ≡ None → HasMemoryOption a.lower
   pub lift_params : flat_values (is_wide a.lift.memory) 16 a.lift.params ≡ None → HasMemoryOption a.lift × HasReallocOption a.lift
   pub params_lists : have_pointer_pair (tuple_members a.lower.params) ≡ true → HasMemoryOption a.lower × HasMemoryOption a.lift × HasReallocOption a.lift
   pub results_lists : have_pointer_pair (tuple_members a.lift.results) ≡ true → HasMemoryOption a.lift × HasMemoryOption a.lower × HasReallocOption a.lower

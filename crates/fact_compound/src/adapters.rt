@@ -2,7 +2,7 @@
 
 ghost use Rattle.std.specs.Prelude.{◌≡◌};
 ghost use Rattle.fact_compound.specs.Passed.{params_sides as sides_of_params, results_sides as sides_of_results};
-ghost use Rattle.fact_compound.specs.Described.{linear_of as linear_of_side, memory_place as place_of_memory, number_if_any as number_of};
+ghost use Rattle.fact_compound.specs.Described.{linear_of as linear_of_side, memory_place as place_of_memory, number_if_any as number_of, side_sig as sig_of_side};
 
 use fact_emit::linking::custom_page_size;
 use fact_emit::places::{LinearMemory, Sides};
@@ -10,7 +10,7 @@ use fact_entity::{
     FuncIndex, GlobalIndex, MemoryIndex, ModuleInternedTypeIndex, RuntimeComponentInstanceIndex,
     TypeFuncIndex,
 };
-use fact_types::StringEncoding;
+use fact_types::{SideSig, StringEncoding};
 use fact_wasm::Text;
 
 /// How a side keeps values in memory: the place of its memory among the imported memories, where it has one; whether addresses
@@ -77,6 +77,18 @@ fn realloc_place(realloc: Option<FuncIndex>) -> Option<u32>
 }
 
 impl AdapterOptions {
+    /// What the core signature of the side hangs on.
+    pub fn side_sig(&self) -> SideSig
+        ensures { result ≡ sig_of_side self.now }
+    {
+        SideSig {
+            ty: self.ty,
+            async_: self.options.async_,
+            callback: self.options.callback.is_some(),
+            memory64: self.options.linear.memory64,
+        }
+    }
+
     /// The side's memory as code uses it.
     pub fn linear(&self) -> LinearMemory
         ensures { result ≡ linear_of_side self.now }

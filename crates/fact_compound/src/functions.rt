@@ -7,21 +7,23 @@ ghost use Rattle.fact_emit.specs.Settings.{OnlySectionsChanged};
 ghost use Rattle.fact_emit.specs.States.{functions_of};
 ghost use Rattle.fact_emit.specs.declared.writer.Local as local_is;
 ghost use Rattle.fact_entity.specs.declared.id.Id as id;
-ghost use Rattle.fact_compound.specs.Described.{AreOptionsImported};
+ghost use Rattle.fact_compound.specs.Compiled.{Compiled};
+ghost use Rattle.fact_compound.specs.Described.{AreOptionsImported, is_async_data, is_marked_type};
 ghost use Rattle.fact_compound.specs.Events.{AsksCalls};
-ghost use Rattle.fact_compound.specs.Functions.{AddedContext, AddedLocals, AddedSyncLocals, core_slots, unless_passed, PutBody, WroteBody, WroteFunction, CompiledSync, params_among, Compiled};
+ghost use Rattle.fact_compound.specs.Functions.{AddedContext, AddedLocals, AddedSyncLocals, core_slots, unless_passed, PutBody, WroteBody, WroteFunction, CompiledSync, params_among};
 
 use crate::adapters::{AdapterData, AdapterOptions};
+use crate::asyncs::compile_async;
 use crate::passing::are_passed_on;
 use crate::same_instance::compile_same_instance;
 use crate::syncs::{CallOptions, SyncLocals, put_sync};
-use crate::tuples::{are_flat_values, tuples_of};
+use crate::tuples::{are_flat_results, tuples_of};
 use fact_builder::ComponentTypesBuilder;
 use fact_emit::context::ContextLocals;
 use fact_emit::places::TypedLocal;
 use fact_emit::state::{ModuleSections, ModuleState};
 use fact_emit::writer::{Local, Writer};
-use fact_types::{ComponentTypes, InterfaceType, SideSig, Signature};
+use fact_types::{ComponentTypes, InterfaceType, SideSig, Signature, TypeFuncIndex};
 use fact_wasm::{FuncName, Instr, OutOfMemory, Seq, ValType, WasmFunc};
 use std::alloc::Global;
 use std::mem;
@@ -40,7 +42,7 @@ pub struct AdapterLocals {
 }
 
 /// Adds a local of each of these types behind the others.
-fn add_locals(w: &mut Writer, types: &[ValType]) -> Result<Vec<TypedLocal>, OutOfMemory>
+pub(crate) fn add_locals(w: &mut Writer, types: &[ValType]) -> Result<Vec<TypedLocal>, OutOfMemory>
     ensures { IfOk result (λ locals. AddedLocals w.old w.new types.now (slots_of_locals locals.items)) }
 {
     let mut locals = Vec::new(w.alloc);
@@ -112,7 +114,7 @@ fn all_but_last(locals: &[TypedLocal]) -> &[TypedLocal]
 }
 
 /// The arguments without the return pointer, which there is where results are not flat.
-fn params_of(args: &[TypedLocal], flat: bool) -> &[TypedLocal]
+pub(crate) fn params_of(args: &[TypedLocal], flat: bool) -> &[TypedLocal]
     ensures { slots_of_locals result.now ≡ params_among flat (slots_of_locals args.now) }
 {
     if flat { args } else { all_but_last(args) }
@@ -143,7 +145,7 @@ fn put_body(
     ensures { OnOk result (PutBody types.now adapter.now debug options passed locals.now w.old w.new) }
 {
     let (_, results) = tuples_of(types, adapter.lower.ty);
-    let flat = are_flat_values(types, results, 1);
+    let flat = are_flat_results(types, results, false);
     let params = params_of(locals.args.as_slice(), flat);
     let places = SyncLocals {
         passed,
@@ -222,7 +224,7 @@ fn locals_behind(locals: &[Local], params: usize) -> &[Local]
 }
 
 /// The function of a code and of locals, of which the first are the parameters.
-fn function_of(
+pub(crate) fn function_of(
     alloc: Global,
     code: Vec<Instr>,
     locals: Vec<Local>,
@@ -362,11 +364,35 @@ fn compile_sync(
     Ok(())
 }
 
-/// Compiles an adapter over the types, the tunables and the features of a module: its function comes behind those of the module, its
-/// export under the adapter's name behind the exports, and the functions of the runtime that it calls behind the imports, where they
-/// are new. An adapter within one instance traps at each call; any other one is sync. The types are live, and the data's numbers are
-/// those of imports of the module. After a want of memory the module may have types and imports that nothing uses, and the function
-/// without its export.
+/// Whether a live function type is marked as async.
+fn is_marked(types: &ComponentTypes, ty: TypeFuncIndex) -> bool
+    requires { ty.number < length types.now.functions }
+    ensures { result ≡ is_marked_type types.now ty }
+{
+    types.reveal();
+    types[ty].async_
+}
+
+/// Whether an adapter is async: one of its sides is, or a function type is marked as async.
+fn is_async(types: &ComponentTypes, adapter: &AdapterData) -> bool
+    requires lower_live { adapter.now.lower.ty.number < length types.now.functions }
+    requires lift_live { adapter.now.lift.ty.number < length types.now.functions }
+    ensures { result ≡ is_async_data types.now adapter.now }
+{
+    let sides = either(adapter.lift.options.async_, adapter.lower.options.async_);
+    let marks = either(
+        is_marked(types, adapter.lift.ty),
+        is_marked(types, adapter.lower.ty),
+    );
+    either(sides, marks)
+}
+
+/// Compiles an adapter over the types, the tunables and the features of a module: its functions come behind those of the module, their
+/// exports behind the exports, and the functions of the runtime that they call behind the imports, where they are new. An adapter
+/// within one instance traps at each call. Any other one has one function where it is sync, and three where it is async: two move the
+/// parameters and the results when the runtime calls them, and the one that has the adapter's name hands the call to the runtime. The
+/// types are live, and the data's numbers are those of imports of the module. After a want of memory the module may have types, imports
+/// and functions that nothing uses, and a function without its export.
 pub fn compile(state: &mut ModuleState<'_>, adapter: &AdapterData) -> Result<(), OutOfMemory>
     requires lower_live { adapter.now.lower.ty.number < length state.old.builder.now.tables.functions }
     requires lift_live { adapter.now.lift.ty.number < length state.old.builder.now.tables.functions }
@@ -383,6 +409,8 @@ pub fn compile(state: &mut ModuleState<'_>, adapter: &AdapterData) -> Result<(),
     let sections = &mut state.sections;
     if adapter.lift.instance == adapter.lower.instance {
         compile_same_instance(types, sections, adapter)?;
+    } else if is_async(types.component_types(), adapter) {
+        compile_async(types, sections, adapter, debug, concurrency)?;
     } else {
         compile_sync(types, sections, adapter, debug, concurrency, exceptions)?;
     }

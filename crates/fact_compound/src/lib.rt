@@ -3,6 +3,8 @@
 #![tactic(auto)]
 
 pub mod adapters;
+pub mod asyncs;
+pub mod entries;
 pub mod functions;
 pub mod passing;
 pub mod same_instance;

@@ -1,29 +1,15 @@
 //! Adapters within one instance, which may not be entered from itself: each call is a trap.
 
-ghost use Rattle.std.specs.Prelude.{◌≡◌, ◌<◌, [], IfOk, OnOk, is_some, length};
+ghost use Rattle.std.specs.Prelude.{◌≡◌, ◌<◌, [], IfOk, OnOk, length};
 ghost use Rattle.fact_pieces.specs.Code.{trap_code};
 ghost use Rattle.fact_compound.specs.SameInstance.{CompiledSameInstance, TrapFunction};
 
-use crate::adapters::{AdapterData, AdapterOptions};
+use crate::adapters::AdapterData;
 use fact_builder::ComponentTypesBuilder;
 use fact_emit::state::ModuleSections;
-use fact_types::{SideSig, Trap};
+use fact_types::Trap;
 use fact_wasm::{FuncName, Instr, OutOfMemory, Seq, WasmFunc};
 use std::alloc::Global;
-
-/// What the core signature of a lower side hangs on.
-fn lower_side(side: &AdapterOptions) -> SideSig
-    ensures ty { result.ty ≡ side.now.ty }
-    ensures mark { result.async_ ≡ side.now.options.async_ }
-    ensures wide { result.memory64 ≡ side.now.options.linear.memory64 }
-{
-    SideSig {
-        ty: side.ty,
-        async_: side.options.async_,
-        callback: side.options.callback.is_some(),
-        memory64: side.options.linear.memory64,
-    }
-}
 
 /// The code of a trap of this place.
 fn trap_body(alloc: Global, place: u32) -> Result<Seq<Instr>, OutOfMemory>
@@ -56,7 +42,7 @@ pub fn compile_same_instance(
     requires lower_live { adapter.now.lower.ty.number < length types.now.tables.functions }
     ensures { OnOk result (CompiledSameInstance types.now.tables adapter.now sections.old sections.new) }
 {
-    let lower = types.lower_signature(&lower_side(&adapter.lower))?;
+    let lower = types.lower_signature(&adapter.lower.side_sig())?;
     let ty = sections.function(lower.params.as_slice(), lower.results.as_slice())?;
     let function = trap_function(sections, ty)?;
     let number = sections.define(function)?;

@@ -4,10 +4,11 @@ ghost use Rattle.std.specs.Prelude.{OnOk, ◌≡◌, ◌<◌, ◌≤◌, Bool, L
 ghost use Rattle.fact_types.specs.FlatShapes.{AreCounted};
 ghost use Rattle.fact_types.specs.Functions.{HasSignature};
 ghost use Rattle.fact_types.specs.Shapes.{Shape};
-ghost use Rattle.fact_types.specs.Signatures.{flat_values};
+ghost use Rattle.fact_types.specs.Signatures.{flat_values, lift_results_limit as lift_results_limit_of, lower_limit as lower_limit_of};
 ghost use Rattle.fact_types.specs.Tables.{IsLive, HasShape};
 ghost use Rattle.fact_types.specs.Tuples.{tuple_of, tuple_members};
 ghost use Rattle.fact_types.specs.declared.interface.InterfaceType.TheVariants as ty;
+ghost use Rattle.fact_moves.specs.Adapters.{lowered_flats};
 ghost use Rattle.fact_emit.specs.Places.{slots_of_locals, from_of, to_of};
 ghost use Rattle.fact_emit.specs.declared.places.LinearMemory as linear;
 ghost use Rattle.fact_emit.specs.Requests.{IsReallocImported};
@@ -53,6 +54,51 @@ pub(crate) fn are_flat_values(types: &ComponentTypes, tuple: TypeTupleIndex, lim
     }
 }
 
+/// How many core values the parameters of a side that lowers may be.
+fn lower_limit(async_: bool) -> u8
+    ensures limit { result ≡ lower_limit_of async_ }
+    ensures small { result ≤ 16 }
+{
+    if async_ { 4 } else { 16 }
+}
+
+/// How many core values the results of a side that lifts may be: an async one hands them on as parameters.
+fn lift_results_limit(async_: bool) -> u8
+    ensures limit { result ≡ lift_results_limit_of async_ }
+    ensures small { result ≤ 16 }
+{
+    if async_ { 16 } else { 1 }
+}
+
+/// Whether the parameters of a live tuple are flat where a side takes them that lowers.
+fn are_flat_params(types: &ComponentTypes, tuple: TypeTupleIndex, async_: bool) -> bool
+    requires { IsLive types.now (ty.Tuple tuple) }
+    ensures { (memory64 : Bool) (ss : List Shape) → HasShape types.now (ty.Tuple tuple) (tuple_of ss) → AreCounted (tuple_members ss) → result ≡ is_some (flat_values memory64 (lower_limit_of async_) ss) }
+{
+    are_flat_values(types, tuple, lower_limit(async_))
+}
+
+/// Whether the results of a live tuple are flat where a side gives them that lifts.
+fn are_flat_given(types: &ComponentTypes, tuple: TypeTupleIndex, async_: bool) -> bool
+    requires { IsLive types.now (ty.Tuple tuple) }
+    ensures { (memory64 : Bool) (ss : List Shape) → HasShape types.now (ty.Tuple tuple) (tuple_of ss) → AreCounted (tuple_members ss) → result ≡ is_some (flat_values memory64 (lift_results_limit_of async_) ss) }
+{
+    are_flat_values(types, tuple, lift_results_limit(async_))
+}
+
+/// Whether the results of a live tuple are flat where a side gets them that lowers: an async one gets all of them behind a pointer.
+pub(crate) fn are_flat_results(types: &ComponentTypes, tuple: TypeTupleIndex, async_: bool) -> bool
+    requires { IsLive types.now (ty.Tuple tuple) }
+    ensures { (memory64 : Bool) (ss : List Shape) → HasShape types.now (ty.Tuple tuple) (tuple_of ss) → AreCounted (tuple_members ss) → result ≡ is_some (lowered_flats async_ memory64 ss) }
+{
+    if async_ {
+        types.reveal();
+        types[tuple].types.as_slice().is_empty()
+    } else {
+        are_flat_values(types, tuple, 1)
+    }
+}
+
 /// The last of some locals, or 0 where there is none.
 fn last_of(locals: &[TypedLocal]) -> u32
     ensures { result ≡ last_local (slots_of_locals locals.now) }
@@ -84,10 +130,12 @@ pub fn move_params(
     let sides = adapter.params_sides(debug, concurrency);
     let (from, _) = tuples_of(types, adapter.lower.ty);
     let (to, _) = tuples_of(types, adapter.lift.ty);
-    let source = tuple_source(are_flat_values(types, from, 16), params);
-    let target = tuple_target(are_flat_values(types, to, 16), core, core);
-    check_tuple_area(types, w, sides.from, from, 16, last_of(params))?;
-    ask_tuple_area(types, w, concurrency, sides.to, to, last_of(core))?;
+    let given_flat = are_flat_params(types, from, adapter.lower.options.async_);
+    let flat = are_flat_values(types, to, 16);
+    let source = tuple_source(given_flat, params);
+    let target = tuple_target(flat, core, core);
+    check_tuple_area(types, w, sides.from, from, given_flat, last_of(params))?;
+    ask_tuple_area(types, w, concurrency, sides.to, to, flat, last_of(core))?;
     move_tuple(types, w, sides, from, to, source, target)?;
     Ok(())
 }
@@ -114,21 +162,20 @@ pub fn pass_params(
     Ok(())
 }
 
-/// Checks the area that values are passed through, where they are more than so many core values, of at most 16.
+/// Checks the area that values are passed through, where they are not flat.
 fn check_tuple_area(
     types: &ComponentTypes,
     w: &mut Writer,
     linear: LinearMemory,
     tuple: TypeTupleIndex,
-    limit: u8,
+    flat: bool,
     address: u32,
 ) -> Result<(), OutOfMemory>
-    requires live { IsLive types.now (ty.Tuple tuple) }
-    requires small { limit ≤ 16 }
-    ensures { OnOk result (CheckedTuple types.now tuple linear limit address w.old w.new) }
+    requires { IsLive types.now (ty.Tuple tuple) }
+    ensures { OnOk result (CheckedTuple types.now tuple linear flat address w.old w.new) }
 {
     let abi = types.canonical_abi(&InterfaceType::Tuple(tuple));
-    if !are_flat_values(types, tuple, limit) {
+    if !flat {
         if linear.memory64 {
             check_area(w, linear, address, abi.size64, abi.align64)?;
         } else {
@@ -138,21 +185,22 @@ fn check_tuple_area(
     Ok(())
 }
 
-/// Asks for an area that values are passed through, where they are more than 16 core values, and puts its address into a local.
+/// Asks for an area that values are passed through, where they are not flat, and puts its address into a local.
 fn ask_tuple_area(
     types: &ComponentTypes,
     w: &mut Writer,
     concurrency: bool,
     linear: LinearMemory,
     tuple: TypeTupleIndex,
+    flat: bool,
     address: u32,
 ) -> Result<(), OutOfMemory>
     requires live { IsLive types.now (ty.Tuple tuple) }
     requires realloc { IsReallocImported linear w.old.imports }
-    ensures { OnOk result (AskedTuple types.now tuple concurrency linear address w.old w.new) }
+    ensures { OnOk result (AskedTuple types.now tuple concurrency linear flat address w.old w.new) }
 {
     let abi = types.canonical_abi(&InterfaceType::Tuple(tuple));
-    if !are_flat_values(types, tuple, 16) {
+    if !flat {
         if linear.memory64 {
             ask_area(w, concurrency, linear, address, abi.size64, abi.align64)?;
         } else {
@@ -209,10 +257,12 @@ pub fn move_results(
     let sides = adapter.results_sides(debug, concurrency);
     let (_, from) = tuples_of(types, adapter.lift.ty);
     let (_, to) = tuples_of(types, adapter.lower.ty);
-    let source = tuple_source(are_flat_values(types, from, 1), given);
-    let target = tuple_target(are_flat_values(types, to, 1), results, args);
-    check_tuple_area(types, w, sides.from, from, 1, last_of(given))?;
-    check_tuple_area(types, w, sides.to, to, 1, last_of(args))?;
+    let given_flat = are_flat_given(types, from, adapter.lift.options.async_);
+    let flat = are_flat_results(types, to, adapter.lower.options.async_);
+    let source = tuple_source(given_flat, given);
+    let target = tuple_target(flat, results, args);
+    check_tuple_area(types, w, sides.from, from, given_flat, last_of(given))?;
+    check_tuple_area(types, w, sides.to, to, flat, last_of(args))?;
     move_tuple(types, w, sides, from, to, source, target)?;
     Ok(())
 }

@@ -14,4 +14,4 @@ move_tuple-requires c = record {
 
 pub returns : goal.returns
 returns c = moved_results c.args.adapter.now c.args.debug c.args.concurrency c.results_sides-sides.ensures _ _ _ _ _ _ _ c.last_of.ensures c.last_of-2.ensures (c.tuple_source-source.ensures c.results_sides-sides.result.from) (c.tuple_target-target.ensures c.results_sides-sides.result.to)
-    c.are_flat_values.ensures c.are_flat_values-2.ensures c.tuples_of.ensures.results c.tuples_of-2.ensures.results c.in_ok-check_tuple_area.ensures c.in_ok-check_tuple_area-2.ensures c.in_ok-move_tuple.ensures
+    c.are_flat_given-given_flat.ensures c.are_flat_results-flat.ensures c.tuples_of.ensures.results c.tuples_of-2.ensures.results c.in_ok-check_tuple_area.ensures c.in_ok-check_tuple_area-2.ensures c.in_ok-move_tuple.ensures

@@ -1,0 +1,14 @@
+use Rattle.std.proofs.Common.{◌∙◌}
+use Rattle.fact_compound.proofs.AsyncFunctions.{wrote_part}
+use Rattle.fact_compound.proofs.OptionsImported.{options_same}
+use Rattle.fact_compound.proofs.asyncs.write_part.Goals as goal
+
+pub write_part_body-said-requires-clause-options_imported : goal.write_part_body-said-requires-clause-options_imported
+write_part_body-said-requires-clause-options_imported c = options_same (c.over-w.ensures.imports ∙ c.replace.ensures.value) c.requires.options_imported
+
+pub returns-in_ok-function-in-Ok : goal.returns-in_ok-function-in-Ok
+returns-in_ok-function-in-Ok c =
+    let body = rw c.in-Ok.is at c.write_part_body-said.ensures in
+    let code = rw c.into_parts-imports.ensures.code at c.in_ok-function-in-Ok.ensures.body in
+    let locals = rw (c.into_parts-imports.ensures.locals, c.len.ensures) at c.in_ok-function-in-Ok.ensures.locals in
+    wrote_part body (c.over-w.ensures.imports ∙ c.replace.ensures.value) (c.replace-2.ensures.after ∙ c.into_parts-imports.ensures.imports) _ c.in_ok-function-in-Ok.ensures.ty code locals
