@@ -1,15 +1,15 @@
 -- A function that does its adapter's action behaves. Where a run has ended, and is typed there, it is what the action comes to; so
 -- each law of the actions of adapters is one of its runs.
-use Rattle.std.proofs.Common.{◌≡◌, ◌≢◌, ℕ, ◌+◌, ◌*◌, ◌≤◌, true, false, List, [], refl, sym, ap, ◌∙◌, subst, arith, inl, inr, length, map, ◌++◌}
+use Rattle.std.proofs.Common.{◌≡◌, ◌≢◌, ℕ, ◌+◌, ◌*◌, ◌≤◌, true, false, List, [], Some, sym, ap, ◌∙◌, subst, arith, inl, inr, length, map, reverse, ◌++◌}
 use Rattle.fact_wasm.specs.declared.module.WasmModule.{WasmModule}
 use Rattle.fact_machine.specs.declared.types.Answer.{Answer}
 use Rattle.fact_machine.specs.declared.types.CoreValue.{CoreValue}
 use Rattle.fact_machine.specs.declared.types.End.{End}
-use Rattle.fact_machine.specs.declared.types.End.TheVariants.{Returned, Trapped, Thrown, Lacks, Going, Stuck}
+use Rattle.fact_machine.specs.declared.types.End.TheVariants.{Returned, Going, Stuck}
 use Rattle.fact_machine.specs.declared.types.Event.{Event}
 use Rattle.fact_machine.specs.declared.types.MachineState.{MachineState}
 use Rattle.fact_machine.specs.declared.types.Outcome.{Outcome}
-use Rattle.fact_machine.specs.Exits.{first_world}
+use Rattle.fact_machine.specs.Exits.{entry_locals, first_world}
 use Rattle.fact_machine.specs.Machine.{run_of}
 use Rattle.fact_machine.specs.Trace.{Grows, trace_of}
 use Rattle.fact_machine.specs.World.{Trap, Throw, Lack, calls}
@@ -30,7 +30,7 @@ use Rattle.fact_moves.proofs.Confines.{confined}
 use Rattle.fact_moves.proofs.Ordered.{ordered_calls}
 use Rattle.fact_moves.proofs.Stays.{typed_runs_stay}
 use Rattle.fact_pieces.specs.Runs.{RunReturns, RunsAs}
-use Rattle.fact_carry.specs.Faithful.{GivesOrLacks, IsFaithful, IsInLimits, WhereGiven, whole_weight}
+use Rattle.fact_carry.specs.Faithful.{IsFaithful, IsInLimits, WhereGiven, whole_weight}
 use Rattle.fact_carry.proofs.Ending.{honest_returned}
 use Rattle.fact_carry.proofs.Stopping.{AreReturned}
 use Rattle.fact_texts.specs.Premises.{KnowsMemories}
@@ -38,33 +38,28 @@ use Rattle.fact_texts.specs.Requested.{AreRequested}
 use Rattle.fact_texts.proofs.AdapterRanges.{transcoders_are_ranged}
 use Rattle.fact_texts.proofs.Finished.{adapters_are_faithful, adapters_come_to_end, adapters_weigh}
 use Rattle.fact_texts.proofs.Requests.{requests_are_called_for}
-use Rattle.fact_promises.specs.Functions.{IsAdapterFunction, core_results}
+use Rattle.fact_promises.specs.Functions.{IsAdapterFunction, core_results, start_results}
 use Rattle.fact_promises.specs.Laws.{FunctionsBehave}
 use Rattle.fact_promises.specs.Names.{places_in, AreCalls}
 use Rattle.fact_promises.specs.Runs.{CallNoTrap, EndsSoon, HasAsked, IsHonestSoFar, IsHonestToTrapSoFar, IsNamedPlainRun, IsOver, IsTypedRun}
 use Rattle.fact_promises.proofs.Fronts.{stays}
+use Rattle.fact_promises.proofs.ImportNumbers.{places_name}
+use Rattle.fact_promises.proofs.TypedCalls.{are_places, named_types}
 use Rattle.fact_promises.proofs.FunctionRuns.{EndsIn, HasEndedIn, args_typed, comes_to_end, has_ended, is_named_plain, not_stuck, runs_as, state_typed, trace_front}
 use Rattle.fact_promises.proofs.ImportNumbers.{as_many}
-use Rattle.fact_promises.proofs.Outcomes.{GaveResults, gave_results}
+use Rattle.fact_promises.proofs.Outcomes.{GaveResults, gave_results, gives_or_lacks, over_not_going, over_of, returned_not_going}
 use Rattle.fact_promises.proofs.OwnWrites.{own_front}
 use Rattle.fact_promises.proofs.Rooms.{has_room}
 use Rattle.fact_promises.proofs.TrapsLast.{no_trap_called}
+use Rattle.fact_wasm.specs.declared.types.FuncType.{FuncType}
+use Rattle.fact_machine.specs.Typed.{are_values}
+use Rattle.fact_moves.specs.TypedAnswers.{result_types}
+use Rattle.fact_pieces.specs.Does.{EndsSo, Onward}
+use Rattle.fact_pieces.specs.PieceLaws.{HaveResultTypes}
+use Rattle.fact_compound.specs.Syncs.{lower_type_of}
+use Rattle.fact_emit.specs.ImportSection.{mentions}
 
 -- ---- ends
-
-over_of : (e : Ended (List CoreValue)) → GivesOrLacks e → IsOver (named_outcome e).end
-over_of (Gave n cs vs w) h = inl (vs, refl)
-over_of (Halted n cs Lack w) h = inr refl
-over_of (Halted n cs Trap w) h = absurd h
-over_of (Halted n cs Throw w) h = absurd h
-over_of (Strayed n cs w) h = absurd h
-
-returned_is_over : {e : End} {results : List CoreValue} → e ≡ Returned results → e ≢ Going
-returned_is_over h q = let bad : Returned _ ≡ Going = sym h ∙ q in cc
-
-pub over_not_going : (e : End) → IsOver e → e ≢ Going
-over_not_going e (inl returned) going = let bad : Going ≡ Returned returned.0 = sym going ∙ returned.1 in cc
-over_not_going e (inr lacks) going = let bad : Going ≡ Lacks = sym going ∙ lacks in cc
 
 ended_is_over : {e : End} → HasEnded e → e ≢ Going
 ended_is_over h q = subst HasEnded q h
@@ -81,39 +76,43 @@ module _ (m : WasmModule) (is : List Import) (u : AdapterTunables) (a : LinkedAd
   at steps = run_of m f args before answers steps
 
   -- and so does the function's body
-  ends_in : EndsIn m is a adapters f 1000 (λ xs w. ended_sync (places_in m is) u a xs w)
+  ends_in : EndsIn m is (places_in m is) (result_types (core_results m is) (start_results m is)) adapters f a.lower.core_type 1000 (λ xs w. ended_sync (places_in m is) u a xs w)
   ends_in = record {
     function = h.function;
     function_is = h.function_is;
-    type_is = h.type_is;
-    core_type = h.core_type;
+    type_is = h.type_is ∙ ap Some (sym h.core_type);
     names = h.names;
-    ends = λ xs w typed. (h.does.does xs typed).by w;
+    naming = places_name m is;
+    are = are_places m is;
+    types_are = named_types m is (mentions adapters) h.names.named;
+    ends = λ xs w typed.
+        let own : are_values xs (lower_type_of a).params ≡ true = subst (λ (t : FuncType). are_values xs t.params ≡ true) h.core_type typed in
+        subst (λ (t : FuncType). EndsSo m (places_in m is) Onward 1000 0 w [] (entry_locals h.function xs) h.function.body reverse (HaveResultTypes t) (ended_sync (places_in m is) u a xs w)) (sym h.core_type) ((h.does.does xs own).by w);
     follows = λ xs w. sync_runs_follow (places_in m is) u a xs w;
-    stays_typed = λ xs w. typed_runs_stay (places_in m is) u a xs w (core_results m is) [] h.places h.core_types;
+    stays_typed = λ xs w. typed_runs_stay (places_in m is) u a xs w (core_results m is) (start_results m is) h.places h.core_types;
   }
 
   plain : ((steps : ℕ) → IsTypedRun m a args before (at steps).log) → IsNamedPlainRun m is f args before answers (named_outcome end)
-  plain all = is_named_plain m is a adapters f 1000 _ ends_in args before answers all
+  plain all = is_named_plain m is (places_in m is) _ adapters f a.lower.core_type 1000 _ ends_in args before answers all
 
   never_stuck : (steps : ℕ) → IsTypedRun m a args before (at steps).log → (at steps).end ≢ Stuck
-  never_stuck steps typed = not_stuck m is a adapters f 1000 _ ends_in args before answers steps typed
+  never_stuck steps typed = not_stuck m is (places_in m is) _ adapters f a.lower.core_type 1000 _ ends_in args before answers steps typed
 
   -- a run that has ended, and is typed there
-  ended : (steps : ℕ) → IsTypedRun m a args before (at steps).log → (at steps).end ≢ Going → HasEndedIn m is (at steps) end
-  ended steps typed over = has_ended m is a adapters f 1000 _ ends_in args before answers steps typed over
+  ended : (steps : ℕ) → IsTypedRun m a args before (at steps).log → (at steps).end ≢ Going → HasEndedIn m is (places_in m is) (at steps) end
+  ended steps typed over = has_ended m is (places_in m is) _ adapters f a.lower.core_type 1000 _ ends_in args before answers steps typed over
 
-  ends_so : (steps : ℕ) → HasEndedIn m is (at steps) end → (at steps).end ≡ (named_outcome end).end
+  ends_so : (steps : ℕ) → HasEndedIn m is (places_in m is) (at steps) end → (at steps).end ≡ (named_outcome end).end
   ends_so steps e = ap (λ (o : Outcome). o.end) e.outcome
 
   is_typed_state : (log : List Event) → IsTypedRun m a args before log → is_state (places_in m is) before ≡ true
-  is_typed_state log typed = state_typed m is a adapters f 1000 _ ends_in args before answers log typed
+  is_typed_state log typed = state_typed m is (places_in m is) _ adapters f a.lower.core_type 1000 _ ends_in args before answers log typed
 
   -- ---- a run that is typed so far
 
   module _ (steps : ℕ) (typed : IsTypedRun m a args before (at steps).log) where
     abbrev front : Grows (trace_of m f args before answers steps) (world_in end).trace
-    front = trace_front m is a adapters f 1000 _ ends_in args before answers steps typed
+    front = trace_front m is (places_in m is) _ adapters f a.lower.core_type 1000 _ ends_in args before answers steps typed
 
     is_confined : (cs : List Call) → AreCalls m is (at steps).log cs
         → AreOwnWrites (places_in m is) (sync_moved_on a args) (landed (params_landing a)) (room_in (places_in m is) (landed (params_landing a)) before) (trace_of m f args before answers steps) cs
@@ -135,8 +134,8 @@ module _ (m : WasmModule) (is : List Import) (u : AdapterTunables) (a : LinkedAd
   -- ---- runs that returned
 
   module _ (steps : ℕ) (results : List CoreValue) (typed : IsTypedRun m a args before (at steps).log) (returns : (at steps).end ≡ Returned results) where
-    its_end : HasEndedIn m is (at steps) end
-    its_end = ended steps typed (returned_is_over returns)
+    its_end : HasEndedIn m is (places_in m is) (at steps) end
+    its_end = ended steps typed (returned_not_going returns)
 
     gave : GaveResults end results
     gave = gave_results end results its_end.goes_straight (sym (ends_so steps its_end) ∙ returns)
@@ -154,21 +153,21 @@ module _ (m : WasmModule) (is : List Import) (u : AdapterTunables) (a : LinkedAd
         (subst (λ s. AreOrderedCalls (places_in m is) u a before gave.calls s) (sym its_state) ordered)
 
     returns_by : RunReturns m f args before answers 1000 0 (λ (vs : List CoreValue). vs) gave.weight results gave.world
-    returns_by = subst (λ (e : Ended (List CoreValue)). RunsAs m f args before answers 1000 0 (λ (vs : List CoreValue). vs) e) gave.is (runs_as m is a adapters f 1000 _ ends_in args before answers (at steps).log typed)
+    returns_by = subst (λ (e : Ended (List CoreValue)). RunsAs m f args before answers 1000 0 (λ (vs : List CoreValue). vs) e) gave.is (runs_as m is (places_in m is) _ adapters f a.lower.core_type 1000 _ ends_in args before answers (at steps).log typed)
 
     -- from its last step on the run is the same
     same_from : (n : ℕ) → returns_by.steps ≤ n → at n ≡ at steps
     same_from n more =
         returns_by.comes.outcome n more ∙ sym (returns_by.comes.outcome (steps + returns_by.steps) (omega arith))
-        ∙ stays m f args before answers steps (returned_is_over returns) (steps + returns_by.steps) (omega arith)
+        ∙ stays m f args before answers steps (returned_not_going returns) (steps + returns_by.steps) (omega arith)
 
   -- ---- honest runs
 
-  honest_run : {Honest : List Call → Type 0} (steps : ℕ) → IsTypedRun m a args before (at steps).log → HasEndedIn m is (at steps) end → (calls : List Call) → AreCalls m is (at steps).log calls → Honest calls
+  honest_run : {Honest : List Call → Type 0} (steps : ℕ) → IsTypedRun m a args before (at steps).log → HasEndedIn m is (places_in m is) (at steps) end → (calls : List Call) → AreCalls m is (at steps).log calls → Honest calls
       → IsHonestFrom (places_in m is) (lower_signature_of a).params Honest args before end
   honest_run {Honest} steps typed e calls are honest = record {
     state_typed = is_typed_state (at steps).log typed;
-    args_typed = args_typed m is a adapters f 1000 _ ends_in args before answers (at steps).log typed;
+    args_typed = subst (λ (t : FuncType). are_values args t.params ≡ true) h.core_type (args_typed m is (places_in m is) _ adapters f a.lower.core_type 1000 _ ends_in args before answers (at steps).log typed);
     typed = e.goes_straight;
     honest = subst Honest (e.its_calls calls are) honest;
   }
@@ -218,13 +217,6 @@ module _ (m : WasmModule) (is : List Import) (u : AdapterTunables) (a : LinkedAd
 
   -- ---- traps
 
-  gives_or_lacks : (e : Ended (List CoreValue)) → IsStraight e → IsOver (named_outcome e).end → GivesOrLacks e
-  gives_or_lacks (Gave n cs vs w) s h = tt
-  gives_or_lacks (Halted n cs Lack w) s h = tt
-  gives_or_lacks (Halted n cs Trap w) s h = elim h [ inl returned ↦ (let bad : Trapped ≡ Returned returned.0 = returned.1 in cc) | inr lacks ↦ (let bad : Trapped ≡ Lacks = lacks in cc) ]
-  gives_or_lacks (Halted n cs Throw w) s h = elim h [ inl returned ↦ (let bad : Thrown ≡ Returned returned.0 = returned.1 in cc) | inr lacks ↦ (let bad : Thrown ≡ Lacks = lacks in cc) ]
-  gives_or_lacks (Strayed n cs w) s h = absurd s
-
   calls_no_trap : (steps : ℕ) (honest : IsHonestSoFar m is a args before (at steps).log) → IsOver (at steps).end → CallNoTrap honest.calls
   calls_no_trap steps honest over =
       let e = ended steps honest.typed (over_not_going (at steps).end over) in
@@ -243,7 +235,7 @@ module _ (m : WasmModule) (is : List Import) (u : AdapterTunables) (a : LinkedAd
     ends =
         let settles = (plain always).plain in
         let last = settles.steps in
-        let e = comes_to_end m is a adapters f 1000 _ ends_in args before answers always last (settles.is last (omega arith)) in
+        let e = comes_to_end m is (places_in m is) _ adapters f a.lower.core_type 1000 _ ends_in args before answers always last (settles.is last (omega arith)) in
         let same : (honest last).calls ≡ calls_in end = e.its_calls (honest last).calls (honest last).are_calls in
         let honest_end = honest_run last (always last) e (honest last).calls (honest last).are_calls (honest last).honest in
         let comes = adapters_come_to_end (places_in m is) u a args (first_world before answers) quiet h.checked h.sync_sides honest_end (subst (IsInLimits (places_in m is) a args before) same (limits last)) in

@@ -11,8 +11,8 @@ use Rattle.fact_moves.proofs.OwnParts.{same_self}
 use Rattle.fact_promises.specs.Laws.{NoSecondCall, RunsStayShort}
 use Rattle.fact_promises.specs.Names.{AreCalls}
 use Rattle.fact_promises.specs.Runs.{CallNoTrap, EndsSoon, is_trap_import}
-use Rattle.fact_promises.proofs.Behaviour.{over_not_going}
 use Rattle.fact_promises.proofs.Fronts.{fronts, grown_length, stays}
+use Rattle.fact_promises.proofs.Outcomes.{over_not_going}
 
 pub no_second_call : NoSecondCall
 no_second_call p a args first calls given last h =

@@ -8,10 +8,11 @@ use Rattle.fact_wasm.specs.declared.module.WasmImport.{WasmImport}
 use Rattle.fact_wasm.specs.declared.module.WasmModule.{WasmModule}
 use Rattle.fact_machine.specs.declared.types.Event.{Event}
 use Rattle.fact_machine.specs.Machine.{func_import}
+use Rattle.fact_wasm.specs.declared.instr.FuncName.TheVariants as func
 use Rattle.fact_types.specs.declared.import.Import.{Import}
 use Rattle.fact_moves.specs.Laws.{call_event}
-use Rattle.fact_moves.specs.Running.{Call}
-use Rattle.fact_emit.specs.ImportSection.{Mention, AreNamed, IsNamed, a_function, imports_of, same_sort, sort_of}
+use Rattle.fact_moves.specs.Running.{ImportPlaces, Call}
+use Rattle.fact_emit.specs.ImportSection.{imported_function, Mention, AreNamed, IsNamed, a_function, imports_of, same_sort, sort_of}
 use Rattle.fact_emit.proofs.PlacesOfLaws.{placed_is}
 use Rattle.fact_promises.specs.Names.{places_in, IsCall, AreCalls, IsNamedLog}
 use Rattle.fact_promises.proofs.LoggedImports.{IsOfImport}
@@ -51,14 +52,21 @@ stands_at types ms before (w ∷ ws) (i ∷ is) k t named h = by_type w.ty refl 
 
 -- ---- calls
 
-module _ (m : WasmModule) (is : List Import) where
-  pub call_is : (c d : Call) → IsCall m is (call_event (places_in m is) c) d → d ≡ c
+-- What stands at the place of an import is that import.
+pub record IsNaming (m : WasmModule) (is : List Import) (p : ImportPlaces) : Type 0 where
+  pub names : (i j : Import) → imported_function m is (func.Import (p.function i)) ≡ Some j → j ≡ i
+
+pub places_name : (m : WasmModule) (is : List Import) → IsNaming m is (places_in m is)
+places_name m is = record { names = λ i j h. placed_is i j (imports_of a_function m.imports is) h }
+
+module _ (m : WasmModule) (is : List Import) (p : ImportPlaces) (naming : IsNaming m is p) where
+  pub call_is : (c d : Call) → IsCall m is (call_event p c) d → d ≡ c
   call_is c d h =
-      let what : d.what ≡ c.what = placed_is c.what d.what (imports_of a_function m.imports is) h.what in
+      let what : d.what ≡ c.what = naming.names c.what d.what h.what in
       λ k. record { what = what k; args = h.args k; before = h.before k; answer = h.answer k }
 
   -- the calls that the events of calls are, are those
-  pub calls_are : (cs ds : List Call) → AreCalls m is (map (call_event (places_in m is)) cs) ds → ds ≡ cs
+  pub calls_are : (cs ds : List Call) → AreCalls m is (map (call_event p) cs) ds → ds ≡ cs
   calls_are [] [] h = refl
   calls_are [] (d ∷ ds) h = absurd h
   calls_are (c ∷ cs) [] h = absurd h
@@ -67,6 +75,7 @@ module _ (m : WasmModule) (is : List Import) where
       let more = calls_are cs ds h.1 in
       λ k. one k ∷ more k
 
+module _ (m : WasmModule) (is : List Import) where
   -- a log has as many events as calls
   pub as_many : (log : List Event) (cs : List Call) → AreCalls m is log cs → length log ≡ length cs
   as_many [] [] h = refl

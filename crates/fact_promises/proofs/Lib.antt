@@ -1,4 +1,5 @@
 pub mod Behaviour
+pub mod EntryFunctions
 pub mod FewCalls
 pub mod Fronts
 pub mod FunctionRuns
@@ -6,6 +7,7 @@ pub mod ImportNumbers
 pub mod LoggedImports
 pub mod Outcomes
 pub mod OwnWrites
+pub mod PartFunctions
 pub mod Rooms
 pub mod Traps
 pub mod TrapsLast

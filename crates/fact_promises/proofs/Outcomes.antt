@@ -1,9 +1,10 @@
 -- Ends of actions, and the traces of runs that come to them.
-use Rattle.std.proofs.Common.{◌≡◌, ◌≢◌, ℕ, List, refl, ap, arith}
+use Rattle.std.proofs.Common.{◌≡◌, ◌≢◌, ℕ, List, refl, sym, ap, ◌∙◌, arith, inl, inr}
 use Rattle.fact_wasm.specs.declared.module.WasmModule.{WasmModule}
 use Rattle.fact_machine.specs.declared.types.Answer.{Answer}
 use Rattle.fact_machine.specs.declared.types.CoreValue.{CoreValue}
-use Rattle.fact_machine.specs.declared.types.End.TheVariants.{Returned, Stuck}
+use Rattle.fact_machine.specs.declared.types.End.{End}
+use Rattle.fact_machine.specs.declared.types.End.TheVariants.{Returned, Trapped, Thrown, Lacks, Going, Stuck}
 use Rattle.fact_machine.specs.declared.types.MachineState.{MachineState}
 use Rattle.fact_machine.specs.Trace.{Grows, Reached, run_reach, trace_of}
 use Rattle.fact_machine.specs.World.{World, Trap, Throw, Lack}
@@ -11,6 +12,8 @@ use Rattle.fact_moves.specs.Honest.{IsStraight}
 use Rattle.fact_moves.specs.Plain.{named_outcome}
 use Rattle.fact_moves.specs.Running.{Call, Ended, Gave, Halted, Strayed, calls_in, world_in}
 use Rattle.fact_pieces.specs.Runs.{RunsAs}
+use Rattle.fact_carry.specs.Faithful.{GivesOrLacks}
+use Rattle.fact_promises.specs.Runs.{IsOver}
 
 -- ---- ends of actions
 
@@ -25,6 +28,29 @@ straight_not_stuck (Halted n cs Trap w) h q = cc
 straight_not_stuck (Halted n cs Throw w) h q = cc
 straight_not_stuck (Halted n cs Lack w) h q = cc
 straight_not_stuck (Strayed n cs w) h q = absurd h
+
+-- ---- ends that are over
+
+pub returned_not_going : {e : End} {results : List CoreValue} → e ≡ Returned results → e ≢ Going
+returned_not_going h q = let bad : Returned _ ≡ Going = sym h ∙ q in cc
+
+pub over_not_going : (e : End) → IsOver e → e ≢ Going
+over_not_going e (inl returned) going = let bad : Going ≡ Returned returned.0 = sym going ∙ returned.1 in cc
+over_not_going e (inr lacks) going = let bad : Going ≡ Lacks = sym going ∙ lacks in cc
+
+pub over_of : (e : Ended (List CoreValue)) → GivesOrLacks e → IsOver (named_outcome e).end
+over_of (Gave n cs vs w) h = inl (vs, refl)
+over_of (Halted n cs Lack w) h = inr refl
+over_of (Halted n cs Trap w) h = absurd h
+over_of (Halted n cs Throw w) h = absurd h
+over_of (Strayed n cs w) h = absurd h
+
+pub gives_or_lacks : (e : Ended (List CoreValue)) → IsStraight e → IsOver (named_outcome e).end → GivesOrLacks e
+gives_or_lacks (Gave n cs vs w) s h = tt
+gives_or_lacks (Halted n cs Lack w) s h = tt
+gives_or_lacks (Halted n cs Trap w) s h = elim h [ inl returned ↦ (let bad : Trapped ≡ Returned returned.0 = returned.1 in cc) | inr lacks ↦ (let bad : Trapped ≡ Lacks = lacks in cc) ]
+gives_or_lacks (Halted n cs Throw w) s h = elim h [ inl returned ↦ (let bad : Thrown ≡ Returned returned.0 = returned.1 in cc) | inr lacks ↦ (let bad : Thrown ≡ Lacks = lacks in cc) ]
+gives_or_lacks (Strayed n cs w) s h = absurd s
 
 -- an end that gave these results
 pub record GaveResults (e : Ended (List CoreValue)) (results : List CoreValue) : Type 0 where

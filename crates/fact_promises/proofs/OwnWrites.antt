@@ -12,7 +12,7 @@ use Rattle.fact_moves.specs.Laws.{call_event}
 use Rattle.fact_moves.specs.Regions.{Position}
 use Rattle.fact_moves.specs.Running.{Call}
 use Rattle.fact_promises.specs.Names.{places_in, IsCall, AreCalls}
-use Rattle.fact_promises.proofs.ImportNumbers.{call_is}
+use Rattle.fact_promises.proofs.ImportNumbers.{call_is, places_name}
 
 module _ (m : WasmModule) (is : List Import) (next : Call → Position → Position) where
   pub own_front : (x : Position) (room : ℕ) (es more : List TraceEntry) (cs : List Call) → calls (es ++ more) ≡ map (call_event (places_in m is)) cs
@@ -26,6 +26,6 @@ module _ (m : WasmModule) (is : List Import) (next : Call → Position → Posit
   own_front x room (Called event ∷ es) more (c ∷ cs) e h (d ∷ ds) are =
       let here : event ≡ call_event (places_in m is) c = cc in
       let behind : calls (es ++ more) ≡ map (call_event (places_in m is)) cs = cc in
-      let same : d ≡ c = call_is m is c d (subst (λ (v : Event). IsCall m is v d) here are.0) in
+      let same : d ≡ c = call_is m is (places_in m is) (places_name m is) c d (subst (λ (v : Event). IsCall m is v d) here are.0) in
       subst (λ (k : Call). AreOwnWrites (places_in m is) next (next k x) (room_in (places_in m is) (next k x) (state_after k)) es ds) (sym same)
       (own_front (next c x) (room_in (places_in m is) (next c x) (state_after c)) es more cs behind h ds are.1)

@@ -18,7 +18,7 @@ use Rattle.fact_types.specs.declared.outside.Trap.{Trap as Reason}
 use Rattle.fact_types.specs.declared.outside.Trap.TheVariants.{CannotLeaveComponent, UncaughtException}
 use Rattle.fact_types.specs.Adapters.{LinkedAdapter}
 use Rattle.fact_moves.specs.Actions.{Action, Give, Write, SetFlags, Ask, Unreachable, ◌>>=◌, trap}
-use Rattle.fact_moves.specs.Adapters.{AdapterTunables, Slotted, cleared, enters, finish_call, get_flags, last_bits, lift_signature_of, make_call, none, params_transfer, results_transfer, sync, when_due}
+use Rattle.fact_moves.specs.Adapters.{AdapterTunables, Slotted, async_return, async_start, cleared, enters, finish_call, get_flags, last_bits, lift_signature_of, make_call, none, params_transfer, results_transfer, sync, when_due}
 use Rattle.fact_moves.specs.Order.{IsValueCall}
 use Rattle.fact_moves.specs.Plain.{ended_sync, guarded_if}
 use Rattle.fact_moves.specs.Running.{ImportPlaces, Call, Ended, Gave, Halted, Strayed, calls_in, heavier, later, then_ended, or_strayed, ended, if_typed, is_answer, call_of, with_answer, run}
@@ -30,6 +30,9 @@ use Rattle.fact_carry.specs.Faithful.{GivesOrLacks}
 use Rattle.fact_carry.proofs.Ending.{calls_behind}
 use Rattle.fact_carry.proofs.Stopping.{AreReturned, Stopping}
 use Rattle.fact_texts.proofs.Thrown.{Unthrown, never_thrown, none_before, none_threw}
+use Rattle.fact_compound.specs.AsyncParts.{part_action}
+use Rattle.fact_compound.specs.declared.asyncs.AsyncPart.{AsyncPart}
+use Rattle.fact_compound.specs.declared.asyncs.AsyncPart.TheVariants as part
 use Rattle.fact_promises.specs.Runs.{CallNoTrap, is_trap_import}
 
 -- ---- ends
@@ -218,6 +221,17 @@ module _ (u : AdapterTunables) (a : LinkedAdapter) where
       binds_last 0 0 0 _ _ _ _ (when_last (enters u a) _ (call_last import.ExitSyncCall _ [] refl)) (λ z.
       binds_last 0 0 0 _ _ _ _ (cleared_last a.lower.instance saved 0 _ _ (results_kept u a (last_kept (results_transfer u a)) given (last_bits args))) (λ results.
       binds_last 0 0 0 _ _ _ _ (finish_last u.concurrency a.lift.post_return given context) (λ r. gives_last 0 _ results))))))))))
+
+  start_last : (args : List CoreValue) → TrapsLast 0 (List CoreValue) (async_start u a args)
+  start_last args = flags_last _ a.lift.instance _ (λ saved. cleared_last a.lift.instance saved 7 _ _ (params_kept u a (last_kept (params_transfer u a)) args))
+
+  return_last : (args : List CoreValue) → TrapsLast 0 (List CoreValue) (async_return u a args)
+  return_last args = flags_last _ a.lower.instance _ (λ saved. cleared_last a.lower.instance saved 0 _ _ (results_kept u a (last_kept (results_transfer u a)) args (last_bits args)))
+
+  -- a function of an async adapter that moves values has no barrier
+  pub part_no_trap : (x : AsyncPart) (p : ImportPlaces) (args : List CoreValue) (w : World) → GivesOrLacks (run p (part_action x u a args) w) → CallNoTrap (calls_in (run p (part_action x u a args) w))
+  part_no_trap part.Start p args w x = ((start_last args).at p w).called x
+  part_no_trap part.Return p args w x = ((return_last args).at p w).called x
 
   -- Where it gave something or lacks an answer, and each call returned, no trap was called: the barrier calls one only where something
   -- was thrown.

@@ -17,12 +17,12 @@ use Rattle.fact_types.specs.declared.import.Import.{Import}
 use Rattle.fact_types.specs.declared.import.Import.TheVariants as known
 use Rattle.fact_types.specs.declared.outside.UnsafeIntrinsic.TheVariants as slot
 use Rattle.fact_moves.specs.Laws.{call_event}
-use Rattle.fact_moves.specs.Running.{Call}
+use Rattle.fact_moves.specs.Running.{ImportPlaces, Call}
 use Rattle.fact_moves.specs.TypedAnswers.{HasTypedAnswer, HaveTypedAnswers, result_types}
 use Rattle.fact_pieces.specs.Knows.{ArePlacesOf, KnowsFunction}
 use Rattle.fact_pieces.proofs.TypedStates.{answers_agree}
 use Rattle.fact_emit.specs.ImportSection.{Mention, AreNamed, IsNamed, a_function, imported_type, imports_of}
-use Rattle.fact_promises.specs.Functions.{core_results}
+use Rattle.fact_promises.specs.Functions.{core_results, start_results}
 use Rattle.fact_promises.specs.Names.{places_in}
 use Rattle.fact_emit.proofs.PlacesOfLaws.{placed_is}
 use Rattle.fact_promises.proofs.ImportNumbers.{stands_at}
@@ -48,7 +48,7 @@ module _ (m : WasmModule) (is : List Import) where
 
     -- what an import gives is what the type says under which it is imported
     results_by : (i : Import) (before : List WasmImport) (entry : WasmImport) (n : ℕ) (t : FuncType) → IsNamed m.types ms before entry i → entry.ty ≡ import.Func n → slice_get m.types n ≡ Some t
-        → type_of_import m ((places_in m is).function i) ≡ Some t → result_types (core_results m is) [] i ≡ t.results
+        → type_of_import m ((places_in m is).function i) ≡ Some t → result_types (core_results m is) (start_results m is) i ≡ t.results
     results_by (known.CoreDef d) before entry n t named_so at there typed = ap (λ o. elim o as (λ (x : Option FuncType). List ValType) [ None ↦ [] | Some s ↦ s.results ]) typed
     results_by (known.Trap r) before entry n t named_so at there typed = by_type entry _ t n named_so.is_typed at there
     results_by known.ResourceTransferOwn before entry n t named_so at there typed = by_type entry _ t n named_so.is_typed at there
@@ -63,41 +63,44 @@ module _ (m : WasmModule) (is : List Import) where
     results_by (known.UnsafeIntrinsic slot.ContextSetI32_0) before entry n t named_so at there typed = by_type entry _ t n named_so.is_typed at there
     results_by (known.UnsafeIntrinsic slot.ContextSetI32_1) before entry n t named_so at there typed = by_type entry _ t n named_so.is_typed at there
     results_by (known.Transcode a b c d e) before entry n t named_so at there typed = by_type entry _ t n named_so at there
-    results_by (known.PrepareCall a) before entry n t named_so at there typed = absurd named_so
-    results_by (known.StartCall a b) before entry n t named_so at there typed = absurd named_so
+    results_by (known.PrepareCall a) before entry n t named_so at there typed = by_type entry _ t n named_so.1 at there
+    results_by (known.StartCall a b) before entry n t named_so at there typed = ap (λ o. elim o as (λ (x : Option FuncType). List ValType) [ None ↦ [] | Some s ↦ s.results ]) typed
 
-    knows_import : (i : Import) (t : FuncType) → type_of_import m ((places_in m is).function i) ≡ Some t
-        → KnowsFunction m (places_in m is) i ((places_in m is).function i) t.params (result_types (core_results m is) [] i)
-    knows_import i t typed =
+    -- so the types of answers are those of the module's imports
+    pub named_types : (i : Import) (t : FuncType) → type_of_import m ((places_in m is).function i) ≡ Some t → result_types (core_results m is) (start_results m is) i ≡ t.results
+    named_types i t typed =
         let number = type_number m.types (func_import m.imports ((places_in m is).function i)) t typed in
         let s = stands_at m.types ms [] m.imports is ((places_in m is).function i) number.0 named number.1 in
         let what : s.what ≡ i = placed_is i s.what (imports_of a_function m.imports is) s.there in
         let named_so = subst (λ j. IsNamed m.types ms s.before s.entry j) what s.named in
-        let results = results_by i s.before s.entry number.0 t named_so s.type_is number.2 typed in
-        record {
-          type_at = number.0;
-          placed = refl;
-          imported = number.1;
-          type_is = number.2 ∙ ap (λ rs. Some (record { params = t.params; results = rs })) (sym results);
-        }
+        results_by i s.before s.entry number.0 t named_so s.type_is number.2 typed
 
-    returned_by : (c : Call) (o : Option FuncType) (rs : List CoreValue) → type_of_import m ((places_in m is).function c.what) ≡ o → AreResults o rs
-        → TypedAnswer m ((places_in m is).function c.what) c.before c.answer → HasTypedAnswer (places_in m is) (result_types (core_results m is) []) c
-    returned_by c None rs e some t = absurd some
-    returned_by c (Some type) rs e some t =
-        (answers_agree m (places_in m is) (result_types (core_results m is) []) c ((places_in m is).function c.what) type.params are_places (knows_import c.what type e)).1 t
+-- Answers of these types, at these places, are those that the module's types say.
+module _ (m : WasmModule) (p : ImportPlaces) (types : Import → List ValType) (are : ArePlacesOf m p) (types_are : (i : Import) (t : FuncType) → type_of_import m (p.function i) ≡ Some t → types i ≡ t.results) where
+  knows_import : (i : Import) (t : FuncType) → type_of_import m (p.function i) ≡ Some t → KnowsFunction m p i (p.function i) t.params (types i)
+  knows_import i t typed =
+      let number = type_number m.types (func_import m.imports (p.function i)) t typed in
+      record {
+        type_at = number.0;
+        placed = refl;
+        imported = number.1;
+        type_is = number.2 ∙ ap (λ rs. Some (record { params = t.params; results = rs })) (sym (types_are i t typed));
+      }
 
-    answer_typed : (what : Import) (args : List CoreValue) (before : MachineState) (answer : Answer) → TypedAnswer m ((places_in m is).function what) before answer
-        → HasTypedAnswer (places_in m is) (result_types (core_results m is) []) (record { what = what; args = args; before = before; answer = answer })
-    answer_typed what args before (Returns rs after) t =
-        returned_by (record { what = what; args = args; before = before; answer = Returns rs after }) (type_of_import m ((places_in m is).function what)) rs refl t.0 t
-    answer_typed what args before Traps t = tt
-    answer_typed what args before Throws t = tt
+  returned_by : (c : Call) (o : Option FuncType) (rs : List CoreValue) → type_of_import m (p.function c.what) ≡ o → AreResults o rs → TypedAnswer m (p.function c.what) c.before c.answer → HasTypedAnswer p types c
+  returned_by c None rs e some t = absurd some
+  returned_by c (Some type) rs e some t = (answers_agree m p types c (p.function c.what) type.params are (knows_import c.what type e)).1 t
 
-    -- so typed answers to the events of calls are typed answers to those calls
-    pub typed_calls : (cs : List Call) → All (λ e. TypedAnswer m e.func e.before e.answer) (map (call_event (places_in m is)) cs) → HaveTypedAnswers (places_in m is) (result_types (core_results m is) []) cs
-    typed_calls [] h = tt
-    typed_calls (c ∷ cs) h =
-        let events : List Event = map (call_event (places_in m is)) cs in
-        let one = All-head (λ (e : Event). TypedAnswer m e.func e.before e.answer) (call_event (places_in m is) c) events h in
-        (answer_typed c.what c.args c.before c.answer one, typed_calls cs (All-tail (λ (e : Event). TypedAnswer m e.func e.before e.answer) (call_event (places_in m is) c) events h))
+  answer_typed : (what : Import) (args : List CoreValue) (before : MachineState) (answer : Answer) → TypedAnswer m (p.function what) before answer
+      → HasTypedAnswer p types (record { what = what; args = args; before = before; answer = answer })
+  answer_typed what args before (Returns rs after) t = returned_by (record { what = what; args = args; before = before; answer = Returns rs after }) (type_of_import m (p.function what)) rs refl t.0 t
+  answer_typed what args before Traps t = tt
+  answer_typed what args before Throws t = tt
+
+  -- so typed answers to the events of calls are typed answers to those calls
+  pub typed_calls : (cs : List Call) → All (λ e. TypedAnswer m e.func e.before e.answer) (map (call_event p) cs) → HaveTypedAnswers p types cs
+  typed_calls [] h = tt
+  typed_calls (c ∷ cs) h =
+      let events : List Event = map (call_event p) cs in
+      let one = All-head (λ (e : Event). TypedAnswer m e.func e.before e.answer) (call_event p c) events h in
+      (answer_typed c.what c.args c.before c.answer one, typed_calls cs (All-tail (λ (e : Event). TypedAnswer m e.func e.before e.answer) (call_event p c) events h))

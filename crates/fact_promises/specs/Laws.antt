@@ -7,12 +7,14 @@ use Rattle.fact_machine.specs.declared.types.MachineState.{MachineState}
 use Rattle.fact_machine.specs.Machine.{run_of}
 use Rattle.fact_types.specs.declared.import.Import.{Import}
 use Rattle.fact_types.specs.Adapters.{LinkedAdapter}
-use Rattle.fact_moves.specs.Adapters.{AdapterTunables}
+use Rattle.fact_moves.specs.Adapters.{AdapterTunables, References}
 use Rattle.fact_moves.specs.Calls.{is_call_of}
 use Rattle.fact_moves.specs.Running.{ImportPlaces, Call}
 use Rattle.fact_carry.specs.Faithful.{IsFaithful, IsInLimits, whole_weight}
 use Rattle.fact_emit.specs.ImportSection.{NamesImports}
-use Rattle.fact_promises.specs.Functions.{IsAdapterFunction, IsTrapFunction}
+use Rattle.fact_compound.specs.declared.asyncs.AsyncPart.{AsyncPart}
+use Rattle.fact_promises.specs.AsyncRuns.{HandsOver, Transfers}
+use Rattle.fact_promises.specs.Functions.{IsAdapterFunction, IsEntryFunctionOf, IsPartFunctionOf, IsTrapFunction}
 use Rattle.fact_promises.specs.Names.{places_in, AreCalls, IsNamedLog}
 use Rattle.fact_promises.specs.Runs.{Behaves, CallNoTrap, IsHonestSoFar, IsOver, OnlyTraps}
 
@@ -25,6 +27,17 @@ FunctionsBehave =
 -- A function of an adapter within one instance only traps.
 abbrev pub TrapFunctionsTrap : Type 0
 TrapFunctionsTrap = (m : WasmModule) (is : List Import) (a : LinkedAdapter) (adapters : List LinkedAdapter) (f : ℕ) → IsTrapFunction m is a adapters f → OnlyTraps m is a f
+
+-- A function that moves the values of one part of an async adapter does so in each run, and the one that has its name hands its call over.
+abbrev pub PartFunctionsTransfer : Type 0
+PartFunctionsTransfer =
+    (x : AsyncPart) (m : WasmModule) (is : List Import) (u : AdapterTunables) (a : LinkedAdapter) (adapters : List LinkedAdapter) (f : ℕ)
+    → IsPartFunctionOf x m is u a adapters f → Transfers x m is u a f
+
+abbrev pub EntryFunctionsHandOver : Type 0
+EntryFunctionsHandOver =
+    (m : WasmModule) (is : List Import) (a : LinkedAdapter) (r : References) (adapters : List LinkedAdapter) (f : ℕ)
+    → IsEntryFunctionOf m is a r adapters f → HandsOver m is a r f
 
 -- In a module that names its imports each event of a run is a call of one of them, whatever function runs and whatever is answered.
 abbrev pub EventsAreNamed : Type 0

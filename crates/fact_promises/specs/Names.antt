@@ -1,5 +1,5 @@
 -- Where a module has what actions name, and which calls the events of its runs are.
-use Rattle.std.specs.Prelude.{◌≡◌, List, Some}
+use Rattle.std.specs.Prelude.{◌≡◌, List, [], Some}
 use Rattle.std.specs.List.{AllZip}
 use Rattle.fact_wasm.specs.declared.instr.FuncName.TheVariants as func
 use Rattle.fact_wasm.specs.declared.module.WasmModule.{WasmModule}
@@ -12,7 +12,7 @@ use Rattle.fact_emit.specs.States.{ModuleSoFar}
 
 -- a module, whose import section names these imports
 abbrev pub finished : WasmModule → List Import → ModuleSoFar
-finished m is = record { types = m.types; section = m.imports; imports = is; functions = m.funcs; exports = m.exports }
+finished m is = record { types = m.types; section = m.imports; imports = is; functions = m.funcs; exports = m.exports; callees = [] }
 
 -- the places at which it has what is imported
 abbrev pub places_in : WasmModule → List Import → ImportPlaces

@@ -2,13 +2,12 @@
 use Rattle.std.specs.Prelude.{◌≡◌, ◌≢◌, ◌⊎◌, ℕ, ◌+◌, ◌*◌, ◌≤◌, Bool, true, false, List, [], All, filter, length}
 use Rattle.std.specs.List.{AllZip}
 use Rattle.fact_wasm.specs.declared.module.WasmModule.{WasmModule}
+use Rattle.fact_wasm.specs.declared.types.ValType.{ValType}
 use Rattle.fact_machine.specs.declared.types.CoreValue.{CoreValue}
 use Rattle.fact_machine.specs.declared.types.CoreValue.TheVariants.{I32}
 use Rattle.fact_machine.specs.declared.types.MachineState.{MachineState}
 use Rattle.fact_machine.specs.declared.types.Answer.{Answer}
 use Rattle.fact_machine.specs.declared.types.Event.{Event}
-use Rattle.fact_machine.specs.declared.types.TraceEntry.{TraceEntry}
-use Rattle.fact_machine.specs.declared.types.TraceEntry.TheVariants as entry
 use Rattle.fact_machine.specs.declared.types.Outcome.{Outcome}
 use Rattle.fact_machine.specs.declared.types.End.{End}
 use Rattle.fact_machine.specs.declared.types.End.TheVariants.{Returned, Trapped, Thrown, Lacks, Going, Stuck}
@@ -20,7 +19,7 @@ use Rattle.fact_types.specs.declared.import.Import.TheVariants as import
 use Rattle.fact_types.specs.Adapters.{LinkedAdapter}
 use Rattle.fact_types.specs.declared.outside.Trap.TheVariants.{CannotEnterComponent}
 use Rattle.fact_moves.specs.Adapters.{AdapterTunables}
-use Rattle.fact_moves.specs.AdapterLaws.{begins}
+use Rattle.fact_moves.specs.AdapterLaws.{begins, is_write}
 use Rattle.fact_moves.specs.Confined.{AreOwnWrites, AreRangedSync, HaveHonestTranscoders, room_in}
 use Rattle.fact_moves.specs.Honest.{AreHonestSync}
 use Rattle.fact_moves.specs.Order.{AreOrderedCalls, flag_in}
@@ -35,18 +34,25 @@ use Rattle.fact_promises.specs.Names.{places_in, AreCalls}
 
 -- ---- typed and honest runs
 
--- A run of an adapter's function with this log so far: its first state, its arguments and each answer are typed.
-pub record IsTypedRun (m : WasmModule) (a : LinkedAdapter) (args : List CoreValue) (before : MachineState) (log : List Event) : Type 0 where
+-- A run of a function of these parameters with this log so far: its first state, its arguments and each answer are typed.
+pub record IsTypedFrom (m : WasmModule) (params : List ValType) (args : List CoreValue) (before : MachineState) (log : List Event) : Type 0 where
   pub state : TypedState m before
-  pub arguments : AllZip (λ v t. IsValue v t) args a.lower.core_type.params
+  pub arguments : AllZip (λ v t. IsValue v t) args params
   pub answers : All (λ e. TypedAnswer m e.func e.before e.answer) log
 
+-- So it is of the function that has an adapter's name.
+abbrev pub IsTypedRun : WasmModule → LinkedAdapter → (args : List CoreValue) → MachineState → List Event → Type 0
+IsTypedRun m a args before log = IsTypedFrom m a.lower.core_type.params args before log
+
 -- A typed run, of whose calls so far something holds.
-pub record HasCallsSoFar (m : WasmModule) (is : List Import) (a : LinkedAdapter) (Holds : List Call → Type 0) (args : List CoreValue) (before : MachineState) (log : List Event) : Type 0 where
-  pub typed : IsTypedRun m a args before log
+pub record HasCallsFrom (m : WasmModule) (is : List Import) (params : List ValType) (Holds : List Call → Type 0) (args : List CoreValue) (before : MachineState) (log : List Event) : Type 0 where
+  pub typed : IsTypedFrom m params args before log
   pub calls : List Call
   pub are_calls : AreCalls m is log calls
   pub honest : Holds calls
+
+abbrev pub HasCallsSoFar : WasmModule → List Import → LinkedAdapter → (Holds : List Call → Type 0) → (args : List CoreValue) → MachineState → List Event → Type 0
+HasCallsSoFar m is a Holds args before log = HasCallsFrom m is a.lower.core_type.params Holds args before log
 
 -- Each answer is honest besides, and none is a trap or a throw.
 abbrev pub IsHonestSoFar : WasmModule → List Import → LinkedAdapter → (args : List CoreValue) → MachineState → List Event → Type 0
@@ -79,10 +85,14 @@ pub record EndsSoon (m : WasmModule) (is : List Import) (a : LinkedAdapter) (arg
   pub are_calls : AreCalls m is o.log calls
   pub few : length o.log ≤ 30 * (whole_weight (places_in m is) a args before calls + 1)
 
--- From some number of steps on, a run has the outcome of plain inlining, and each event of its log is the call that stands there.
-pub record IsNamedPlainRun (m : WasmModule) (is : List Import) (f : ℕ) (args : List CoreValue) (before : MachineState) (answers : List Answer) (o : NamedOutcome) : Type 0 where
-  pub plain : IsPlainRun m (places_in m is) f args before answers o
-  pub are_calls : AreCalls m is (numbered_outcome (places_in m is) o).log o.log
+-- From some number of steps on, a run has the outcome of plain inlining, where the module has its imports at these places, and each event of
+-- its log is the call that stands there.
+pub record IsNamedRun (m : WasmModule) (is : List Import) (p : ImportPlaces) (f : ℕ) (args : List CoreValue) (before : MachineState) (answers : List Answer) (o : NamedOutcome) : Type 0 where
+  pub plain : IsPlainRun m p f args before answers o
+  pub are_calls : AreCalls m is (numbered_outcome p o).log o.log
+
+abbrev pub IsNamedPlainRun : WasmModule → List Import → (f : ℕ) → (args : List CoreValue) → MachineState → List Answer → NamedOutcome → Type 0
+IsNamedPlainRun m is f args before answers o = IsNamedRun m is (places_in m is) f args before answers o
 
 -- What the calls of a run have asked of realloc: where it returned all that its values call for, and where it stopped a front of
 -- that, if the lower side may be left. Of one that goes on nothing is said: with fewer answers it lacks one there.
@@ -159,12 +169,6 @@ pub record Behaves (m : WasmModule) (is : List Import) (u : AdapterTunables) (a 
 -- Trapped where the answer returns or traps, Thrown where it throws, and Lacks where there is none.
 abbrev pub same_instance_outcome : MachineState → List Answer → NamedOutcome
 same_instance_outcome before answers = begins (import.Trap CannotEnterComponent) [] before answers (λ results after more. record { end = Trapped; state = after; log = [] })
-
--- whether an entry of a trace is a write to a memory or to a global
-abbrev pub is_write : TraceEntry → Bool
-is_write (entry.Called e) = false
-is_write (entry.Stored memory address length value) = true
-is_write (entry.GlobalSet index value) = true
 
 pub record OnlyTraps (m : WasmModule) (is : List Import) (a : LinkedAdapter) (f : ℕ) : Type 0 where
   -- Where all that comes from outside is typed, the run comes to this.

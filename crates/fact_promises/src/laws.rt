@@ -1,11 +1,13 @@
 //! Laws of the runs of adapters.
 
-ghost use Rattle.fact_promises.specs.Laws.{FunctionsBehave, EventsAreNamed, NoSecondCall, RunsStayShort, TrapFunctionsTrap};
+ghost use Rattle.fact_promises.specs.Laws.{FunctionsBehave, EventsAreNamed, EntryFunctionsHandOver, NoSecondCall, PartFunctionsTransfer, RunsStayShort, TrapFunctionsTrap};
 
 /// What holds of the runs of adapters' functions. The call does nothing: its contract is the laws.
 pub fn laws_of_functions()
     ensures functions_behave { FunctionsBehave }
     ensures trap_functions_trap { TrapFunctionsTrap }
+    ensures part_functions_transfer { PartFunctionsTransfer }
+    ensures entry_functions_hand_over { EntryFunctionsHandOver }
     ensures events_are_named { EventsAreNamed }
     ensures no_second_call { NoSecondCall }
     ensures runs_stay_short { RunsStayShort }
