@@ -1,13 +1,10 @@
-pub mod BuiltLaws
 pub mod Memories
 pub mod Moving
 pub mod Pairs
 pub mod Passed
-pub mod PlanLaws
 pub mod PlanPassed
 pub mod RulesValid
 pub mod Stable
 pub mod Telling
-pub mod Tunables
 pub mod Uses
 pub mod Written

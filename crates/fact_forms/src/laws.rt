@@ -2,10 +2,10 @@
 
 ghost use Rattle.fact_forms.specs.Linking.{KnownTellMemories, PassedAreUsedAlike};
 ghost use Rattle.fact_forms.specs.Sound.{FaultlessHavePassed, PassedAreSound, PlanSidesAreValid, SoundAreChecked};
-ghost use Rattle.fact_forms.specs.Writable.{BuiltAreWritable, BuiltCrossInSync};
+ghost use Rattle.fact_forms.specs.Writable.{SoundAreWritable};
 
-/// What adapters have that the checks let pass, alone and in a module, and what those of them have that are built. The call does
-/// nothing: its contract is the laws.
+/// What adapters have that the checks let pass, alone, in a module, and for the code that is written for them. The call does nothing:
+/// its contract is the laws.
 pub fn laws_of_forms()
     ensures plan_sides_are_valid { PlanSidesAreValid }
     ensures faultless_have_passed { FaultlessHavePassed }
@@ -13,6 +13,5 @@ pub fn laws_of_forms()
     ensures passed_are_used_alike { PassedAreUsedAlike }
     ensures sound_are_checked { SoundAreChecked }
     ensures known_tell_memories { KnownTellMemories }
-    ensures built_are_writable { BuiltAreWritable }
-    ensures built_cross_in_sync { BuiltCrossInSync }
+    ensures sound_are_writable { SoundAreWritable }
 {}

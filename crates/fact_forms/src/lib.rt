@@ -1,9 +1,7 @@
-//! The forms of adapters: which of them are built, and what an adapter that the checks let pass has, in the words of the laws of its
-//! runs.
+//! The forms of adapters: what an adapter that the checks let pass has, in the words of the laws of its runs and of the code that is
+//! written for it.
 #![tactic(auto)]
 
-mod built;
 mod laws;
 
-pub use built::{is_built, is_built_plan};
 pub use laws::laws_of_forms;

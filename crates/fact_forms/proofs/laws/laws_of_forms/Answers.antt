@@ -2,7 +2,7 @@ use Rattle.fact_forms.proofs.Passed.{passed_are_sound, sound_are_checked}
 use Rattle.fact_forms.proofs.PlanPassed.{faultless_have_passed, plan_sides_are_valid}
 use Rattle.fact_forms.proofs.Telling.{known_tell_memories}
 use Rattle.fact_forms.proofs.Uses.{passed_are_used_alike}
-use Rattle.fact_forms.proofs.Written.{built_are_writable, built_cross_in_sync}
+use Rattle.fact_forms.proofs.Written.{sound_are_writable}
 use Rattle.fact_forms.proofs.laws.laws_of_forms.Goals as goal
 
 pub returns : goal.returns
@@ -13,6 +13,5 @@ returns c = record {
   passed_are_used_alike = passed_are_used_alike;
   sound_are_checked = sound_are_checked;
   known_tell_memories = known_tell_memories;
-  built_are_writable = built_are_writable;
-  built_cross_in_sync = built_cross_in_sync;
+  sound_are_writable = sound_are_writable;
 }
