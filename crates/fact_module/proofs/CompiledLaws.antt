@@ -1,48 +1,38 @@
--- The function that is compiled for an adapter: that of an adapter within one instance, or of one between two.
-use Rattle.std.proofs.Common.{◌≡◌, Bool, true, false, List, [], ◌∷◌, ◌++◌, Option, Some, None, refl, sym, ap, ◌∙◌, subst, length, slice_get, inl, inr}
+-- The functions that are compiled for an adapter: that of one within one instance, of a sync one between two, or those of an async one.
+use Rattle.std.proofs.Common.{◌≡◌, ℕ, Bool, true, false, ◌&&◌, ◌||◌, List, [], ◌∷◌, Option, Some, None, refl, sym, ap, ◌∙◌, length, slice_get, inl, inr}
 use Rattle.std.specs.Prelude.{is_some, not}
+use Rattle.std.specs.List.{AllZip}
 use Rattle.std.proofs.lemmas.Bool.{true≢false}
 use Rattle.std.proofs.lemmas.Bool.Decides.{eqb_tells}
 use Rattle.fact_entity.specs.declared.id.Id.{Id}
 use Rattle.fact_entity.specs.declared.table.Funcs.{Funcs}
 use Rattle.fact_wasm.specs.declared.module.WasmFunc.{WasmFunc}
-use Rattle.fact_types.specs.Adapters.{LinkedAdapter, is_crossing}
+use Rattle.fact_wasm.specs.declared.types.FuncType.{FuncType}
+use Rattle.fact_types.specs.Adapters.{LinkedAdapter, Side, is_async, is_crossing}
 use Rattle.fact_types.specs.Tables.{Tables}
 use Rattle.fact_types.specs.declared.outside.CoreDef.{CoreDef}
 use Rattle.fact_moves.specs.Adapters.{AdapterTunables}
 use Rattle.fact_emit.specs.AdapterLinks.{IsLinkedIfAny}
-use Rattle.fact_emit.specs.ImportSection.{PostReturn, Role}
+use Rattle.fact_emit.specs.ImportSection.{Callback, PostReturn, Role, is_awaited}
+use Rattle.fact_emit.specs.Imports.{Extended}
 use Rattle.fact_emit.specs.States.{ModuleSoFar}
-use Rattle.fact_emit.proofs.ImportLists.{get-last}
-use Rattle.fact_compound.specs.Described.{DescribesAdapter, number_if_any}
-use Rattle.fact_compound.specs.Functions.{Compiled, CompiledSync}
-use Rattle.fact_compound.specs.SameInstance.{CompiledSameInstance, DescribesLower}
+use Rattle.fact_emit.proofs.DefinedKept.{extended_defined}
+use Rattle.fact_emit.proofs.ImportLaws.{extended_on, grown_get}
+use Rattle.fact_emit.proofs.KnownLaws.{extended_type}
+use Rattle.fact_compound.specs.AsyncParts.{part_type}
+use Rattle.fact_compound.specs.Asyncs.{CompiledAsync}
+use Rattle.fact_compound.specs.Compiled.{Compiled}
+use Rattle.fact_compound.specs.Described.{DescribesAdapter, DescribesEntry, DescribesSide, DescribesTransfers, is_async_data, number_if_any}
+use Rattle.fact_compound.specs.Entries.{CompiledEntry}
+use Rattle.fact_compound.specs.SameInstance.{DescribesLower}
 use Rattle.fact_compound.specs.Syncs.{lower_type_of}
 use Rattle.fact_compound.specs.declared.adapters.AdapterData.{AdapterData}
-use Rattle.fact_forms.specs.Built.{IsBuiltAdapter}
+use Rattle.fact_compound.specs.declared.adapters.AdapterOptions.{AdapterOptions}
+use Rattle.fact_compound.specs.declared.asyncs.AsyncPart.TheVariants as part
 use Rattle.fact_forms.specs.Sound.{IsSoundAdapter}
-use Rattle.fact_forms.proofs.Written.{built_are_writable}
-use Rattle.fact_module.specs.Adding.{Adds, AddsFunction}
-
--- ---- what is added, whichever it is
-
-within-adds : {t : Tables} {d : AdapterData} {old new : ModuleSoFar} (c : CompiledSameInstance t d old new) → AddsFunction d.name old new c.function
-within-adds c = record { ty = c.ty; declared = c.declared; declares = c.declares; written = c.written; brought = c.brought; is_last = c.is_last; functions = c.functions; imports = c.imports }
-
-between-adds : {t : Tables} {d : AdapterData} {debug concurrency exceptions : Bool} {old new : ModuleSoFar} (c : CompiledSync t d debug concurrency exceptions old new) → AddsFunction d.name old new c.function
-between-adds c = record { ty = c.ty; declared = c.declared; declares = c.declares; written = c.written; brought = c.brought; is_last = c.is_last; functions = c.functions; imports = c.writes.imports }
-
-pub compiled-adds : {t : Tables} {debug concurrency exceptions : Bool} {old new : ModuleSoFar} (d : AdapterData) → Compiled t d debug concurrency exceptions old new → (f : WasmFunc) × AddsFunction d.name old new f
-compiled-adds d c = elim (eqb_tells d.lift.instance.number d.lower.instance.number) [
-  | inl same ↦ let w = c.within same.1 in (w.function, within-adds w)
-  | inr other ↦ let b = c.between other.1 in (b.function, between-adds b)
-]
-
--- the last function is one
-one-last : (fs gs : List WasmFunc) (f g : WasmFunc) → gs ≡ fs ++ f ∷ [] → gs ≡ fs ++ g ∷ [] → f ≡ g
-one-last fs gs f g x y =
-    let at : Some f ≡ Some g = sym (get-last fs f) ∙ ap (λ hs. slice_get hs (length fs)) (sym x ∙ y) ∙ get-last fs g in
-    cc
+use Rattle.fact_forms.proofs.Written.{sound_are_writable}
+use Rattle.fact_module.specs.Adding.{Adds, AsParts, AsSync, AsTrap, CompiledAs, HasSideData, own_functions}
+use Rattle.fact_module.specs.Exports.{exported_functions_of}
 
 -- ---- instances
 
@@ -58,58 +48,144 @@ one-instance a within = elim (eqb_tells a.lift.instance a.lower.instance) [
   | inr e ↦ absurd (true≢false (sym (ap not e.0) ∙ within))
 ]
 
+-- ---- marks of async
+
+four-marks : (a b c d : Bool) → ((a || b) || (c || d)) ≡ (a || b || c || d)
+four-marks true b c d = refl
+four-marks false true c d = refl
+four-marks false false true d = refl
+four-marks false false false d = refl
+
+pub none-marked : (a b c d : Bool) → (a || b || c || d) ≡ false → (a ≡ false) × (b ≡ false) × (c ≡ false) × (d ≡ false)
+none-marked true b c d h = absurd (true≢false h)
+none-marked false true c d h = absurd (true≢false h)
+none-marked false false true d h = absurd (true≢false h)
+none-marked false false false d h = (refl, refl, refl, h)
+
+-- an adapter is awaited where it is async and between two instances
+pub not-awaited-within : (a : LinkedAdapter) → is_crossing a ≡ false → is_awaited a ≡ false
+not-awaited-within a within = by (is_async a) (is_crossing a) within
+  where
+    by : (x y : Bool) → y ≡ false → (x && y) ≡ false
+    by true y h = h
+    by false y h = refl
+
+pub not-awaited-sync : (a : LinkedAdapter) → is_async a ≡ false → is_awaited a ≡ false
+not-awaited-sync a sync = ap (λ x. x && is_crossing a) sync
+
+-- ---- how an adapter was compiled
+
+-- the data of an adapter are of an async one where it is
+same-mark : {t : Tables} (d : AdapterData) (a : LinkedAdapter) → HasSideData t a.lift d.lift → HasSideData t a.lower d.lower → is_async_data t d ≡ is_async a
+same-mark d a lift lower =
+    (λ k. (lift.async_side k || lower.async_side k) || (lift.marked k || lower.marked k)) ∙ four-marks a.lift.async_side a.lower.async_side a.lift.async_type a.lower.async_type
+
+pub compiled-as : {t : Tables} (u : AdapterTunables) {old new : ModuleSoFar} (d : AdapterData) (a : LinkedAdapter) → HasSideData t a.lift d.lift → HasSideData t a.lower d.lower
+    → Compiled t d u.debug u.concurrency u.exceptions old new → CompiledAs t d u a old new
+compiled-as {t} u {old} {new} d a lift lower compiled = by (is_crossing a) refl (is_async a) refl
+  where
+    apart : is_crossing a ≡ true → d.lift.instance.number ≡ d.lower.instance.number → ⊥
+    apart crosses same = crossing-apart a crosses (sym lift.instance ∙ same ∙ lower.instance)
+
+    by : (b : Bool) → is_crossing a ≡ b → (c : Bool) → is_async a ≡ c → CompiledAs t d u a old new
+    by false within c marks = AsTrap within (compiled.within (lift.instance ∙ one-instance a within ∙ sym lower.instance))
+    by true crosses false sync = AsSync crosses sync (compiled.in_sync (apart crosses) (same-mark d a lift lower ∙ sync))
+    by true crosses true awaited = AsParts (λ k. awaited k && crosses k) (compiled.in_parts (apart crosses) (same-mark d a lift lower ∙ awaited))
+
+-- it has as many functions as it exports
+pub own-count : {t : Tables} {d : AdapterData} {u : AdapterTunables} {a : LinkedAdapter} {old new : ModuleSoFar} (c : CompiledAs t d u a old new) → length (own_functions c) ≡ length (exported_functions_of a)
+own-count {a = a} (AsTrap within c) = let none = not-awaited-within a within in rw none refl
+own-count {a = a} (AsSync crosses sync c) = let none = not-awaited-sync a sync in rw none refl
+own-count {a = a} (AsParts awaited c) = rw awaited refl
+
+-- the types of its functions
+abbrev pub own_types : {t : Tables} {d : AdapterData} {u : AdapterTunables} {a : LinkedAdapter} {old new : ModuleSoFar} → CompiledAs t d u a old new → List FuncType
+own_types {a = a} (AsTrap within c) = lower_type_of a ∷ []
+own_types {a = a} (AsSync crosses sync c) = lower_type_of a ∷ []
+own_types {a = a} (AsParts awaited c) = part_type part.Start a ∷ part_type part.Return a ∷ lower_type_of a ∷ []
+
+-- the function that hands a call on grows the module as well
+pub entry-extended : {t : Tables} {d : AdapterData} {start return : ℕ} {old new : ModuleSoFar} → CompiledEntry t d start return old new → Extended old new
+entry-extended c =
+    extended_on (extended_type c.ty c.declares) (extended_on c.calls.imports
+    (extended_defined (ap (λ (s : ModuleSoFar). s.types) c.is_last) (ap (λ (s : ModuleSoFar). s.section) c.is_last) (ap (λ (s : ModuleSoFar). s.imports) c.is_last)))
+
+-- and so does the module when the callee is exported
+pub callee-extended : {t : Tables} {d : AdapterData} {debug concurrency : Bool} {old new : ModuleSoFar} (c : CompiledAsync t d debug concurrency old new) → Extended c.entered new
+callee-extended c = extended_defined (ap (λ (s : ModuleSoFar). s.types) c.callee) (ap (λ (s : ModuleSoFar). s.section) c.callee) (ap (λ (s : ModuleSoFar). s.imports) c.callee)
+
+-- what was there stays there
+pub compiled-extended : {t : Tables} {d : AdapterData} {u : AdapterTunables} {a : LinkedAdapter} {old new : ModuleSoFar} → CompiledAs t d u a old new → Extended old new
+compiled-extended (AsTrap within c) = c.imports
+compiled-extended (AsSync crosses sync c) = c.writes.imports
+compiled-extended (AsParts awaited c) = extended_on c.start.puts.imports (extended_on c.return.puts.imports (extended_on (entry-extended c.entry) (callee-extended c)))
+
 -- ---- the data of an adapter
 
-posts : (old new : ModuleSoFar) (role : Role) (o : Option CoreDef) (n : Option (Id Funcs)) → IsLinkedIfAny old new role o (number_if_any n) → is_some n ≡ is_some o
-posts old new role None None l = refl
-posts old new role None (Some n) l = absurd (let no : Some n.number ≡ None = l.1 in cc)
-posts old new role (Some f) None l = absurd (let no : None ≡ Some l.number = l.place_is in cc)
-posts old new role (Some f) (Some n) l = refl
+linked-there : (old new : ModuleSoFar) (role : Role) (o : Option CoreDef) (n : Option (Id Funcs)) → IsLinkedIfAny old new role o (number_if_any n) → is_some n ≡ is_some o
+linked-there old new role None None l = refl
+linked-there old new role None (Some n) l = absurd (let no : Some n.number ≡ None = l.1 in cc)
+linked-there old new role (Some f) None l = absurd (let no : None ≡ Some l.number = l.place_is in cc)
+linked-there old new role (Some f) (Some n) l = refl
 
-module _ {t : Tables} {u : AdapterTunables} {old new : ModuleSoFar} {a : LinkedAdapter} (add : Adds t u old new a) where
+side-described : {t : Tables} {s : Side} {d : AdapterOptions} → HasSideData t s d → DescribesSide t d s
+side-described h = record { signature = h.signature; wide = sym h.memory64; mark = sym h.async_side }
+
+module _ {t : Tables} {u : AdapterTunables} {old new : ModuleSoFar} {a : LinkedAdapter} {tuple : ℕ} (add : Adds t u old new a tuple) where
   -- it has a post-return where its lift side has one
   pub has-post-return : is_some add.«data».lift.post_return ≡ is_some a.lift.post_return
-  has-post-return = posts add.links.called add.linked (PostReturn a.name a.lift.core_type.results) a.lift.post_return add.«data».lift.post_return add.links.post_return
+  has-post-return = linked-there add.links.called add.linked (PostReturn a.name a.lift.core_type.results) a.lift.post_return add.«data».lift.post_return add.links.post_return
 
-  -- of an adapter within one instance
-  pub within-function : is_crossing a ≡ false → (c : CompiledSameInstance t add.«data» add.linked new) × (c.function ≡ add.function)
-  within-function within =
-      let c = add.compiled.within (add.lift.instance ∙ one-instance a within ∙ sym add.lower.instance) in
-      (c, one-last add.linked.functions new.functions c.function add.function c.functions add.added.functions)
-
-  -- of one between two
-  pub between-function : is_crossing a ≡ true → (c : CompiledSync t add.«data» u.debug u.concurrency u.exceptions add.linked new) × (c.function ≡ add.function)
-  between-function crosses =
-      let c = add.compiled.between (λ same. crossing-apart a crosses (sym add.lift.instance ∙ same ∙ add.lower.instance)) in
-      (c, one-last add.linked.functions new.functions c.function add.function c.functions add.added.functions)
+  -- and a callback likewise
+  has-callback : is_some add.«data».lift.options.callback ≡ is_some a.lift.callback
+  has-callback = linked-there add.links.lift.supplied add.links.lifted Callback a.lift.callback add.«data».lift.options.callback add.links.lift.callback
 
   pub describes-lower : DescribesLower t add.«data» a
   describes-lower = record { signature = add.lower.signature; wide = sym add.lower.memory64; mark = sym add.lower.async_side }
 
-  module _ (built : IsBuiltAdapter a) (sound : IsSoundAdapter a) where
-    pub describes : is_crossing a ≡ true → DescribesAdapter t add.«data» u.debug u a
-    describes crosses =
-        let w = built_are_writable a built crosses sound in
+  module _ (sound : IsSoundAdapter a) where
+    pub describes-transfers : DescribesTransfers t add.«data» u.debug u a
+    describes-transfers =
+        let w = sound_are_writable a sound in
+        record { lift = side-described add.lift; lower = side-described add.lower; same_debug = refl; params = w.params; results = w.results }
+
+    pub describes : is_async a ≡ false → DescribesAdapter t add.«data» u.debug u a
+    describes sync =
+        let unmarked = none-marked a.lift.async_side a.lower.async_side a.lift.async_type a.lower.async_type sync in
         record {
-          lift = record { signature = add.lift.signature; wide = sym add.lift.memory64; sync = w.sync.lift };
-          lower = record { signature = add.lower.signature; wide = sym add.lower.memory64; sync = w.sync.lower };
-          same_debug = refl;
-          unmarked = w.unmarked;
+          transfers = describes-transfers;
+          lift_sync = unmarked.0;
+          lower_sync = unmarked.1;
+          unmarked = unmarked.2;
           instance = add.lift.instance;
           transparent = add.transparent;
           post_return = has-post-return;
-          params = w.params;
-          results = w.results;
         }
 
-    -- its function has the core type of the adapter's lower side
-    pub type-added : slice_get new.types add.function.ty ≡ Some (lower_type_of a)
-    type-added = step (is_crossing a) refl
+    pub describes-entry : DescribesEntry t add.«data» a
+    describes-entry = record {
+      lift = side-described add.lift;
+      lower = side-described add.lower;
+      lift_callback = sym has-callback;
+      lift_instance = add.lift.instance;
+      lower_instance = add.lower.instance;
+      encoding = add.lift.encoding;
+      marked = sym add.lift.marked;
+      counted = let w = sound_are_writable a sound in w.counted.lower_results;
+      valid = sound.lower_results.valid;
+    }
+
+    -- its functions have their types
+    pub types-added : AllZip (λ (f : WasmFunc) ty. slice_get new.types f.ty ≡ Some ty) (own_functions add.compiled) (own_types add.compiled)
+    types-added = by add.compiled
       where
-        step : (b : Bool) → is_crossing a ≡ b → slice_get new.types add.function.ty ≡ Some (lower_type_of a)
-        step true crosses =
-            let (c, same) = between-function crosses in
-            subst (λ (f : WasmFunc). slice_get new.types f.ty ≡ Some (lower_type_of a)) same (c.typed u a (describes crosses))
-        step false within =
-            let (c, same) = within-function within in
-            subst (λ (f : WasmFunc). slice_get new.types f.ty ≡ Some (lower_type_of a)) same (c.typed a describes-lower)
+        by : (c : CompiledAs t add.«data» u a add.linked new) → AllZip (λ (f : WasmFunc) ty. slice_get new.types f.ty ≡ Some ty) (own_functions c) (own_types c)
+        by (AsTrap within c) = (c.typed a describes-lower, tt)
+        by (AsSync crosses sync c) = (c.typed u a (describes sync), tt)
+        by (AsParts awaited c) =
+            let last : Extended c.entered new = callee-extended c in
+            let returned : Extended c.returned new = extended_on (entry-extended c.entry) last in
+            let started : Extended c.started new = extended_on c.return.puts.imports returned in (
+              grown_get started.types _ _ (c.start.typed u a describes-transfers),
+              (grown_get returned.types _ _ (c.return.typed u a describes-transfers), (grown_get last.types _ _ (c.entry.typed a describes-entry), tt)),
+            )

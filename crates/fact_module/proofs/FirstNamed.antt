@@ -1,28 +1,30 @@
 -- The imported functions that code is the first to name, by their numbers: those of core definitions left out.
-use Rattle.std.proofs.Common.{◌≡◌, ℕ, suc, ◌+◌, Bool, true, false, List, [], ◌∷◌, ◌++◌, Some, None, refl, sym, ap, ◌∙◌, arith, length, slice_get, append-nil, nat_eq}
-use Rattle.std.specs.Prelude.{cond, filter, not, ◌||◌}
-use Rattle.std.specs.List.{AllByRecursion, cons_option, filter_map, list_any, range_with_len}
-use Rattle.std.proofs.lemmas.Bool.{eqb-true, true≢false}
-use Rattle.std.proofs.lemmas.List.Elements.{filter-append}
+use Rattle.std.proofs.Common.{◌≡◌, ℕ, suc, ◌+◌, ◌<◌, Bool, true, false, List, [], ◌∷◌, ◌++◌, Some, None, refl, sym, ap, ◌∙◌, subst, arith, get_or, length, slice_get, append-nil, nat_eq}
+use Rattle.std.specs.Prelude.{cond, filter, nat_le, not, ◌||◌}
+use Rattle.std.specs.List.{AllByRecursion, cons_option, filter_map, flat_map, list_any, range_with_len}
+use Rattle.std.proofs.lemmas.Bool.{eq-eqb, eqb-true, lt-leb, true≢false}
+use Rattle.std.proofs.lemmas.List.Elements.{filter-append, filter_map-append}
+use Rattle.std.proofs.lemmas.List.Folds.{list_any-append, list_any_at}
+use Rattle.std.proofs.lemmas.List.FromFn.{get_or-range_with_len, length-range_with_len}
 use Rattle.fact_wasm.specs.declared.types.FuncType.{FuncType}
 use Rattle.fact_wasm.specs.declared.instr.FuncName.TheVariants as func
-use Rattle.fact_wasm.specs.declared.instr.Instr.{Instr}
+use Rattle.fact_wasm.specs.declared.module.WasmFunc.{WasmFunc}
 use Rattle.fact_wasm.specs.declared.module.WasmImport.{WasmImport}
-use Rattle.fact_wasm.specs.Ranges.{AreRanged, IsPoint, Named, Otherwise, Placed, Point, body_points}
-use Rattle.fact_wasm.proofs.Ranged.{together}
+use Rattle.fact_wasm.specs.Ranges.{AreBodiesRanged, IsPoint, Named, Otherwise, Placed, Point, body_points}
+use Rattle.fact_wasm.proofs.Ranged.{all-append, together}
 use Rattle.fact_types.specs.declared.import.Import.{Import}
 use Rattle.fact_types.specs.declared.import.Import.TheVariants as known
 use Rattle.fact_emit.specs.ImportSection.{AreNamed, IsNamed, Mention, a_function, imported_type, imports_of, is_of, same_sort}
-use Rattle.fact_emit.specs.NamedFunctions.{added_once, all_added_once, functions_named, name_at}
-use Rattle.fact_emit.proofs.Named.{function-sort, named-at}
-use Rattle.fact_emit.proofs.Mentions.{of-a-kind}
-use Rattle.fact_module.specs.Order.{defined_place, is_definition, is_prepare_call, item_of, items, prepare_calls_last}
+use Rattle.fact_emit.specs.NamedFunctions.{added_once, all_added_once, name_at}
+use Rattle.fact_emit.proofs.Named.{function-sort}
+use Rattle.fact_emit.proofs.NamedLaws.{added_on}
+use Rattle.fact_module.specs.Order.{defined_place, is_definition, is_prepare_call, item_of, items, names, newly_asked, prepare_calls_last}
 use Rattle.fact_module.proofs.Ordered.{numbers_of, other_number}
 
 -- ---- numbers that pass a test
 
 module _ (p : ℕ → Bool) where
-  any_kept : (k : ℕ) → p k ≡ true → (ns : List ℕ) → list_any (λ x. nat_eq x k) (filter p ns) ≡ list_any (λ x. nat_eq x k) ns
+  pub any_kept : (k : ℕ) → p k ≡ true → (ns : List ℕ) → list_any (λ x. nat_eq x k) (filter p ns) ≡ list_any (λ x. nat_eq x k) ns
   any_kept k passes [] = refl
   any_kept k passes (x ∷ ns) = step (p x) refl (nat_eq x k) refl (any_kept k passes ns)
     where
@@ -70,8 +72,8 @@ no_function types ms before w n known.EnterSyncCall h e = function_kind types w 
 no_function types ms before w n known.ExitSyncCall h e = function_kind types w h.is_typed e
 no_function types ms before w n (known.UnsafeIntrinsic s) h e = function_kind types w h.is_typed e
 no_function types ms before w n (known.Transcode a b c d e) h g = function_kind types w h g
-no_function types ms before w n (known.PrepareCall a) h g = absurd h
-no_function types ms before w n (known.StartCall a b) h g = absurd h
+no_function types ms before w n (known.PrepareCall a) h g = function_kind types w h.1 g
+no_function types ms before w n (known.StartCall a b) h g = function_kind types w h.1 g
 
 one_number : (n : ℕ) (i : Import) (ns : List ℕ) → cons_option (other_number (item_of n i)) ns ≡ cond (not (is_definition (Some i))) (n ∷ ns) ns
 one_number n (known.CoreDef d) ns = refl
@@ -100,40 +102,67 @@ numbers_others all types ms n before (w ∷ ws) (i ∷ is) h at =
         ap (cons_option (other_number (item_of n i))) behind ∙ one_number n i _ ∙ ap (λ o. cond (not (is_definition o)) (n ∷ filter (is_other all) (range_with_len (n + 1) (length rest))) (filter (is_other all) (range_with_len (n + 1) (length rest)))) (sym here)
     step false e at more = ap (λ o. cons_option o (numbers_of (items n ws is))) (no_function types ms before w n i h.0 e) ∙ more n at
 
--- ---- no prepare-call is named
+-- ---- prepare-calls that are there already
 
-named_prepares_none : (types : List FuncType) (ms : List Mention) (before : List WasmImport) (w : WasmImport) (i : Import) → IsNamed types ms before w i → is_prepare_call (Some i) ≡ false
-named_prepares_none types ms before w (known.CoreDef d) h = refl
-named_prepares_none types ms before w (known.Trap t) h = refl
-named_prepares_none types ms before w known.ResourceTransferOwn h = refl
-named_prepares_none types ms before w known.ResourceTransferBorrow h = refl
-named_prepares_none types ms before w known.FutureTransfer h = refl
-named_prepares_none types ms before w known.StreamTransfer h = refl
-named_prepares_none types ms before w known.ErrorContextTransfer h = refl
-named_prepares_none types ms before w known.EnterSyncCall h = refl
-named_prepares_none types ms before w known.ExitSyncCall h = refl
-named_prepares_none types ms before w (known.UnsafeIntrinsic s) h = refl
-named_prepares_none types ms before w (known.Transcode a b c d e) h = refl
-named_prepares_none types ms before w (known.PrepareCall a) h = absurd h
-named_prepares_none types ms before w (known.StartCall a b) h = absurd h
+-- a number that is there stays there
+there_still : (ns : List ℕ) (j k : ℕ) → list_any (λ x. nat_eq x k) ns ≡ true → list_any (λ x. nat_eq x k) (added_once ns j) ≡ true
+there_still ns j k there = by (list_any (λ x. nat_eq x j) ns)
+  where
+    by : (b : Bool) → list_any (λ x. nat_eq x k) (cond b ns (ns ++ j ∷ [])) ≡ true
+    by true = there
+    by false = list_any-append (λ x. nat_eq x k) ns (j ∷ []) ∙ ap (λ c. c || list_any (λ x. nat_eq x k) (j ∷ [])) there
 
-pub prepares_none : (types : List FuncType) (ms : List Mention) (ws : List WasmImport) (is : List Import) → AreNamed types ms [] ws is → (n : ℕ) (i : Import) → slice_get (imports_of a_function ws is) n ≡ Some i → is_prepare_call (Some i) ≡ false
-prepares_none types ms ws is h n i e =
-    let (k, at) = of-a-kind a_function ws is n i e in
-    let (w, there, b, named) = named-at types ms [] ws is k i h at in
-    named_prepares_none types ms b w i named
+there_added : (ns : List ℕ) (k : ℕ) → list_any (λ x. nat_eq x k) ns ≡ true → added_once ns k ≡ ns
+there_added ns k there = rw there refl
 
-all_kept : (p : ℕ → Bool) (ns : List ℕ) → AllByRecursion (λ n. p n ≡ false) ns → filter (λ n. not (p n)) ns ≡ ns
-all_kept p [] h = refl
-all_kept p (n ∷ ns) h = rw h.0 (ap (λ l. n ∷ l) (all_kept p ns h.1))
+-- each number below a bound is there among those below it
+pub any_below : (n k : ℕ) → k < n → list_any (λ x. nat_eq x k) (range_with_len 0 n) ≡ true
+any_below n k lt =
+    let is : get_or (range_with_len 0 n) k 0 ≡ k = omega (arith, get_or-range_with_len 0 n k 0 lt) in
+    list_any_at (λ x. nat_eq x k) (range_with_len 0 n) k 0 (omega (arith, lt, length-range_with_len 0 n)) (eq-eqb (get_or (range_with_len 0 n) k 0) k is)
 
-none_kept : (p : ℕ → Bool) (ns : List ℕ) → AllByRecursion (λ n. p n ≡ false) ns → filter p ns ≡ []
-none_kept p [] h = refl
-none_kept p (n ∷ ns) h = rw h.0 (none_kept p ns h.1)
+pub all_with : (P Q : ℕ → Type 0) → ((k : ℕ) → P k → Q k) → (ks : List ℕ) → AllByRecursion P ks → AllByRecursion Q ks
+all_with P Q f [] h = tt
+all_with P Q f (k ∷ ks) h = (f k h.0, all_with P Q f ks h.1)
 
-pub calls_in_order : (all : List Import) (ns : List ℕ) → AllByRecursion (λ n. is_prepare_call (slice_get all n) ≡ false) ns → prepare_calls_last all ns ≡ ns
-calls_in_order all ns h =
-    (λ i. all_kept (λ n. is_prepare_call (slice_get all n)) ns h i ++ none_kept (λ n. is_prepare_call (slice_get all n)) ns h i) ∙ append-nil ns
+module _ (p : ℕ → Bool) where
+  abbrev AreThere : (ns ks : List ℕ) → Type 0
+  AreThere ns ks = AllByRecursion (λ k. p k ≡ true → list_any (λ x. nat_eq x k) ns ≡ true) ks
+
+  those_still : (ns : List ℕ) (j : ℕ) (ks : List ℕ) → AreThere ns ks → AreThere (added_once ns j) ks
+  those_still ns j = all_with (λ k. p k ≡ true → list_any (λ x. nat_eq x k) ns ≡ true) (λ k. p k ≡ true → list_any (λ x. nat_eq x k) (added_once ns j) ≡ true) (λ k h e. there_still ns j k (h e))
+
+  those_after : (ns js ks : List ℕ) → AreThere ns ks → AreThere (all_added_once ns js) ks
+  those_after ns [] ks h = h
+  those_after ns (j ∷ js) ks h = those_after (added_once ns j) js ks (those_still ns j ks h)
+
+  -- where they are left out
+  left_out : (ns ks : List ℕ) → AreThere ns ks → all_added_once ns (filter (λ k. not (p k)) ks) ≡ all_added_once ns ks
+  left_out ns [] h = refl
+  left_out ns (k ∷ ks) h = step (p k) refl (λ ms g. left_out ms ks g)
+    where
+      step : (b : Bool) → p k ≡ b → ((ms : List ℕ) → AreThere ms ks → all_added_once ms (filter (λ k. not (p k)) ks) ≡ all_added_once ms ks)
+          → all_added_once ns (cond (not b) (k ∷ filter (λ k. not (p k)) ks) (filter (λ k. not (p k)) ks)) ≡ all_added_once (added_once ns k) ks
+      step true e rest = rest ns h.1 ∙ ap (λ ms. all_added_once ms ks) (sym (there_added ns k (h.0 e)))
+      step false e rest = rest (added_once ns k) (those_still ns k ks h.1)
+
+  -- and where they come again
+  come_again : (ns ks : List ℕ) → AreThere ns ks → all_added_once ns (filter p ks) ≡ ns
+  come_again ns [] h = refl
+  come_again ns (k ∷ ks) h = step (p k) refl (come_again ns ks h.1)
+    where
+      step : (b : Bool) → p k ≡ b → all_added_once ns (filter p ks) ≡ ns → all_added_once ns (cond b (k ∷ filter p ks) (filter p ks)) ≡ ns
+      step true e rest = ap (λ ms. all_added_once ms (filter p ks)) (there_added ns k (h.0 e)) ∙ rest
+      step false e rest = rest
+
+-- Where each prepare-call among them is there already, the others come in their order.
+pub calls_in_order : (all : List Import) (ns ks : List ℕ) → AllByRecursion (λ k. is_prepare_call (slice_get all k) ≡ true → list_any (λ x. nat_eq x k) ns ≡ true) ks
+    → all_added_once ns (prepare_calls_last all ks) ≡ all_added_once ns ks
+calls_in_order all ns ks h =
+    let p : ℕ → Bool = λ k. is_prepare_call (slice_get all k) in
+    added_on ns (filter (λ k. not (p k)) ks) (filter p ks)
+    ∙ ap (λ ms. all_added_once ms (filter p ks)) (left_out p ns ks h)
+    ∙ come_again p (all_added_once ns ks) ks (those_after p ns ks ks h)
 
 -- a test that each number passes, those that are left out apart
 pub all_filtered : (p : ℕ → Bool) (P : ℕ → Type 0) (ns : List ℕ) → AllByRecursion P ns → AllByRecursion P (filter p ns)
@@ -144,14 +173,26 @@ all_filtered p P (n ∷ ns) h = step (p n) (all_filtered p P ns h.1)
     step true rest = (h.0, rest)
     step false rest = rest
 
--- ---- no defined function is named
+-- ---- defined functions that are named stand below a bound
 
-defined_points : (n : ℕ) (ps : List Point) → AllByRecursion (IsPoint n 0) ps → filter_map defined_place (filter_map name_at ps) ≡ []
-defined_points n [] h = refl
-defined_points n (Named (func.Import k) ∷ ps) h = defined_points n ps h.1
-defined_points n (Named (func.Defined k) ∷ ps) h = absurd (omega (arith, h.0))
-defined_points n (Placed m ∷ ps) h = defined_points n ps h.1
-defined_points n (Otherwise m ∷ ps) h = defined_points n ps h.1
+defined_points : (m n : ℕ) (ps : List Point) → AllByRecursion (IsPoint m n) ps → AllByRecursion (λ k. k < n) (filter_map defined_place (filter_map name_at ps))
+defined_points m n [] h = tt
+defined_points m n (Named (func.Import k) ∷ ps) h = defined_points m n ps h.1
+defined_points m n (Named (func.Defined k) ∷ ps) h = (h.0, defined_points m n ps h.1)
+defined_points m n (Placed a ∷ ps) h = defined_points m n ps h.1
+defined_points m n (Otherwise k ∷ ps) h = defined_points m n ps h.1
 
-pub defined_none : (n : ℕ) (code : List Instr) → AreRanged n 0 code → filter_map defined_place (functions_named code) ≡ []
-defined_none n code h = defined_points n (body_points code) (together (IsPoint n 0) code h)
+defined_below : (m n : ℕ) (fs : List WasmFunc) → AreBodiesRanged m n fs → AllByRecursion (λ k. k < n) (filter_map defined_place (flat_map names fs))
+defined_below m n [] h = tt
+defined_below m n (f ∷ fs) h =
+    subst (AllByRecursion (λ k. k < n)) (sym (filter_map-append defined_place (names f) (flat_map names fs)))
+    (all-append (λ k. k < n) (filter_map defined_place (names f)) (filter_map defined_place (flat_map names fs))
+    (defined_points m n (body_points f.body) (together (IsPoint m n) f.body h.0)) (defined_below m n fs h.1))
+
+none_from : (n : ℕ) (ks : List ℕ) → AllByRecursion (λ k. k < n) ks → filter (nat_le n) ks ≡ []
+none_from n [] h = refl
+none_from n (k ∷ ks) h = rw (lt-leb n k h.0) (none_from n ks h.1)
+
+-- Functions whose bodies are in range ask for none behind them.
+pub asks_none : (m n : ℕ) (fs : List WasmFunc) → AreBodiesRanged m n fs → newly_asked n fs ≡ []
+asks_none m n fs h = ap (all_added_once []) (none_from n (filter_map defined_place (flat_map names fs)) (defined_below m n fs h))

@@ -1,75 +1,67 @@
--- The adapters of a plan, taken one after another: where the plan is built, each of them is.
-use Rattle.std.proofs.Common.{◌≡◌, ℕ, ◌+◌, ◌<◌, ◌≤◌, Bool, true, IsTrue, List, [], Some, refl, sym, ap, ◌∙◌, subst, arith, length, slice_get, take_all, inl, inr}
-use Rattle.std.specs.Prelude.{◌↔◌, Err, IfSome, Ok, OnOk, Result}
-use Rattle.std.specs.List.{filter_map}
+-- The adapters of a plan, taken one after another.
+use Rattle.std.proofs.Common.{◌≡◌, ℕ, suc, ◌+◌, ◌<◌, ◌≤◌, true, List, [], ◌∷◌, Option, None, Some, refl, sym, ap, ◌∙◌, subst, arith, length, length-append, slice_get, take_all, inl, inr}
+use Rattle.std.specs.Prelude.{Err, Ok, OnOk, Result}
+use Rattle.std.specs.List.{cons_option, filter_map}
 use Rattle.std.proofs.lemmas.Bool.{cases_lt}
 use Rattle.std.proofs.lemmas.Option.{slice_get_within}
-use Rattle.fact_entity.specs.declared.id.Id.{Id}
-use Rattle.fact_entity.specs.declared.table.TypeFuncs.{TypeFuncs}
-use Rattle.fact_types.specs.declared.kinds.TypeFunc.{TypeFunc}
-use Rattle.fact_types.specs.Adapters.{LinkedAdapter, Side}
-use Rattle.fact_types.proofs.ShapeLaws.{same_some}
+use Rattle.fact_wasm.specs.Ranges.{InRange}
+use Rattle.fact_wasm.specs.Spelling.{Spells}
+use Rattle.fact_wasm.specs.declared.module.WasmModule.{WasmModule}
+use Rattle.fact_types.specs.Adapters.{LinkedAdapter}
+use Rattle.fact_types.specs.declared.import.Import.{Import}
 use Rattle.fact_builder.specs.Builder.{Builder}
 use Rattle.fact_plan.specs.declared.plan.FusePlan.{FusePlan}
 use Rattle.fact_plan.specs.declared.plan.PlanAdapter.{PlanAdapter}
 use Rattle.fact_plan_types.specs.declared.plan_types.PlanTypes.{PlanTypes}
-use Rattle.fact_plan_types.specs.PlanTypes.{AreFaultless, AreTypesOf, told}
+use Rattle.fact_plan_types.specs.PlanTypes.{AreFaultless, AreTypesOf}
 use Rattle.fact_plan_types.specs.Faults.{Fault, too_large}
 use Rattle.fact_plan_types.specs.TypeRules.{most_entries}
-use Rattle.fact_plan_types.specs.declared.error.FuseError.{FuseError}
-use Rattle.fact_plan_types.specs.declared.error.FuseError.TheVariants.{OutOfMemory}
 use Rattle.fact_plan_types.specs.declared.error.Place.{Place}
 use Rattle.fact_plan_types.specs.declared.error.Place.TheVariants.{Adapter as at_adapter}
-use Rattle.fact_checks.specs.declared.adapter.Adapter.{Adapter}
-use Rattle.fact_checks.specs.declared.adapter.AdapterOptionsDfg.{AdapterOptionsDfg}
 use Rattle.fact_checks.specs.declared.sides.Candidate.{Candidate}
-use Rattle.fact_checks.specs.Adapters.{adapter_of, adapters_before}
+use Rattle.fact_checks.specs.Adapters.{adapter_of, adapters_before, adapters_of}
 use Rattle.fact_checks.specs.AdapterRules.{AdapterHas, AdapterLacks, HasAdapterFault, LinkedHas}
 use Rattle.fact_checks.specs.FirstFault.{IsFaultlessPlan, IsFirstAt}
-use Rattle.fact_checks.specs.Linked.{HasSides, IsLinked, IsSideOf, NamesTypesOf}
+use Rattle.fact_checks.specs.Linked.{HasSides, IsLinked, NamesTypesOf}
 use Rattle.fact_checks.specs.Links.{IsFirstHere, LinksAdapter}
-use Rattle.fact_checks.proofs.FaultLaws.{faultless-first}
 use Rattle.fact_checks.proofs.LinkLaws.{sides-typed, some_and}
 use Rattle.fact_checks.proofs.PlanLaws.{before-next, first-linked, none-here}
-use Rattle.fact_forms.specs.Built.{IsBuiltAdapter, IsBuiltPlan}
 use Rattle.fact_forms.specs.Sound.{HasValidSides}
-use Rattle.fact_forms.proofs.PlanLaws.{built_at}
-use Rattle.fact_forms.proofs.RulesValid.{looked_up_valid, same_signature}
-use Rattle.fact_module.specs.Collected.{AreTaken, Collected, HasTaken, IsTakenAs, KeepsSettings, taken_of}
-use Rattle.fact_module.specs.Taking.{IsFirstBehind, IsSoundBehind, MayTake}
-use Rattle.fact_module.specs.Fused.{MayFuse}
+use Rattle.fact_forms.proofs.RulesValid.{looked_up_valid}
+use Rattle.fact_types.specs.Tables.{Tables}
+use Rattle.fact_plan_types.proofs.HandleLaws.{there as get-within}
+use Rattle.fact_emit.specs.declared.tunables.Tunables.{Tunables}
+use Rattle.fact_emit.specs.declared.tunables.WasmFeatures.{WasmFeatures}
+use Rattle.fact_emit.proofs.ImportLaws.{grown_get}
+use Rattle.fact_emit.proofs.ImportLists.{get-last}
+use Rattle.fact_compound.specs.Entries.{tuple_of_results}
+use Rattle.fact_module.specs.declared.taken.TakenAdapter.{TakenAdapter}
+use Rattle.fact_module.specs.Collected.{AreTaken, Collected, HasTaken, IsTakenAs, KeepsSettings, result_tuple_of, taken_of}
+use Rattle.fact_module.specs.Taking.{IsFirstBehind, IsSoundBehind}
+use Rattle.fact_promises.specs.AsyncRuns.{HandsOver}
+use Rattle.fact_module.specs.Faithful.{Promised}
+use Rattle.fact_module.specs.declared.fusion.Fused.{Fused}
+use Rattle.fact_module.specs.Fused.{IsFused, features_of, result_tuple, tunables_of}
 use Rattle.fact_module.specs.Fusing.{HasTakenAll, HasTakenTo, IsFor}
-use Rattle.fact_module.proofs.JudgeLaws.{told-some}
-use Rattle.fact_module.proofs.TakeLaws.{is-linked, is-taken, zip-push}
+use Rattle.fact_module.proofs.TakeLaws.{is-taken, zip-push}
 
--- ---- what a builder says of an adapter is one
+-- ---- the numbers of result tuples
 
-module _ (b : Builder) where
-  same-side : (ty : Id TypeFuncs) (o : AdapterOptionsDfg) (s z : Side) → IsSideOf b ty o s → IsSideOf b ty o z → s ≡ z
-  same-side ty o s z h g =
-      let signature = same_signature b.tables ty s.params s.results z.params z.results h.signature g.signature in
-      let func = same_some (slice_get b.tables.functions ty.number) h.signature.func g.signature.func h.signature.func_there g.signature.func_there in
-      let async_type = h.async_type ∙ ap (λ (t : TypeFunc). t.async_) func ∙ sym g.async_type in
-      let core_type = same_some (slice_get b.module_types o.core_type.number) s.core_type z.core_type h.core_type g.core_type in
-      λ k. record {
-        instance = (h.instance ∙ sym g.instance) k;
-        params = signature.0 k;
-        results = signature.1 k;
-        async_type = async_type k;
-        core_type = core_type k;
-        encoding = (h.encoding ∙ sym g.encoding) k;
-        async_side = (h.async_side ∙ sym g.async_side) k;
-        memory = (h.memory ∙ sym g.memory) k;
-        realloc = (h.realloc ∙ sym g.realloc) k;
-        callback = (h.callback ∙ sym g.callback) k;
-        post_return = (h.post_return ∙ sym g.post_return) k;
-      }
+module _ (old new : Collected) (t : TakenAdapter) (keeps : KeepsSettings old new) (has : HasTaken old new t) where
+  tuple_in : Tables → Option TakenAdapter → ℕ
+  tuple_in tables found = elim found [ None ↦ 0 | Some t ↦ tuple_of_results tables t.adapter.lift_ty ]
 
-  same-adapter : (y : Adapter) (a z : LinkedAdapter) → HasSides b y a → HasSides b y z → a.name ≡ z.name → a.transparent ≡ z.transparent → a ≡ z
-  same-adapter y a z h g name mark =
-      let lift = same-side y.lift_ty y.lift_options a.lift z.lift h.lift g.lift in
-      let lower = same-side y.lower_ty y.lower_options a.lower z.lower h.lower g.lower in
-      λ k. record { name = name k; callee = (h.callee ∙ sym g.callee) k; transparent = mark k; lift = lift k; lower = lower k }
+  -- those of the adapters that were taken before stay
+  pub earlier-tuple : (j : ℕ) → j < length old.taken → result_tuple_of new j ≡ result_tuple_of old j
+  unfolding tuple_in
+  earlier-tuple j within =
+      let (x, at) = get-within old.taken j within in
+      rw (keeps.builder, has.taken) (ap (tuple_in old.builder.tables) (grown_get (record { more = t ∷ []; is = refl }) j x at ∙ sym at))
+
+  -- and the last one has that of its lift side's function type
+  pub last-tuple : result_tuple_of new (length old.taken) ≡ tuple_of_results old.builder.tables t.adapter.lift_ty
+  unfolding tuple_in
+  last-tuple = rw (keeps.builder, has.taken) (ap (tuple_in old.builder.tables) (get-last old.taken t))
 
 -- ---- one adapter more
 
@@ -88,13 +80,6 @@ module _ (p : FusePlan) (b : Builder) (old : Collected) (k : ℕ) (x : PlanAdapt
   pub typed-here : NamesTypesOf old.builder c.adapter.now
   typed-here = sides-typed _ _ links.linked is_linked.sides
 
-  -- in a plan that is built it is built, however what it names is looked up
-  pub may-take : IsBuiltPlan p → MayTake old c
-  may-take built none a taken =
-      let h = subst (λ (d : Builder). IsLinked d c a) at.is_for.builder (is-linked old.builder c a taken) in
-      let same = same-adapter b c.adapter.now links.linked a links.stands h.sides (links.name ∙ sym name ∙ sym h.name) (links.transparent ∙ sym mark ∙ sym h.transparent) in
-      subst IsBuiltAdapter same (built_at p built k x there links.linked links.is_adapter)
-
   -- its types are valid, as all types of the plan are
   pub valid-here : (t : PlanTypes) → AreTypesOf p t → b ≡ t.builder → (a : LinkedAdapter) → IsLinked old.builder c a → HasValidSides a
   valid-here t types same a h =
@@ -104,8 +89,20 @@ module _ (p : FusePlan) (b : Builder) (old : Collected) (k : ℕ) (x : PlanAdapt
   none-has : IsSoundBehind old c → (f : Fault) → LinkedHas p.tunables.concurrency (adapters_before p k) links.linked f → ⊥
   none-has sound f has = sound (adapters_before p k) links.linked at.taken is_linked f (subst (λ on. LinkedHas on (adapters_before p k) links.linked f) (sym concurrency) has)
 
-  pub taken-next : (new : Collected) → KeepsSettings old new → HasTaken old new (taken_of c) → IsSoundBehind old c → HasTakenTo p b new (k + 1)
-  taken-next new keeps has sound =
+  -- the numbers of result tuples, and that of this adapter
+  tuples-next : (new : Collected) → KeepsSettings old new → HasTaken old new (taken_of c) → tuple_of_results b.tables c.adapter.now.lift_ty ≡ result_tuple p k → (j : ℕ) → j < k + 1 → result_tuple_of new j ≡ result_tuple p j
+  tuples-next new keeps has tuple j below = elim (cases_lt j k) [
+    | inl less ↦ earlier-tuple old new (taken_of c) keeps has j (omega (arith, less, at.count)) ∙ at.tuples j less
+    | inr more ↦ subst (λ i. result_tuple_of new i ≡ result_tuple p i) (omega (arith, below, more)) here
+  ]
+    where
+      here : result_tuple_of new k ≡ result_tuple p k
+      here =
+          subst (λ i. result_tuple_of new i ≡ tuple_of_results old.builder.tables c.adapter.now.lift_ty) at.count (last-tuple old new (taken_of c) keeps has)
+          ∙ ap (λ (d : Builder). tuple_of_results d.tables c.adapter.now.lift_ty) at.is_for.builder ∙ tuple
+
+  pub taken-next : (new : Collected) → KeepsSettings old new → HasTaken old new (taken_of c) → tuple_of_results b.tables c.adapter.now.lift_ty ≡ result_tuple p k → IsSoundBehind old c → HasTakenTo p b new (k + 1)
+  taken-next new keeps has tuple sound =
       let near : most_entries ≤ k → ⊥ = λ far. small (inl far) in
       record {
         is_for = record {
@@ -114,6 +111,8 @@ module _ (p : FusePlan) (b : Builder) (old : Collected) (k : ℕ) (x : PlanAdapt
           features = keeps.features ∙ at.is_for.features;
         };
         whole = has.whole;
+        tuples = tuples-next new keeps has tuple;
+        count = ap length has.taken ∙ length-append old.taken (taken_of c ∷ []) ∙ ap (λ n. n + 1) at.count;
         taken = rw (before-next p k x there links.linked links.is_adapter known small, keeps.builder, has.taken)
             (zip-push (IsTakenAs old.builder) old.taken (adapters_before p k) (taken_of c) links.linked at.taken (is-taken old.builder c links.linked is_linked));
         sound = λ j f below h.
@@ -140,7 +139,7 @@ on-both (Err e) f a b = tt
 
 -- none was taken yet
 pub taken-first : (p : FusePlan) (b : Builder) (c : Collected) → IsFor p b c → c.whole ≡ true → c.taken ≡ [] → HasTakenTo p b c 0
-taken-first p b c is_for whole none = record { is_for = is_for; whole = whole; taken = rw none tt; sound = λ j f below h. absurd (omega (arith, below)); few = omega arith }
+taken-first p b c is_for whole none = record { is_for = is_for; whole = whole; taken = rw none tt; count = ap length none; tuples = λ j below. absurd (omega (arith, below)); sound = λ j f below h. absurd (omega (arith, below)); few = omega arith }
 
 -- the first fault at a place is the plan's, where none was before
 pub first-taken : (p : FusePlan) (b : Builder) (c : Collected) (k : ℕ) (f : Fault) (place : Place) → AreFaultless p → HasTakenTo p b c k → IsFirstHere p k f place → IsFirstAt p f place
@@ -163,14 +162,53 @@ all-taken p b c k at end = record {
   tunables = at.is_for.tunables;
   features = at.is_for.features;
   taken = subst (λ (xs : List PlanAdapter). AreTaken c (filter_map (adapter_of p) xs)) (take_all k p.adapters end) at.taken;
+  tuples = λ j within. at.tuples j (omega (arith, within, end));
 }
 
--- ---- plans that may be fused
+-- ---- what the module of all promises
 
--- one with a fault may be
-pub may-faulty : (p : FusePlan) (e : FuseError) → (e ≡ OutOfMemory → ⊥) → IfSome (told e) (λ x. IsFirstAt p x.0 x.1) → (IsTrue true ↔ MayFuse p)
-may-faulty p e fault h = let (x, first) = told-some e fault (λ x. IsFirstAt p x.0 x.1) h in (λ _ none. absurd (faultless-first p x.0 x.1 none first), λ _. refl)
+-- The promise hangs on the numbers of the result tuples of these adapters alone.
+promised-by : (m : WasmModule) (is : List Import) (t : Tunables) (f : WasmFeatures) (adapters : List LinkedAdapter) (numbers tuples : ℕ → ℕ) → ((j : ℕ) → j < length adapters → numbers j ≡ tuples j)
+    → Promised m is t f adapters numbers → Promised m is t f adapters tuples
+promised-by m is t f adapters numbers tuples same h = record {
+  faithful = record {
+    imports = h.faithful.imports;
+    exports = h.faithful.exports;
+    behaves = h.faithful.behaves;
+    traps = h.faithful.traps;
+    transfers = h.faithful.transfers;
+    hands_over = λ place a start return callee k at awaited start_as return_as callee_as own_as.
+        subst (λ n. HandsOver m is a (record { start = start; return = return; callee = callee; results = n }) k) (same place (slice_get_within adapters place a at))
+        (h.faithful.hands_over place a start return callee k at awaited start_as return_as callee_as own_as);
+  };
+  order = h.order;
+  typed = h.typed;
+}
 
--- one without may be where it is built
-pub may-faultless : (p : FusePlan) (built : Bool) → IsFaultlessPlan p → (IsTrue built ↔ IsBuiltPlan p) → (IsTrue built ↔ MayFuse p)
-may-faultless p built none exact = (λ e _. exact.0 e, λ may. exact.1 (may none))
+chosen-few : {X Y : Type 0} (f : X → Option Y) (xs : List X) → length (filter_map f xs) ≤ length xs
+chosen-few f [] = omega arith
+chosen-few {Y = Y} f (x ∷ xs) = by (f x) (chosen-few f xs)
+  where
+    by : (o : Option Y) → length (filter_map f xs) ≤ length xs → length (cons_option o (filter_map f xs)) ≤ suc (length xs)
+    by None h = omega (arith, h)
+    by (Some y) h = omega (arith, h)
+
+-- A module that took all adapters of a plan promises what that of the plan does.
+promised-all : (p : FusePlan) (c : Collected) (m : WasmModule) → HasTakenAll p c → ((adapters : List LinkedAdapter) → AreTaken c adapters → Promised m c.imports c.tunables c.features adapters (result_tuple_of c))
+    → Promised m c.imports (tunables_of p) (features_of p) (adapters_of p) (result_tuple p)
+promised-all p c m all promised =
+    let few = chosen-few (adapter_of p) p.adapters in
+    promised-by m c.imports (tunables_of p) (features_of p) (adapters_of p) (result_tuple_of c) (result_tuple p) (λ j below. all.tuples j (omega (arith, below, few)))
+    (subst (λ t. Promised m c.imports t (features_of p) (adapters_of p) (result_tuple_of c)) all.tunables
+    (subst (λ f. Promised m c.imports c.tunables f (adapters_of p) (result_tuple_of c)) all.features (promised (adapters_of p) all.taken)))
+
+-- What was spelled of it is the fused module of the plan.
+pub fused-all : (p : FusePlan) (c : Collected) (f : Fused) (m : WasmModule) (is : List Import) → HasTakenAll p c → (f.module ≡ m) × (f.imports ≡ is) × Spells f.bytes m → (m ≡ c.tree) × (is ≡ c.imports) → InRange m
+    → ((adapters : List LinkedAdapter) → AreTaken c adapters → Promised m c.imports c.tunables c.features adapters (result_tuple_of c)) → IsFused f p
+fused-all p c f m is all same parts in_range promised = record {
+  in_range = subst InRange (sym same.0) in_range;
+  spelled = subst (Spells f.bytes) (sym same.0) same.2;
+  promised =
+      subst (λ x. Promised x f.imports (tunables_of p) (features_of p) (adapters_of p) (result_tuple p)) (sym same.0)
+      (subst (λ x. Promised m x (tunables_of p) (features_of p) (adapters_of p) (result_tuple p)) (sym (same.1 ∙ parts.1)) (promised-all p c m all promised));
+}

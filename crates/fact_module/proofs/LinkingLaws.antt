@@ -1,5 +1,5 @@
 -- What is linked for an adapter, by what is linked for the options of its sides, and the data that say where.
-use Rattle.std.proofs.Common.{◌≡◌, ◌<◌, ℕ, Bool, true, List, Option, None, Some, refl, sym, ap, ◌∙◌, subst, arith, length, slice_get}
+use Rattle.std.proofs.Common.{◌≡◌, ◌<◌, ℕ, Bool, true, false, List, Option, None, Some, refl, sym, ap, ◌∙◌, subst, arith, length, slice_get}
 use Rattle.std.specs.Prelude.{is_some}
 use Rattle.std.proofs.lemmas.Bool.{false≢true}
 use Rattle.std.proofs.lemmas.Option.{slice_get_within}
@@ -12,6 +12,7 @@ use Rattle.fact_wasm.specs.declared.types.ValType.{ValType}
 use Rattle.fact_builder.specs.Builder.{Builder}
 use Rattle.fact_types.specs.Adapters.{LinkedAdapter, Side, is_wide}
 use Rattle.fact_types.specs.Functions.{HasSignature}
+use Rattle.fact_types.specs.declared.kinds.TypeFunc.{TypeFunc}
 use Rattle.fact_types.specs.declared.outside.CoreDef.{CoreDef}
 use Rattle.fact_types.specs.declared.import.Import.TheVariants as known
 use Rattle.fact_checks.specs.declared.adapter.AdapterOptionsDfg.{AdapterOptionsDfg}
@@ -25,24 +26,30 @@ use Rattle.fact_emit.specs.Linked.{IsDefLinked}
 use Rattle.fact_emit.specs.States.{ModuleSoFar, functions_of, memories_of}
 use Rattle.fact_emit.proofs.ImportLaws.{grown_get}
 use Rattle.fact_emit.proofs.KnownLaws.{linked_at}
-use Rattle.fact_compound.specs.Described.{memory_place, number_if_any}
-use Rattle.fact_compound.specs.Functions.{Compiled}
+use Rattle.fact_compound.specs.Described.{is_marked_type, memory_place, number_if_any}
+use Rattle.fact_compound.specs.Compiled.{Compiled}
+use Rattle.fact_compound.specs.Entries.{tuple_of_results}
 use Rattle.fact_compound.specs.declared.adapters.AdapterData.{AdapterData}
 use Rattle.fact_compound.specs.declared.adapters.AdapterOptions.{AdapterOptions}
-use Rattle.fact_module.specs.Adding.{Adds, AddsFunction, HasSideData}
+use Rattle.fact_module.specs.Adding.{Adds, HasSideData}
 use Rattle.fact_module.specs.Links.{IsDataOfCandidate, IsDataOfSide, NamesOf, links_of, page_size_log2_of}
-use Rattle.fact_module.proofs.CompiledLaws.{compiled-adds}
+use Rattle.fact_module.proofs.CompiledLaws.{compiled-as}
 
 -- ---- a side
 
 names-of : {b : Builder} {ty : Id TypeFuncs} {o : AdapterOptionsDfg} {s : Side} → IsSideOf b ty o s → NamesOf o s
 names-of h = record { instance = h.instance; memory = h.memory; realloc = h.realloc; callback = h.callback }
 
+mark_of : Option TypeFunc → Bool
+mark_of found = elim found [ None ↦ false | Some f ↦ f.async_ ]
+
 side-data : {b : Builder} {ty : Id TypeFuncs} {o : AdapterOptionsDfg} {s : Side} {d : AdapterOptions} → IsSideOf b ty o s → IsDataOfSide ty o d → HasSideData b.tables s d
+unfolding mark_of
 side-data {b} {s = s} h fits = record {
   instance = ap (λ i. i.number) fits.instance ∙ sym h.instance;
   signature = subst (λ ty. HasSignature b.tables ty s.params s.results) (sym fits.ty_is) h.signature;
   async_side = fits.async_ ∙ sym h.async_side;
+  marked = ap (is_marked_type b.tables) fits.ty_is ∙ ap mark_of (h.signature.func_there) ∙ sym h.async_type;
   encoding = fits.encoding ∙ sym h.encoding;
   memory64 = fits.memory64 ∙ ap is_wide (sym h.memory);
   page_size_log2 = fits.page_size_log2 ∙ ap page_size_log2_of (sym h.memory);
@@ -103,21 +110,20 @@ module _ {b : Builder} {c : Candidate} {a : LinkedAdapter} (is : IsLinked b c a)
             (subst (λ (t : FuncType). IsLinkedIfAny called new (PostReturn c.name.now t.results) c.adapter.now.lift_options.post_return at.post_return) same post_return));
       }
 
-  -- A module with all that an adapter names, and then with the function that its data ask for, has the adapter added.
+  -- A module with all that an adapter names, and then with the functions that its data ask for, has the adapter added.
   pub adapter-added : (u : AdapterTunables) {old linked new : ModuleSoFar} (d : AdapterData) → IsDataOfCandidate c d → IsAdapterLinked old linked a (links_of d)
-      → Compiled b.tables d u.debug u.concurrency u.exceptions linked new → Adds b.tables u old new a
+      → Compiled b.tables d u.debug u.concurrency u.exceptions linked new → Adds b.tables u old new a (tuple_of_results b.tables c.adapter.now.lift_ty)
   adapter-added u {linked = linked} {new} d fits links compiled =
-      let (f, added) = compiled-adds d compiled in
-      let name : d.name ≡ a.name = fits.name ∙ sym is.name in
+      let lift = side-data is.sides.lift fits.lift in
+      let lower = side-data is.sides.lower fits.lower in
       record {
         «data» = d;
-        name = name;
+        name = fits.name ∙ sym is.name;
         transparent = fits.transparent ∙ sym is.transparent;
-        lift = side-data is.sides.lift fits.lift;
-        lower = side-data is.sides.lower fits.lower;
+        lift = lift;
+        tuple_is = ap (tuple_of_results b.tables) fits.lift.ty_is;
+        lower = lower;
         linked = linked;
         links = links;
-        compiled = compiled;
-        function = f;
-        added = subst (λ n. AddsFunction n linked new f) name added;
+        compiled = compiled-as u d a lift lower compiled;
       }

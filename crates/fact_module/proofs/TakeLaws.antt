@@ -1,15 +1,12 @@
 -- A module that takes one adapter more.
-use Rattle.std.proofs.Common.{◌≡◌, ◌≢◌, ℕ, suc, ◌+◌, ◌<◌, ◌^◌, AllPairs, Bool, true, false, List, [], ◌∷◌, ◌++◌, Some, refl, sym, ap, ◌∙◌, subst, arith, length}
-use Rattle.std.specs.Prelude.{All, IfSome, None, Option, cond}
-use Rattle.std.specs.Str.{bytes_eq}
+use Rattle.std.proofs.Common.{◌≡◌, ◌≢◌, ℕ, suc, ◌+◌, ◌<◌, ◌^◌, AllPairs, Bool, true, List, [], ◌∷◌, ◌++◌, Some, refl, sym, ap, ◌∙◌, subst, arith, length, slice_get}
+use Rattle.std.specs.Prelude.{All, Err, IfOk, IfSome, None, Ok, Option, Result}
 use Rattle.fact_plan_types.specs.declared.error.Place.{Place}
 use Rattle.fact_plan_types.specs.declared.error.Place.TheVariants.{Adapter as at_adapter}
 use Rattle.std.specs.List.{AllZip, flat_map}
 use Rattle.std.proofs.lemmas.Option.{get_or_from_slice_get}
 use Rattle.fact_entity.specs.declared.id.Id.{Id}
 use Rattle.fact_entity.specs.declared.table.TypeFuncs.{TypeFuncs}
-use Rattle.fact_wasm.specs.declared.instr.FuncName.{FuncName}
-use Rattle.fact_wasm.specs.declared.module.WasmExport.{WasmExport}
 use Rattle.fact_wasm.specs.declared.module.WasmModule.{WasmModule}
 use Rattle.fact_wasm.specs.Ranges.{InRange}
 use Rattle.fact_types.specs.declared.interface.InterfaceType.{InterfaceType}
@@ -34,20 +31,21 @@ use Rattle.fact_types.specs.declared.import.Import.{Import}
 use Rattle.fact_module.specs.declared.taken.TakenAdapter.{TakenAdapter}
 use Rattle.fact_emit.specs.declared.tunables.Tunables.{Tunables}
 use Rattle.fact_emit.specs.declared.tunables.WasmFeatures.{WasmFeatures}
-use Rattle.fact_module.specs.Collected.{AreTaken, Collected, IsStateOf, Extends, HasLinkedFault, IsMade, IsTakenAs, KeepsPromises, no_tree, taken_of}
+use Rattle.fact_module.specs.Collected.{AreTaken, Collected, IsStateOf, Extends, IsMade, IsTakenAs, KeepsPromises, no_tree, result_tuple_of, taken_of}
 use Rattle.fact_emit.specs.Imports.{Extended}
+use Rattle.fact_emit.proofs.ImportLaws.{grown_get}
+use Rattle.fact_emit.proofs.ImportLists.{get-last}
 use Rattle.fact_emit.specs.States.{ModuleSoFar, functions_of, module_of, nothing_so_far}
-use Rattle.fact_forms.specs.Built.{IsBuiltAdapter}
 use Rattle.fact_forms.specs.Sound.{HasValidSides, IsSoundAdapter}
 use Rattle.fact_forms.proofs.Passed.{passed_are_sound}
-use Rattle.fact_module.specs.Adding.{Adds}
-use Rattle.fact_module.specs.Exports.{exported_as, exported_functions_of}
+use Rattle.fact_compound.specs.Entries.{tuple_of_results}
+use Rattle.fact_module.specs.Adding.{Adds, own_functions}
+use Rattle.fact_module.specs.Exports.{exported_as}
 use Rattle.fact_module.specs.Faithful.{Promised, adapter_tunables}
-use Rattle.fact_module.specs.Holding.{AreBuilt}
-use Rattle.fact_module.specs.Taking.{HasFaultBehind, IsFirstBehind, MayTake}
+use Rattle.fact_module.specs.Holding.{Holds}
+use Rattle.fact_module.specs.Taking.{HasFaultBehind, IsFirstBehind}
 use Rattle.fact_module.proofs.Adding.{exports-more, functions-more, grown-adds, holds-more, holds-nothing}
 use Rattle.fact_module.proofs.Whole.{whole-promised, whole-range}
-use Rattle.fact_module.proofs.WholeExports.{built-whole}
 
 -- ---- what a typed adapter names can be looked up
 
@@ -120,6 +118,12 @@ zip-push R [] (z ∷ ys) x y h r = absurd h
 zip-push R (w ∷ xs) [] x y h r = absurd h
 zip-push R (w ∷ xs) (z ∷ ys) x y h r = (h.0, zip-push R xs ys x y h.1 r)
 
+zip-length : {X Y : Type 0} (R : X → Y → Type 0) (xs : List X) (ys : List Y) → AllZip R xs ys → length xs ≡ length ys
+zip-length R [] [] h = refl
+zip-length R [] (y ∷ ys) h = absurd h
+zip-length R (x ∷ xs) [] h = absurd h
+zip-length R (x ∷ xs) (y ∷ ys) h = ap suc (zip-length R xs ys h.1)
+
 zip-pop : {X Y : Type 0} (R : X → Y → Type 0) (xs : List X) (x : X) (zs : List Y) → AllZip R (xs ++ x ∷ []) zs → (ys : List Y) × (y : Y) × (zs ≡ ys ++ y ∷ []) × AllZip R xs ys × R x y
 zip-pop R [] x [] h = absurd h
 zip-pop R [] x (y ∷ []) h = ([], y, refl, tt, h.0)
@@ -133,31 +137,17 @@ is-taken b c a h = record { sides = h.sides; name = h.name; transparent = h.tran
 pub is-linked : (b : Builder) (c : Candidate) (a : LinkedAdapter) → IsTakenAs b (taken_of c) a → IsLinked b c a
 is-linked b c a h = record { sides = h.sides; name = h.name; transparent = h.transparent }
 
-built-push : (adapters : List LinkedAdapter) (a : LinkedAdapter) → AreBuilt adapters → IsBuiltAdapter a → AreBuilt (adapters ++ a ∷ [])
-built-push [] a h b = (b, tt)
-built-push (x ∷ adapters) a h b = (h.0, built-push adapters a h.1 b)
-
 sound-push : (adapters : List LinkedAdapter) (a : LinkedAdapter) → All IsSoundAdapter adapters → IsSoundAdapter a → All IsSoundAdapter (adapters ++ a ∷ [])
 sound-push adapters a h s = all-more IsSoundAdapter adapters (adapters ++ a ∷ []) a refl h s
 
--- an adapter that is built exports one function
-pub one-exported : (a : LinkedAdapter) → IsBuiltAdapter a → length (exported_functions_of a) ≡ 1
-one-exported a built = rw (built-whole a built) refl
-
--- ---- what is exported
-
-exported-on : (name : List ℕ) (es more : List WasmExport) (f : FuncName) → exported_as name es ≡ Some f → exported_as name (es ++ more) ≡ Some f
-exported-on name [] more f e = cc
-exported-on name (x ∷ es) more f e = step (bytes_eq x.name name) e (exported-on name es more f)
-  where
-    step : (b : Bool) → cond b (Some x.func) (exported_as name es) ≡ Some f → (exported_as name es ≡ Some f → exported_as name (es ++ more) ≡ Some f) → cond b (Some x.func) (exported_as name (es ++ more)) ≡ Some f
-    step true e rest = e
-    step false e rest = rest e
+-- the number of the result tuple of the adapter at a place
+tuple-at : (c : Collected) (place : ℕ) (t : TakenAdapter) → slice_get c.taken place ≡ Some t → result_tuple_of c place ≡ tuple_of_results c.builder.tables t.adapter.lift_ty
+tuple-at c place t at = ap (λ o. elim o as (λ (x : Option TakenAdapter). ℕ) [ None ↦ 0 | Some t ↦ tuple_of_results c.builder.tables t.adapter.lift_ty ]) at
 
 -- ---- one adapter more
 
 module _ (old : Collected) (checks checks' : Checks) (s s' : ModuleSoFar) (candidate : Candidate) (made : IsMade old checks s) (whole : old.whole ≡ true) (sound : IsSoundTables old.builder.tables)
-    (typed : NamesTypesOf old.builder candidate.adapter.now) (valid : (a : LinkedAdapter) → IsLinked old.builder candidate a → HasValidSides a) (may : MayTake old candidate) (checked : IsSoundNext checks checks' candidate) where
+    (typed : NamesTypesOf old.builder candidate.adapter.now) (valid : (a : LinkedAdapter) → IsLinked old.builder candidate a → HasValidSides a) (checked : IsSoundNext checks checks' candidate) where
   linked : LinkedAdapter
   linked = (linked-of old.builder sound candidate typed).0
 
@@ -175,52 +165,58 @@ module _ (old : Collected) (checks checks' : Checks) (s s' : ModuleSoFar) (candi
   bound-behind : (before : List LinkedAdapter) (a : LinkedAdapter) → AreTaken old before → IsLinked old.builder candidate a → AreBound checks'.bound (before ++ a ∷ [])
   bound-behind before a taken h = (checked before a (made.covers whole before taken).checked (under a h)).1
 
-  built-here : (before : List LinkedAdapter) (a : LinkedAdapter) → AreTaken old before → IsLinked old.builder candidate a → IsBuiltAdapter a
-  built-here before a taken h = may none-linked a (is-taken old.builder candidate a h)
-    where
-      none-linked : (f : Fault) → HasLinkedFault old (taken_of candidate) f → ⊥
-      none-linked f k = sound-behind k.before k.linked k.taken (is-linked old.builder candidate k.linked k.is_linked) f k.has
-
   -- its types are valid, and so it is sound
   sound-here : (before : List LinkedAdapter) (a : LinkedAdapter) → AreTaken old before → IsLinked old.builder candidate a → IsSoundAdapter a
   sound-here before a taken h =
       passed_are_sound old.builder candidate.adapter.now old.tunables.concurrency_support before a (record { sides = h.sides; types = valid a h; faultless = sound-behind before a taken h })
-
-  one-here : (before : List LinkedAdapter) (a : LinkedAdapter) → AreTaken old before → IsLinked old.builder candidate a → length (exported_functions_of a) ≡ 1
-  one-here before a taken h = one-exported a (built-here before a taken h)
 
   consistent-here : (before : List LinkedAdapter) (a : LinkedAdapter) → AreTaken old before → IsLinked old.builder candidate a → AreConsistent (flat_map uses_of (before ++ a ∷ []))
   consistent-here before a taken h = AreConsistent-covered _ _ (bound-behind before a taken h).uses
 
   -- with one adapter more its tree is extended
   pub extends-more : (before now : Collected) → before.tree ≡ module_of s → before.imports ≡ s.imports → now.tree ≡ module_of s' → now.imports ≡ s'.imports
-      → ((a : LinkedAdapter) → IsLinked old.builder candidate a → Adds old.builder.tables (adapter_tunables old.tunables old.features) s s' a) → Extends before now
+      → ((a : LinkedAdapter) → IsLinked old.builder candidate a → Adds old.builder.tables (adapter_tunables old.tunables old.features) s s' a (tuple_of_results old.builder.tables candidate.adapter.now.lift_ty)) → Extends before now
   unfolding linked some
   extends-more before now tree imports tree' imports' adds =
       let h = (linked-of old.builder sound candidate typed).1 in
       let add = adds linked h in
-      let one = one-here some linked made.some.1 h in
       let consistent = consistent-here some linked made.some.1 h in
       let holds = (made.covers whole some made.some.1).holds in
       let t = old.builder.tables in
       let u = adapter_tunables old.tunables old.features in
-      let g : Extended s s' = grown-adds t u s s' some linked one consistent holds add in
+      let bound = bound-behind some linked made.some.1 h in
+      let g : Extended s s' = grown-adds t u s s' some linked (result_tuple_of old) consistent holds add in
       record {
         types = record { more = g.types.more; is = ap (λ (m : WasmModule). m.types) tree' ∙ g.types.is ∙ ap (λ (m : WasmModule). m.types ++ g.types.more) (sym tree) };
         section = record { more = g.section.more; is = ap (λ (m : WasmModule). m.imports) tree' ∙ g.section.is ∙ ap (λ (m : WasmModule). m.imports ++ g.section.more) (sym tree) };
         imports = record { more = g.imports.more; is = imports' ∙ g.imports.is ∙ ap (λ is. is ++ g.imports.more) (sym imports) };
         functions = record {
-          more = add.function ∷ [];
-          is = ap (λ (m : WasmModule). m.funcs) tree' ∙ functions-more t u s s' some linked one consistent holds add ∙ ap (λ (m : WasmModule). m.funcs ++ add.function ∷ []) (sym tree);
+          more = own_functions add.compiled;
+          is = ap (λ (m : WasmModule). m.funcs) tree' ∙ functions-more t u s s' some linked (result_tuple_of old) consistent holds add ∙ ap (λ (m : WasmModule). m.funcs ++ own_functions add.compiled) (sym tree);
         };
         exports = λ name f e.
-            ap (λ (m : WasmModule). exported_as name m.exports) tree' ∙ ap (exported_as name) (exports-more t u s s' some linked one consistent holds add)
-            ∙ exported-on name s.exports _ f (ap (λ (m : WasmModule). exported_as name m.exports) (sym tree) ∙ e);
+            ap (λ (m : WasmModule). exported_as name m.exports) tree'
+            ∙ exports-more t u s s' some linked (result_tuple_of old) consistent holds add (subst (AllPairs (λ x y. x ≢ y)) bound.names bound.distinct) name f (ap (λ (m : WasmModule). exported_as name m.exports) (sym tree) ∙ e);
       }
+
+  -- the numbers of result tuples of the adapters before stay
+  tuples-kept : (new : Collected) → new.builder ≡ old.builder → new.taken ≡ old.taken ++ taken_of candidate ∷ [] → (before : List LinkedAdapter) → AreTaken old before → (k : ℕ) → k < length before → result_tuple_of new k ≡ result_tuple_of old k
+  tuples-kept new builder taken before those k within =
+      let (t, at) = get-within old.taken k (omega (arith, within, zip-length (IsTakenAs old.builder) old.taken before those)) in
+      let still : slice_get new.taken k ≡ Some t = grown_get (record { more = taken_of candidate ∷ []; is = taken }) k t at in
+      tuple-at new k t still ∙ ap (λ (b : Builder). tuple_of_results b.tables t.adapter.lift_ty) builder ∙ sym (tuple-at old k t at)
+
+  -- and that of the last one is its own
+  tuple-last : (new : Collected) → new.builder ≡ old.builder → new.taken ≡ old.taken ++ taken_of candidate ∷ [] → (before : List LinkedAdapter) → AreTaken old before
+      → result_tuple_of new (length before) ≡ tuple_of_results old.builder.tables candidate.adapter.now.lift_ty
+  tuple-last new builder taken before those =
+      let there : slice_get new.taken (length before) ≡ Some (taken_of candidate) =
+      ap (slice_get new.taken) (sym (zip-length (IsTakenAs old.builder) old.taken before those)) ∙ ap (λ ts. slice_get ts (length old.taken)) taken ∙ get-last old.taken (taken_of candidate) in
+      tuple-at new (length before) (taken_of candidate) there ∙ ap (λ (b : Builder). tuple_of_results b.tables candidate.adapter.now.lift_ty) builder
 
   -- the module of all of them
   pub made-more : (new : Collected) → new.builder ≡ old.builder → new.tunables ≡ old.tunables → new.features ≡ old.features → new.taken ≡ old.taken ++ taken_of candidate ∷ [] → checks'.builder ≡ checks.builder → checks'.concurrency ≡ checks.concurrency
-      → ((a : LinkedAdapter) → IsLinked old.builder candidate a → Adds old.builder.tables (adapter_tunables old.tunables old.features) s s' a)
+      → ((a : LinkedAdapter) → IsLinked old.builder candidate a → Adds old.builder.tables (adapter_tunables old.tunables old.features) s s' a (tuple_of_results old.builder.tables candidate.adapter.now.lift_ty))
       → IsMade new checks' s'
   unfolding linked some
   made-more new builder tunables features taken same_builder same_concurrency adds = record {
@@ -232,12 +228,15 @@ module _ (old : Collected) (checks checks' : Checks) (s s' : ModuleSoFar) (candi
         let h = is-linked old.builder candidate a this in
         let covers = made.covers whole before those in
         let bound = bound-behind before a those h in
-        let built = built-push before a covers.built (built-here before a those h) in
         let sound_all = sound-push before a covers.sound (sound-here before a those h) in
-        rw (is, builder, tunables, features) (record {
+        let holds = holds-more old.builder.tables (adapter_tunables old.tunables old.features) s s' before a (result_tuple_of old) (consistent-here before a those h) covers.holds (adds a h) (sound-here before a those h) (result_tuple_of new)
+        (tuples-kept new builder taken before those) (tuple-last new builder taken before those) in
+        let settings : adapter_tunables old.tunables old.features ≡ adapter_tunables new.tunables new.features = (λ k. adapter_tunables (sym tunables k) (sym features k)) in
+        let tables : old.builder.tables ≡ new.builder.tables = ap (λ (b : Builder). b.tables) (sym builder) in
+        subst (IsStateOf new checks' s') (sym is) (record {
           checked = bound;
-          holds = holds-more old.builder.tables (adapter_tunables old.tunables old.features) s s' before a (one-here before a those h) (consistent-here before a those h) covers.holds (adds a h);
-          built = built;
+          holds = subst (λ t. Holds t (adapter_tunables new.tunables new.features) s' (before ++ a ∷ []) (result_tuple_of new)) tables
+              (subst (λ u. Holds old.builder.tables u s' (before ++ a ∷ []) (result_tuple_of new)) settings holds);
           sound = sound_all;
         });
   }
@@ -270,8 +269,7 @@ module _ (b : Builder) (t : Tunables) (f : WasmFeatures) where
   unfolding no_collected no_checks
   covers-none [] h = record {
     checked = record { memories = Covers-nothing; reallocs = Covers-nothing; uses = Covers-nothing; names = refl; distinct = λ i j d below within. absurd (omega arith) };
-    holds = holds-nothing b.tables (adapter_tunables t f);
-    built = tt;
+    holds = holds-nothing b.tables (adapter_tunables t f) (result_tuple_of no_collected);
     sound = λ k d within. absurd (omega (arith, within));
   }
   covers-none (a ∷ adapters) h = absurd h
@@ -284,17 +282,17 @@ module _ (b : Builder) (t : Tunables) (f : WasmFeatures) where
     builder = refl;
     concurrency = refl;
     some = ([], tt);
-    covers = λ _ adapters are. let h = covers-none adapters are in record { checked = h.checked; holds = h.holds; built = h.built; sound = h.sound };
+    covers = λ _ adapters are. let h = covers-none adapters are in record { checked = h.checked; holds = h.holds; sound = h.sound };
   })
 
 -- ---- its tree
 
 -- it keeps its promise for those that it took
 pub promised-of : (c : Collected) (checks : Checks) (s : ModuleSoFar) → IsMade c checks s → c.tree ≡ module_of s → c.imports ≡ s.imports → c.whole ≡ true
-    → (adapters : List LinkedAdapter) → AreTaken c adapters → Promised c.tree c.imports c.tunables c.features adapters
+    → (adapters : List LinkedAdapter) → AreTaken c adapters → Promised c.tree c.imports c.tunables c.features adapters (result_tuple_of c)
 promised-of c checks s made tree imports whole adapters taken =
     let covers = made.covers whole adapters taken in
-    rw (tree, imports) (whole-promised c.builder.tables c.tunables c.features s adapters covers.holds covers.built covers.sound
+    rw (tree, imports) (whole-promised c.builder.tables c.tunables c.features s adapters (result_tuple_of c) covers.holds covers.sound
     (AreConsistent-covered _ _ covers.checked.uses) (subst (AllPairs (λ x y. x ≢ y)) covers.checked.names covers.checked.distinct))
 
 pub keeps-promises : (c : Collected) (checks : Checks) (s : ModuleSoFar) → IsMade c checks s → c.tree ≡ module_of s → c.imports ≡ s.imports → c.whole ≡ true → length (functions_of s) + length s.functions < 2 ^ 32 → KeepsPromises c
@@ -302,9 +300,15 @@ keeps-promises c checks s made tree imports whole numbered =
     let adapters = made.some.0 in
     let covers = made.covers whole adapters made.some.1 in
     record {
-      in_range = subst InRange (sym tree) (whole-range c.builder.tables c.tunables c.features s adapters covers.holds covers.built covers.sound
+      in_range = subst InRange (sym tree) (whole-range c.builder.tables c.tunables c.features s adapters (result_tuple_of c) covers.holds covers.sound
           (AreConsistent-covered _ _ covers.checked.uses) (subst (AllPairs (λ x y. x ≢ y)) covers.checked.names covers.checked.distinct) numbered);
       adapters = adapters;
       taken = made.some.1;
       promised = promised-of c checks s made tree imports whole;
     }
+
+-- what holds of a tree and of imports holds of the parts that were handed out, where there was memory for them
+pub of-parts : {E : Type 0} {tree : WasmModule} {imports : List Import} (P : WasmModule × List Import → Type 0) (r : Result (WasmModule × List Import) E) → IfOk r (λ parts. (parts.0 ≡ tree) × (parts.1 ≡ imports))
+    → ((m : WasmModule) (is : List Import) → m ≡ tree → is ≡ imports → P (m, is)) → IfOk r P
+of-parts P (Ok parts) h of = of parts.0 parts.1 h.0 h.1
+of-parts P (Err e) h of = tt

@@ -1,127 +1,179 @@
--- What the module of adapters that are built exports.
-use Rattle.std.proofs.Common.{◌≡◌, ◌≢◌, ℕ, zero, suc, ◌+◌, ◌≤◌, Bool, true, false, List, [], ◌∷◌, ◌++◌, Some, Contains, AllPairs, refl, sym, ap, ◌∙◌, subst, arith, length, map, slice_get, append-nil, inl, inr}
-use Rattle.std.specs.Prelude.{All, ◌&&◌, cond}
-use Rattle.std.specs.List.{AllByRecursion, AllZip, flat_map}
-use Rattle.std.proofs.lemmas.Bool.{and_right, cases_lt}
+-- What a whole module of adapters exports.
+use Rattle.std.proofs.Common.{◌≡◌, ℕ, zero, suc, ◌+◌, ◌≤◌, Bool, true, false, List, [], ◌∷◌, ◌++◌, Some, Contains, refl, sym, ap, ◌∙◌, subst, arith, length, length-append, slice_get}
+use Rattle.std.specs.Prelude.{All, cond}
+use Rattle.std.specs.List.{AllZip, flat_map}
 use Rattle.std.proofs.lemmas.List.Elements.{Contains-append_left, Contains-append_right}
 use Rattle.std.proofs.lemmas.Option.{get_or_from_slice_get, slice_get_within}
 use Rattle.std.proofs.lemmas.Slice.Eq.{bytes_eq-Decides}
 use Rattle.std.specs.Str.{bytes_eq}
+use Rattle.fact_wasm.specs.declared.instr.FuncName.{FuncName}
 use Rattle.fact_wasm.specs.declared.instr.FuncName.TheVariants as func
-use Rattle.fact_wasm.specs.Ranges.{AreExportsNamed}
-use Rattle.fact_types.specs.Adapters.{LinkedAdapter, is_async, is_crossing}
+use Rattle.fact_wasm.specs.declared.module.WasmExport.{WasmExport}
+use Rattle.fact_wasm.specs.declared.module.WasmFunc.{WasmFunc}
+use Rattle.fact_wasm.specs.declared.types.FuncType.{FuncType}
+use Rattle.fact_wasm.specs.Ranges.{AreExportsNamed, HasFunction}
+use Rattle.fact_wasm.specs.Spelling.{imported_functions}
+use Rattle.fact_types.specs.Adapters.{LinkedAdapter}
+use Rattle.fact_types.specs.declared.import.Import.{Import}
 use Rattle.fact_types.specs.Tables.{Tables}
-use Rattle.fact_checks.specs.AdapterRules.{export_names}
 use Rattle.fact_moves.specs.Adapters.{AdapterTunables}
-use Rattle.fact_emit.specs.States.{ModuleSoFar, module_of}
+use Rattle.fact_emit.specs.ImportSection.{imported_function, is_awaited}
+use Rattle.fact_emit.specs.States.{ModuleSoFar, functions_of, module_of}
 use Rattle.fact_emit.proofs.ImportLaws.{grown_get}
-use Rattle.fact_emit.proofs.ImportLists.{get-map}
-use Rattle.fact_compound.specs.Syncs.{lower_type_of}
-use Rattle.fact_forms.specs.Built.{IsBuiltAdapter}
+use Rattle.fact_plan_types.proofs.HandleLaws.{zip_map}
+use Rattle.fact_compound.specs.AsyncParts.{callee_name, part_name, part_type}
+use Rattle.fact_compound.specs.declared.asyncs.AsyncPart.TheVariants as part
 use Rattle.fact_forms.specs.Sound.{IsSoundAdapter}
-use Rattle.fact_forms.proofs.Written.{built_cross_in_sync}
-use Rattle.fact_module.specs.Exports.{IsExportOf, Whole, callee_of, exported, exported_as, exported_functions_of}
-use Rattle.fact_module.specs.Holding.{AreBuilt, Holds, numbered}
-use Rattle.fact_module.proofs.CompiledLaws.{type-added}
+use Rattle.fact_module.specs.Adding.{AsParts, AsSync, AsTrap, CompiledAs, own_functions}
+use Rattle.fact_module.specs.Exports.{Callee, Exported, IsExportOf, Own, callee_of, defined_type, exported, exported_as, exported_functions_of}
+use Rattle.fact_module.specs.Holding.{HasAdded, Holds, first_function, function_count, named_from, numbered, own_names}
+use Rattle.fact_module.proofs.CompiledLaws.{not-awaited-sync, not-awaited-within, own_types, types-added}
 
 -- ---- lists
-
--- a value stands at one place of a list of distinct ones
-pub one-place : {X : Type 0} (xs : List X) → AllPairs (λ x y. x ≢ y) xs → (i j : ℕ) (x : X) → slice_get xs i ≡ Some x → slice_get xs j ≡ Some x → i ≡ j
-one-place xs distinct i j x at to =
-    elim (cases_lt i j) [
-      | inl below ↦ absurd (distinct i j x below (slice_get_within xs j x to) (get_or_from_slice_get xs i x x at ∙ sym (get_or_from_slice_get xs j x x to)))
-      | inr not_below ↦ elim (cases_lt j i) [
-        | inl above ↦ absurd (distinct j i x above (slice_get_within xs i x at) (get_or_from_slice_get xs j x x to ∙ sym (get_or_from_slice_get xs i x x at)))
-        | inr not_above ↦ omega arith
-      ]
-    ]
 
 pub in-flat : {X Y : Type 0} (f : X → List Y) (xs : List X) (k : ℕ) (x : X) (y : Y) → slice_get xs k ≡ Some x → Contains (f x) y → Contains (flat_map f xs) y
 in-flat f [] k x y e c = cc
 in-flat f (z ∷ xs) zero x y e c = let same : z ≡ x = cc in Contains-append_left (f z) (flat_map f xs) y (subst (λ w. Contains (f w) y) (sym same) c)
 in-flat f (z ∷ xs) (suc k) x y e c = Contains-append_right (f z) (flat_map f xs) y (in-flat f xs k x y e c)
 
-pub all-by-place : {X : Type 0} (P : X → Type 0) (xs : List X) → ((k : ℕ) (x : X) → slice_get xs k ≡ Some x → P x) → AllByRecursion P xs
-all-by-place P [] h = tt
-all-by-place P (x ∷ xs) h = (h 0 x refl, all-by-place P xs (λ k y e. h (suc k) y e))
-
 pub all-at : {X : Type 0} (P : X → Type 0) (xs : List X) → All P xs → (k : ℕ) (x : X) → slice_get xs k ≡ Some x → P x
 all-at P xs h k x e = subst P (get_or_from_slice_get xs k x x e) (h k x (slice_get_within xs k x e))
 
+-- two lists beside each other, one behind the other
+pub zip-behind : {A B : Type 0} (R : A → B → Type 0) (xs : List A) (ys : List B) (us : List A) (vs : List B) → AllZip R xs ys → AllZip R us vs → AllZip R (xs ++ us) (ys ++ vs)
+zip-behind R [] [] us vs h g = g
+zip-behind R [] (y ∷ ys) us vs h g = absurd h
+zip-behind R (x ∷ xs) [] us vs h g = absurd h
+zip-behind R (x ∷ xs) (y ∷ ys) us vs h g = (h.0, zip-behind R xs ys us vs h.1 g)
+
 -- ---- names and numbers
 
--- what is exported under a name is the function of an adapter of that name
-pub named-export : (name : List ℕ) (n k : ℕ) (adapters : List LinkedAdapter) → exported_as name (numbered n adapters) ≡ Some (func.Defined k) → (i : ℕ) × (k ≡ n + i) × (b : LinkedAdapter) × (slice_get adapters i ≡ Some b) × (b.name ≡ name)
-named-export name n k [] e = cc
-named-export name n k (a ∷ adapters) e = step (bytes_eq a.name name) refl e (named-export name (suc n) k adapters)
+-- what is found under a name is exported under it
+pub found-export : (name : List ℕ) (es : List WasmExport) (f : FuncName) → exported_as name es ≡ Some f → (i : ℕ) × (e : WasmExport) × (slice_get es i ≡ Some e) × (e.name ≡ name) × (e.func ≡ f)
+found-export name [] f h = cc
+found-export name (e ∷ es) f h = step (bytes_eq e.name name) refl h (found-export name es f)
   where
-    step : (b : Bool) → bytes_eq a.name name ≡ b → cond b (Some (func.Defined n)) (exported_as name (numbered (suc n) adapters)) ≡ Some (func.Defined k)
-        → (exported_as name (numbered (suc n) adapters) ≡ Some (func.Defined k) → (i : ℕ) × (k ≡ suc n + i) × (b : LinkedAdapter) × (slice_get adapters i ≡ Some b) × (b.name ≡ name))
-        → (i : ℕ) × (k ≡ n + i) × (b : LinkedAdapter) × (slice_get (a ∷ adapters) i ≡ Some b) × (b.name ≡ name)
-    step true h e rest = let same : n ≡ k = cc in (0, omega (arith, same), a, refl, (bytes_eq-Decides a.name name).0 h)
-    step false h e rest = let (i, is, b, at, named) = rest e in (suc i, omega (arith, is), b, at, named)
+    step : (b : Bool) → bytes_eq e.name name ≡ b → cond b (Some e.func) (exported_as name es) ≡ Some f
+        → (exported_as name es ≡ Some f → (i : ℕ) × (x : WasmExport) × (slice_get es i ≡ Some x) × (x.name ≡ name) × (x.func ≡ f))
+        → (i : ℕ) × (x : WasmExport) × (slice_get (e ∷ es) i ≡ Some x) × (x.name ≡ name) × (x.func ≡ f)
+    step true is found rest = let same : e.func ≡ f = cc in (0, e, refl, (bytes_eq-Decides e.name name).0 is, same)
+    step false is found rest = let (i, x, at, named, here) = rest found in (suc i, x, at, named, here)
 
-pub numbered-within : (imports funcs n : ℕ) (adapters : List LinkedAdapter) → n + length adapters ≤ funcs → AreExportsNamed imports funcs (numbered n adapters)
-numbered-within imports funcs n [] h = tt
-numbered-within imports funcs n (a ∷ adapters) h = (omega (arith, h), numbered-within imports funcs (suc n) adapters (omega (arith, h)))
+pub named-within : (imports funcs n : ℕ) (names : List (List ℕ)) → n + length names ≤ funcs → AreExportsNamed imports funcs (named_from n names)
+named-within imports funcs n [] h = tt
+named-within imports funcs n (x ∷ names) h = (omega (arith, h), named-within imports funcs (suc n) names (omega (arith, h)))
 
--- ---- adapters that are built have one export each
+pub named-behind : (n : ℕ) (xs ys : List (List ℕ)) → named_from n (xs ++ ys) ≡ named_from n xs ++ named_from (n + length xs) ys
+named-behind n [] ys = let same : n ≡ n + 0 = omega arith in ap (λ k. named_from k ys) same
+named-behind n (x ∷ xs) ys =
+    let same : suc n + length xs ≡ n + suc (length xs) = omega arith in
+    ap (λ es. record { name = x; func = func.Defined n } ∷ es) (named-behind (suc n) xs ys ∙ ap (λ k. named_from (suc n) xs ++ named_from k ys) same)
 
-pub built-at : (adapters : List LinkedAdapter) → AreBuilt adapters → (k : ℕ) (a : LinkedAdapter) → slice_get adapters k ≡ Some a → IsBuiltAdapter a
-built-at [] h k a e = cc
-built-at (x ∷ xs) h zero a e = let same : x ≡ a = cc in subst IsBuiltAdapter same h.0
-built-at (x ∷ xs) h (suc k) a e = built-at xs h.1 k a e
-
--- between two instances it is sync
-pub built-whole : (a : LinkedAdapter) → IsBuiltAdapter a → (is_async a && is_crossing a) ≡ false
-built-whole a h = step (is_crossing a) refl
+-- an adapter has as many names as functions
+pub names-counted : (a : LinkedAdapter) → length (own_names a) ≡ length (exported_functions_of a)
+names-counted a =
+    by a.name (part_name part.Start a.name) (part_name part.Return a.name)
+    (Own a.name a.lower.core_type) (Own (part_name part.Start a.name) (part_type part.Start a)) (Own (part_name part.Return a.name) (part_type part.Return a)) (is_awaited a)
   where
-    step : (b : Bool) → is_crossing a ≡ b → (is_async a && b) ≡ false
-    step true crosses = ap (λ c. c && true) (built_cross_in_sync a h crosses)
-    step false within = and_right (is_async a) false refl
+    by : (name start return : List ℕ) (own first second : Exported) (b : Bool) → length (cond b (start ∷ return ∷ name ∷ []) (name ∷ [])) ≡ length (cond b (first ∷ second ∷ own ∷ []) (own ∷ []))
+    by name start return own first second true = refl
+    by name start return own first second false = refl
 
-pub built-exports : (adapters : List LinkedAdapter) → AreBuilt adapters → flat_map export_names adapters ≡ map (λ a. a.name) adapters
-built-exports [] h = refl
-built-exports (a ∷ adapters) h = rw (built-whole a h.0) (ap (λ names. a.name ∷ names) (built-exports adapters h.1))
+pub all-names-counted : (adapters : List LinkedAdapter) → length (flat_map own_names adapters) ≡ function_count adapters
+all-names-counted [] = refl
+all-names-counted (a ∷ adapters) = length-append (own_names a) (flat_map own_names adapters) ∙ (λ k. names-counted a k + all-names-counted adapters k)
 
-functions-are : (adapters : List LinkedAdapter) → AreBuilt adapters → flat_map exported_functions_of adapters ≡ map (λ a. Whole a.name a.lower.core_type) adapters
-functions-are [] h = refl
-functions-are (a ∷ adapters) h = rw (built-whole a h.0) (ap (λ es. Whole a.name a.lower.core_type ∷ es) (functions-are adapters h.1))
-
-callees-are : (adapters : List LinkedAdapter) → AreBuilt adapters → flat_map callee_of adapters ≡ []
-callees-are [] h = refl
-callees-are (a ∷ adapters) h = rw (built-whole a h.0) (callees-are adapters h.1)
-
-pub exported-are : (adapters : List LinkedAdapter) → AreBuilt adapters → exported adapters ≡ map (λ a. Whole a.name a.lower.core_type) adapters
-exported-are adapters h = (λ k. functions-are adapters h k ++ callees-are adapters h k) ∙ append-nil _
-
--- two adapters of one name are one
-pub one-name : (adapters : List LinkedAdapter) → AreBuilt adapters → AllPairs (λ x y. x ≢ y) (flat_map export_names adapters)
-    → (i j : ℕ) (a b : LinkedAdapter) → slice_get adapters i ≡ Some a → slice_get adapters j ≡ Some b → a.name ≡ b.name → i ≡ j
-one-name adapters h distinct i j a b at to same =
-    one-place (map (λ a. a.name) adapters) (subst (AllPairs (λ x y. x ≢ y)) (built-exports adapters h) distinct) i j a.name
-    (get-map (λ (a : LinkedAdapter). a.name) adapters i a at) (get-map (λ (a : LinkedAdapter). a.name) adapters j b to ∙ ap Some (sym same))
+-- the next adapter's functions stand behind those of the one before it
+pub first-next : (adapters : List LinkedAdapter) (j : ℕ) (a : LinkedAdapter) → slice_get adapters j ≡ Some a → first_function adapters (suc j) ≡ first_function adapters j + length (exported_functions_of a)
+first-next [] j a e = cc
+first-next (b ∷ adapters) zero a e =
+    let same : b ≡ a = cc in
+    let count = ap (λ x. length (exported_functions_of x)) same in
+    omega (arith, count)
+first-next (b ∷ adapters) (suc j) a e = let rest = first-next adapters j a e in omega (arith, rest)
 
 -- ---- the exports of the module
 
-module _ (t : Tables) (u : AdapterTunables) (s : ModuleSoFar) (adapters : List LinkedAdapter) (h : Holds t u s adapters) (built : AreBuilt adapters) (sound : All IsSoundAdapter adapters) where
-  -- the type of an adapter's function stands in the module
-  pub type-placed : (k : ℕ) (a : LinkedAdapter) (e : slice_get adapters k ≡ Some a) → slice_get s.types (h.placed k a e).adds.function.ty ≡ Some (lower_type_of a)
-  type-placed k a e =
-      let placed = h.placed k a e in
-      grown_get placed.later.types _ _ (type-added placed.adds (built-at adapters built k a e) (all-at IsSoundAdapter adapters sound k a e))
+module _ (t : Tables) (u : AdapterTunables) (s : ModuleSoFar) (adapters : List LinkedAdapter) (tuples : ℕ → ℕ) (h : Holds t u s adapters tuples) (sound : All IsSoundAdapter adapters) where
+  -- a function of the module has this type
+  defined : (k : ℕ) (f : WasmFunc) (ty : FuncType) → slice_get s.functions k ≡ Some f → slice_get s.types f.ty ≡ Some ty → defined_type (module_of s) (func.Defined k) ≡ Some ty
+  defined k f ty there typed = rw (there, typed) refl
 
-  exports-from : (n : ℕ) (rest : List LinkedAdapter) → ((j : ℕ) (a : LinkedAdapter) → slice_get rest j ≡ Some a → slice_get adapters (n + j) ≡ Some a)
-      → AllZip (IsExportOf (module_of s) s.imports) (numbered n rest) (map (λ a. Whole a.name a.lower.core_type) rest)
-  exports-from n [] at = tt
-  exports-from n (a ∷ rest) at =
-      let here : slice_get adapters n ≡ Some a = ap (slice_get adapters) (omega arith) ∙ at 0 a refl in
-      let core_type = (all-at IsSoundAdapter adapters sound n a here).lower_core_type in (
-        (refl, rw (h.placed n a here).function_there (type-placed n a here ∙ ap Some (sym core_type))),
-        exports-from (suc n) rest (λ j b e. ap (slice_get adapters) (omega arith) ∙ at (suc j) b e),
-      )
+  -- the functions of the adapter at a place
+  own-exports : (j : ℕ) (a : LinkedAdapter) → slice_get adapters j ≡ Some a → AllZip (IsExportOf (module_of s) s.imports) (named_from (first_function adapters j) (own_names a)) (exported_functions_of a)
+  own-exports j a at = by placed.adds.compiled placed.functions_there (zip_map _ _ (λ f ty e. grown_get placed.later.types f.ty ty e) _ _ (types-added placed.adds is_sound))
+    where
+      placed : HasAdded t u s a (first_function adapters j) (tuples j)
+      placed = h.placed j a at
 
-  -- the exports are exactly the adapters' names
-  pub exports-are : AllZip (IsExportOf (module_of s) s.imports) s.exports (exported adapters)
-  exports-are = rw (h.exports, exported-are adapters built) (exports-from 0 adapters (λ j a e. ap (slice_get adapters) (omega arith) ∙ e))
+      is_sound : IsSoundAdapter a
+      is_sound = all-at IsSoundAdapter adapters sound j a at
+
+      by : {old new : ModuleSoFar} (c : CompiledAs t placed.adds.«data» u a old new) → ((i : ℕ) (f : WasmFunc) → slice_get (own_functions c) i ≡ Some f → slice_get s.functions (first_function adapters j + i) ≡ Some f)
+          → AllZip (λ (f : WasmFunc) ty. slice_get s.types f.ty ≡ Some ty) (own_functions c) (own_types c)
+          → AllZip (IsExportOf (module_of s) s.imports) (named_from (first_function adapters j) (own_names a)) (exported_functions_of a)
+      by (AsTrap within c) there typed =
+          let none = not-awaited-within a within in
+          let here : slice_get s.functions (first_function adapters j) ≡ Some c.function = ap (slice_get s.functions) (omega arith) ∙ there 0 c.function refl in
+          rw none ((refl, defined _ c.function _ here typed.0 ∙ ap Some (sym is_sound.lower_core_type)), tt)
+      by (AsSync crosses sync c) there typed =
+          let none = not-awaited-sync a sync in
+          let here : slice_get s.functions (first_function adapters j) ≡ Some c.function = ap (slice_get s.functions) (omega arith) ∙ there 0 c.function refl in
+          rw none ((refl, defined _ c.function _ here typed.0 ∙ ap Some (sym is_sound.lower_core_type)), tt)
+      by (AsParts awaited c) there typed =
+          let start : slice_get s.functions (first_function adapters j) ≡ Some c.start.function = ap (slice_get s.functions) (omega arith) ∙ there 0 c.start.function refl in
+          let return : slice_get s.functions (suc (first_function adapters j)) ≡ Some c.return.function = ap (slice_get s.functions) (omega arith) ∙ there 1 c.return.function refl in
+          let entry : slice_get s.functions (suc (suc (first_function adapters j))) ≡ Some c.entry.function = ap (slice_get s.functions) (omega arith) ∙ there 2 c.entry.function refl in
+          rw awaited ((refl, defined _ c.start.function _ start typed.0), ((refl, defined _ c.return.function _ return typed.1.0), ((refl, defined _ c.entry.function _ entry typed.1.1.0 ∙ ap Some (sym is_sound.lower_core_type)), tt)))
+
+  exports-from : (j n : ℕ) (rest : List LinkedAdapter) → n ≡ first_function adapters j → ((i : ℕ) (a : LinkedAdapter) → slice_get rest i ≡ Some a → slice_get adapters (j + i) ≡ Some a)
+      → AllZip (IsExportOf (module_of s) s.imports) (named_from n (flat_map own_names rest)) (flat_map exported_functions_of rest)
+  exports-from j n [] is at = tt
+  exports-from j n (a ∷ rest) is at =
+      let here : slice_get adapters j ≡ Some a = ap (slice_get adapters) (omega arith) ∙ at 0 a refl in
+      let next = first-next adapters j a here in
+      let counted = names-counted a in
+      let follows : n + length (own_names a) ≡ first_function adapters (suc j) = omega (arith, is, next, counted) in
+      let own = subst (λ k. AllZip (IsExportOf (module_of s) s.imports) (named_from k (own_names a)) (exported_functions_of a)) (sym is) (own-exports j a here) in
+      let more = exports-from (suc j) (n + length (own_names a)) rest follows (λ i b e. ap (slice_get adapters) (omega arith) ∙ at (suc i) b e) in
+      subst (λ es. AllZip (IsExportOf (module_of s) s.imports) es (exported_functions_of a ++ flat_map exported_functions_of rest)) (sym (named-behind n (own_names a) (flat_map own_names rest)))
+      (zip-behind (IsExportOf (module_of s) s.imports) _ _ _ _ own more)
+
+  -- The exports are the adapters' functions by their names, and behind them the callees of async ones.
+  pub exports-are : AllZip (IsExportOf (module_of s) s.imports) (s.exports ++ s.callees) (exported adapters)
+  exports-are =
+      zip-behind (IsExportOf (module_of s) s.imports) s.exports (flat_map exported_functions_of adapters) s.callees (flat_map callee_of adapters)
+      (subst (λ es. AllZip (IsExportOf (module_of s) s.imports) es (flat_map exported_functions_of adapters)) (sym h.exports) (exports-from 0 0 adapters refl (λ i a e. let same : 0 + i ≡ i = omega arith in ap (slice_get adapters) same ∙ e)))
+      h.callees
+
+-- ---- numbers in range
+
+module _ (s : ModuleSoFar) (count : imported_functions (module_of s) ≡ length (functions_of s)) where
+  imported-within : (funcs : ℕ) (f : FuncName) (i : Import) → imported_function (module_of s) s.imports f ≡ Some i → HasFunction (imported_functions (module_of s)) funcs f
+  imported-within funcs (func.Import k) i e = let within = slice_get_within (functions_of s) k i e in omega (arith, within, count)
+  imported-within funcs (func.Defined k) i e = cc
+
+  callees-within : (funcs : ℕ) (es : List WasmExport) (adapters : List LinkedAdapter) → AllZip (IsExportOf (module_of s) s.imports) es (flat_map callee_of adapters) → AreExportsNamed (imported_functions (module_of s)) funcs es
+  callees-within funcs [] [] h = tt
+  callees-within funcs (e ∷ es) [] h = absurd h
+  callees-within funcs es (a ∷ adapters) h = by (is_awaited a) es h (λ fs g. callees-within funcs fs adapters g)
+    where
+      by : (b : Bool) (es : List WasmExport) → AllZip (IsExportOf (module_of s) s.imports) es (cond b (Callee (callee_name a.name) a.callee ∷ []) [] ++ flat_map callee_of adapters)
+          → ((fs : List WasmExport) → AllZip (IsExportOf (module_of s) s.imports) fs (flat_map callee_of adapters) → AreExportsNamed (imported_functions (module_of s)) funcs fs)
+          → AreExportsNamed (imported_functions (module_of s)) funcs es
+      by false es h rest = rest es h
+      by true [] h rest = absurd h
+      by true (e ∷ es) h rest = (imported-within funcs e.func _ h.0.1, rest es h.1)
+
+  both-within : (imports funcs : ℕ) (es fs : List WasmExport) → AreExportsNamed imports funcs es → AreExportsNamed imports funcs fs → AreExportsNamed imports funcs (es ++ fs)
+  both-within imports funcs [] fs h g = g
+  both-within imports funcs (e ∷ es) fs h g = (h.0, both-within imports funcs es fs h.1 g)
+
+  -- each export names a function that is there
+  pub exports-within : (adapters : List LinkedAdapter) → s.exports ≡ numbered 0 adapters → AllZip (IsExportOf (module_of s) s.imports) s.callees (flat_map callee_of adapters) → length s.functions ≡ function_count adapters
+      → AreExportsNamed (imported_functions (module_of s)) (length s.functions) (s.exports ++ s.callees)
+  exports-within adapters own callees functions =
+      let counted = all-names-counted adapters in
+      both-within _ _ s.exports s.callees
+      (subst (AreExportsNamed (imported_functions (module_of s)) (length s.functions)) (sym own) (named-within _ _ 0 (flat_map own_names adapters) (omega (arith, counted, functions))))
+      (callees-within (length s.functions) s.callees adapters callees)

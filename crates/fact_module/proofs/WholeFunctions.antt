@@ -1,59 +1,68 @@
--- The functions of the adapters of a whole module behave, and those of adapters within one instance only trap.
-use Rattle.std.proofs.Common.{◌≡◌, ◌≢◌, ℕ, zero, suc, Bool, true, false, List, [], ◌∷◌, Option, Some, None, All, AllPairs, refl, sym, ap, ◌∙◌, subst, arith, slice_get}
-use Rattle.std.specs.Prelude.{cond, is_some}
-use Rattle.std.specs.List.{flat_map}
+-- The functions of the adapters of a whole module behave, those of adapters within one instance only trap, and those of async adapters move
+-- the values of their parts.
+use Rattle.std.proofs.Common.{◌≡◌, ◌≢◌, ℕ, zero, suc, ◌+◌, Bool, true, false, List, [], ◌∷◌, Option, Some, None, All, AllPairs, refl, sym, ap, ◌∙◌, subst, arith, slice_get}
+use Rattle.std.specs.Prelude.{cond, filter, is_some}
+use Rattle.std.proofs.lemmas.Bool.{true≢false}
+use Rattle.std.specs.List.{AllZip, flat_map}
 use Rattle.std.proofs.lemmas.Option.{get_or_from_slice_get, slice_get_within}
 use Rattle.fact_wasm.specs.declared.module.WasmImport.{WasmImport}
 use Rattle.fact_wasm.specs.declared.module.WasmFunc.{WasmFunc}
 use Rattle.fact_wasm.specs.declared.module.WasmModule.{WasmModule}
-use Rattle.fact_types.specs.Adapters.{LinkedAdapter, Side, is_crossing}
+use Rattle.fact_types.specs.Adapters.{LinkedAdapter, Side, is_async, is_crossing}
 use Rattle.fact_types.specs.Tables.{Tables}
 use Rattle.fact_types.specs.declared.import.Import.{Import}
 use Rattle.fact_entity.specs.declared.id.Id.{Id}
 use Rattle.fact_entity.specs.declared.table.Memories.{Memories}
 use Rattle.fact_uses.specs.Bindings.{AreConsistent}
-use Rattle.fact_plan_types.proofs.HandleLaws.{there as get-within}
+use Rattle.fact_plan_types.proofs.HandleLaws.{zip_map}
 use Rattle.fact_checks.specs.AdapterRules.{uses_of}
 use Rattle.fact_moves.specs.Adapters.{AdapterTunables}
 use Rattle.fact_moves.specs.Running.{ImportPlaces}
-use Rattle.fact_emit.specs.ImportSection.{Mention, Sort, a_function, a_global, a_memory, adapter_mentions, imports_of, is_of, custom_page_size, mentions}
-use Rattle.fact_emit.specs.Imports.{AreOnce, Extended, Serves, StandsOnce}
+use Rattle.fact_moves.proofs.States.{and_right}
+use Rattle.fact_carry.specs.FaithfulLaws.{IsCheckedAdapter}
+use Rattle.fact_emit.specs.ImportSection.{Mention, Sort, a_function, a_global, a_memory, adapter_mentions, imports_of, is_made_once, is_of, is_awaited, custom_page_size, mentions}
+use Rattle.fact_emit.specs.Imports.{AreOnce, Extended, Serves, StandOnce}
 use Rattle.fact_emit.specs.Known.{AreKnown, AreUsedAlike}
 use Rattle.fact_emit.specs.KnownAdapters.{KnowsAdapter, KnowsSide}
 use Rattle.fact_emit.specs.PlacesOf.{import_places}
 use Rattle.fact_emit.specs.States.{ModuleSoFar, module_of}
 use Rattle.fact_emit.proofs.AdapterKnown.{has_places, have_core_types, knows_adapter}
-use Rattle.fact_emit.proofs.ImportLaws.{extended_on}
+use Rattle.fact_emit.proofs.ImportLaws.{extended_on, grown_get}
 use Rattle.fact_emit.proofs.KnownLaws.{known_within}
 use Rattle.fact_emit.proofs.ListedLaws.{listed_even}
 use Rattle.fact_emit.proofs.Mentions.{in-mentions, of-a-kind}
 use Rattle.fact_emit.proofs.PlacesOfLaws.{are_import_places}
 use Rattle.fact_emit.proofs.ServingLaws.{serves_all, serves_sooner}
+use Rattle.fact_compound.specs.AsyncParts.{part_type}
+use Rattle.fact_compound.specs.Asyncs.{CompiledPart, IsPartFunction}
 use Rattle.fact_compound.specs.Described.{KnowsAdapterData, memory_place, number_if_any}
 use Rattle.fact_compound.specs.Events.{AreSetTo}
+use Rattle.fact_compound.specs.Functions.{CompiledSync}
 use Rattle.fact_compound.specs.Placed.{AreOptionsOf, IsDataOf}
-use Rattle.fact_compound.specs.SameInstance.{IsSameInstanceFunction}
+use Rattle.fact_compound.specs.SameInstance.{CompiledSameInstance, IsSameInstanceFunction}
 use Rattle.fact_compound.specs.Syncs.{IsSyncFunction, lower_type_of}
 use Rattle.fact_compound.specs.declared.adapters.AdapterOptions.{AdapterOptions}
+use Rattle.fact_compound.specs.declared.asyncs.AsyncPart.{AsyncPart}
+use Rattle.fact_compound.specs.declared.asyncs.AsyncPart.TheVariants as part
 use Rattle.fact_compound.proofs.AdapterPlaced.{links_adapter}
-use Rattle.fact_forms.specs.Built.{IsBuiltAdapter}
 use Rattle.fact_forms.specs.Sound.{IsSoundAdapter}
-use Rattle.fact_forms.specs.Writable.{IsWritable}
 use Rattle.fact_forms.proofs.Passed.{sound_are_checked}
 use Rattle.fact_forms.proofs.Telling.{known_tell_memories}
 use Rattle.fact_forms.proofs.Uses.{mentions_alike}
-use Rattle.fact_forms.proofs.Written.{built_are_writable}
-use Rattle.fact_promises.specs.Functions.{IsAdapterFunction, IsTrapFunction}
+use Rattle.fact_forms.proofs.Written.{sound_are_writable}
+use Rattle.fact_promises.specs.Functions.{IsAdapterFunction, IsPartFunctionOf, IsTrapFunction}
+use Rattle.fact_promises.specs.AsyncRuns.{Transfers}
 use Rattle.fact_promises.specs.Runs.{Behaves, OnlyTraps}
 use Rattle.fact_promises.proofs.Behaviour.{functions_behave}
+use Rattle.fact_promises.proofs.PartFunctions.{part_functions_transfer}
 use Rattle.fact_promises.proofs.Traps.{trap_functions_trap}
-use Rattle.fact_module.specs.Adding.{HasSideData}
-use Rattle.fact_module.specs.Holding.{AreBuilt, HasAdded, Holds}
+use Rattle.fact_module.specs.Adding.{AsParts, AsSync, AsTrap, CompiledAs, HasSideData, own_functions}
+use Rattle.fact_module.specs.Holding.{HasAdded, Holds, first_function}
 use Rattle.fact_module.specs.Links.{links_of, page_size_log2_of, side_links_of}
-use Rattle.fact_module.proofs.CompiledLaws.{between-function, describes, describes-lower, has-post-return, within-function}
+use Rattle.fact_module.proofs.CompiledLaws.{callee-extended, compiled-extended, describes, describes-lower, describes-transfers, entry-extended, has-post-return, none-marked, not-awaited-sync, not-awaited-within, own_types, types-added}
 use Rattle.fact_module.proofs.PartLaws.{names_imports}
-use Rattle.fact_module.proofs.WholeExports.{all-at, built-at, in-flat, type-placed}
-use Rattle.fact_module.proofs.WholeTyped.{HasTypedFunction}
+use Rattle.fact_module.proofs.StartsOnce.{starts-once}
+use Rattle.fact_module.proofs.WholeExports.{all-at, in-flat}
 
 -- ---- lists
 
@@ -64,24 +73,42 @@ later_ones x xs h i j d below within = h (suc i) (suc j) d (omega (arith, below)
 first_apart : {X : Type 0} (x : X) (xs : List X) → AllPairs (λ x y. x ≢ y) (x ∷ xs) → (k : ℕ) → slice_get xs k ≡ Some x → ⊥
 first_apart x xs h k e = let within = slice_get_within xs k x e in h 0 (suc k) x (omega arith) (omega (arith, within)) (sym (get_or_from_slice_get xs k x x e))
 
-more_once : {X : Type 0} (x : X) (xs : List X) → ((k : ℕ) → slice_get xs k ≡ Some x → ⊥) → StandsOnce xs → StandsOnce (x ∷ xs)
-more_once {X} x xs apart o = record { one = go }
+-- what a test lets through stands among what it lets through
+kept_there : {X : Type 0} (p : X → Bool) (xs : List X) (k : ℕ) (x : X) → p x ≡ true → slice_get xs k ≡ Some x → (n : ℕ) × (slice_get (filter p xs) n ≡ Some x)
+kept_there p [] k x kept e = cc
+kept_there p (y ∷ xs) k x kept e = go (p y) refl k e (λ j f. kept_there p xs j x kept f)
   where
-    go : (i j : ℕ) (y : X) → slice_get (x ∷ xs) i ≡ Some y → slice_get (x ∷ xs) j ≡ Some y → i ≡ j
-    go zero zero y e f = refl
-    go zero (suc j) y e f = let same : x ≡ y = cc in absurd (apart j (f ∙ ap Some (sym same)))
-    go (suc i) zero y e f = let same : x ≡ y = cc in absurd (apart i (e ∙ ap Some (sym same)))
-    go (suc i) (suc j) y e f = ap suc (o.one i j y e f)
+    go : (b : Bool) → p y ≡ b → (k : ℕ) → slice_get (y ∷ xs) k ≡ Some x → ((j : ℕ) → slice_get xs j ≡ Some x → (n : ℕ) × (slice_get (filter p xs) n ≡ Some x)) → (n : ℕ) × (slice_get (cond b (y ∷ filter p xs) (filter p xs)) n ≡ Some x)
+    go true is zero e rest = (0, e)
+    go false is zero e rest = let same : y ≡ x = cc in absurd (true≢false (sym kept ∙ ap p (sym same) ∙ is))
+    go true is (suc k) e rest = let (n, at) = rest k e in (suc n, at)
+    go false is (suc k) e rest = rest k e
 
--- imports of a kind stand once where all imports do
-once_of_kind : (sort : Sort) (ws : List WasmImport) (is : List Import) → AllPairs (λ i j. i ≢ j) is → StandsOnce (imports_of sort ws is)
-once_of_kind sort [] is h = record { one = λ i j x e. cc }
-once_of_kind sort (w ∷ ws) [] h = record { one = λ i j x e. cc }
-once_of_kind sort (w ∷ ws) (i ∷ is) h = step (is_of sort w) (once_of_kind sort ws is (later_ones i is h))
+more_once : (x : Import) (xs : List Import) → (is_made_once x ≡ true → (k : ℕ) → slice_get xs k ≡ Some x → ⊥) → StandOnce xs → StandOnce (x ∷ xs)
+more_once x xs apart o = record { one = go }
   where
-    step : (b : Bool) → StandsOnce (imports_of sort ws is) → StandsOnce (cond b (i ∷ imports_of sort ws is) (imports_of sort ws is))
-    step true o = more_once i (imports_of sort ws is) (λ k e. let at = of-a-kind sort ws is k i e in first_apart i is h at.0 at.1) o
-    step false o = o
+    go : (i j : ℕ) (y : Import) → is_made_once y ≡ true → slice_get (x ∷ xs) i ≡ Some y → slice_get (x ∷ xs) j ≡ Some y → i ≡ j
+    go zero zero y made e f = refl
+    go zero (suc j) y made e f = let same : x ≡ y = cc in absurd (apart (ap is_made_once same ∙ made) j (f ∙ ap Some (sym same)))
+    go (suc i) zero y made e f = let same : x ≡ y = cc in absurd (apart (ap is_made_once same ∙ made) i (e ∙ ap Some (sym same)))
+    go (suc i) (suc j) y made e f = ap suc (o.one i j y made e f)
+
+-- imports of a kind that are made once stand once where all such imports do
+once_of_kind : (sort : Sort) (ws : List WasmImport) (is : List Import) → AllPairs (λ i j. i ≢ j) (filter is_made_once is) → StandOnce (imports_of sort ws is)
+once_of_kind sort [] is h = record { one = λ i j x made e. cc }
+once_of_kind sort (w ∷ ws) [] h = record { one = λ i j x made e. cc }
+once_of_kind sort (w ∷ ws) (i ∷ is) h = by (is_made_once i) refl h (once_of_kind sort ws is)
+  where
+    step : (b : Bool) → (is_made_once i ≡ true → (k : ℕ) → slice_get (imports_of sort ws is) k ≡ Some i → ⊥) → StandOnce (imports_of sort ws is) → StandOnce (cond b (i ∷ imports_of sort ws is) (imports_of sort ws is))
+    step true apart o = more_once i (imports_of sort ws is) apart o
+    step false apart o = o
+
+    by : (b : Bool) → is_made_once i ≡ b → AllPairs (λ i j. i ≢ j) (cond b (i ∷ filter is_made_once is) (filter is_made_once is)) → (AllPairs (λ i j. i ≢ j) (filter is_made_once is) → StandOnce (imports_of sort ws is)) → StandOnce (imports_of sort (w ∷ ws) (i ∷ is))
+    by false is_made g rest = step (is_of sort w) (λ made. absurd (true≢false (sym made ∙ is_made))) (rest g)
+    by true is_made g rest =
+        step (is_of sort w)
+        (λ made k e. let at = of-a-kind sort ws is k i e in let kept = kept_there is_made_once is at.0 i made at.1 in first_apart i (filter is_made_once is) g kept.0 kept.1)
+        (rest (later_ones i (filter is_made_once is) g))
 
 -- ---- the data of an adapter
 
@@ -107,7 +134,7 @@ options_placed M p t s d h knows = record {
 
 -- ---- the module
 
-module _ (t : Tables) (u : AdapterTunables) (s : ModuleSoFar) (adapters : List LinkedAdapter) (h : Holds t u s adapters) (built : AreBuilt adapters) (sound : All IsSoundAdapter adapters)
+module _ (t : Tables) (u : AdapterTunables) (s : ModuleSoFar) (adapters : List LinkedAdapter) (tuples : ℕ → ℕ) (h : Holds t u s adapters tuples) (sound : All IsSoundAdapter adapters)
     (consistent : AreConsistent (flat_map uses_of adapters)) where
   abbrev all_mentions : List Mention
   all_mentions = flat_map adapter_mentions adapters
@@ -118,14 +145,15 @@ module _ (t : Tables) (u : AdapterTunables) (s : ModuleSoFar) (adapters : List L
   abbrev places : ImportPlaces
   places = import_places s
 
-  once : AreOnce s
+  pub once : AreOnce s
   once = record {
     functions = once_of_kind a_function s.section s.imports h.lists.once;
     memories = once_of_kind a_memory s.section s.imports h.lists.once;
     globals = once_of_kind a_global s.section s.imports h.lists.once;
+    starts = starts-once s adapters h.lists;
   }
 
-  serves : Serves here places s
+  pub serves : Serves here places s
   serves = serves_all here places s refl refl (are_import_places s once)
 
   known_all : AreKnown s all_mentions
@@ -135,108 +163,139 @@ module _ (t : Tables) (u : AdapterTunables) (s : ModuleSoFar) (adapters : List L
   alike = mentions_alike adapters consistent
 
   module _ (j : ℕ) (a : LinkedAdapter) (at : slice_get adapters j ≡ Some a) where
-    placed : HasAdded t u s a j
+    abbrev placed : HasAdded t u s a (first_function adapters j) (tuples j)
     placed = h.placed j a at
 
-    is_built : IsBuiltAdapter a
-    is_built = built-at adapters built j a at
+    abbrev first : ℕ
+    first = first_function adapters j
 
-    is_sound : IsSoundAdapter a
+    pub is_sound : IsSoundAdapter a
     is_sound = all-at IsSoundAdapter adapters sound j a at
 
     linked_later : Extended placed.adds.linked s
-    linked_later = extended_on placed.adds.added.imports placed.later
+    linked_later = extended_on (compiled-extended placed.adds.compiled) placed.later
 
-    knows : KnowsAdapter here places a (links_of placed.adds.«data»)
+    pub knows : KnowsAdapter here places a (links_of placed.adds.«data»)
     knows = knows_adapter serves known_all alike placed.old placed.adds.linked (mentions placed.before) a (links_of placed.adds.«data») (record { named = placed.lists.named; transcoders = placed.lists.transcoders }) placed.adds.links linked_later
         (λ m c. in-flat adapter_mentions adapters j a m at c)
 
-    type_there : slice_get s.types placed.adds.function.ty ≡ Some (lower_type_of a)
-    unfolding placed
-    type_there = type-placed t u s adapters h built sound j a at
+    pub links : KnowsAdapterData here places placed.adds.«data» a
+    links =
+        let w = sound_are_writable a is_sound in
+        let data_is : IsDataOf a (links_of placed.adds.«data») placed.adds.«data» = record {
+          lift = options_placed here places t a.lift placed.adds.«data».lift placed.adds.lift knows.lift;
+          lower = options_placed here places t a.lower placed.adds.«data».lower placed.adds.lower knows.lower;
+          callee = refl;
+          post_return = refl;
+          has_post_return = has-post-return placed.adds;
+          transparent = placed.adds.transparent;
+        } in
+        links_adapter here places a (links_of placed.adds.«data») placed.adds.«data» knows data_is is_sound.lift_core_type w.memories
 
-    -- ---- between two instances
+    checked : is_crossing a ≡ true → IsCheckedAdapter places a
+    checked crosses = sound_are_checked places a is_sound crosses (known_tell_memories here s a (links_of placed.adds.«data») (listed_even s (mentions adapters) adapters h.lists) knows)
 
-    module _ (crosses : is_crossing a ≡ true) where
-      writable : IsWritable a
-      writable = built_are_writable a is_built crosses is_sound
+    -- Its functions stand there, with their types.
+    pub types : AllZip (λ (f : WasmFunc) ty. slice_get s.types f.ty ≡ Some ty) (own_functions placed.adds.compiled) (own_types placed.adds.compiled)
+    types = zip_map _ _ (λ f ty e. grown_get placed.later.types f.ty ty e) _ _ (types-added placed.adds is_sound)
 
-      links : KnowsAdapterData here places placed.adds.«data» a
-      links =
-          let data_is : IsDataOf a (links_of placed.adds.«data») placed.adds.«data» = record {
-            lift = options_placed here places t a.lift placed.adds.«data».lift placed.adds.lift knows.lift;
-            lower = options_placed here places t a.lower placed.adds.«data».lower placed.adds.lower knows.lower;
-            callee = refl;
-            post_return = refl;
-            has_post_return = has-post-return placed.adds;
-            transparent = placed.adds.transparent;
-          } in
-          links_adapter here places a (links_of placed.adds.«data») placed.adds.«data» knows data_is is_sound.lift_core_type writable.memories
+    -- ---- a sync one between two instances
 
-      sync_function : IsSyncFunction u a here places placed.adds.function
-      sync_function =
-          let (c, same) = between-function placed.adds crosses in
-          let set_to : AreSetTo u.concurrency u.exceptions u = record { concurrency_is = refl; exceptions_are = refl } in
-          subst (IsSyncFunction u a here places) same (c.writes.is u a (describes placed.adds is_built is_sound crosses) set_to here places (serves_sooner placed.later serves) links)
+    pub sync_does : (sync : is_async a ≡ false) (c : CompiledSync t placed.adds.«data» u.debug u.concurrency u.exceptions placed.adds.linked placed.new) → Extended placed.new s → IsSyncFunction u a here places c.function
+    sync_does sync c later =
+        let set_to : AreSetTo u.concurrency u.exceptions u = record { concurrency_is = refl; exceptions_are = refl } in
+        c.writes.is u a (describes placed.adds is_sound sync) set_to here places (serves_sooner later serves) links
 
-      -- The adapter of this number has its function there.
-      pub adapter_function : IsAdapterFunction here s.imports u a adapters j
-      adapter_function = record {
-        function = placed.adds.function;
-        function_is = placed.function_there;
-        type_is = type_there;
-        does = sync_function;
-        core_type = is_sound.lower_core_type;
-        sync_sides = writable.sync;
-        names = names_imports s adapters h.lists;
-        places = has_places here places a (links_of placed.adds.«data») knows;
-        core_types = have_core_types here places a (links_of placed.adds.«data») knows is_sound.lift_core_type;
-        checked = sound_are_checked places a is_sound crosses (known_tell_memories here s a (links_of placed.adds.«data») (listed_even s (mentions adapters) h.lists) knows);
-      }
+    -- The adapter's function stands there, and it behaves.
+    sync_behaves : (crosses : is_crossing a ≡ true) (sync : is_async a ≡ false) (c : CompiledSync t placed.adds.«data» u.debug u.concurrency u.exceptions placed.adds.linked placed.new) → Extended placed.new s
+        → slice_get s.functions first ≡ Some c.function → slice_get s.types c.function.ty ≡ Some (lower_type_of a) → IsAdapterFunction here s.imports u a adapters first
+    sync_behaves crosses sync c later there type_is = record {
+      function = c.function;
+      function_is = there;
+      type_is = type_is;
+      does = sync_does sync c later;
+      core_type = is_sound.lower_core_type;
+      sync_sides = let unmarked = none-marked a.lift.async_side a.lower.async_side a.lift.async_type a.lower.async_type sync in record { lift = unmarked.0; lower = unmarked.1 };
+      names = names_imports s adapters h.lists;
+      places = has_places here places a (links_of placed.adds.«data») knows;
+      core_types = have_core_types here places a (links_of placed.adds.«data») knows is_sound.lift_core_type;
+      checked = checked crosses;
+    }
 
-      pub function_behaves : Behaves here s.imports u a j
-      function_behaves = functions_behave here s.imports u a adapters j adapter_function
+    -- ---- one within one instance
 
-    -- ---- within one
+    pub trap_does : (c : CompiledSameInstance t placed.adds.«data» placed.adds.linked placed.new) → IsSameInstanceFunction a here places c.function
+    trap_does c = c.is a (describes-lower placed.adds) here places (serves_sooner placed.later serves)
 
-    module _ (within : is_crossing a ≡ false) where
-      same_instance_function : IsSameInstanceFunction a here places placed.adds.function
-      same_instance_function =
-          let (c, same) = within-function placed.adds within in
-          subst (IsSameInstanceFunction a here places) same (c.is a (describes-lower placed.adds) here places (serves_sooner placed.later serves))
+    traps_only : (c : CompiledSameInstance t placed.adds.«data» placed.adds.linked placed.new) → slice_get s.functions first ≡ Some c.function → slice_get s.types c.function.ty ≡ Some (lower_type_of a)
+        → IsTrapFunction here s.imports a adapters first
+    traps_only c there type_is = record {
+      function = c.function;
+      function_is = there;
+      type_is = type_is;
+      does = trap_does c;
+      core_type = is_sound.lower_core_type;
+      names = names_imports s adapters h.lists;
+    }
 
-      -- The adapter of this number has a function there that only traps.
-      pub trap_function : IsTrapFunction here s.imports a adapters j
-      trap_function = record {
-        function = placed.adds.function;
-        function_is = placed.function_there;
-        type_is = type_there;
-        does = same_instance_function;
-        core_type = is_sound.lower_core_type;
-        names = names_imports s adapters h.lists;
-      }
+    -- ---- an async one between two instances
 
-      pub function_only_traps : OnlyTraps here s.imports a j
-      function_only_traps = trap_functions_trap here s.imports a adapters j trap_function
+    pub part_does : (x : AsyncPart) {old new : ModuleSoFar} (c : CompiledPart t placed.adds.«data» u.debug u.concurrency x old new) → Extended new s → IsPartFunction x u a here places c.function
+    part_does x c later = c.is u a (describes-transfers placed.adds is_sound) refl here places (serves_sooner later serves) links
 
-    -- ---- wherever its instances are
+    part_transfers : (x : AsyncPart) {old new : ModuleSoFar} (crosses : is_crossing a ≡ true) (c : CompiledPart t placed.adds.«data» u.debug u.concurrency x old new) → Extended new s
+        → (k : ℕ) → slice_get s.functions k ≡ Some c.function → slice_get s.types c.function.ty ≡ Some (part_type x a) → IsPartFunctionOf x here s.imports u a adapters k
+    part_transfers x crosses c later k there type_is = record {
+      function = c.function;
+      function_is = there;
+      type_is = type_is;
+      does = part_does x c later;
+      names = names_imports s adapters h.lists;
+      places = has_places here places a (links_of placed.adds.«data») knows;
+      core_types = have_core_types here places a (links_of placed.adds.«data») knows is_sound.lift_core_type;
+      checked = checked crosses;
+    }
 
-    function_typed : HasTypedFunction here placed.adds.function
-    function_typed = step (is_crossing a) refl
+    -- ---- whichever it is
+
+    -- What is promised of its functions but the one that hands an async adapter's call on, by their numbers from the first one on.
+    pub function_behaves : is_crossing a ≡ true → is_async a ≡ false → Behaves here s.imports u a first
+    function_behaves crosses sync = by placed.adds.compiled (λ f e. subst (λ n. slice_get s.functions n ≡ Some f) (omega arith) (placed.functions_there 0 f e)) types
       where
-        step : (b : Bool) → is_crossing a ≡ b → HasTypedFunction here placed.adds.function
-        step true crosses = record { ty = lower_type_of a; type_is = type_there; typed = (sync_function crosses).typed type_there }
-        step false within = record { ty = lower_type_of a; type_is = type_there; typed = (same_instance_function within).typed type_there }
+        by : (c : CompiledAs t placed.adds.«data» u a placed.adds.linked placed.new) → ((f : WasmFunc) → slice_get (own_functions c) 0 ≡ Some f → slice_get s.functions first ≡ Some f)
+            → AllZip (λ (f : WasmFunc) ty. slice_get s.types f.ty ≡ Some ty) (own_functions c) (own_types c) → Behaves here s.imports u a first
+        by (AsTrap within c) there typed = absurd (true≢false (sym crosses ∙ within))
+        by (AsSync crosses_too sync_too c) there typed = functions_behave here s.imports u a adapters first (sync_behaves crosses sync c placed.later (there c.function refl) typed.0)
+        by (AsParts awaited c) there typed = absurd (true≢false (sym awaited ∙ not-awaited-sync a sync))
 
-    pub typed_at : (f : WasmFunc) → slice_get s.functions j ≡ Some f → HasTypedFunction here f
-    typed_at f e =
-        let same : Some placed.adds.function ≡ Some f = sym placed.function_there ∙ e in
-        let is_f : placed.adds.function ≡ f = cc in
-        subst (HasTypedFunction here) is_f function_typed
+    pub function_only_traps : is_crossing a ≡ false → OnlyTraps here s.imports a first
+    function_only_traps within = by placed.adds.compiled (λ f e. subst (λ n. slice_get s.functions n ≡ Some f) (omega arith) (placed.functions_there 0 f e)) types
+      where
+        by : (c : CompiledAs t placed.adds.«data» u a placed.adds.linked placed.new) → ((f : WasmFunc) → slice_get (own_functions c) 0 ≡ Some f → slice_get s.functions first ≡ Some f)
+            → AllZip (λ (f : WasmFunc) ty. slice_get s.types f.ty ≡ Some ty) (own_functions c) (own_types c) → OnlyTraps here s.imports a first
+        by (AsTrap within_too c) there typed = trap_functions_trap here s.imports a adapters first (traps_only c (there c.function refl) typed.0)
+        by (AsSync crosses sync c) there typed = absurd (true≢false (sym crosses ∙ within))
+        by (AsParts awaited c) there typed = absurd (true≢false (sym awaited ∙ not-awaited-within a within))
 
-  -- Each function of the module is that of an adapter, and has its type there.
-  pub each_typed : (k : ℕ) (f : WasmFunc) → slice_get s.functions k ≡ Some f → HasTypedFunction here f
-  each_typed k f e =
-      let within = slice_get_within s.functions k f e in
-      let (a, at) = get-within adapters k (omega (arith, within, h.count)) in
-      typed_at k a at f e
+    -- which of an async adapter's functions moves the values of a part
+    abbrev part_at : AsyncPart → ℕ
+    part_at part.Start = first + 0
+    part_at part.Return = first + 1
+
+    pub function_transfers : is_awaited a ≡ true → (x : AsyncPart) → Transfers x here s.imports u a (part_at x)
+    function_transfers awaited x = by placed.adds.compiled placed.functions_there types x
+      where
+        crosses : is_crossing a ≡ true
+        crosses = and_right (is_async a) (is_crossing a) awaited
+
+        by : (c : CompiledAs t placed.adds.«data» u a placed.adds.linked placed.new) → ((i : ℕ) (f : WasmFunc) → slice_get (own_functions c) i ≡ Some f → slice_get s.functions (first + i) ≡ Some f)
+            → AllZip (λ (f : WasmFunc) ty. slice_get s.types f.ty ≡ Some ty) (own_functions c) (own_types c) → (x : AsyncPart) → Transfers x here s.imports u a (part_at x)
+        by (AsTrap within c) there typed x = absurd (true≢false (sym awaited ∙ not-awaited-within a within))
+        by (AsSync crosses_too sync c) there typed x = absurd (true≢false (sym awaited ∙ not-awaited-sync a sync))
+        by (AsParts awaited_too c) there typed part.Start =
+            let returned = extended_on (entry-extended c.entry) (extended_on (callee-extended c) placed.later) in
+            let started = extended_on c.return.puts.imports returned in
+            part_functions_transfer part.Start here s.imports u a adapters (first + 0) (part_transfers part.Start crosses c.start started (first + 0) (there 0 c.start.function refl) typed.0)
+        by (AsParts awaited_too c) there typed part.Return =
+            let returned = extended_on (entry-extended c.entry) (extended_on (callee-extended c) placed.later) in
+            part_functions_transfer part.Return here s.imports u a adapters (first + 1) (part_transfers part.Return crosses c.return returned (first + 1) (there 1 c.return.function refl) typed.1.0)

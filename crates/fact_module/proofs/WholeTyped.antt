@@ -1,17 +1,20 @@
--- The module of adapters that are built is well typed.
-use Rattle.std.proofs.Common.{◌≡◌, ◌≢◌, ℕ, suc, ◌+◌, ◌<◌, Bool, true, false, ◌⊎◌, List, [], ◌∷◌, ◌++◌, Option, Some, None, Contains, AllPairs, refl, sym, ap, ◌∙◌, subst, arith, length, map, slice_get, inl, inr}
-use Rattle.std.specs.Prelude.{All, is_some, not}
-use Rattle.std.specs.List.{AllByRecursion, flat_map, list_all, list_any}
+-- The module of adapters is well typed.
+use Rattle.std.proofs.Common.{◌≡◌, ◌≢◌, ℕ, zero, suc, ◌+◌, ◌≤◌, Bool, true, false, ◌||◌, ◌⊎◌, List, [], ◌∷◌, ◌++◌, Option, Some, None, Contains, AllPairs, refl, sym, ap, subst, arith, cond, map, slice_get, inl, inr}
+use Rattle.std.specs.Prelude.{All, is_some, not, option_and_then}
+use Rattle.std.specs.List.{AllByRecursion, AllZip, flat_map, list_all, list_any}
 use Rattle.std.specs.Str.{bytes_eq}
 use Rattle.std.proofs.lemmas.List.Elements.{All-contains, All-from_recursion}
-use Rattle.std.proofs.lemmas.Slice.Eq.{bytes_eq-Decides}
+use Rattle.fact_wasm.specs.declared.instr.FuncName.{FuncName}
+use Rattle.fact_wasm.specs.declared.instr.FuncName.TheVariants as func
 use Rattle.fact_wasm.specs.declared.types.FuncType.{FuncType}
 use Rattle.fact_wasm.specs.declared.module.ImportType.{ImportType}
 use Rattle.fact_wasm.specs.declared.module.ImportType.TheVariants as import
+use Rattle.fact_wasm.specs.declared.module.WasmExport.{WasmExport}
 use Rattle.fact_wasm.specs.declared.module.WasmFunc.{WasmFunc}
 use Rattle.fact_wasm.specs.declared.module.WasmImport.{WasmImport}
 use Rattle.fact_wasm.specs.declared.module.WasmModule.{WasmModule}
-use Rattle.fact_machine.specs.Typing.{are_distinct, is_memory_type, is_typed_export, is_typed_function, is_typed_import, typed_module}
+use Rattle.fact_machine.specs.Machine.{func_import}
+use Rattle.fact_machine.specs.Typing.{are_distinct, function_type, is_memory_type, is_typed_export, is_typed_function, is_typed_import, typed_module}
 use Rattle.fact_machine.proofs.Tests.{both}
 use Rattle.fact_types.specs.Adapters.{LinkedAdapter, Side, is_wide}
 use Rattle.fact_types.specs.Tables.{Tables}
@@ -19,16 +22,17 @@ use Rattle.fact_types.specs.declared.import.Import.{Import}
 use Rattle.fact_types.specs.declared.import.Import.TheVariants as known
 use Rattle.fact_types.specs.declared.outside.CoreDef.{CoreDef}
 use Rattle.fact_types.specs.declared.outside.MemoryOption.{MemoryOption}
-use Rattle.fact_plan_types.proofs.HandleLaws.{there as get-within}
 use Rattle.fact_checks.specs.AdapterRules.{export_names}
 use Rattle.fact_moves.specs.Adapters.{AdapterTunables}
-use Rattle.fact_emit.specs.ImportSection.{AreNamed, Callback, Callee, Flags, IsNamed, Mention, PostReturn, Realloc, Role, StandsFor, Storage, adapter_mentions, custom_page_size, imported_type, memory_mention, mention, mentions, side_mentions}
+use Rattle.fact_moves.proofs.States.{and_left, and_right}
+use Rattle.fact_emit.specs.ImportSection.{AreNamed, Callback, Callee as CalleeRole, Flags, IsNamed, Mention, PostReturn, Realloc, Role, StandsFor, Storage, a_function, adapter_mentions, custom_page_size, imported_function, imported_type, imports_of, memory_mention, mention, mentions, same_sort, side_mentions, sort_of}
 use Rattle.fact_emit.specs.States.{ModuleSoFar, module_of}
 use Rattle.fact_emit.proofs.Mentions.{in-mentions}
-use Rattle.fact_emit.proofs.ImportLists.{get-map}
 use Rattle.fact_forms.specs.Sound.{HasUsualPages, IsSoundAdapter}
-use Rattle.fact_module.specs.Holding.{AreBuilt, Holds, numbered}
-use Rattle.fact_module.proofs.WholeExports.{all-at, all-by-place, built-exports, one-place}
+use Rattle.fact_module.specs.Exports.{Callee, Exported, IsExportOf, Own, defined_type, exported, type_of_function}
+use Rattle.fact_module.specs.Holding.{Holds}
+use Rattle.fact_module.proofs.NameLaws.{named-once, times, times-here}
+use Rattle.fact_module.proofs.WholeExports.{all-at, exports-are}
 
 -- ---- lists
 
@@ -109,7 +113,7 @@ module _ (M : WasmModule) where
   typed-role before (Storage wide k) w u h = subst (λ v. is_typed_import M v ≡ true) (sym h) (usual-memory-type wide k u)
   typed-role before (Realloc wide) w u h = typed-function-import w _ h.is_typed
   typed-role before Callback w u h = typed-function-import w _ h.is_typed
-  typed-role before (Callee adapter ty) w u h = typed-function-import w _ h.is_typed
+  typed-role before (CalleeRole adapter ty) w u h = typed-function-import w _ h.is_typed
   typed-role before (PostReturn adapter results) w u h = typed-function-import w _ h.is_typed
 
   module _ (ms : List Mention) (usual : (r : Mention) → Contains ms r → IsUsualRole r.role) where
@@ -125,8 +129,8 @@ module _ (M : WasmModule) where
     typed-import before w known.ExitSyncCall h = typed-function-import w _ h.is_typed
     typed-import before w (known.UnsafeIntrinsic s) h = typed-function-import w _ h.is_typed
     typed-import before w (known.Transcode a b c d e) h = typed-function-import w _ h
-    typed-import before w (known.PrepareCall a) h = absurd h
-    typed-import before w (known.StartCall a b) h = absurd h
+    typed-import before w (known.PrepareCall a) h = typed-function-import w _ h.1
+    typed-import before w (known.StartCall a b) h = typed-function-import w _ h.1
 
     typed-imports : (before ws : List WasmImport) (is : List Import) → AreNamed M.types ms before ws is → list_all (is_typed_import M) ws ≡ true
     typed-imports before [] is h = refl
@@ -135,40 +139,74 @@ module _ (M : WasmModule) where
 
 -- ---- exports
 
--- the functions of these numbers are there, with their types
-abbrev HaveTypes : WasmModule → ℕ → List LinkedAdapter → Type 0
-HaveTypes M n adapters = (k : ℕ) → k < length adapters → (f : WasmFunc) × (t : FuncType) × (slice_get M.funcs (n + k) ≡ Some f) × (slice_get M.types f.ty ≡ Some t)
+-- an option that is there
+is-there : {X : Type 0} (o : Option X) (x : X) → o ≡ Some x → is_some o ≡ true
+is-there o x e = ap is_some e
 
-typed-exports : (M : WasmModule) (n : ℕ) (adapters : List LinkedAdapter) → HaveTypes M n adapters → list_all (is_typed_export M) (numbered n adapters) ≡ true
-typed-exports M n [] h = refl
-typed-exports M n (a ∷ adapters) h =
-    let (f, t, there, typed) = h 0 (omega arith) in
-    let at_n : slice_get M.funcs n ≡ Some f = ap (slice_get M.funcs) (omega arith) ∙ there in
-    both (rw (at_n, typed) refl) (typed-exports M (suc n) adapters (λ k within. let (g, u, is, has) = h (suc k) (omega (arith, within)) in (g, u, ap (slice_get M.funcs) (omega arith) ∙ is, has)))
+-- the type of a number, where there is one
+abbrev TypeAt : WasmModule → Option ℕ → Option FuncType
+TypeAt M o = elim o as (λ (x : Option ℕ). Option FuncType) [ None ↦ None | Some t ↦ slice_get M.types t ]
 
-other-name : (x y : List ℕ) → x ≢ y → bytes_eq x y ≡ false
-other-name x y h = go (bytes_eq x y) refl
+module _ (M : WasmModule) where
+  -- a function that the module defines has a type
+  defined-typed : (f : FuncName) (ty : FuncType) → defined_type M f ≡ Some ty → is_some (function_type M f) ≡ true
+  defined-typed (func.Import k) ty e = cc
+  defined-typed (func.Defined k) ty e = by (slice_get M.funcs k) e
+    where
+      by : (o : Option WasmFunc) → type_of_function M o ≡ Some ty → is_some (option_and_then (λ (f : WasmFunc). slice_get M.types f.ty) o) ≡ true
+      by None e = cc
+      by (Some f) e = is-there (slice_get M.types f.ty) ty e
+
+  -- and so does a function that it imports, where its imports are typed
+  imported-typed : (ws : List WasmImport) (is : List Import) (k : ℕ) (i : Import) → list_all (is_typed_import M) ws ≡ true → slice_get (imports_of a_function ws is) k ≡ Some i
+      → is_some (TypeAt M (func_import ws k)) ≡ true
+  imported-typed [] is k i typed at = cc
+  imported-typed (w ∷ ws) [] k i typed at = cc
+  imported-typed (w ∷ ws) (j ∷ is) k i typed at = by w.ty k (and_left (is_typed_import M w) (list_all (is_typed_import M) ws) typed) (λ n e. imported-typed ws is n i (and_right (is_typed_import M w) (list_all (is_typed_import M) ws) typed) e) at
+    where
+      rest : List Import
+      rest = imports_of a_function ws is
+
+      by : (ty : ImportType) (k : ℕ) → is_typed_import M (record w { ty = ty }) ≡ true → ((n : ℕ) → slice_get rest n ≡ Some i → is_some (TypeAt M (func_import ws n)) ≡ true)
+          → slice_get (cond (same_sort a_function (sort_of ty)) (j ∷ rest) rest) k ≡ Some i
+          → is_some (TypeAt M (elim ty as (λ (x : ImportType). Option ℕ) [ import.Func t ↦ elim k [ zero ↦ Some t | suc n ↦ func_import ws n ] | import.Memory a b c ↦ func_import ws k | import.Global a b ↦ func_import ws k ])) ≡ true
+      by (import.Func t) zero here more e = here
+      by (import.Func t) (suc n) here more e = more n e
+      by (import.Memory a b c) k here more e = more k e
+      by (import.Global a b) k here more e = more k e
+
+  module _ (is : List Import) (imports : list_all (is_typed_import M) M.imports ≡ true) where
+    typed-export : (e : WasmExport) (x : Exported) → IsExportOf M is e x → is_typed_export M e ≡ true
+    typed-export e (Own name ty) h = defined-typed e.func ty h.1
+    typed-export e (Callee name d) h = by e.func h.1
+      where
+        by : (f : FuncName) → imported_function M is f ≡ Some (known.CoreDef d) → is_some (function_type M f) ≡ true
+        by (func.Import k) there = imported-typed M.imports is k (known.CoreDef d) imports there
+        by (func.Defined k) there = cc
+
+    typed-exports : (es : List WasmExport) (xs : List Exported) → AllZip (IsExportOf M is) es xs → list_all (is_typed_export M) es ≡ true
+    typed-exports [] xs h = refl
+    typed-exports (e ∷ es) [] h = absurd h
+    typed-exports (e ∷ es) (x ∷ xs) h = both (typed-export e x h.0) (typed-exports es xs h.1)
+
+-- ---- names
+
+none-named : (name : List ℕ) (es : List WasmExport) → times name (map (λ (e : WasmExport). e.name) es) ≡ 0 → list_any (λ (d : WasmExport). bytes_eq name d.name) es ≡ false
+none-named name [] h = refl
+none-named name (e ∷ es) h = by (bytes_eq name e.name) h (none-named name es)
   where
-    go : (b : Bool) → bytes_eq x y ≡ b → b ≡ false
-    go true e = absurd (h ((bytes_eq-Decides x y).0 e))
-    go false e = refl
+    by : (b : Bool) → cond b 1 0 + times name (map (λ (e : WasmExport). e.name) es) ≡ 0 → (times name (map (λ (e : WasmExport). e.name) es) ≡ 0 → list_any (λ (d : WasmExport). bytes_eq name d.name) es ≡ false)
+        → (b || list_any (λ (d : WasmExport). bytes_eq name d.name) es) ≡ false
+    by true none rest = absurd (omega (arith, none))
+    by false none rest = rest (omega (arith, none))
 
-none-named : (name : List ℕ) (n : ℕ) (adapters : List LinkedAdapter) → AllByRecursion (λ (a : LinkedAdapter). name ≢ a.name) adapters → list_any (λ d. bytes_eq name d.name) (numbered n adapters) ≡ false
-none-named name n [] h = refl
-none-named name n (a ∷ adapters) h = rw (other-name name a.name h.0) (none-named name (suc n) adapters h.1)
-
-distinct-names : (n : ℕ) (adapters : List LinkedAdapter) → AllPairs (λ x y. x ≢ y) (map (λ a. a.name) adapters) → are_distinct (numbered n adapters) ≡ true
-distinct-names n [] h = refl
-distinct-names n (a ∷ adapters) h = both (ap not (none-named a.name (suc n) adapters others)) (distinct-names (suc n) adapters (λ i j d below within. h (suc i) (suc j) d (omega (arith, below)) (omega (arith, within))))
-  where
-    names : List (List ℕ)
-    names = map (λ (b : LinkedAdapter). b.name) (a ∷ adapters)
-
-    others : AllByRecursion (λ (b : LinkedAdapter). a.name ≢ b.name) adapters
-    others = all-by-place (λ (b : LinkedAdapter). a.name ≢ b.name) adapters (λ k b e same.
-        let at : slice_get names (suc k) ≡ Some a.name = get-map (λ (b : LinkedAdapter). b.name) adapters k b e ∙ ap Some (sym same) in
-        let one : 0 ≡ suc k = one-place names h 0 (suc k) a.name refl at in
-        absurd (omega (arith, one)))
+-- names that stand once at most are distinct
+distinct-names : (es : List WasmExport) → ((x : List ℕ) → times x (map (λ (e : WasmExport). e.name) es) ≤ 1) → are_distinct es ≡ true
+distinct-names [] h = refl
+distinct-names (e ∷ es) h =
+    let once = h e.name in
+    let here = times-here e.name (map (λ (e : WasmExport). e.name) es) in
+    both (ap not (none-named e.name es (omega (arith, once, here)))) (distinct-names es (λ x. let first = h x in omega (arith, first)))
 
 -- ---- the module
 
@@ -178,19 +216,13 @@ pub record HasTypedFunction (M : WasmModule) (f : WasmFunc) : Type 0 where
   pub type_is : slice_get M.types f.ty ≡ Some ty
   pub typed : is_typed_function M f ≡ true
 
-module _ (t : Tables) (u : AdapterTunables) (s : ModuleSoFar) (adapters : List LinkedAdapter) (h : Holds t u s adapters) (built : AreBuilt adapters) (sound : All IsSoundAdapter adapters)
+module _ (t : Tables) (u : AdapterTunables) (s : ModuleSoFar) (adapters : List LinkedAdapter) (tuples : ℕ → ℕ) (h : Holds t u s adapters tuples) (sound : All IsSoundAdapter adapters)
     (distinct : AllPairs (λ x y. x ≢ y) (flat_map export_names adapters)) (each : (k : ℕ) (f : WasmFunc) → slice_get s.functions k ≡ Some f → HasTypedFunction (module_of s) f) where
-  have-types : HaveTypes (module_of s) 0 adapters
-  have-types k within =
-      let (f, e) = get-within s.functions k (omega (arith, within, h.count)) in
-      (f, _, ap (slice_get s.functions) (omega arith) ∙ e, (each k f e).type_is)
-
   pub typed-module : typed_module (module_of s) ≡ true
   typed-module =
       let M = module_of s in
       let imports : list_all (is_typed_import M) s.section ≡ true = typed-imports M (mentions adapters) (usual-mentions adapters sound) [] s.section s.imports h.lists.named in
-      let exports : list_all (is_typed_export M) s.exports ≡ true = subst (λ es. list_all (is_typed_export M) es ≡ true) (sym h.exports) (typed-exports M 0 adapters have-types) in
-      let names : are_distinct s.exports ≡ true =
-      subst (λ es. are_distinct es ≡ true) (sym h.exports) (distinct-names 0 adapters (subst (AllPairs (λ x y. x ≢ y)) (built-exports adapters built) distinct)) in
+      let exports : list_all (is_typed_export M) (s.exports ++ s.callees) ≡ true = typed-exports M s.imports imports (s.exports ++ s.callees) (exported adapters) (exports-are t u s adapters tuples h sound) in
+      let names : are_distinct (s.exports ++ s.callees) ≡ true = distinct-names (s.exports ++ s.callees) (named-once M s.imports s.exports s.callees adapters distinct h.exports h.callees) in
       let functions : list_all (is_typed_function M) s.functions ≡ true = each-passes (is_typed_function M) s.functions (λ k f e. (each k f e).typed) in
       both imports (both exports (both names functions))

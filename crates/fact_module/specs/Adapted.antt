@@ -1,5 +1,5 @@
--- Adapters of a component that a module is to take: their faults, and whether they are built.
-use Rattle.std.specs.Prelude.{◌≡◌, ℕ, ◌<◌, ◌≤◌, ◌⊎◌, Bool, true, nat_eq, List, [], ◌∷◌, ◌++◌, Some, slice_get, if◌then◌else◌}
+-- Adapters of a component that a module is to take: their faults.
+use Rattle.std.specs.Prelude.{◌≡◌, ℕ, ◌<◌, ◌≤◌, ◌⊎◌, Bool, nat_eq, List, [], ◌∷◌, ◌++◌, Some, slice_get, if◌then◌else◌}
 use Rattle.std.specs.List.{list_any}
 use Rattle.fact_entity.specs.declared.id.Id.{Id}
 use Rattle.fact_entity.specs.declared.table.Adapters.{Adapters}
@@ -15,7 +15,7 @@ use Rattle.fact_checks.specs.AdapterRules.{most_instance}
 use Rattle.fact_checks.specs.Linked.{NamesTypesOf}
 use Rattle.fact_module.specs.declared.dfg.ComponentDfg.{ComponentDfg}
 use Rattle.fact_module.specs.declared.taken.TakenAdapter.{TakenAdapter}
-use Rattle.fact_module.specs.Collected.{Collected, HasLinkedFault, IsBuiltFor}
+use Rattle.fact_module.specs.Collected.{Collected, HasLinkedFault}
 
 -- ---- the adapters of a component
 
@@ -68,9 +68,3 @@ IsFaultlessFor c k t = (f : Fault) → HasFaultFor c k t f → ⊥
 pub record IsFirst (c : Collected) (k : ℕ) (t : TakenAdapter) (f : Fault) : Type 0 where
   pub has : HasFaultFor c k t f
   pub none_before : (g : Fault) → rank g < rank f → HasFaultFor c k t g → ⊥
-
--- ---- what is built
-
--- While the module is whole, the adapter is built, where it has no fault.
-abbrev pub MayAdapt : Collected → ℕ → TakenAdapter → Type 0
-MayAdapt c k t = c.whole ≡ true → IsFaultlessFor c k t → IsBuiltFor c t

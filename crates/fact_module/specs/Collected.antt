@@ -1,5 +1,5 @@
 -- A module as contracts see it while adapters are added to it.
-use Rattle.std.specs.Prelude.{◌≡◌, ℕ, Bool, true, List, [], ◌∷◌, ◌++◌, Some, All}
+use Rattle.std.specs.Prelude.{◌≡◌, ℕ, Bool, true, List, [], ◌∷◌, ◌++◌, None, Some, All, slice_get}
 use Rattle.std.specs.List.{AllZip}
 use Rattle.fact_wasm.specs.declared.instr.FuncName.{FuncName}
 use Rattle.fact_wasm.specs.declared.module.WasmModule.{WasmModule}
@@ -16,11 +16,11 @@ use Rattle.fact_emit.specs.declared.tunables.Tunables.{Tunables}
 use Rattle.fact_emit.specs.declared.tunables.WasmFeatures.{WasmFeatures}
 use Rattle.fact_module.specs.declared.taken.TakenAdapter.{TakenAdapter}
 use Rattle.fact_emit.specs.States.{ModuleSoFar}
-use Rattle.fact_forms.specs.Built.{IsBuiltAdapter}
+use Rattle.fact_compound.specs.Entries.{tuple_of_results}
 use Rattle.fact_forms.specs.Sound.{IsSoundAdapter}
 use Rattle.fact_module.specs.Exports.{exported_as}
 use Rattle.fact_module.specs.Faithful.{Promised, adapter_tunables}
-use Rattle.fact_module.specs.Holding.{AreBuilt, Holds}
+use Rattle.fact_module.specs.Holding.{Holds}
 
 -- ---- a module
 
@@ -70,10 +70,6 @@ pub record HasLinkedFault (c : Collected) (t : TakenAdapter) (f : Fault) : Type 
   pub is_linked : IsTakenAs c.builder t linked
   pub has : LinkedHas c.tunables.concurrency_support before linked f
 
--- An adapter is built.
-abbrev pub IsBuiltFor : Collected → TakenAdapter → Type 0
-IsBuiltFor c t = (a : LinkedAdapter) → IsTakenAs c.builder t a → IsBuiltAdapter a
-
 -- The list is the other with more behind it.
 pub record BeginsWith {A : Type 0} (list first : List A) : Type 0 where
   pub more : List A
@@ -87,20 +83,23 @@ pub record Extends (old new : Collected) : Type 0 where
   pub functions : BeginsWith new.tree.funcs old.tree.funcs
   pub exports : (name : List ℕ) (f : FuncName) → exported_as name old.tree.exports ≡ Some f → exported_as name new.tree.exports ≡ Some f
 
+-- The number of the tuple of the results of the lift side's function, of the adapter that it took at a place.
+abbrev pub result_tuple_of : Collected → (place : ℕ) → ℕ
+result_tuple_of c place = elim (slice_get c.taken place) [ None ↦ 0 | Some t ↦ tuple_of_results c.builder.tables t.adapter.lift_ty ]
+
 -- Its tree promises all that the module of the adapters that it took does.
 pub record KeepsPromises (c : Collected) : Type 0 where
   pub in_range : InRange c.tree
   pub adapters : List LinkedAdapter
   pub taken : AreTaken c adapters
-  pub promised : (them : List LinkedAdapter) → AreTaken c them → Promised c.tree c.imports c.tunables c.features them
+  pub promised : (them : List LinkedAdapter) → AreTaken c them → Promised c.tree c.imports c.tunables c.features them (result_tuple_of c)
 
 -- ---- what holds of it at all times
 
 -- The checks and the parts of the module are those of these adapters.
 pub record IsStateOf (c : Collected) (checks : Checks) (s : ModuleSoFar) (adapters : List LinkedAdapter) : Type 0 where
   pub checked : AreChecked checks adapters
-  pub holds : Holds c.builder.tables (adapter_tunables c.tunables c.features) s adapters
-  pub built : AreBuilt adapters
+  pub holds : Holds c.builder.tables (adapter_tunables c.tunables c.features) s adapters (result_tuple_of c)
   pub sound : All IsSoundAdapter adapters
 
 pub record IsMade (c : Collected) (checks : Checks) (s : ModuleSoFar) : Type 0 where

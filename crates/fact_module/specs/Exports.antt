@@ -1,5 +1,5 @@
 -- What a module of adapters exports.
-use Rattle.std.specs.Prelude.{◌≡◌, ℕ, ◌&&◌, List, [], ◌∷◌, ◌++◌, Option, Some, None, slice_get, codes, if◌then◌else◌}
+use Rattle.std.specs.Prelude.{◌≡◌, ℕ, List, [], ◌∷◌, ◌++◌, Option, Some, None, slice_get, if◌then◌else◌}
 use Rattle.std.specs.Str.{bytes_eq}
 use Rattle.std.specs.List.{flat_map}
 use Rattle.fact_wasm.specs.declared.types.FuncType.{FuncType}
@@ -11,24 +11,25 @@ use Rattle.fact_wasm.specs.declared.module.WasmModule.{WasmModule}
 use Rattle.fact_types.specs.declared.outside.CoreDef.{CoreDef}
 use Rattle.fact_types.specs.declared.import.Import.{Import}
 use Rattle.fact_types.specs.declared.import.Import.TheVariants as known
-use Rattle.fact_types.specs.Adapters.{LinkedAdapter, is_async, is_crossing}
-use Rattle.fact_emit.specs.ImportSection.{imported_function}
+use Rattle.fact_types.specs.Adapters.{LinkedAdapter}
+use Rattle.fact_emit.specs.ImportSection.{imported_function, is_awaited}
+use Rattle.fact_compound.specs.AsyncParts.{callee_name, part_name, part_type}
+use Rattle.fact_compound.specs.declared.asyncs.AsyncPart.TheVariants as part
 
--- what an export is: an adapter's function of this type, a part of an async adapter, or the callee of one
+-- what an export is: a function of an adapter, of this type, or the callee of an async adapter between two instances
 pub data Exported : Type 0 where
-  Whole : (name : List ℕ) → (ty : FuncType) → Exported
-  Part : (name : List ℕ) → Exported
+  Own : (name : List ℕ) → (ty : FuncType) → Exported
   Callee : (name : List ℕ) → (def : CoreDef) → Exported
 
 -- the functions of an adapter that are exported, and the callee of an async one between two instances
 abbrev pub exported_functions_of : LinkedAdapter → List Exported
 exported_functions_of a =
-    if is_async a && is_crossing a
-    then Part (codes "[async-start]" ++ a.name) ∷ Part (codes "[async-return]" ++ a.name) ∷ Whole a.name a.lower.core_type ∷ []
-    else Whole a.name a.lower.core_type ∷ []
+    if is_awaited a
+    then Own (part_name part.Start a.name) (part_type part.Start a) ∷ Own (part_name part.Return a.name) (part_type part.Return a) ∷ Own a.name a.lower.core_type ∷ []
+    else Own a.name a.lower.core_type ∷ []
 
 abbrev pub callee_of : LinkedAdapter → List Exported
-callee_of a = if is_async a && is_crossing a then Callee (codes "[adapter-callee]" ++ a.name) a.callee ∷ [] else []
+callee_of a = if is_awaited a then Callee (callee_name a.name) a.callee ∷ [] else []
 
 abbrev pub exported : List LinkedAdapter → List Exported
 exported adapters = flat_map exported_functions_of adapters ++ flat_map callee_of adapters
@@ -42,12 +43,8 @@ abbrev pub defined_type : WasmModule → FuncName → Option FuncType
 defined_type m (func.Defined k) = type_of_function m (slice_get m.funcs k)
 defined_type m (func.Import k) = None
 
-abbrev pub IsDefined : WasmModule → FuncName → Type 0
-IsDefined m f = (ty : FuncType) × (defined_type m f ≡ Some ty)
-
 abbrev pub IsExportOf : WasmModule → List Import → WasmExport → Exported → Type 0
-IsExportOf m is e (Whole name ty) = (e.name ≡ name) × (defined_type m e.func ≡ Some ty)
-IsExportOf m is e (Part name) = (e.name ≡ name) × IsDefined m e.func
+IsExportOf m is e (Own name ty) = (e.name ≡ name) × (defined_type m e.func ≡ Some ty)
 IsExportOf m is e (Callee name d) = (e.name ≡ name) × (imported_function m is e.func ≡ Some (known.CoreDef d))
 
 -- what is exported under a name

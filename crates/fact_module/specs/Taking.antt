@@ -6,7 +6,7 @@ use Rattle.fact_checks.specs.declared.sides.Candidate.{Candidate}
 use Rattle.fact_types.specs.Adapters.{LinkedAdapter}
 use Rattle.fact_checks.specs.AdapterRules.{LinkedHas}
 use Rattle.fact_checks.specs.Linked.{IsLinked}
-use Rattle.fact_module.specs.Collected.{AreTaken, Collected, HasLinkedFault, IsBuiltFor, taken_of}
+use Rattle.fact_module.specs.Collected.{AreTaken, Collected}
 
 -- Of the adapters that it took and of this one, with all that they name looked up, something is so.
 abbrev pub Behind : Collected → Candidate → (List LinkedAdapter → LinkedAdapter → Type 0) → Type 0
@@ -22,7 +22,3 @@ IsSoundBehind c candidate = Behind c candidate (λ before a. (f : Fault) → Has
 -- It has this one, and none that is looked for before it.
 abbrev pub IsFirstBehind : Collected → Candidate → Fault → Type 0
 IsFirstBehind c candidate f = Behind c candidate (λ before a. HasFaultBehind c before a f × ((g : Fault) → rank g < rank f → HasFaultBehind c before a g → ⊥))
-
--- It is built, where it has no fault.
-abbrev pub MayTake : Collected → Candidate → Type 0
-MayTake c candidate = ((f : Fault) → HasLinkedFault c (taken_of candidate) f → ⊥) → IsBuiltFor c (taken_of candidate)

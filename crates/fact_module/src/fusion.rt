@@ -1,19 +1,17 @@
 //! The fused module of a plan.
 
-ghost use Rattle.std.specs.Prelude.{◌≡◌, ◌↔◌, ◌≤◌, ◌<◌, ◌+◌, Some, slice_get, IfErr, IfOk, IfSome, IsTrue, OnOk};
-ghost use Rattle.fact_forms.specs.Built.{IsBuiltPlan};
+ghost use Rattle.std.specs.Prelude.{◌≡◌, ◌≤◌, ◌+◌, Some, slice_get, IfErr, IfOk, IfSome, OnOk};
 ghost use Rattle.fact_plan_types.specs.PlanTypes.{AreFaultless, AreTypesOf, told};
 ghost use Rattle.fact_checks.specs.FirstFault.{IsFaultlessPlan, IsFirstAt};
 ghost use Rattle.fact_checks.specs.Links.{IsFirstHere};
 ghost use Rattle.fact_module.specs.Fusing.{HasTakenAll, HasTakenTo};
-ghost use Rattle.fact_module.specs.Fused.{IsFused, MayFuse};
+ghost use Rattle.fact_module.specs.Fused.{IsFused};
 ghost use Rattle.fact_wasm.specs.Ranges.{InRange};
 ghost use Rattle.fact_wasm.specs.Spelling.{Spells};
 
-use crate::module::{Module, is_memory};
-use fact_checks::{FuseError, candidate_of, check_adapters, check_plan, linked_adapter};
+use crate::module::Module;
+use fact_checks::{FuseError, candidate_of, linked_adapter};
 use fact_emit::tunables::{Tunables, WasmFeatures};
-use fact_forms::is_built_plan;
 use fact_plan::{FusePlan, PlanAdapter};
 use fact_plan_types::PlanTypes;
 use fact_types::Import;
@@ -37,7 +35,6 @@ fn take_adapter(
     adapter: &PlanAdapter,
 ) -> Result<(), FuseError>
     requires types { AreTypesOf plan.now types.now }
-    requires built { IsBuiltPlan plan.now }
     requires at { HasTakenTo plan.now types.now.builder made.old k }
     requires there { slice_get plan.now.adapters k ≡ Some adapter.now }
     ensures taken { OnOk result (HasTakenTo plan.now types.now.builder made.new (k + 1)) }
@@ -55,7 +52,6 @@ fn take_adapter(
 fn take_adapters(made: &mut Module<'_>, plan: &FusePlan, types: &PlanTypes) -> Result<(), FuseError>
     requires types { AreTypesOf plan.now types.now }
     requires faultless { AreFaultless plan.now }
-    requires built { IsBuiltPlan plan.now }
     requires at { HasTakenTo plan.now types.now.builder made.old 0 }
     ensures faultless { OnOk result (IsFaultlessPlan plan.now) }
     ensures taken { OnOk result (HasTakenAll plan.now made.new) }
@@ -88,14 +84,11 @@ fn spelled(alloc: Global, module: WasmModule, imports: Seq<Import>) -> Result<Fu
 fn fuse_over(alloc: Global, plan: &FusePlan, types: &PlanTypes) -> Result<Fused, FuseError>
     requires types { AreTypesOf plan.now types.now }
     requires faultless { AreFaultless plan.now }
-    requires built { MayFuse plan.now }
     requires fuel { 1 ≤ plan.now.tunables.fuel }
     ensures fused { IfOk result (λ f. IsFused f plan.now) }
     ensures faultless { OnOk result (IsFaultlessPlan plan.now) }
     ensures refused { IfErr result (λ e. IfSome (told e) (λ x. IsFirstAt plan.now x.0 x.1)) }
 {
-    // All adapters are checked before code is written for the first one: a plan with a fault may have adapters that are not built.
-    check_adapters(alloc, plan, types)?;
     let tunables = Tunables {
         concurrency_support: plan.tunables.concurrency,
         debug_adapter_modules: plan.tunables.debug,
@@ -110,31 +103,15 @@ fn fuse_over(alloc: Global, plan: &FusePlan, types: &PlanTypes) -> Result<Fused,
         drop(made);
         return Err(error);
     }
-    let (module, imports) = made.into_parts();
+    let (module, imports) = made.into_parts()?;
     Ok(spelled(alloc, module, imports)?)
 }
 
-/// Whether [`fuse`] may be asked for the module of a plan: whether each of its adapters is built so far, or it has a fault.
-/// `OutOfMemory` is the one refusal.
-pub fn may_fuse(alloc: Global, plan: &FusePlan) -> Result<bool, FuseError>
-    ensures exact { IfOk result (λ may. IsTrue may ↔ MayFuse plan.now) }
-    ensures memory { IfErr result (λ e. e ≡ FuseError.OutOfMemory) }
-{
-    if let Err(error) = check_plan(alloc, plan) {
-        if is_memory(error) {
-            return Err(error);
-        }
-        return Ok(true);
-    }
-    is_built_plan(alloc, plan)
-}
-
-/// The module that joins the two sides of each adapter of a plan, each of which is built so far. Its imports and exports
-/// are those of the plan ([`Import`], and each adapter's name), and its functions carry values unchanged; that of an adapter
-/// within one instance traps at each call. A plan that has a fault is refused with its first one, as by `check_plan`, whether
-/// its adapters are built or not.
+/// The module that joins the two sides of each adapter of a plan. Its imports and exports are those of the plan ([`Import`],
+/// each adapter's name, and for an async one between two instances those of its two parts and its callee), and its functions
+/// carry values unchanged; that of an adapter within one instance traps at each call. A plan that has a fault is refused with
+/// its first one, as by `check_plan`.
 pub fn fuse(alloc: Global, plan: &FusePlan) -> Result<Fused, FuseError>
-    requires built { MayFuse plan.now }
     requires fuel { 1 ≤ plan.now.tunables.fuel }
     ensures fused { IfOk result (λ f. IsFused f plan.now) }
     ensures faultless { OnOk result (IsFaultlessPlan plan.now) }

@@ -12,7 +12,6 @@ mod typed;
 pub use dfg::ComponentDfg;
 pub use fact_checks::{Adapter, AdapterOptionsDfg, FuseError, MemoryOption, Place, check_plan};
 pub use fact_emit::tunables::{Tunables, WasmFeatures};
-pub use fact_forms::is_built_plan;
 pub use fact_plan::{
     FusePlan, PlanAdapter, PlanFunc, PlanMemory, PlanRef, PlanSide, PlanTunables, PlanType,
     PrimitiveValType,
@@ -21,5 +20,5 @@ pub use fact_types::{
     CoreDef, FixedEncoding, Import, RuntimeComponentInstanceIndex, RuntimeInstanceIndex,
     StringEncoding, TrampolineIndex, Transcode, Trap, UnsafeIntrinsic,
 };
-pub use fusion::{Fused, fuse, may_fuse};
+pub use fusion::{Fused, fuse};
 pub use module::Module;

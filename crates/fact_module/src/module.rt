@@ -1,22 +1,22 @@
 //! A module to which adapters are added one after another.
 
-ghost use Rattle.std.specs.Prelude.{◌≡◌, ◌↔◌, ◌++◌, ◌∷◌, ◌<◌, ◌≤◌, [], List, true, false, Err, length, slice_get, IfErr, IfOk, IfSome, IsTrue, OnErr, OnOk};
+ghost use Rattle.std.specs.Prelude.{◌≡◌, ◌↔◌, ◌++◌, ◌∷◌, ◌<◌, ◌≤◌, [], List, true, false, Err, length, IfErr, IfOk, IfSome, IsTrue, OnErr, OnOk};
 ghost use Rattle.fact_wasm.specs.Ranges.{InRange};
 ghost use Rattle.fact_wasm.specs.Spelling.{Spells};
 ghost use Rattle.fact_plan_types.specs.PlanTypes.{told};
 ghost use Rattle.fact_plan_types.specs.declared.error.Place.TheVariants as place_at;
 ghost use Rattle.fact_checks.specs.Linked.{IsLinked, NamesTypesOf};
-ghost use Rattle.fact_module.specs.Adapted.{IsFaultlessFor, IsFirst, MayAdapt, OfAdapter};
-ghost use Rattle.fact_module.specs.Collected.{AreTaken, Extends, HasTaken, KeepsSettings, KeepsPromises, no_tree, taken_of};
+ghost use Rattle.fact_module.specs.Adapted.{IsFaultlessFor, IsFirst, OfAdapter};
+ghost use Rattle.fact_module.specs.Collected.{AreTaken, Extends, HasTaken, KeepsSettings, KeepsPromises, no_tree, result_tuple_of, taken_of};
 ghost use Rattle.fact_types.specs.Adapters.{LinkedAdapter};
+ghost use Rattle.fact_compound.specs.Entries.{tuple_of_results};
 ghost use Rattle.fact_forms.specs.Sound.{HasValidSides};
 ghost use Rattle.fact_module.specs.Adding.{Adds};
 ghost use Rattle.fact_module.specs.Faithful.{Promised, adapter_tunables};
 ghost use Rattle.fact_emit.specs.ImportSection.{NamesImports};
 ghost use Rattle.fact_emit.specs.Settings.{OnlySectionsChanged};
 ghost use Rattle.fact_module.specs.Order.{IsOrdered};
-ghost use Rattle.fact_module.specs.Taking.{IsFirstBehind, IsSoundBehind, MayTake};
-ghost use Rattle.fact_module.specs.Typed.{HasSoundTypes};
+ghost use Rattle.fact_module.specs.Taking.{IsFirstBehind, IsSoundBehind};
 
 use crate::dfg::ComponentDfg;
 use crate::linking::link_adapter;
@@ -28,7 +28,6 @@ use fact_compound::functions::compile;
 use fact_emit::state::ModuleState;
 use fact_emit::tunables::{Tunables, WasmFeatures};
 use fact_entity::{AdapterId, EntityRef};
-use fact_forms::is_built;
 use fact_type_rules::FunctionTypes;
 use fact_types::Import;
 use fact_wasm::{OutOfMemory, Seq, WasmModule, encode};
@@ -82,16 +81,16 @@ impl Drop for Module<'_> {
 }
 
 /// Whether an error is a want of memory.
-pub(crate) fn is_memory(error: FuseError) -> bool
+fn is_memory(error: FuseError) -> bool
     ensures { IsTrue result ↔ (error ≡ FuseError.OutOfMemory) }
 {
     matches!(error, FuseError::OutOfMemory)
 }
 
-/// Imports what an adapter names, and adds its function.
+/// Imports what an adapter names, and adds its functions.
 fn add_adapter(state: &mut ModuleState<'_>, candidate: &Candidate<'_>) -> Result<(), OutOfMemory>
     requires typed { NamesTypesOf state.old.builder.now candidate.now.adapter.now }
-    ensures added { OnOk result ((a : LinkedAdapter) → IsLinked state.old.builder.now candidate.now a → Adds state.old.builder.now.tables (adapter_tunables state.old.tunables.now state.old.features) state.old.sections state.new.sections a) }
+    ensures added { OnOk result ((a : LinkedAdapter) → IsLinked state.old.builder.now candidate.now a → Adds state.old.builder.now.tables (adapter_tunables state.old.tunables.now state.old.features) state.old.sections state.new.sections a (tuple_of_results state.old.builder.now.tables candidate.now.adapter.now.lift_ty)) }
     ensures keeps { OnlySectionsChanged state.old state.new }
 {
     let linked = link_adapter(&mut state.sections, state.builder, candidate)?;
@@ -128,7 +127,7 @@ fn emit(
 ) -> Result<(), OutOfMemory>
     requires typed { NamesTypesOf state.old.builder.now candidate.now.adapter.now }
     ensures taken { OnOk result (taken.new.items ≡ taken.old.items ++ taken_of candidate.now ∷ []) }
-    ensures emitted { OnOk result ((a : LinkedAdapter) → IsLinked state.old.builder.now candidate.now a → Adds state.old.builder.now.tables (adapter_tunables state.old.tunables.now state.old.features) state.old.sections state.new.sections a) }
+    ensures emitted { OnOk result ((a : LinkedAdapter) → IsLinked state.old.builder.now candidate.now a → Adds state.old.builder.now.tables (adapter_tunables state.old.tunables.now state.old.features) state.old.sections state.new.sections a (tuple_of_results state.old.builder.now.tables candidate.now.adapter.now.lift_ty)) }
     ensures keeps { OnlySectionsChanged state.old state.new }
     ensures refused { OnErr result (taken.new.items ≡ taken.old.items) }
 {
@@ -157,30 +156,12 @@ impl<'a> Module<'a> {
         }
     }
 
-    /// Tells the first fault of an adapter behind those that were taken, and keeps nothing of it.
-    fn judge(&mut self, number: u32, candidate: &Candidate<'_>) -> Result<(), FuseError>
-        requires whole { self.old.whole ≡ true }
-        ensures unchanged { self.new ≡ self.old }
-        ensures types { OnOk result (HasSoundTypes self.old.builder number candidate.now.adapter.now) }
-        ensures faultless { OnOk result (IsFaultlessFor self.old number (taken_of candidate.now)) }
-        ensures refused { IfErr result (λ e. IfSome (told e) (λ x. IsFirst self.old number (taken_of candidate.now) x.0 × (x.1 ≡ place_at.Adapter number))) }
-    {
-        check_types(
-            self.state.builder,
-            &mut self.types,
-            number,
-            candidate.adapter,
-        )?;
-        self.checks.judge(number, candidate)
-    }
-
     /// Takes an adapter, whose types are in the builder and have no fault, behind those that were taken, or tells its first
     /// fault, with its number as place. After a want of memory the module is whole no more.
     pub(crate) fn take(&mut self, number: u32, candidate: &Candidate<'_>) -> Result<(), FuseError>
         requires whole { self.old.whole ≡ true }
         requires typed { NamesTypesOf self.old.builder candidate.now.adapter.now }
         requires valid { (a : LinkedAdapter) → IsLinked self.old.builder candidate.now a → HasValidSides a }
-        requires built { MayTake self.old candidate.now }
         ensures keeps { KeepsSettings self.old self.new }
         ensures taken { OnOk result (HasTaken self.old self.new (taken_of candidate.now)) }
         ensures extends { OnOk result (Extends self.old self.new) }
@@ -207,8 +188,7 @@ impl<'a> Module<'a> {
 
     /// Takes the adapter of an id, which is live, under a name, behind those that were taken, or tells its first fault behind
     /// them, with the id's number as place; the types are judged as they stand in the builder. After a refusal but
-    /// `OutOfMemory` the module is as before; after `OutOfMemory` it is whole no more, and answers nothing else. The adapter
-    /// is built where it has no fault, which [`Module::may_adapt`] tells.
+    /// `OutOfMemory` the module is as before; after `OutOfMemory` it is whole no more, and answers nothing else.
     pub fn adapt(
         &mut self,
         name: &str,
@@ -216,7 +196,6 @@ impl<'a> Module<'a> {
         adapter: AdapterId,
     ) -> Result<(), FuseError>
         requires live { adapter.number < length component.now.adapters }
-        requires built { OfAdapter component.now adapter name.now (MayAdapt self.old adapter.number) }
         ensures keeps { KeepsSettings self.old self.new }
         ensures taken { OnOk result (OfAdapter component.now adapter name.now (HasTaken self.old self.new)) }
         ensures extends { OnOk result (Extends self.old self.new) }
@@ -242,33 +221,6 @@ impl<'a> Module<'a> {
             return Err(error);
         }
         self.take(number, &candidate)
-    }
-
-    /// Whether the adapter of an id, which is live, is built, where it has no fault behind those that were taken: whether
-    /// [`Module::adapt`] may be asked to take it under this name. A module that is whole no more may be asked for any.
-    /// `OutOfMemory` is the one refusal.
-    pub fn may_adapt(
-        &mut self,
-        name: &str,
-        component: &ComponentDfg,
-        adapter: AdapterId,
-    ) -> Result<bool, FuseError>
-        requires live { adapter.number < length component.now.adapters }
-        ensures unchanged { self.new ≡ self.old }
-        ensures exact { IfOk result (λ may. IsTrue may ↔ OfAdapter component.now adapter name.now (MayAdapt self.new adapter.number)) }
-        ensures memory { IfErr result (λ e. e ≡ FuseError.OutOfMemory) }
-    {
-        if !self.whole {
-            return Ok(true);
-        }
-        let candidate = component.candidate(name, adapter);
-        if let Err(error) = self.judge(adapter.as_u32(), &candidate) {
-            if is_memory(error) {
-                return Err(error);
-            }
-            return Ok(true);
-        }
-        Ok(is_built(self.state.builder, &candidate))
     }
 
     /// A copy of the module of the adapters so far. `OutOfMemory` is the one refusal; it comes for good once [`Module::adapt`]
@@ -301,11 +253,11 @@ impl<'a> Module<'a> {
     }
 
     /// The module, and what its imports are.
-    pub(crate) fn into_parts(self) -> (WasmModule, Seq<Import>)
+    pub(crate) fn into_parts(self) -> Result<(WasmModule, Seq<Import>), OutOfMemory>
         requires { self.whole ≡ true }
-        ensures parts { (result.0 ≡ self.entry.tree) × (result.1 ≡ self.entry.imports) }
-        ensures in_range { InRange result.0 }
-        ensures promised { (adapters : List LinkedAdapter) → AreTaken self.entry adapters → Promised result.0 self.entry.imports self.entry.tunables self.entry.features adapters }
+        ensures parts { IfOk result (λ parts. (parts.0 ≡ self.entry.tree) × (parts.1 ≡ self.entry.imports)) }
+        ensures in_range { IfOk result (λ parts. InRange parts.0) }
+        ensures promised { IfOk result (λ parts. (adapters : List LinkedAdapter) → AreTaken self.entry adapters → Promised parts.0 self.entry.imports self.entry.tunables self.entry.features adapters (result_tuple_of self.entry)) }
     {
         let Module {
             alloc: _,

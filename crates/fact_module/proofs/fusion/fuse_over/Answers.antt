@@ -1,9 +1,10 @@
 use Rattle.std.proofs.Common.{refl}
-use Rattle.fact_module.proofs.FuseLaws.{taken-first}
+use Rattle.fact_module.proofs.FuseLaws.{fused-all, taken-first}
 use Rattle.fact_module.proofs.fusion.fuse_over.Goals as goal
-
-pub take_adapters-requires-clause-built : goal.take_adapters-requires-clause-built
-take_adapters-requires-clause-built c = c.requires.built c.in_ok-check_adapters.ensures.faultless
 
 pub take_adapters-requires-clause-at : goal.take_adapters-requires-clause-at
 take_adapters-requires-clause-at c = rw c.new-made.ensures (taken-first _ _ _ (record { builder = refl; tunables = refl; features = refl }) refl refl)
+
+pub returns-clause-fused : goal.returns-clause-fused
+returns-clause-fused c =
+    fused-all _ _ c.in_ok-spelled.field-0 c.in_ok-module.module c.in_ok-module.imports c.in_default.ensures.taken c.in_ok-spelled.ensures.fused c.in_ok-module.ensures.parts c.in_ok-module.ensures.in_range c.in_ok-module.ensures.promised

@@ -5,7 +5,7 @@ use Rattle.fact_types.specs.Adapters.{LinkedAdapter}
 use Rattle.fact_checks.specs.Linked.{IsLinked, NamesTypesOf}
 use Rattle.fact_forms.specs.Sound.{HasValidSides}
 use Rattle.fact_module.specs.Collected.{Collected, taken_of}
-use Rattle.fact_module.specs.Taking.{IsSoundBehind, MayTake}
+use Rattle.fact_module.specs.Taking.{IsSoundBehind}
 use Rattle.fact_module.proofs.TakeLaws.{extends-more, made-more, refused-behind, sound-behind}
 use Rattle.fact_module.proofs.module.Module.take.Goals as goal
 
@@ -17,10 +17,9 @@ invariant_of-self-in-Ok c =
     let whole = ap (λ (v : Collected). v.whole) c.self.view_is ∙ c.requires.whole in
     let typed = subst (λ (v : Collected). NamesTypesOf v.builder c.args.candidate.now.adapter.now) (sym c.self.view_is) c.requires.typed in
     let valid = subst (λ (v : Collected). (a : LinkedAdapter) → IsLinked v.builder c.args.candidate.now a → HasValidSides a) (sym c.self.view_is) c.requires.valid in
-    let may = subst (λ (v : Collected). MayTake v c.args.candidate.now) (sym c.self.view_is) c.requires.built in
     let sound = subst (λ (t : Tables). IsSound t) c.component_types.ensures c.reveal-2.ensures.sound in
     let kept = c.emit.ensures.keeps in
-    let made = made-more _ c.self.inside.checks c.check.new.self c.self.inside.state.sections c.emit.new.state.sections c.args.candidate.now c.self.invariant.0 whole sound typed valid may c.in_default.ensures.sound
+    let made = made-more _ c.self.inside.checks c.check.new.self c.self.inside.state.sections c.emit.new.state.sections c.args.candidate.now c.self.invariant.0 whole sound typed valid c.in_default.ensures.sound
     _ kept.builder kept.tunables kept.features c.in-Ok.ensures.taken c.in_default.ensures.builder c.in_default.ensures.concurrency c.in-Ok.ensures.emitted in
     (made, c.self.invariant.1 ∙ sym kept.builder)
 
@@ -36,10 +35,9 @@ returns-in-Ok-clause-extends c =
     let whole = ap (λ (v : Collected). v.whole) c.self.view_is ∙ c.requires.whole in
     let typed = subst (λ (v : Collected). NamesTypesOf v.builder c.args.candidate.now.adapter.now) (sym c.self.view_is) c.requires.typed in
     let valid = subst (λ (v : Collected). (a : LinkedAdapter) → IsLinked v.builder c.args.candidate.now a → HasValidSides a) (sym c.self.view_is) c.requires.valid in
-    let may = subst (λ (v : Collected). MayTake v c.args.candidate.now) (sym c.self.view_is) c.requires.built in
     let sound = subst (λ (t : Tables). IsSound t) c.component_types.ensures c.reveal-2.ensures.sound in
     rw (← c.self.view_is)
-    (extends-more _ c.self.inside.checks c.check.new.self c.self.inside.state.sections c.emit.new.state.sections c.args.candidate.now c.self.invariant.0 whole sound typed valid may c.in_default.ensures.sound
+    (extends-more _ c.self.inside.checks c.check.new.self c.self.inside.state.sections c.emit.new.state.sections c.args.candidate.now c.self.invariant.0 whole sound typed valid c.in_default.ensures.sound
     _ _ refl refl refl refl c.in-Ok.ensures.emitted)
 
 pub returns-in-Ok-clause-sound : goal.returns-in-Ok-clause-sound
@@ -47,7 +45,6 @@ returns-in-Ok-clause-sound c =
     let whole = ap (λ (v : Collected). v.whole) c.self.view_is ∙ c.requires.whole in
     let typed = subst (λ (v : Collected). NamesTypesOf v.builder c.args.candidate.now.adapter.now) (sym c.self.view_is) c.requires.typed in
     let valid = subst (λ (v : Collected). (a : LinkedAdapter) → IsLinked v.builder c.args.candidate.now a → HasValidSides a) (sym c.self.view_is) c.requires.valid in
-    let may = subst (λ (v : Collected). MayTake v c.args.candidate.now) (sym c.self.view_is) c.requires.built in
     let sound = subst (λ (t : Tables). IsSound t) c.component_types.ensures c.reveal-2.ensures.sound in
     subst (λ (v : Collected). IsSoundBehind v c.args.candidate.now) c.self.view_is
-    (sound-behind _ c.self.inside.checks c.check.new.self c.self.inside.state.sections c.self.inside.state.sections c.args.candidate.now c.self.invariant.0 whole sound typed valid may c.in_default.ensures.sound)
+    (sound-behind _ c.self.inside.checks c.check.new.self c.self.inside.state.sections c.self.inside.state.sections c.args.candidate.now c.self.invariant.0 whole sound typed valid c.in_default.ensures.sound)
