@@ -11,7 +11,6 @@ use Rattle.fact_plan.specs.declared.plan.FusePlan.{FusePlan}
 use Rattle.fact_plan.specs.declared.fault.PlanFault.{PlanFault}
 use Rattle.fact_plan.specs.declared.fault.PlanFault.TheVariants as fault
 use Rattle.fact_plan.specs.Fault.{IsNotMemory, UnlessMemory, fault_line}
-use Rattle.fact_forms.specs.Built.{IsBuiltPlan}
 use Rattle.fact_plan.specs.Plan.{plan_of}
 use Rattle.fact_plan.specs.Reading.{value_in}
 use Rattle.fact_plan_types.specs.declared.error.Place.{Place}
@@ -27,7 +26,7 @@ use Rattle.fact_run.specs.declared.command.CommandOptions.{CommandOptions}
 use Rattle.fact_run.specs.Command.{reading}
 use Rattle.fact_run.specs.Refusal.{refusal_line}
 use Rattle.fact_run.specs.Status.{line_of}
-use Rattle.fact_run.specs.Run.{Counts, GeneratesPlan, HoldsBuilt, HoldsFault, HoldsNoJson, HoldsPlan, HoldsRefusal, HoldsUnbuilt, IsEndUnread, IsOrMemory, IsTooLong, IsUndisturbed, Read, ReadsPlan, Sends, SendsBy, SendsCounts, SendsPage, TellsLine, limit}
+use Rattle.fact_run.specs.Run.{Counts, GeneratesPlan, HoldsFault, HoldsFaultless, HoldsNoJson, HoldsPlan, HoldsRefusal, IsEndUnread, IsOrMemory, IsTooLong, IsUndisturbed, Read, ReadsPlan, Sends, SendsBy, SendsCounts, SendsPage, TellsLine, limit}
 
 -- ---- from what was read to a reply
 
@@ -52,17 +51,15 @@ replied-fault o bytes v f reply.ReadFault within j h e = absurd e
 replied-fault o bytes v f reply.TooLong within j h e = absurd e
 replied-fault o bytes v f reply.NotJson within j h e = absurd e
 replied-fault o bytes v f (reply.Refused line) within j h e = absurd e
-replied-fault o bytes v f reply.NotBuilt within j h e = absurd e
 
 -- a plan that the bytes hold
 pub replied-plan : (o : CommandOptions) (bytes : List ℕ) (p : FusePlan) (r : Reply) → HoldsPlan bytes p → IsReplyToPlan o p r → IsReplyTo o bytes r
 replied-plan o bytes p (reply.Page text) h e = record {
-  holds = record { plan = p; is_plan = h; faultless = e.0; is_built = e.1 };
+  holds = record { plan = p; is_plan = h; faultless = e.0 };
   text = string_bytes text;
-  prints = e.2;
+  prints = e.1;
   sent = refl;
 }
-replied-plan o bytes p reply.NotBuilt h e = record { plan = p; is_plan = h; faultless = e.0; not_built = e.1 }
 replied-plan o bytes p (reply.Refused line) h e = record {
   fault = e.fault;
   place = e.place;
@@ -87,7 +84,6 @@ replied o left left' fault bytes reply.TooLong all h = absurd h
 replied o left left' fault bytes reply.NotJson all h = record { bytes = bytes; all = all; is_so = h }
 replied o left left' fault bytes (reply.BadPlan line) all h = record { bytes = bytes; all = all; is_so = h }
 replied o left left' fault bytes (reply.Refused line) all h = record { bytes = bytes; all = all; is_so = h }
-replied o left left' fault bytes reply.NotBuilt all h = record { bytes = bytes; all = all; is_so = h }
 replied o left left' fault bytes reply.OutOfMemory all h = tt
 
 -- ---- from a reply to an end
@@ -121,7 +117,6 @@ replied-read o left left' fault reply.TooLong none h = h
 replied-read o left left' fault reply.NotJson none h = h
 replied-read o left left' fault (reply.BadPlan line) none h = h
 replied-read o left left' fault (reply.Refused line) none h = h
-replied-read o left left' fault reply.NotBuilt none h = h
 replied-read o left left' fault reply.OutOfMemory none h = h
 
 -- counts that were made of a plan that is generated
@@ -138,7 +133,6 @@ ended-unread reply.TooLong h = absurd h
 ended-unread reply.NotJson h = absurd h
 ended-unread (reply.BadPlan line) h = absurd h
 ended-unread (reply.Refused line) h = absurd h
-ended-unread reply.NotBuilt h = absurd h
 
 pub unread-done : (s : Status) → IsEndUnread s → (s ≡ status.WriteFault → ⊥) → IsOrMemory status.Done s
 unread-done s (inl done) clean = inl done
@@ -214,9 +208,8 @@ IsOf status.TooLong bytes = IsTooLong bytes
 IsOf status.NotJson bytes = HoldsNoJson bytes
 IsOf status.BadPlan bytes = (f : PlanFault) × HoldsFault bytes f
 IsOf status.Refused bytes = (f : Fault) × (place : Place) × HoldsRefusal bytes f place
-IsOf status.NotBuilt bytes = HoldsUnbuilt bytes
-IsOf status.Done bytes = HoldsBuilt bytes
-IsOf status.WriteFault bytes = HoldsBuilt bytes
+IsOf status.Done bytes = HoldsFaultless bytes
+IsOf status.WriteFault bytes = HoldsFaultless bytes
 IsOf _ bytes = ⊥
 
 -- all that a source of these bytes had was taken
@@ -243,7 +236,6 @@ end-of words bytes left' read old new write status.TooLong line h given none = i
 end-of words bytes left' read old new write status.NotJson line h given none = inl (so bytes left' HoldsNoJson h.2.0)
 end-of words bytes left' read old new write status.BadPlan line h given none = let t = so bytes left' _ h.2.0 in inl (t.fault, t.holds)
 end-of words bytes left' read old new write status.Refused line h given none = let t = so bytes left' _ h.2.0 in inl (t.fault, t.place, t.holds)
-end-of words bytes left' read old new write status.NotBuilt line h given none = inl (so bytes left' HoldsUnbuilt h.2.0)
 end-of words bytes left' read old new write status.OutOfMemory line h given none = inr refl
 
 -- words that are not read are told so
@@ -258,7 +250,6 @@ usage-end words left left' read old new write status.TooLong line h none = cc
 usage-end words left left' read old new write status.NotJson line h none = cc
 usage-end words left left' read old new write status.BadPlan line h none = cc
 usage-end words left left' read old new write status.Refused line h none = cc
-usage-end words left left' read old new write status.NotBuilt line h none = cc
 
 -- before a plan is read, an end is that of its stage
 of-stage : (s : Status) (bytes : List ℕ) → IsOf s bytes → (stage_of bytes ≡ 3) ⊎ (s ≡ end_at (stage_of bytes))
@@ -266,7 +257,6 @@ of-stage status.TooLong bytes h = inr (sym (ap end_at (stage-long bytes h)))
 of-stage status.NotJson bytes h = inr (sym (ap end_at (stage-json bytes h)))
 of-stage status.BadPlan bytes h = inr (sym (ap end_at (stage-fault bytes h.0 h.1)))
 of-stage status.Refused bytes h = inl (stage-plan bytes h.2.plan h.2.is_plan)
-of-stage status.NotBuilt bytes h = inl (stage-plan bytes h.plan h.is_plan)
 of-stage status.Done bytes h = inl (stage-plan bytes h.plan h.is_plan)
 of-stage status.WriteFault bytes h = inl (stage-plan bytes h.plan h.is_plan)
 of-stage status.Usage bytes h = absurd h
@@ -289,11 +279,7 @@ json-end s bytes h = at-stage 1 s bytes (omega arith) (stage-json bytes h)
 pub fault-end : (s : Status) (bytes : List ℕ) → ((f : PlanFault) × HoldsFault bytes f) → IsOf s bytes ⊎ (s ≡ status.OutOfMemory) → IsOrMemory status.BadPlan s
 fault-end s bytes h = at-stage 2 s bytes (omega arith) (stage-fault bytes h.0 h.1)
 
--- the bytes hold no plan that is built and one that is not
-not-both : (bytes : List ℕ) → HoldsUnbuilt bytes → HoldsBuilt bytes → ⊥
-not-both bytes u b = u.not_built (subst IsBuiltPlan (one-plan bytes b.plan u.plan b.is_plan u.is_plan) b.is_built)
-
--- nor one that has a fault and one that has none
+-- the bytes hold no plan that has a fault and one that has none
 not-sound : (bytes : List ℕ) (p : FusePlan) → HoldsPlan bytes p → IsFaultlessPlan p → ((f : Fault) × (place : Place) × HoldsRefusal bytes f place) → ⊥
 not-sound bytes p h sound r =
     let q = r.2 in
@@ -306,7 +292,6 @@ not-early n bytes p h early e = omega (arith, stage-plan bytes p h, e)
 pub refused-end : (s : Status) (bytes : List ℕ) → ((f : Fault) × (place : Place) × HoldsRefusal bytes f place) → IsOf s bytes ⊎ (s ≡ status.OutOfMemory) → IsOrMemory status.Refused s
 refused-end s bytes r (inr memory) = inr memory
 refused-end status.Refused bytes r (inl h) = inl refl
-refused-end status.NotBuilt bytes r (inl h) = absurd (not-sound bytes h.plan h.is_plan h.faultless r)
 refused-end status.Done bytes r (inl h) = absurd (not-sound bytes h.plan h.is_plan h.faultless r)
 refused-end status.WriteFault bytes r (inl h) = absurd (not-sound bytes h.plan h.is_plan h.faultless r)
 refused-end status.TooLong bytes r (inl h) = absurd (not-early 0 bytes r.2.plan r.2.is_plan (omega arith) (stage-long bytes h))
@@ -316,31 +301,17 @@ refused-end status.Usage bytes r (inl h) = absurd h
 refused-end status.ReadFault bytes r (inl h) = absurd h
 refused-end status.OutOfMemory bytes r (inl h) = absurd h
 
-pub unbuilt-end : (s : Status) (bytes : List ℕ) → HoldsUnbuilt bytes → IsOf s bytes ⊎ (s ≡ status.OutOfMemory) → IsOrMemory status.NotBuilt s
-unbuilt-end s bytes u (inr memory) = inr memory
-unbuilt-end status.NotBuilt bytes u (inl h) = inl refl
-unbuilt-end status.Refused bytes u (inl h) = absurd (not-sound bytes u.plan u.is_plan u.faultless h)
-unbuilt-end status.Done bytes u (inl h) = absurd (not-both bytes u h)
-unbuilt-end status.WriteFault bytes u (inl h) = absurd (not-both bytes u h)
-unbuilt-end status.TooLong bytes u (inl h) = absurd (not-early 0 bytes u.plan u.is_plan (omega arith) (stage-long bytes h))
-unbuilt-end status.NotJson bytes u (inl h) = absurd (not-early 1 bytes u.plan u.is_plan (omega arith) (stage-json bytes h))
-unbuilt-end status.BadPlan bytes u (inl h) = absurd (not-early 2 bytes u.plan u.is_plan (omega arith) (stage-fault bytes h.0 h.1))
-unbuilt-end status.Usage bytes u (inl h) = absurd h
-unbuilt-end status.ReadFault bytes u (inl h) = absurd h
-unbuilt-end status.OutOfMemory bytes u (inl h) = absurd h
-
-pub built-end : (s : Status) (bytes : List ℕ) → (s ≡ status.WriteFault → ⊥) → HoldsBuilt bytes → IsOf s bytes ⊎ (s ≡ status.OutOfMemory) → IsOrMemory status.Done s
-built-end s bytes unfaulted b (inr memory) = inr memory
-built-end status.NotBuilt bytes unfaulted b (inl h) = absurd (not-both bytes h b)
-built-end status.Refused bytes unfaulted b (inl h) = absurd (not-sound bytes b.plan b.is_plan b.faultless h)
-built-end status.Done bytes unfaulted b (inl h) = inl refl
-built-end status.WriteFault bytes unfaulted b (inl h) = absurd (unfaulted refl)
-built-end status.TooLong bytes unfaulted b (inl h) = absurd (not-early 0 bytes b.plan b.is_plan (omega arith) (stage-long bytes h))
-built-end status.NotJson bytes unfaulted b (inl h) = absurd (not-early 1 bytes b.plan b.is_plan (omega arith) (stage-json bytes h))
-built-end status.BadPlan bytes unfaulted b (inl h) = absurd (not-early 2 bytes b.plan b.is_plan (omega arith) (stage-fault bytes h.0 h.1))
-built-end status.Usage bytes unfaulted b (inl h) = absurd h
-built-end status.ReadFault bytes unfaulted b (inl h) = absurd h
-built-end status.OutOfMemory bytes unfaulted b (inl h) = absurd h
+pub faultless-end : (s : Status) (bytes : List ℕ) → (s ≡ status.WriteFault → ⊥) → HoldsFaultless bytes → IsOf s bytes ⊎ (s ≡ status.OutOfMemory) → IsOrMemory status.Done s
+faultless-end s bytes unfaulted b (inr memory) = inr memory
+faultless-end status.Refused bytes unfaulted b (inl h) = absurd (not-sound bytes b.plan b.is_plan b.faultless h)
+faultless-end status.Done bytes unfaulted b (inl h) = inl refl
+faultless-end status.WriteFault bytes unfaulted b (inl h) = absurd (unfaulted refl)
+faultless-end status.TooLong bytes unfaulted b (inl h) = absurd (not-early 0 bytes b.plan b.is_plan (omega arith) (stage-long bytes h))
+faultless-end status.NotJson bytes unfaulted b (inl h) = absurd (not-early 1 bytes b.plan b.is_plan (omega arith) (stage-json bytes h))
+faultless-end status.BadPlan bytes unfaulted b (inl h) = absurd (not-early 2 bytes b.plan b.is_plan (omega arith) (stage-fault bytes h.0 h.1))
+faultless-end status.Usage bytes unfaulted b (inl h) = absurd h
+faultless-end status.ReadFault bytes unfaulted b (inl h) = absurd h
+faultless-end status.OutOfMemory bytes unfaulted b (inl h) = absurd h
 
 -- Where the words are read, what holds of a source's bytes decides the end.
 pub exactly : (words : List (List ℕ)) (left left' : Option (List ℕ)) (before now : ℕ) (old new : Option (List ℕ)) (write : Type 0) (s wanted : Status) (line : List ℕ) (P : List ℕ → Type 0)
@@ -368,7 +339,6 @@ plain-line words left left' read old new write status.NotJson line h other told 
 plain-line words left left' read old new write status.BadPlan line h other told = absurd (other refl)
 plain-line words left left' read old new write status.Refused line h other told = absurd (told refl)
 plain-line words left left' read old new write status.OutOfMemory line h other told = h.1
-plain-line words left left' read old new write status.NotBuilt line h other told = h.2.2
 
 -- The fault of a plan was told, where its line was.
 pub told-fault : (left left' : Option (List ℕ)) (line : List ℕ) (old new : Option (List ℕ)) (before now : ℕ) → Read left left' (λ bytes. TellsFault bytes line) → TellsLine old new before now line

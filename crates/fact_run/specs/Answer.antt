@@ -5,7 +5,6 @@ use Rattle.std.specs.Io.KnownBytes.{Appends, Keeps}
 use Rattle.fact_io.specs.Transfers.{AppendsFront, TakesPast}
 use Rattle.fact_plan.specs.declared.fault.PlanFault.{PlanFault}
 use Rattle.fact_plan.specs.declared.plan.FusePlan.{FusePlan}
-use Rattle.fact_forms.specs.Built.{IsBuiltPlan}
 use Rattle.fact_plan.specs.Fault.{IsNotMemory, fault_line}
 use Rattle.fact_run.specs.declared.command.CommandOptions.{CommandOptions}
 use Rattle.fact_run.specs.declared.status.Status.{Status}
@@ -18,7 +17,7 @@ use Rattle.fact_plan_types.specs.Faults.{Fault}
 use Rattle.fact_checks.specs.FirstFault.{IsFaultlessPlan, IsFirstAt}
 use Rattle.fact_run.specs.Command.{reading}
 use Rattle.fact_run.specs.Refusal.{refusal_line}
-use Rattle.fact_run.specs.Run.{HoldsFault, HoldsNoJson, HoldsRefusal, HoldsUnbuilt, Prints, Read, Sends, SendsPage, limit}
+use Rattle.fact_run.specs.Run.{HoldsFault, HoldsNoJson, HoldsRefusal, Prints, Read, Sends, SendsPage, limit}
 use Rattle.fact_run.specs.Status.{line_of}
 
 -- the line tells the fault that the bytes hold
@@ -55,9 +54,8 @@ pub record TellsRefusal (p : FusePlan) (line : List ℕ) : Type 0 where
 
 -- what a plan comes to
 abbrev pub IsReplyToPlan : CommandOptions → FusePlan → Reply → Type 0
-IsReplyToPlan o p (reply.Page text) = IsFaultlessPlan p × IsBuiltPlan p × Prints o p (string_bytes text)
+IsReplyToPlan o p (reply.Page text) = IsFaultlessPlan p × Prints o p (string_bytes text)
 IsReplyToPlan o p (reply.Refused line) = TellsRefusal p (string_bytes line)
-IsReplyToPlan o p reply.NotBuilt = IsFaultlessPlan p × (IsBuiltPlan p → ⊥)
 IsReplyToPlan o p reply.OutOfMemory = Unit {0}
 IsReplyToPlan o p _ = ⊥
 
@@ -69,7 +67,6 @@ IsReplyTo o bytes reply.TooLong = ⊥
 IsReplyTo o bytes reply.NotJson = HoldsNoJson bytes
 IsReplyTo o bytes (reply.BadPlan line) = TellsFault bytes (string_bytes line)
 IsReplyTo o bytes (reply.Refused line) = TellsRefusalIn bytes (string_bytes line)
-IsReplyTo o bytes reply.NotBuilt = HoldsUnbuilt bytes
 IsReplyTo o bytes reply.OutOfMemory = Unit {0}
 
 -- what a source comes to
@@ -98,7 +95,6 @@ ending_with reply.TooLong = record { status = status.TooLong; told = None }
 ending_with reply.NotJson = record { status = status.NotJson; told = None }
 ending_with (reply.BadPlan line) = record { status = status.BadPlan; told = Some line }
 ending_with (reply.Refused line) = record { status = status.Refused; told = Some line }
-ending_with reply.NotBuilt = record { status = status.NotBuilt; told = None }
 ending_with reply.OutOfMemory = record { status = status.OutOfMemory; told = None }
 
 -- the line of an ending
@@ -117,7 +113,6 @@ IsEndUnder o left left' read old new write status.NotJson line = Read left left'
 IsEndUnder o left left' read old new write status.BadPlan line = Read left left' (λ bytes. TellsFault bytes line) × Keeps old new
 IsEndUnder o left left' read old new write status.Refused line = Read left left' (λ bytes. TellsRefusalIn bytes line) × Keeps old new
 IsEndUnder o left left' read old new write status.OutOfMemory line = Keeps old new × (line ≡ line_of status.OutOfMemory)
-IsEndUnder o left left' read old new write status.NotBuilt line = Read left left' HoldsUnbuilt × Keeps old new × (line ≡ line_of status.NotBuilt)
 
 -- how a run ends
 abbrev pub IsEnding : List (List ℕ) → Option (List ℕ) → Option (List ℕ) → Type 0 → Option (List ℕ) → Option (List ℕ) → Type 0 → Status → List ℕ → Type 0

@@ -13,7 +13,6 @@ use Rattle.fact_plan.specs.declared.plan.FusePlan.{FusePlan}
 use Rattle.fact_plan.specs.declared.fault.PlanFault.{PlanFault}
 use Rattle.fact_plan.specs.Reading.{value_in}
 use Rattle.fact_plan.specs.Plan.{plan_of}
-use Rattle.fact_forms.specs.Built.{IsBuiltPlan}
 use Rattle.fact_plan_types.specs.declared.error.Place.{Place}
 use Rattle.fact_plan_types.specs.Faults.{Fault}
 use Rattle.fact_checks.specs.FirstFault.{IsFaultlessPlan, IsFirstAt}
@@ -62,19 +61,11 @@ pub record HoldsRefusal (bytes : List ℕ) (f : Fault) (place : Place) : Type 0 
   pub is_plan : HoldsPlan bytes plan
   pub is_first : IsFirstAt plan f place
 
--- a plan that has no fault and is not built so far
-pub record HoldsUnbuilt (bytes : List ℕ) : Type 0 where
+-- a plan that has no fault
+pub record HoldsFaultless (bytes : List ℕ) : Type 0 where
   pub plan : FusePlan
   pub is_plan : HoldsPlan bytes plan
   pub faultless : IsFaultlessPlan plan
-  pub not_built : IsBuiltPlan plan → ⊥
-
--- a plan that has no fault and is built so far
-pub record HoldsBuilt (bytes : List ℕ) : Type 0 where
-  pub plan : FusePlan
-  pub is_plan : HoldsPlan bytes plan
-  pub faultless : IsFaultlessPlan plan
-  pub is_built : IsBuiltPlan plan
 
 -- All that the source had was taken, and it is so.
 pub record Read (left left' : Option (List ℕ)) (P : List ℕ → Type 0) : Type 0 where
@@ -103,9 +94,9 @@ pub record Prints (o : CommandOptions) (p : FusePlan) (text : List ℕ) : Type 0
   pub is_only : (m : WasmModule) → InRange m → Spells fused.bytes m → m ≡ fused.module
   pub is_page : text ≡ page fused.bytes fused.imports o.imports
 
--- The bytes hold a plan that is built, and of the text that prints its module this was sent.
+-- The bytes hold a plan without faults, and of the text that prints its module this was sent.
 pub record SendsPage (o : CommandOptions) (bytes : List ℕ) (Sent : List ℕ → Type 0) : Type 0 where
-  pub holds : HoldsBuilt bytes
+  pub holds : HoldsFaultless bytes
   pub text : List ℕ
   pub prints : Prints o holds.plan text
   pub sent : Sent text

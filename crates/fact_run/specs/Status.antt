@@ -13,7 +13,6 @@ exit_status_of status.NotJson = 6
 exit_status_of status.BadPlan = 7
 exit_status_of status.Refused = 8
 exit_status_of status.OutOfMemory = 9
-exit_status_of status.NotBuilt = 10
 
 -- the line of an end that is told alike for every input; nothing for the others
 abbrev pub line_of : Status → List ℕ
@@ -26,4 +25,3 @@ line_of status.NotJson = codes "not json\n"
 line_of status.BadPlan = []
 line_of status.Refused = []
 line_of status.OutOfMemory = codes "out of memory\n"
-line_of status.NotBuilt = codes "not built\n"

@@ -3,7 +3,6 @@
 ghost use Rattle.std.specs.Prelude.{◌≡◌, ◌≢◌, ◌≤◌, ◌+◌, length, string_bytes, IfOk, MatchResult};
 ghost use Rattle.fact_io.specs.Faults.{Rose};
 ghost use Rattle.fact_io.specs.Transfers.{TakesUpTo};
-ghost use Rattle.fact_forms.specs.Built.{IsBuiltPlan};
 ghost use Rattle.fact_plan.specs.declared.plan.FusePlan.{FusePlan};
 ghost use Rattle.fact_checks.specs.FirstFault.{IsFaultlessPlan};
 ghost use Rattle.fact_plan_types.specs.PlanTypes.{told};
@@ -16,7 +15,7 @@ use crate::command::CommandOptions;
 use crate::page::page_text;
 use crate::refusal::refusal_line;
 use fact_io::{InputError, Source, read_all};
-use fact_module::{FuseError, FusePlan, PlanTunables, check_plan, fuse, is_built_plan};
+use fact_module::{FuseError, FusePlan, PlanTunables, check_plan, fuse};
 use fact_plan::{PlanFault, fault_line, plan_of, read_value};
 use fact_wasm::{OutOfMemory, bytes_spell_one_module};
 use std::alloc::{AllocError, Global};
@@ -33,7 +32,6 @@ pub enum Reply {
     BadPlan(String),
     /// The line that tells the fault of a plan.
     Refused(String),
-    NotBuilt,
     OutOfMemory,
 }
 
@@ -90,8 +88,7 @@ fn fused_page(
     plan: &FusePlan,
     options: CommandOptions,
 ) -> Result<String, OutOfMemory>
-    requires built { IsBuiltPlan plan.now }
-    requires fuel { 1 ≤ plan.now.tunables.fuel }
+    requires { 1 ≤ plan.now.tunables.fuel }
     ensures { (p : FusePlan) → plan.now ≡ configured options p → IfOk result (λ text. Prints options p (string_bytes text)) }
 {
     bytes_spell_one_module();
@@ -108,8 +105,7 @@ fn fused_page(
 }
 
 fn print(alloc: Global, plan: FusePlan, options: CommandOptions) -> Result<String, OutOfMemory>
-    requires built { IsBuiltPlan plan }
-    requires fuel { 1 ≤ options.fuel }
+    requires { 1 ≤ options.fuel }
     ensures { IfOk result (λ text. Prints options plan (string_bytes text)) }
 {
     let configured = configure(plan, options);
@@ -131,10 +127,9 @@ fn reply_to_refusal(alloc: Global, error: &FuseError) -> Reply
     }
 }
 
-/// What a plan that is built comes to.
-fn reply_to_built(alloc: Global, plan: FusePlan, options: CommandOptions) -> Reply
+/// What a plan without faults comes to.
+fn reply_to_faultless(alloc: Global, plan: FusePlan, options: CommandOptions) -> Reply
     requires faultless { IsFaultlessPlan plan }
-    requires built { IsBuiltPlan plan }
     requires fuel { 1 ≤ options.fuel }
     ensures { IsReplyToPlan options plan result }
 {
@@ -153,17 +148,7 @@ fn reply_to_plan(alloc: Global, plan: FusePlan, options: CommandOptions) -> Repl
         drop(plan);
         return reply_to_refusal(alloc, &error);
     }
-    match is_built_plan(alloc, &plan) {
-        Ok(true) => reply_to_built(alloc, plan, options),
-        Ok(false) => {
-            drop(plan);
-            Reply::NotBuilt
-        }
-        Err(_) => {
-            drop(plan);
-            Reply::OutOfMemory
-        }
-    }
+    reply_to_faultless(alloc, plan, options)
 }
 
 /// What some bytes come to.

@@ -10,7 +10,7 @@ ghost use Rattle.fact_run.specs.Run.{Counts, configured, counts, limit};
 use crate::answer::{Reply, configure, reply_of};
 use crate::command::CommandOptions;
 use crate::counts::counts_text;
-use fact_generate::{generate, laws_of_generated};
+use fact_generate::generate;
 use fact_io::Source;
 use fact_module::{FusePlan, fuse};
 use fact_wasm::OutOfMemory;
@@ -23,12 +23,10 @@ fn fused_counts(
     options: CommandOptions,
     n: u32,
 ) -> Result<String, OutOfMemory>
-    requires number { n ≤ most_generated }
     requires fuel { 1 ≤ options.fuel }
     requires plan { plan.now ≡ configured options (generated n) }
     ensures { IfOk result (λ text. Counts options n (string_bytes text)) }
 {
-    laws_of_generated();
     match fuse(alloc, plan) {
         Ok(fused) => {
             let text = counts_text(alloc, plan, &fused);

@@ -24,8 +24,6 @@ pub enum Status {
     Refused,
     /// There was no memory.
     OutOfMemory,
-    /// The plan has no form that is built so far.
-    NotBuilt,
 }
 
 impl Status {
@@ -43,7 +41,6 @@ impl Status {
             Status::BadPlan => 7,
             Status::Refused => 8,
             Status::OutOfMemory => 9,
-            Status::NotBuilt => 10,
         }
     }
 
@@ -60,7 +57,6 @@ impl Status {
             Status::TooLong => "input too long\n",
             Status::NotJson => "not json\n",
             Status::OutOfMemory => "out of memory\n",
-            Status::NotBuilt => "not built\n",
         }
     }
 }

@@ -13,7 +13,7 @@ ghost use Rattle.fact_run.specs.declared.command.CommandOptions.{CommandOptions}
 ghost use Rattle.fact_run.specs.Command.{reading};
 ghost use Rattle.fact_run.specs.Refusal.{refusal_line};
 ghost use Rattle.fact_run.specs.Answer.{IsEndUnder, IsEnding, ending_with, line_in};
-ghost use Rattle.fact_run.specs.Run.{HoldsBuilt, HoldsFault, HoldsNoJson, HoldsRefusal, HoldsUnbuilt, GeneratesPlan, IsEndUnread, IsOrMemory, IsTooLong, IsUndisturbed, Read, Sends, TellsLine, limit};
+ghost use Rattle.fact_run.specs.Run.{GeneratesPlan, HoldsFault, HoldsFaultless, HoldsNoJson, HoldsRefusal, IsEndUnread, IsOrMemory, IsTooLong, IsUndisturbed, Read, Sends, TellsLine, limit};
 ghost use Rattle.fact_run.specs.Status.{line_of};
 
 use crate::answer::Reply;
@@ -35,7 +35,6 @@ fn ending_with(reply: Reply) -> Ending
         Reply::NotJson => Ending::of(Status::NotJson),
         Reply::BadPlan(line) => Ending::telling(Status::BadPlan, line),
         Reply::Refused(line) => Ending::telling(Status::Refused, line),
-        Reply::NotBuilt => Ending::of(Status::NotBuilt),
         Reply::OutOfMemory => Ending::of(Status::OutOfMemory),
     }
 }
@@ -110,7 +109,6 @@ pub fn run<S: Source, K: Sink, E: Sink>(
         × HoldsFault bytes f × TellsLine (E.written err.old) (E.written err.new) (E.faults err.old) (E.faults err.new) (fault_line f)) }
     ensures refused { result ≡ Status.Refused → Read (S.left source.old) (S.left source.new) (λ bytes. (f : Fault) × (place : Place)
         × HoldsRefusal bytes f place × TellsLine (E.written err.old) (E.written err.new) (E.faults err.old) (E.faults err.new) (refusal_line f place)) }
-    ensures not_built { result ≡ Status.NotBuilt → Read (S.left source.old) (S.left source.new) HoldsUnbuilt }
     ensures write_fault { result ≡ Status.WriteFault → Rose (K.faults out.old) (K.faults out.new) }
     ensures done { result ≡ Status.Done → (o : CommandOptions) × (reading (map string_bytes words.now) ≡ Some o)
         × Sends o (S.left source.old) (S.left source.new) (λ text. Appends (K.written out.old) (K.written out.new) text) }
@@ -133,11 +131,9 @@ pub fn run<S: Source, K: Sink, E: Sink>(
         → IfSome (S.left source.old) (λ bytes. ((f : PlanFault) × HoldsFault bytes f) → IsOrMemory Status.BadPlan result) }
     ensures exactly_refused { IsUndisturbed (map string_bytes words.now) (S.faults source.old) (S.faults source.new)
         → IfSome (S.left source.old) (λ bytes. ((f : Fault) × (place : Place) × HoldsRefusal bytes f place) → IsOrMemory Status.Refused result) }
-    ensures exactly_not_built { IsUndisturbed (map string_bytes words.now) (S.faults source.old) (S.faults source.new)
-        → IfSome (S.left source.old) (λ bytes. HoldsUnbuilt bytes → IsOrMemory Status.NotBuilt result) }
     ensures complete { IsUndisturbed (map string_bytes words.now) (S.faults source.old) (S.faults source.new)
         → (Rose (K.faults out.old) (K.faults out.new) → ⊥)
-        → IfSome (S.left source.old) (λ bytes. HoldsBuilt bytes → IsOrMemory Status.Done result) }
+        → IfSome (S.left source.old) (λ bytes. HoldsFaultless bytes → IsOrMemory Status.Done result) }
     ensures complete_generated { GeneratesPlan (map string_bytes words.now) → (Rose (K.faults out.old) (K.faults out.new) → ⊥) → IsOrMemory Status.Done result }
 
     // What was written.

@@ -3,9 +3,6 @@ use Rattle.fact_module.specs.Fused.{IsFused}
 use Rattle.fact_run.proofs.Configured.{printed-page}
 use Rattle.fact_run.proofs.answer.fused_page.Goals as goal
 
-pub fuse-requires-clause-built : goal.fuse-requires-clause-built
-fuse-requires-clause-built c = λ none. c.requires.built
-
 pub returns-in-Ok : goal.returns-in-Ok
 returns-in-Ok c = λ p is.
     let f = c.in-Ok.fused in

@@ -1,5 +1,5 @@
 use Rattle.fact_run.specs.declared.status.Status.TheVariants as status
-use Rattle.fact_run.proofs.Ends.{built-end, exactly, no-write-fault, printed, printed-front, usage-end, fault-end, json-end, long-end, refused-end, unbuilt-end, unread-done, plain-line, told, told-fault, told-refusal, is-end}
+use Rattle.fact_run.proofs.Ends.{exactly, faultless-end, no-write-fault, printed, printed-front, usage-end, fault-end, json-end, long-end, refused-end, unread-done, plain-line, told, told-fault, told-refusal, is-end}
 use Rattle.fact_run.proofs.top.run.Goals as goal
 
 pub returns-clause-exactly_too_long : goal.returns-clause-exactly_too_long
@@ -14,12 +14,9 @@ returns-clause-exactly_bad_plan g c = exactly _ _ _ _ _ _ _ _ _ _ _ _ (fault-end
 pub returns-clause-exactly_refused : goal.returns-clause-exactly_refused
 returns-clause-exactly_refused g c = exactly _ _ _ _ _ _ _ _ _ _ _ _ (refused-end _) c.ending_of-ending.ensures.end
 
-pub returns-clause-exactly_not_built : goal.returns-clause-exactly_not_built
-returns-clause-exactly_not_built g c = exactly _ _ _ _ _ _ _ _ _ _ _ _ (unbuilt-end _) c.ending_of-ending.ensures.end
-
 pub returns-clause-complete : goal.returns-clause-complete
 returns-clause-complete g c = λ calm unfaulted.
-    exactly _ _ _ _ _ _ _ _ _ _ _ _ (λ bytes. built-end _ bytes (no-write-fault _ _ _ _ _ _ _ _ _ c.ending_of-ending.ensures.end unfaulted)) c.ending_of-ending.ensures.end calm
+    exactly _ _ _ _ _ _ _ _ _ _ _ _ (λ bytes. faultless-end _ bytes (no-write-fault _ _ _ _ _ _ _ _ _ c.ending_of-ending.ensures.end unfaulted)) c.ending_of-ending.ensures.end calm
 
 pub returns-clause-complete_generated : goal.returns-clause-complete_generated
 returns-clause-complete_generated g c =
