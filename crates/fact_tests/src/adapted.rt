@@ -155,22 +155,6 @@ fn edited(alloc: Global, edits: &str) -> Result<Adapter, AllocError> {
     }
 }
 
-/// Asks a module to take an adapter, and answers whether it did, or whether it is not built.
-fn taken(
-    made: &mut Module<'_>,
-    name: &str,
-    component: &ComponentDfg,
-    id: AdapterId,
-) -> Result<bool, FuseError>
-    requires { id.number < length component.now.adapters }
-{
-    if !made.may_adapt(name, component, id)? {
-        return Ok(false);
-    }
-    made.adapt(name, component, id)?;
-    Ok(true)
-}
-
 /// Whether a refusal of the adapter of an id is told by this line, but for its place.
 fn is_refusal(
     alloc: Global,
@@ -189,7 +173,7 @@ fn is_refusal(
     Ok(is)
 }
 
-/// Asks a module to take an adapter, if it is built, and answers whether it says this.
+/// Asks a module to take an adapter, and answers whether it says this.
 fn says(
     alloc: Global,
     made: &mut Module<'_>,
@@ -200,9 +184,8 @@ fn says(
 ) -> Result<bool, FuseError>
     requires { id.number < length component.now.adapters }
 {
-    match taken(made, name, component, id) {
-        Ok(true) => Ok(wanted == "taken"),
-        Ok(false) => Ok(wanted == "not built"),
+    match made.adapt(name, component, id) {
+        Ok(()) => Ok(wanted == "taken"),
         Err(FuseError::OutOfMemory) => Err(FuseError::OutOfMemory),
         Err(error) => Ok(is_refusal(alloc, error, id, wanted)?),
     }
@@ -358,10 +341,9 @@ plain: f0 = taken, one; f1 = taken, two
 plain: f0 = taken, one; f1 types:1,1 core:1,1 instances:3,2 callee:walk = taken, apart
 plain: f0 = taken, one; f0 callee:walk = duplicate name, one; f1 types:1,1 core:1,1 instances:3,2 callee:walk = taken, apart
 plain: f0 = taken, one; f1 callee:walk types:2,2 core:2,2 lift-memory:m,16 lift-realloc:r lower-memory:n,16 = taken, any
-concurrency: f0 = taken, told; f1 callee:walk lift-async = not built, told; f1 types:1,1 core:1,1 instances:3,2 callee:walk = taken, any
-concurrency: f0 = taken, told; f1 lift-async transparent = not built, told; f1 transparent = taken, any
 concurrency: f0 = taken, told
-concurrency: f0 lift-async = not built, empty; f0 = taken, told
+concurrency: f0 lift-async = taken, any; [async-start]f0 = duplicate name, any; [async-return]f0 = duplicate name, any; [adapter-callee]f0 = duplicate name, any; f1 lift-async = taken, any
+concurrency: [adapter-callee]f0 = taken, any; f0 lift-async = duplicate name, any; f0 = taken, any
 concurrency: f0 transparent = taken, one; f1 transparent = taken, two
 debug: f0 = taken, one; f1 types:1,1 core:1,1 instances:3,2 callee:walk = taken, apart
 exceptions: f0 = taken, any; f1 lift-post-return:free = taken, any

@@ -1,4 +1,4 @@
-//! Adapters of values of each type that is built, from plans to runs on the machine. A line that begins with `{` is a plan, the lines
+//! Adapters of values of each type, from plans to runs on the machine. A line that begins with `{` is a plan, the lines
 //! behind it are runs of its module, as [`crate::machine`] has them. The first memory is that of the lift side, where both have one.
 
 use crate::machine::runs_hold;

@@ -1,7 +1,7 @@
 //! Runs that generate their plan, and the counts that they write.
 
 use crate::ends::{Given, ends_with, plain, run_on};
-use crate::machine::fused_if_built;
+use crate::machine::module_of;
 use fact_module::{FusePlan, Fused};
 use fact_run::generate;
 use std::alloc::{AllocError, Global};
@@ -58,13 +58,12 @@ fn counts_of(alloc: Global, plan: &FusePlan, fused: &Fused) -> Result<String, Al
 
 /// The counts of the module that is made of a plan.
 fn made_counts(rt: &impl Abort, alloc: Global, plan: &FusePlan) -> Result<String, AllocError> {
-    match fused_if_built(rt, alloc, plan) {
-        Ok(Some(fused)) => {
+    match module_of(rt, alloc, plan) {
+        Ok(fused) => {
             let counts = counts_of(alloc, plan, &fused);
             drop(fused);
             counts
         }
-        Ok(None) => String::from_str(alloc, "not built"),
         Err(error) => format!(in alloc; "{error}"),
     }
 }

@@ -161,7 +161,7 @@ fn is_module(bytes: &[u8]) -> bool {
 }
 
 /// Whether a run ends with some module, and tells nothing.
-fn ends_built(alloc: Global, given: &Given) -> Result<bool, AllocError> {
+fn ends_with_module(alloc: Global, given: &Given) -> Result<bool, AllocError> {
     let seen = run_on(alloc, given)?;
     let is = seen.status.number() == 0
         && is_module(seen.out.written())
@@ -170,15 +170,13 @@ fn ends_built(alloc: Global, given: &Given) -> Result<bool, AllocError> {
     Ok(is)
 }
 
-/// Whether a run over a plan ends as a row says: `sound`, in a plan that is not built so far; `built`, with some module; with the page of
-/// the worked plan, or of the one without entries; with a page that stands in the row, and the lines of its imports; or with a fault of this
-/// kind.
+/// Whether a run over a plan ends as a row says: `sound`, with some module; with the page of the worked plan, or of the one without
+/// entries; with a page that stands in the row, and the lines of its imports; or with a fault of this kind.
 pub fn ends_so(alloc: Global, given: &Given, kind: &str, end: &str) -> Result<bool, AllocError> {
-    if end == "built" {
-        return ends_built(alloc, given);
+    if end == "sound" {
+        return ends_with_module(alloc, given);
     }
     let (number, out, told) = match end {
-        "sound" => (10, "", "not built"),
         "worked" => (0, PAGE, ""),
         "empty" => (0, EMPTY_PAGE, ""),
         page if page.starts_with("0061736d") => (0, page, ""),

@@ -1,6 +1,6 @@
-//! Which plans may be fused, and what comes of them: a module, or their first fault, also where an adapter before it is not built.
+//! What comes of plans: a module, or their first fault.
 
-use crate::machine::{fused_if_built, plan_in};
+use crate::machine::{module_of, plan_in};
 use crate::plans::edited;
 use fact_module::{FuseError, FusePlan};
 use std::alloc::{AllocError, Global};
@@ -15,7 +15,7 @@ const ROWS: &str = r#"
 fused: "lower":{"ty":0,"instance":1 => "lower":{"ty":0,"instance":0
 fused: "f0" => "f2"
 fused: "f0" => "f2" | "lower":{"ty":0,"instance":0 => "lower":{"ty":0,"instance":1
-not built: "lift":{"ty":0,"instance":1,"core_type":0} => "lift":{"ty":0,"instance":1,"core_type":0,"async":true} | "lower":{"ty":0,"instance":1 => "lower":{"ty":0,"instance":0 | }}]} => }}],"tunables":{"concurrency":true}}
+fused: "lift":{"ty":0,"instance":1,"core_type":0} => "lift":{"ty":0,"instance":1,"core_type":0,"async":true} | "lower":{"ty":0,"instance":1 => "lower":{"ty":0,"instance":0 | }}]} => }}],"tunables":{"concurrency":true}}
 duplicate name at Adapter(1): "f1" => "f0" | "lift":{"ty":0,"instance":1,"core_type":0} => "lift":{"ty":0,"instance":1,"core_type":0,"async":true} | "lower":{"ty":0,"instance":1 => "lower":{"ty":0,"instance":0 | }}]} => }}],"tunables":{"concurrency":true}}
 unknown index at Adapter(1): "func":1 => "func":2 | "lift":{"ty":0,"instance":1,"core_type":0} => "lift":{"ty":0,"instance":1,"core_type":0,"async":true} | "lower":{"ty":0,"instance":1 => "lower":{"ty":0,"instance":0 | }}]} => }}],"tunables":{"concurrency":true}}
 duplicate name at Adapter(1): "f1" => "f0"
@@ -29,12 +29,11 @@ duplicate name at Adapter(1): "f1" => "f0" | "lower":{"ty":0,"instance":1 => "lo
 
 /// What comes of a plan.
 fn end_of(rt: &impl Abort, alloc: Global, plan: &FusePlan) -> Result<String, AllocError> {
-    match fused_if_built(rt, alloc, plan) {
-        Ok(Some(fused)) => {
+    match module_of(rt, alloc, plan) {
+        Ok(fused) => {
             drop(fused);
             String::from_str(alloc, "fused")
         }
-        Ok(None) => String::from_str(alloc, "not built"),
         Err(FuseError::OutOfMemory) => Err(AllocError),
         Err(error) => format!(in alloc; "{error}"),
     }
@@ -60,7 +59,7 @@ fn row_holds(rt: &impl Abort, alloc: Global, row: &str) -> Result<bool, AllocErr
 }
 
 #[test]
-fn plans_may_be_fused_and_refused(rt: HostRuntime) -> Result<(), AllocError> {
+fn plans_are_fused_and_refused(rt: HostRuntime) -> Result<(), AllocError> {
     for row in ROWS.trim().lines() {
         assert!(rt; row_holds(&rt, rt.alloc(), row)?, "{row}");
     }

@@ -7,6 +7,8 @@ mod adapted;
 #[cfg(test)]
 mod adapters;
 #[cfg(test)]
+mod asyncs;
+#[cfg(test)]
 mod counts;
 #[cfg(test)]
 mod ends;

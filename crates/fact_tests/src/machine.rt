@@ -13,24 +13,16 @@
 use crate::plans::{PLAN, edited};
 use crate::rows::{number_of, numbers_of, parts_of};
 use fact_machine::{Answer, CoreValue, Event, Machine, MachineState, Outcome};
-use fact_module::{FuseError, FusePlan, Fused, Import, Trap, check_plan, fuse, may_fuse};
+use fact_module::{FuseError, FusePlan, Fused, Import, Trap, fuse};
 use fact_plan::{plan_of, read_value};
 use fact_wasm::{ImportType, Seq, WasmModule};
 use std::alloc::{AllocError, Global};
 use std::process::Abort;
 
-/// What comes of a plan that is built, or has a fault, and nothing of one that is not built.
-pub fn fused_if_built(
-    rt: &impl Abort,
-    alloc: Global,
-    plan: &FusePlan,
-) -> Result<Option<Fused>, FuseError> {
+/// The module of a plan, or its first fault.
+pub fn module_of(rt: &impl Abort, alloc: Global, plan: &FusePlan) -> Result<Fused, FuseError> {
     assert!(rt; plan.tunables.fuel >= 1);
-    match may_fuse(alloc, plan) {
-        Ok(true) => Ok(Some(fuse(alloc, plan)?)),
-        Ok(false) => Ok(None),
-        Err(error) => Err(error),
-    }
+    fuse(alloc, plan)
 }
 
 /// The plan in a text.
@@ -41,11 +33,9 @@ pub fn plan_in(rt: &impl Abort, alloc: Global, text: &str) -> Result<FusePlan, A
     Ok(plan.ok().expect(rt, "a plan"))
 }
 
-/// The fused module of a plan that has no fault and is built.
+/// The fused module of a plan that has no fault.
 fn fused_of(rt: &impl Abort, alloc: Global, plan: &FusePlan) -> Fused {
-    assert!(rt; check_plan(alloc, plan).is_ok());
-    let fused = fused_if_built(rt, alloc, plan).ok().expect(rt, "no fault");
-    fused.expect(rt, "a plan that is built")
+    module_of(rt, alloc, plan).ok().expect(rt, "no fault")
 }
 
 /// The fused module of a text.

@@ -1,11 +1,11 @@
-//! Plans of one adapter: those that are all but built, and those that are. A row is how the run ends, and the edits that make
+//! Plans of one adapter: those with a fault, and those without. A row is how the run ends, and the edits that make
 //! the plan of the worked one.
 
 use crate::ends::rows_hold;
 use crate::plans::PLAN;
 use std::alloc::AllocError;
 
-/// Plans that are all but built: with a fault, or of a form that is not built.
+/// Plans with a fault that are near to the worked one.
 const NEAR_MISSES: &str = r#"
 BadMemory at adapter 0: [["x","u32"]],"results":[] => [["a","u32"],["b","u64"],["c","u32"],["d","u64"],["e","u32"],["f","u64"],["g","u32"],["h","u64"],["i","u32"],["j","u64"],["k","u32"],["l","u64"],["m","u32"],["n","u64"],["o","u32"],["p","u64"],["q","u32"]],"results":[] | ["i32"],"results":[] => ["i32","i64","i32","i64","i32","i64","i32","i64","i32","i64","i32","i64","i32","i64","i32","i64","i32"],"results":[]
 BadType at function 0: [["x","u32"]],"results":[] => [["x","u32"],["x","u32"]],"results":[] | ["i32"],"results":[] => ["i32","i32"],"results":[]
@@ -24,13 +24,10 @@ BadMemory at adapter 0: "core_type":0} => "core_type":0,"realloc":0}
 ImportConflict at adapter 0: "core_type":0} => "core_type":0,"callback":0}
 ImportConflict at adapter 0: "core_type":0} => "core_type":0,"post_return":0}
 ImportConflict at adapter 0: "core_type":0} => "core_type":0,"memory":{"def":0}}
-# An adapter whose parts wait for one another is not built.
-sound: "core_type":0}, => "core_type":0,"async":true}, | }}]} => }}],"tunables":{"concurrency":true}}
-sound: "results":[]}],"core_types" => "results":[],"async":true}],"core_types" | }}]} => }}],"tunables":{"concurrency":true}}
 "#;
 
-/// Plans that are built, each with its module.
-const BUILT: &str = r#"
+/// Plans without faults, each with its module.
+const SOUND: &str = r#"
 # Plans with the worked module: with entries of every list that no adapter uses, another callee, another encoding, debug
 # checks, or what is there anyway written out.
 worked: "tables":[] => "tables":[[0,0]]
@@ -46,8 +43,11 @@ worked: }}]} => }}],"tunables":{"debug":false}}
 worked: "results":[]}],"core_types" => "results":[],"async":false}],"core_types"
 worked: "func":0 => "func":0,"transparent":false
 worked: "core_type":0} => "core_type":0,"encoding":"utf8","async":false,"memory":null,"realloc":null,"callback":null,"post_return":null}
+# Adapters whose parts wait for one another.
+sound: "core_type":0}, => "core_type":0,"async":true}, | }}]} => }}],"tunables":{"concurrency":true}}
+sound: "results":[]}],"core_types" => "results":[],"async":true}],"core_types" | }}]} => }}],"tunables":{"concurrency":true}}
 # A text.
-built: "u32" => "string" | ["i32"] => ["i32","i32"] | {"export":[0,"run"]} => {"export":[0,"run"]},{"export":[1,"memory"]},{"export":[1,"realloc"]},{"export":[0,"memory"]} | "core_type":0}, => "core_type":0,"memory":{"def":1},"realloc":2}, | "core_type":0}}] => "core_type":0,"memory":{"def":3}}}]
+sound: "u32" => "string" | ["i32"] => ["i32","i32"] | {"export":[0,"run"]} => {"export":[0,"run"]},{"export":[1,"memory"]},{"export":[1,"realloc"]},{"export":[0,"memory"]} | "core_type":0}, => "core_type":0,"memory":{"def":1},"realloc":2}, | "core_type":0}}] => "core_type":0,"memory":{"def":3}}}]
 # Further plans, each with its module.
 0061736d0100000001080260017f0060000002430405666c61677309696e7374616e636531037f0105666c61677309696e7374616e636530037f010663616c6c656502663000000772756e74696d6505747261703000010302010007060102663000020a2a012801027f0240230122010d001001000b2300210241002400200020022400100041002401200124010b: "u32" => "s32"
 0061736d0100000001080260017f0060000002500505666c61677309696e7374616e636531037f01066d656d6f7279026d3002000005666c61677309696e7374616e636530037f010663616c6c656502663000000772756e74696d6505747261703000010302010007060102663000020a2a012801027f0240230122010d001001000b2300210241002400200020022400100041002401200124010b: {"export":[0,"run"]} => {"export":[0,"run"]},{"trampoline":0} | "core_type":0} => "core_type":0,"memory":{"def":1}}
@@ -85,11 +85,11 @@ worked: "func":0 => "func":0,"transparent":true | }}]} => }}],"tunables":{"concu
 "#;
 
 #[test]
-fn near_misses_are_not_built(rt: HostRuntime) -> Result<(), AllocError> {
+fn near_misses_are_refused(rt: HostRuntime) -> Result<(), AllocError> {
     rows_hold(&rt, rt.alloc(), "refused", PLAN, NEAR_MISSES)
 }
 
 #[test]
-fn plans_are_built(rt: HostRuntime) -> Result<(), AllocError> {
-    rows_hold(&rt, rt.alloc(), "refused", PLAN, BUILT)
+fn sound_plans_have_modules(rt: HostRuntime) -> Result<(), AllocError> {
+    rows_hold(&rt, rt.alloc(), "refused", PLAN, SOUND)
 }

@@ -7,8 +7,7 @@ use crate::rows::{number_of, parts_of, series};
 use std::alloc::{AllocError, Global};
 
 // In the tables below, a row is the first fault of a plan, and the edits that make this plan of the one that the table
-// speaks of: each a part and what stands in its place. `sound` stands for no fault, in a plan that is not built so far, and `built` in one that
-// is.
+// speaks of: each a part and what stands in its place. `sound` stands for no fault.
 // A line that begins with `#` says what the rows below it are.
 
 /// One adapter whose lower side is async.
@@ -206,8 +205,8 @@ BadOptions at adapter 3: {"concurrency":true} => {}
 BadOptions at adapter 3: {"concurrency":true} => {"exceptions":true,"debug":true}
 BadOptions at adapter 3: {"concurrency":true} => {} | "core_type":4 => "core_type":4,"async":true | "core_type":5,"async":true => "core_type":4
 BadOptions at adapter 3: {"concurrency":true} => {} | "k","u32"]],"results":[] => "k","u32"]],"results":[],"async":true | "core_type":5,"async":true => "core_type":4
-built: {"concurrency":true} => {} | "core_type":5,"async":true => "core_type":4
-built: {"concurrency":true} => {} | "core_type":4 => "core_type":4,"async":true | "ty":5,"instance":1 => "ty":5,"instance":2 | "ty":5,"instance":0 => "ty":5,"instance":2
+sound: {"concurrency":true} => {} | "core_type":5,"async":true => "core_type":4
+sound: {"concurrency":true} => {} | "core_type":4 => "core_type":4,"async":true | "ty":5,"instance":1 => "ty":5,"instance":2 | "ty":5,"instance":0 => "ty":5,"instance":2
 BadOptions at adapter 2: "name":"h" => "name":"h","transparent":true
 BadOptions at adapter 3: {"error-context":0} => {"error-context":0},{"tuple":[9]} | ["k","u32"] => ["k",10] | "name":"k" => "name":"k","transparent":true
 BadOptions at adapter 0: {"error-context":0} => {"stream":[null,2]} | ["v",2]],"results":[] => ["v",2]],"results":[9] | ["v",3]],"results":[] => ["v",3]],"results":[9] | "i32"],"results":[] => "i32"],"results":["i32"] | "name":"f" => "name":"f","transparent":true
@@ -309,7 +308,7 @@ DuplicateName at adapter 4: "async":true}} => "async":true}},{"name":"[adapter-c
 DuplicateName at adapter 4: "async":true}} => "async":true}},{"name":"[async-start]k","func":3,"lift":{"ty":5,"instance":1,"core_type":4},"lower":{"ty":5,"instance":0,"core_type":5,"async":true}}
 sound: "async":true}} => "async":true}},{"name":"[async-start]f","func":0,"lift":{"ty":1,"instance":1,"core_type":0},"lower":{"ty":0,"instance":0,"core_type":0}}
 sound: "name":"k" => "name":""
-built: "name":"f" => "name":"[async-start]k" | "ty":5,"instance":1 => "ty":5,"instance":0
+sound: "name":"f" => "name":"[async-start]k" | "ty":5,"instance":1 => "ty":5,"instance":0
 # Two faults, of one adapter and of two entries.
 UnknownIndex at adapter 1: "realloc":5 => "realloc":5,"post_return":9 | "def":6 => "def":10
 BadOptions at adapter 0: {"concurrency":true} => {} | ["v",2]],"results":[] => ["v",2]],"results":[],"async":true
@@ -338,19 +337,19 @@ DuplicateName at adapter 1: }}]} => }},{"name":"f0","func":0,"lift":{"ty":0,"ins
 UnknownIndex at adapter 0: "core_type":0 => "core_type":1
 BadType at type 0: "types":[] => "types":[{"record":[]}]
 TooLarge at type 0: "types":[] => "types":[{"fixed-list":["u64",536870912]}]
-built: "types":[] => "types":[{"variant":[["x","u32"],["y",null]]},{"variant":[["z",null],["y",null],["x","u32"]]}] | [["x","u32"]],"results":[]} => [["x",0]],"results":[]},{"params":[["x",1]],"results":[]} | ["i32"] => ["i32","i32"] | "lift":{"ty":0 => "lift":{"ty":1 | }}]} => }}],"tunables":{"concurrency":true}}
+sound: "types":[] => "types":[{"variant":[["x","u32"],["y",null]]},{"variant":[["z",null],["y",null],["x","u32"]]}] | [["x","u32"]],"results":[]} => [["x",0]],"results":[]},{"params":[["x",1]],"results":[]} | ["i32"] => ["i32","i32"] | "lift":{"ty":0 => "lift":{"ty":1 | }}]} => }}],"tunables":{"concurrency":true}}
 TypeMismatch at adapter 0: "types":[] => "types":[{"variant":[["x","u32"],["y",null]]},{"variant":[["z",null],["y",null],["x","u32"]]}] | [["x","u32"]],"results":[]} => [["x",0]],"results":[]},{"params":[["x",1]],"results":[]} | ["i32"] => ["i32","i32"] | "lower":{"ty":0 => "lower":{"ty":1
 sound: {"params":["i32"],"results":[]} => {"params":["i32"],"results":[]},{"params":["i32"],"results":["i32"]} | "instance":0,"core_type":0 => "instance":0,"core_type":1,"async":true | }}]} => }}],"tunables":{"concurrency":true}}
 BadOptions at adapter 0: {"params":["i32"],"results":[]} => {"params":["i32"],"results":[]},{"params":["i32"],"results":["i32"]} | "instance":0,"core_type":0 => "instance":0,"core_type":1,"async":true
 ImportConflict at adapter 0: ["x","u32"] => | ["i32"] => [] | "instance":1 => "instance":1,"post_return":0
-built: ["x","u32"] => | ["i32"] => [] | {"export":[0,"run"]} => {"export":[0,"run"]},{"trampoline":0} | "instance":1 => "instance":1,"post_return":1
+sound: ["x","u32"] => | ["i32"] => [] | {"export":[0,"run"]} => {"export":[0,"run"]},{"trampoline":0} | "instance":1 => "instance":1,"post_return":1
 # Instances up to 2,147,483,647 and past it.
 TooLarge at adapter 0: "instances":2 => "instances":2147483649 | "instance":1 => "instance":2147483648
 TooLarge at adapter 0: "instances":2 => "instances":4294967295 | "instance":0 => "instance":4294967294
 UnknownIndex at adapter 0: "instances":2 => "instances":2147483648 | "instance":1 => "instance":2147483648
 TooLarge at adapter 0: "instances":2 => "instances":4294967295 | "instance":0 => "instance":2147483648,"post_return":0
 # Adapters with both sides in one instance.
-built: "instance":1 => "instance":0
+sound: "instance":1 => "instance":0
 UnknownIndex at adapter 0: "instance":1 => "instance":2 | "instance":0 => "instance":2
 TooLarge at adapter 0: "instances":2 => "instances":4294967295 | "instance":1 => "instance":2147483648 | "instance":0 => "instance":2147483648
 BadOptions at adapter 0: {"export":[0,"run"]} => {"export":[0,"run"]},{"trampoline":0} | "instance":0 => "instance":0,"post_return":1 | "instance":1 => "instance":0
@@ -361,7 +360,7 @@ BadMemory at adapter 0: "u32" => "string" | ["i32"] => ["i32","i32"] | "instance
 BadSignature at adapter 0: "u32" => "u64" | "instance":1 => "instance":0
 ImportConflict at adapter 0: "instance":1 => "instance":0,"memory":{"def":0}
 DuplicateName at adapter 1: "instance":1 => "instance":0 | }}]} => }},{"name":"f0","func":0,"lift":{"ty":0,"instance":1,"core_type":0},"lower":{"ty":0,"instance":0,"core_type":0}}]}
-built: "u32"]],"results":[] => "u32"]],"results":[],"async":true | "instance":1 => "instance":0 | }}]} => }},{"name":"[async-start]f0","func":0,"lift":{"ty":0,"instance":0,"core_type":0},"lower":{"ty":0,"instance":0,"core_type":0}}]}
+sound: "u32"]],"results":[] => "u32"]],"results":[],"async":true | "instance":1 => "instance":0 | }}]} => }},{"name":"[async-start]f0","func":0,"lift":{"ty":0,"instance":0,"core_type":0},"lower":{"ty":0,"instance":0,"core_type":0}}]}
 "#;
 
 /// One adapter whose parameters and results go through pointers: they have 17 flat types, and two.
@@ -370,23 +369,23 @@ const POINTED: &str =
 
 /// What its sides need: for both, for parameters alone, for results alone, for a list, for a text, and for neither.
 const POINTERS: &str = r#"
-built: "name":"p" => "name":"q" | }}}]} => }}}],"tunables":{"concurrency":true}}
+sound: "name":"p" => "name":"q" | }}}]} => }}}],"tunables":{"concurrency":true}}
 BadMemory at adapter 0: {"def":2},"realloc":3 => null
 BadMemory at adapter 0: "realloc":3 => "realloc":null
 BadMemory at adapter 0: {"def":1} => null
 BadMemory at adapter 0: ["u32","u32"] => [] | ["i32","i32"] => ["i32"] | ["i32"],"results":["i32"] => ["i32"],"results":[] | "realloc":3 => "realloc":null
 BadMemory at adapter 0: ["u32","u32"] => [] | ["i32","i32"] => ["i32"] | ["i32"],"results":["i32"] => ["i32"],"results":[] | {"def":1} => null
-built: ["u32","u32"] => [] | ["i32","i32"] => ["i32"] | ["i32"],"results":["i32"] => ["i32"],"results":[] | }}}]} => }}}],"tunables":{"concurrency":true}}
+sound: ["u32","u32"] => [] | ["i32","i32"] => ["i32"] | ["i32"],"results":["i32"] => ["i32"],"results":[] | }}}]} => }}}],"tunables":{"concurrency":true}}
 BadMemory at adapter 0: [["x",0]] => [] | ["i32","i32"] => ["i32"] | ["i32"],"results":["i32"] => [],"results":["i32"] | {"def":2},"realloc":3 => null
 BadMemory at adapter 0: [["x",0]] => [] | ["i32","i32"] => ["i32"] | ["i32"],"results":["i32"] => [],"results":["i32"] | {"def":1} => null
 0061736d01000000010c036000017f60017f00600000027c0805666c61677309696e7374616e636531037f01066d656d6f7279026d3002000005666c61677309696e7374616e636530037f01066d656d6f7279026d310200000663616c6c6565017000000772756e74696d6505747261703000020772756e74696d6505747261703500020772756e74696d65057472617032000203020101070501017000040ab10101ae0102037f037e0240230122010d001001000b23002102410024002002240010002103410024012003ad21044208210502402004420383500d001002000b3f00ad428080047e21060240200620055a200620057d20045a710d001003000b2000ad21044208210502402004420383500d001002000b3f01ad428080047e21060240200620055a200620057d20045a710d001003000b20002003280200364201002000200328020436420104200124010b: [["x",0]] => [] | ["i32","i32"] => ["i32"] | ["i32"],"results":["i32"] => [],"results":["i32"] | "realloc":3 => "realloc":null
 BadMemory at adapter 0: [["x",0]],"results":["u32","u32"] => [["x",1]],"results":[] | ["i32"],"results":["i32"] => ["i32","i32"],"results":[] | "realloc":3 => "realloc":null
 BadMemory at adapter 0: [["x",0]],"results":["u32","u32"] => [["x",1]],"results":[] | ["i32"],"results":["i32"] => ["i32","i32"],"results":[] | {"def":1} => null
-built: [["x",0]],"results":["u32","u32"] => [["x",1]],"results":[] | ["i32"],"results":["i32"] => ["i32","i32"],"results":[] | }}}]} => }}}],"tunables":{"concurrency":true}}
+sound: [["x",0]],"results":["u32","u32"] => [["x",1]],"results":[] | ["i32"],"results":["i32"] => ["i32","i32"],"results":[] | }}}]} => }}}],"tunables":{"concurrency":true}}
 BadMemory at adapter 0: ["u32","u32"] => ["string"]
-built: ["u32","u32"] => ["string"] | {"def":1} => {"def":1},"realloc":4
-built: [["x",0]],"results":["u32","u32"] => [["x",1]],"results":[1] | ["i32","i32"] => ["i64","i64","i64"] | ["i32"],"results":["i32"] => ["i32","i32"],"results":["i32"] | {"def":1} => {"def":1,"memory64":true},"realloc":4 | "realloc":4}}]} => "realloc":4}}],"tunables":{"concurrency":true}}
-built: [["x",0]],"results":["u32","u32"] => [["x",2]],"results":[2] | {"def":2},"realloc":3 => null | "core_type":0,"memory":{"def":1} => "core_type":1
+sound: ["u32","u32"] => ["string"] | {"def":1} => {"def":1},"realloc":4
+sound: [["x",0]],"results":["u32","u32"] => [["x",1]],"results":[1] | ["i32","i32"] => ["i64","i64","i64"] | ["i32"],"results":["i32"] => ["i32","i32"],"results":["i32"] | {"def":1} => {"def":1,"memory64":true},"realloc":4 | "realloc":4}}]} => "realloc":4}}],"tunables":{"concurrency":true}}
+sound: [["x",0]],"results":["u32","u32"] => [["x",2]],"results":[2] | {"def":2},"realloc":3 => null | "core_type":0,"memory":{"def":1} => "core_type":1
 BadSignature at adapter 0: ["u32",17] => ["u32",16]
 BadSignature at adapter 0: ["u32","u32"] => ["u32"]
 "#;

@@ -13,8 +13,8 @@ plan | 4096 0 0 0 0 |  | page
 plan | 1 0 0 0 0 |  | page
 nothing | 4096 0 0 0 6 |  |  | not json
 bytes | 4096 0 0 0 6 |  |  | not json
-unbuilt | 4096 0 0 1 10
-unbuilt | 4096 0 0 1 2 | |--help
+nothing | 4096 0 0 1 6
+nothing | 4096 0 0 1 2 | |--help
 ";
 
 /// Runs whose streams fail. The worked plan is read in pieces of 100 by four calls, the last of which finds the end, and its
@@ -41,13 +41,11 @@ faulty | 8 0 1 1 8
 faulty | 8 0 0 4 8 |  |  | refused: BadType at type..
 ";
 
-/// The input that a word stands for: a plan that is not built, a plan of a faulty type, and bytes that are no text among them.
+/// The input that a word stands for: a plan of a faulty type, and bytes that are no text among them.
 fn input_of(word: &str) -> &'static [u8] {
     match word {
         "plan" => PLAN.as_bytes(),
         "empty" => EMPTY.as_bytes(),
-        "unbuilt" =>
-            b"{\"instances\":2,\"types\":[],\"tables\":[],\"funcs\":[{\"params\":[[\"x\",\"u32\"]],\"results\":[]}],\"core_types\":[{\"params\":[\"i32\"],\"results\":[]}],\"core_defs\":[{\"export\":[0,\"run\"]}],\"adapters\":[{\"name\":\"f0\",\"func\":0,\"lift\":{\"ty\":0,\"instance\":1,\"core_type\":0,\"async\":true},\"lower\":{\"ty\":0,\"instance\":0,\"core_type\":0}}],\"tunables\":{\"concurrency\":true}}",
         "faulty" =>
             b"{\"instances\":0,\"types\":[{\"tuple\":[]}],\"tables\":[],\"funcs\":[],\"core_types\":[],\"core_defs\":[],\"adapters\":[]}",
         "object" => b"{}",

@@ -3,7 +3,7 @@
 
 use crate::adapters::plans_hold;
 use crate::ends::{Given, plain, run_on};
-use crate::machine::{fused_if_built, plan_in};
+use crate::machine::{module_of, plan_in};
 use fact_module::{FusePlan, Fused};
 use std::alloc::{AllocError, Global};
 use std::process::Abort;
@@ -153,8 +153,7 @@ fn fused_with(
     fuel: u32,
 ) -> Result<Fused, AllocError> {
     plan.tunables.fuel = fuel;
-    let fused = fused_if_built(rt, alloc, plan).ok().expect(rt, "no fault");
-    Ok(fused.expect(rt, "a plan that is built"))
+    Ok(module_of(rt, alloc, plan).ok().expect(rt, "no fault"))
 }
 
 /// The same module comes of a plan with this fuel.
