@@ -11,18 +11,18 @@ use Rattle.fact_types.specs.Agrees.{chosen, names_of}
 use Rattle.fact_types.specs.Shapes.{Kind, k_list, k_map, k_fixed, Shape, s_plain, s_node, Members, no_members, bare, typed}
 use Rattle.fact_types.specs.Tables.{Tables, HasShape}
 use Rattle.fact_types.proofs.ShapeLaws.{same_some, none_some}
-use Rattle.fact_abi.specs.declared.value.HandleKind.{HandleKind}
-use Rattle.fact_abi.specs.declared.value.Value.{Value, out-Value}
-use Rattle.fact_abi.specs.declared.value.Value.TheOpen.{Value-F}
-use Rattle.fact_abi.specs.declared.value.Value.TheOpen as o
-use Rattle.fact_abi.specs.declared.value.Value.TheVariants as value
+use Rattle.fact_values.specs.declared.value.HandleKind.{HandleKind}
+use Rattle.fact_values.specs.declared.value.Value.{Value, out-Value}
+use Rattle.fact_values.specs.declared.value.Value.TheOpen.{Value-F}
+use Rattle.fact_values.specs.declared.value.Value.TheOpen as o
+use Rattle.fact_values.specs.declared.value.Value.TheVariants as value
 use Rattle.fact_abi.specs.Finding.{IsFirstNamed, IsIndexOf, IsNowhere, name_is, member_type_at, IsMapOf, IsTaken, Matching}
-use Rattle.fact_abi.specs.Handles.{only}
-use Rattle.fact_abi.specs.IsA.{IsHandle, IsPlainValue, IsRecord, IsTuple, IsListOf, IsFixedList, IsMap, IsFlags, IsCase, IsNodeValue, IsOnePayload, IsA, AreMembers, HasCase, IsElement}
+use Rattle.fact_values.specs.Handles.{only}
+use Rattle.fact_values.specs.IsA.{IsHandle, IsPlainValue, IsRecord, IsTuple, IsListOf, IsFixedList, IsMap, IsFlags, IsCase, IsNodeValue, IsOnePayload, IsA, AreMembers, HasCase, IsElement}
 use Rattle.fact_abi.specs.Nodes.{AreOf, AreLower}
 use Rattle.fact_types.specs.Steps.{◌>>=◌}
-use Rattle.fact_abi.specs.Numbers.{plain_of}
-use Rattle.fact_abi.proofs.IsALaws.{bytes_are, bytes_same}
+use Rattle.fact_values.specs.Numbers.{plain_of}
+use Rattle.fact_values.proofs.IsALaws.{bytes_are, bytes_same}
 use Rattle.fact_abi.proofs.LoadLaws.{split_typed, split_bare}
 
 -- ---- answers

@@ -31,7 +31,8 @@ use Rattle.fact_types.specs.Shapes.{k_future, k_stream, Members, none_name, some
 use Rattle.fact_types.specs.Tables.{Tables, node_of, IsLive, HasMembers, IsSound, record_node, variant_node, tuple_node, flags_node, enum_node, option_node, result_node, list_node, map_node, fixed_length_list_node, future_node, stream_node}
 use Rattle.fact_abi.specs.declared.nodes.NodeKind.TheVariants as is
 use Rattle.fact_abi.specs.Nodes.{HasNode, field_types, field_names_of, AreOf}
-use Rattle.fact_abi.proofs.ToldLaws.{fields_told, types_told, names_told, member_told, no_types, told, field_types_are, placed_types_are, bare_types_are, bare_names_are}
+use Rattle.fact_values.proofs.MemberLaws.{names_told}
+use Rattle.fact_abi.proofs.ToldLaws.{fields_told, types_told, member_told, no_types, told, field_types_are, placed_types_are, bare_types_are, bare_names_are}
 
 pub if_ok : {A E : Type 0} (P Q : A → Type 0) (r : Result A E) → ((a : A) → P a → Q a) → IfOk r P → IfOk r Q
 if_ok P Q (Ok a) f h = f a h

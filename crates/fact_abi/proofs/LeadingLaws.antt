@@ -18,9 +18,9 @@ use Rattle.fact_types.specs.Shapes.{k_flags, k_enum, k_fixed, Shape, s_plain, s_
 use Rattle.fact_types.specs.Steps.{◌>>=◌}
 use Rattle.fact_types.specs.Tables.{Tables, HasShape}
 use Rattle.fact_types.proofs.ShapeLaws.{same_some, none_some}
-use Rattle.fact_abi.specs.Formed.{AreBare}
+use Rattle.fact_values.specs.Formed.{AreBare}
 use Rattle.fact_abi.specs.Leading.{can_lead, leading, Adding, IsWidening, Counting}
-use Rattle.fact_abi.specs.Lift.{can_stand, can_stand_all}
+use Rattle.fact_values.specs.Lift.{can_stand, can_stand_all}
 use Rattle.fact_abi.specs.Nodes.{AreOf}
 use Rattle.fact_abi.proofs.LoadLaws.{split_typed, split_bare, front}
 

@@ -19,25 +19,22 @@ use Rattle.fact_types.specs.Tables.{Tables, HasShape}
 use Rattle.fact_types.proofs.ShapeLaws.{same_some, none_some}
 use Rattle.fact_abi.specs.declared.nodes.NodeKind.{NodeKind}
 use Rattle.fact_abi.specs.declared.nodes.NodeKind.TheVariants as is
-use Rattle.fact_abi.specs.declared.side.SideAbi.{SideAbi}
-use Rattle.fact_abi.specs.declared.value.HandleKind.TheVariants.{Future, Stream}
-use Rattle.fact_abi.specs.declared.value.Value.{Value}
-use Rattle.fact_abi.specs.declared.value.Value.TheVariants as value
+use Rattle.fact_values.specs.declared.side.SideAbi.{SideAbi}
+use Rattle.fact_values.specs.declared.value.HandleKind.TheVariants.{Future, Stream}
+use Rattle.fact_values.specs.declared.value.Value.{Value}
+use Rattle.fact_values.specs.declared.value.Value.TheVariants as value
 use Rattle.fact_abi.specs.Leading.{can_lead, leading, Lifted, LiftedEach, Wording}
-use Rattle.fact_abi.specs.Lift.{can_stand, can_stand_all, number_as, numbers_as, one_number, leading_pair, lift_plain, lift_variant, each_of, lift_leading, lift_members, lift_case, lift}
-use Rattle.fact_abi.specs.Load.{list_value, map_value, load_members, load_element}
+use Rattle.fact_values.specs.Lift.{can_stand, can_stand_all, number_as, numbers_as, one_number, leading_pair, lift_plain, lift_variant, each_of, lift_leading, lift_members, lift_case, lift}
+use Rattle.fact_values.specs.Load.{list_value, map_value, load_members, load_element}
 use Rattle.fact_abi.specs.Nodes.{kind_of, IsVariantKind, AreOf}
-use Rattle.fact_abi.specs.Numbers.{plain_of, flags_of_number, number_of_words}
-use Rattle.fact_abi.specs.Places.{width_of, count_of_members, typed_names, Pair}
+use Rattle.fact_values.specs.Numbers.{plain_of, flags_of_number, number_of_words}
+use Rattle.fact_values.specs.Places.{width_of, count_of_members, typed_names, Pair}
 use Rattle.fact_abi.proofs.LeadingLaws.{both_lead, joined_lead, stand_all, as_many, drop_at, append_nil}
+use Rattle.fact_values.proofs.MemberLaws.{both_true}
 use Rattle.fact_abi.proofs.LoadLaws.{split_typed, split_bare, front}
 use Rattle.fact_abi.proofs.TextLaws.{one_more, none_left, all_read, starts}
 
 -- ---- core values that lead
-
-pub both_true : (a b : Bool) → (a && b) ≡ true → (a ≡ true) × (b ≡ true)
-both_true true b e = (refl, e)
-both_true false b e = absurd (true≢false (sym e))
 
 pub leads : (fs : List FlatType) (cs : List CoreValue) (n : ℕ) → Some n ≡ leading fs cs → (can_lead fs cs ≡ true) × (n ≡ length fs)
 leads fs cs n e = go (can_lead fs cs) refl e

@@ -17,16 +17,16 @@ use Rattle.fact_types.proofs.ShapeLaws.{same_some, none_some}
 use Rattle.fact_abi.specs.declared.nodes.Node.{Node}
 use Rattle.fact_abi.specs.declared.nodes.NodeKind.{NodeKind}
 use Rattle.fact_abi.specs.declared.nodes.NodeKind.TheVariants as is
-use Rattle.fact_abi.specs.declared.side.SideAbi.{SideAbi}
-use Rattle.fact_abi.specs.declared.value.Value.{Value}
-use Rattle.fact_abi.specs.declared.value.Value.TheVariants as value
-use Rattle.fact_abi.specs.Load.{load, load_members, load_plain}
+use Rattle.fact_values.specs.declared.side.SideAbi.{SideAbi}
+use Rattle.fact_values.specs.declared.value.Value.{Value}
+use Rattle.fact_values.specs.declared.value.Value.TheVariants as value
+use Rattle.fact_values.specs.Load.{load, load_members, load_plain}
 use Rattle.fact_abi.specs.Loading.{Loading}
 use Rattle.fact_abi.specs.Nodes.{kind_of, AreOf, AreTold, AreLower, IsOfKind, HasNode}
 use Rattle.fact_types.specs.Heights.{Within}
 use Rattle.fact_types.specs.Steps.{◌>>=◌}
-use Rattle.fact_abi.specs.Numbers.{plain_of}
-use Rattle.fact_abi.specs.Places.{width_of, typed_names}
+use Rattle.fact_values.specs.Numbers.{plain_of}
+use Rattle.fact_values.specs.Places.{width_of, typed_names}
 use Rattle.fact_abi.specs.Rooms.{RoomFor, RoomForMembers}
 use Rattle.fact_abi.proofs.TextLaws.{one_more, none_left, all_read, starts}
 

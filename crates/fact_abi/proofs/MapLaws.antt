@@ -15,23 +15,23 @@ use Rattle.fact_types.specs.declared.widths.MemoryWidth.{MemoryWidth}
 use Rattle.fact_types.specs.declared.widths.MemoryWidth.TheVariants.{Memory32, Memory64}
 use Rattle.fact_types.specs.Layout.{extent, extents, record_layout, payloads, zero_layout, flags_size, flags_extent}
 use Rattle.fact_types.proofs.FieldLaws.{greatest_align_pos}
-use Rattle.fact_abi.specs.declared.side.SideAbi.{SideAbi}
-use Rattle.fact_abi.specs.Places.{width_of, element_extent, count_of_members, Pair, pair_at, each_at}
-use Rattle.fact_abi.specs.Load.{load, load_members, entry_of, map_value}
-use Rattle.fact_abi.specs.Texts.{lies_aligned}
+use Rattle.fact_values.specs.declared.side.SideAbi.{SideAbi}
+use Rattle.fact_values.specs.Places.{width_of, element_extent, count_of_members, Pair, pair_at, each_at}
+use Rattle.fact_values.specs.Load.{load, load_members, entry_of, map_value}
+use Rattle.fact_values.specs.Texts.{lies_aligned}
 use Rattle.fact_abi.specs.Nodes.{AreOf}
 use Rattle.fact_abi.specs.Rooms.{RoomForMembers}
 use Rattle.fact_types.proofs.PlaceLaws.{ends_within}
 use Rattle.fact_types.specs.Agrees.{names_of}
-use Rattle.fact_abi.specs.declared.value.Value.{Value}
-use Rattle.fact_abi.specs.declared.value.Value.TheVariants as value
+use Rattle.fact_values.specs.declared.value.Value.{Value}
+use Rattle.fact_values.specs.declared.value.Value.TheVariants as value
 use Rattle.fact_types.specs.Shapes.{k_map, k_flags, ends_of, Shape, s_node, Members, no_members, bare, typed, layouts_of, Parts, no_parts, case_parts, entry_parts, parts_by}
 use Rattle.fact_types.specs.Steps.{◌>>=◌}
 use Rattle.fact_types.specs.Tables as tables
 use Rattle.fact_types.specs.Tables.{Tables, node_of, HasShape, HasMembers, IsSound, abi_at, map_node}
 use Rattle.fact_types.proofs.ShapeLaws.{same_some, none_some, layout_is}
 use Rattle.fact_abi.specs.Loading.{Flagging}
-use Rattle.fact_abi.specs.Numbers.{flags_of_number, number_in}
+use Rattle.fact_values.specs.Numbers.{flags_of_number, number_in}
 
 -- ---- the layout of an entry
 

@@ -15,22 +15,23 @@ use Rattle.fact_types.proofs.ShapeLaws.{none_some}
 use Rattle.fact_abi.specs.declared.nodes.Node.{Node}
 use Rattle.fact_abi.specs.declared.nodes.NodeKind.{NodeKind}
 use Rattle.fact_abi.specs.declared.nodes.NodeKind.TheVariants as is
-use Rattle.fact_abi.specs.declared.value.HandleKind.TheVariants.{Future, Stream}
-use Rattle.fact_abi.specs.declared.value.Value.{Value, out-Value}
-use Rattle.fact_abi.specs.declared.value.Value.TheVariants as value
-use Rattle.fact_abi.specs.Carry.{take_number}
+use Rattle.fact_values.specs.declared.value.HandleKind.TheVariants.{Future, Stream}
+use Rattle.fact_values.specs.declared.value.Value.{Value, out-Value}
+use Rattle.fact_values.specs.declared.value.Value.TheVariants as value
+use Rattle.fact_values.specs.Carry.{take_number}
 use Rattle.fact_abi.specs.CrossingWalks.{StepGives, CrossingGives, Meets, record_crossed, tuple_crossed, list_crossed, map_crossed, entry_crossed, case_crossed}
-use Rattle.fact_abi.specs.Handles.{Step, done_step, then_step, given, each_step, table_number_of, members_of, cross_handle, cross_plain, cross_flags, cross, cross_places}
-use Rattle.fact_abi.specs.Load.{entry_of}
+use Rattle.fact_values.specs.Handles.{Step, done_step, then_step, given, each_step, table_number_of, members_of, cross_handle, cross_plain, cross_flags, cross, cross_places}
+use Rattle.fact_values.specs.Load.{entry_of}
 use Rattle.fact_abi.specs.Nodes.{kind_of, AreOf, AreTold, HasNode}
 use Rattle.fact_types.specs.Steps.{◌>>=◌}
-use Rattle.fact_abi.specs.Numbers.{plain_of}
-use Rattle.fact_abi.specs.Opened.{map_entries_in}
-use Rattle.fact_abi.specs.Places.{typed_names}
-use Rattle.fact_abi.proofs.CarryLaws.{record_source, tuple_source, list_source, map_source, fixed_source, enum_source, variant_source, option_source, result_source}
-use Rattle.fact_abi.proofs.FormedLaws.{each_entry, formed}
+use Rattle.fact_values.specs.Numbers.{plain_of}
+use Rattle.fact_values.specs.Opened.{map_entries_in}
+use Rattle.fact_values.specs.Places.{typed_names}
+use Rattle.fact_values.proofs.CarryLaws.{record_source, tuple_source, list_source, map_source, fixed_source, enum_source, variant_source, option_source, result_source}
+use Rattle.fact_values.proofs.FormedLaws.{each_entry, formed}
 use Rattle.fact_abi.proofs.LoadLaws.{of_kind, split_typed}
-use Rattle.fact_abi.proofs.ToldLaws.{names_told, fields_told, field_names_are}
+use Rattle.fact_values.proofs.MemberLaws.{names_told}
+use Rattle.fact_abi.proofs.ToldLaws.{fields_told, field_names_are}
 use Rattle.fact_abi.proofs.WalkLaws.{with_first, each_meets, bare_meets, places_meet}
 
 -- ---- what is told of the source, whose kind is that of the target

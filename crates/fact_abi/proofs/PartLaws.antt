@@ -21,17 +21,17 @@ use Rattle.fact_types.proofs.FieldLaws.{greatest_align_pos}
 use Rattle.fact_types.proofs.ShapeLaws.{same_some, none_some, layout_is}
 use Rattle.fact_abi.specs.declared.nodes.NodeKind.{NodeKind}
 use Rattle.fact_abi.specs.declared.nodes.NodeKind.TheVariants as is
-use Rattle.fact_abi.specs.declared.side.SideAbi.{SideAbi}
-use Rattle.fact_abi.specs.declared.value.HandleKind.TheVariants.{Future, Stream}
-use Rattle.fact_abi.specs.declared.value.Value.{Value}
-use Rattle.fact_abi.specs.declared.value.Value.TheVariants as value
-use Rattle.fact_abi.specs.Load.{load, load_case, load_element, load_variant, list_value}
-use Rattle.fact_abi.specs.Texts.{lies_aligned}
-use Rattle.fact_abi.specs.Formed.{AreBare}
+use Rattle.fact_values.specs.declared.side.SideAbi.{SideAbi}
+use Rattle.fact_values.specs.declared.value.HandleKind.TheVariants.{Future, Stream}
+use Rattle.fact_values.specs.declared.value.Value.{Value}
+use Rattle.fact_values.specs.declared.value.Value.TheVariants as value
+use Rattle.fact_values.specs.Load.{load, load_case, load_element, load_variant, list_value}
+use Rattle.fact_values.specs.Texts.{lies_aligned}
+use Rattle.fact_values.specs.Formed.{AreBare}
 use Rattle.fact_abi.specs.Loading.{Aligning, Repeating}
 use Rattle.fact_abi.specs.Nodes.{kind_of, IsVariantKind, AreOf}
-use Rattle.fact_abi.specs.Numbers.{number_in}
-use Rattle.fact_abi.specs.Places.{width_of, count_of_members, case_bytes, payload_place, Pair, pair_at, each_at}
+use Rattle.fact_values.specs.Numbers.{number_in}
+use Rattle.fact_values.specs.Places.{width_of, count_of_members, case_bytes, payload_place, Pair, pair_at, each_at}
 use Rattle.fact_abi.specs.Rooms.{RoomFor, RoomForCases}
 use Rattle.fact_abi.proofs.LoadLaws.{split_typed, split_bare, front}
 use Rattle.fact_abi.proofs.TextLaws.{one_more, none_left, all_read, starts}

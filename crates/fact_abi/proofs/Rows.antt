@@ -5,18 +5,18 @@ use Rattle.fact_machine.specs.declared.types.CoreValue.TheVariants as core
 use Rattle.fact_types.specs.declared.interface.InterfaceType.TheVariants as ty
 use Rattle.fact_types.specs.declared.outside.StringEncoding.TheVariants.{Utf8}
 use Rattle.fact_types.specs.Shapes.{k_record, k_variant, Shape, s_plain, s_node, no_members, typed}
-use Rattle.fact_abi.specs.declared.side.SideAbi.{SideAbi}
-use Rattle.fact_abi.specs.declared.value.Value.TheVariants as value
+use Rattle.fact_values.specs.declared.side.SideAbi.{SideAbi}
+use Rattle.fact_values.specs.declared.value.Value.TheVariants as value
 use Rattle.std.specs.Char.Utf16 as U16
 use Rattle.std.specs.Str as S
 use Rattle.fact_types.specs.Layout as X
 use Rattle.fact_types.specs.declared.outside.StringEncoding.{StringEncoding}
 use Rattle.fact_types.specs.declared.outside.StringEncoding.TheVariants as encoding
-use Rattle.fact_abi.specs.Carry.{crossed}
-use Rattle.fact_abi.specs.Handles.{cross}
-use Rattle.fact_abi.specs.Tuples.{lift_param_values}
-use Rattle.fact_abi.specs.Load.{load}
-use Rattle.fact_abi.specs.Lift.{lift, lift_leading}
+use Rattle.fact_values.specs.Carry.{crossed}
+use Rattle.fact_values.specs.Handles.{cross}
+use Rattle.fact_values.specs.Tuples.{lift_param_values}
+use Rattle.fact_values.specs.Load.{load}
+use Rattle.fact_values.specs.Lift.{lift, lift_leading}
 
 abbrev narrow : SideAbi
 narrow = record { memory64 = false; encoding = Utf8 }
@@ -44,7 +44,7 @@ abbrev b_a : Shape
 b_a = s_node k_record (typed (codes "b") (s_plain ty.U32) (typed (codes "a") (s_plain ty.U8) no_members))
 
 carries_by_name : crossed a_b b_a (value.Record ((codes "a", value.Int (pos 255)) ∷ (codes "b", value.Int (pos 7)) ∷ [])) [] ≡ Some (value.Record ((codes "b", value.Int (pos 7)) ∷ (codes "a", value.Int (pos 255)) ∷ []), [])
-unfolding cross Rattle.fact_abi.specs.declared.value.Value.TheViews.out-Value denote.Hole.Carrier.out denote.Hole.Carrier.shown denote.Hole.Carrier.hidden Rattle.fact_abi.specs.declared.value.Value.TheBlock.shown-the_row-Value-0 Rattle.fact_abi.specs.declared.value.Value.TheBlock.shown-the_row-Value-Record-0-2-2
+unfolding cross Rattle.fact_values.specs.declared.value.Value.TheViews.out-Value denote.Hole.Carrier.out denote.Hole.Carrier.shown denote.Hole.Carrier.hidden Rattle.fact_values.specs.declared.value.Value.TheBlock.shown-the_row-Value-0 Rattle.fact_values.specs.declared.value.Value.TheBlock.shown-the_row-Value-Record-0-2-2
 carries_by_name = refl
 
 -- characters are scalar values

@@ -10,7 +10,7 @@ use Rattle.std.specs.Str.{IsUtf8, is_utf8, chars}
 use Rattle.fact_types.specs.declared.outside.FixedEncoding.{FixedEncoding}
 use Rattle.fact_types.specs.Steps.{◌>>=◌}
 use Rattle.fact_abi.specs.Decoding.{Begins}
-use Rattle.fact_abi.specs.Texts.{all_there, two_byte_units, Form, text_of_form, lies_aligned, decoded, unit_bytes, byte_length}
+use Rattle.fact_values.specs.Texts.{all_there, two_byte_units, Form, text_of_form, lies_aligned, decoded, unit_bytes, byte_length}
 
 -- ---- a scalar value at the front of units
 

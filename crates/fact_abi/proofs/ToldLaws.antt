@@ -3,14 +3,13 @@ use Rattle.std.proofs.Common.{◌≡◌, ℕ, zero, suc, List, [], ◌∷◌, ma
 use Rattle.std.specs.Prelude.{slice_get}
 use Rattle.fact_types.specs.declared.interface.InterfaceType.{InterfaceType}
 use Rattle.fact_types.specs.declared.kinds.RecordField.{RecordField}
-use Rattle.fact_types.specs.Agrees.{names_of}
 use Rattle.fact_types.specs.Shapes.{Shape, s_plain, s_node, Members, no_members, bare, typed}
 use Rattle.fact_types.specs.Tables as tables
 use Rattle.fact_types.specs.Tables.{Tables, node_of, IsLive, HasShape, HasMembers, IsSound, placed}
 use Rattle.fact_types.proofs.HeightLaws.{member_within}
 use Rattle.fact_types.proofs.ShapeLaws.{same_some, none_some, no_node, more}
 use Rattle.fact_abi.specs.declared.nodes.Node.{Node}
-use Rattle.fact_abi.specs.Places.{typed_names}
+use Rattle.fact_values.specs.Places.{typed_names}
 use Rattle.fact_abi.specs.Nodes.{kind_of, AreOf, AreTold, IsOfKind, HasNode}
 
 abbrev Pairs : Type 0
@@ -23,14 +22,6 @@ types_told t [] (bare n ms) h = absurd h
 types_told t (x ∷ xs) (bare n ms) h = (h.1, types_told t xs ms h.2)
 types_told t [] (typed n s ms) h = absurd h
 types_told t (x ∷ xs) (typed n s ms) h = (h.1, types_told t xs ms h.2)
-
-pub names_told : (t : Tables) (xs : Pairs) (ms : Members) → HasMembers t xs ms → map (λ m. m.0) xs ≡ names_of ms
-names_told t [] no_members h = refl
-names_told t (x ∷ xs) no_members h = absurd h
-names_told t [] (bare n ms) h = absurd h
-names_told t (x ∷ xs) (bare n ms) h = more x.0 n (map (λ m. m.0) xs) (names_of ms) h.0 (names_told t xs ms h.2)
-names_told t [] (typed n s ms) h = absurd h
-names_told t (x ∷ xs) (typed n s ms) h = more x.0 n (map (λ m. m.0) xs) (names_of ms) h.0 (names_told t xs ms h.2)
 
 -- the fields of a record all have a type
 pub fields_told : (t : Tables) (fs : List RecordField) (ms : Members) → HasMembers t (map (λ f. (f.name, Some f.ty)) fs) ms → map (λ (f : RecordField). f.name) fs ≡ typed_names ms

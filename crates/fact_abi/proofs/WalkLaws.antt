@@ -9,21 +9,21 @@ use Rattle.fact_types.specs.Agrees.{chosen, first_of, names_of, named, BothThere
 use Rattle.fact_types.specs.Shapes.{Shape, Members, no_members, bare, typed}
 use Rattle.fact_types.specs.Tables.{Tables, HasShape}
 use Rattle.fact_types.proofs.ShapeLaws.{same_some, none_some}
-use Rattle.fact_abi.specs.declared.value.HandleKind.{HandleKind}
-use Rattle.fact_abi.specs.declared.value.Value.{Value, out-Value}
-use Rattle.fact_abi.specs.declared.value.Value.TheVariants as value
-use Rattle.fact_abi.specs.Carry.{take_number, IsCarried}
+use Rattle.fact_values.specs.declared.value.HandleKind.{HandleKind}
+use Rattle.fact_values.specs.declared.value.Value.{Value, out-Value}
+use Rattle.fact_values.specs.declared.value.Value.TheVariants as value
+use Rattle.fact_values.specs.Carry.{take_number, IsCarried}
 use Rattle.fact_abi.specs.CrossingWalks.{StepGives, Followed, Naming, Placing, Listing, Meets, record_crossed, tuple_crossed, list_crossed, map_crossed, entry_crossed, case_crossed}
 use Rattle.fact_abi.specs.Finding.{IsFirstNamed, IsNowhere, IsTypeOf, Seeking, member_type_at, name_is, type_where_named}
-use Rattle.fact_abi.specs.Formed.{AreBare}
-use Rattle.fact_abi.specs.Handles.{Step, done_step, then_step, given, each_step, only, value_named, flag_named, flags_named, cross_flags, cross_handle, cross, cross_fields, cross_case, cross_places}
-use Rattle.fact_abi.specs.IsA.{IsA}
+use Rattle.fact_values.specs.Formed.{AreBare}
+use Rattle.fact_values.specs.Handles.{Step, done_step, then_step, given, each_step, only, value_named, flag_named, flags_named, cross_flags, cross_handle, cross, cross_fields, cross_case, cross_places}
+use Rattle.fact_values.specs.IsA.{IsA}
 use Rattle.fact_abi.specs.Nodes.{AreOf}
 use Rattle.fact_types.specs.Steps.{◌>>=◌}
-use Rattle.fact_abi.specs.Opened.{fields_in, members_in, elements_in, flags_in, map_entries_in, case_in, number_of_handle}
-use Rattle.fact_abi.specs.Places.{typed_names}
+use Rattle.fact_values.specs.Opened.{fields_in, members_in, elements_in, flags_in, map_entries_in, case_in, number_of_handle}
+use Rattle.fact_values.specs.Places.{typed_names}
 use Rattle.fact_abi.proofs.BelongLaws.{slice_front, slice_past, front_typed, bare_at, place_found}
-use Rattle.fact_abi.proofs.IsALaws.{bytes_are}
+use Rattle.fact_values.proofs.IsALaws.{bytes_are}
 use Rattle.fact_abi.proofs.LoadLaws.{split_typed, split_bare}
 
 -- ---- what steps give

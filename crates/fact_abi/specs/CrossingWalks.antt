@@ -7,13 +7,13 @@ use Rattle.fact_types.specs.declared.interface.InterfaceType.{InterfaceType}
 use Rattle.fact_types.specs.Agrees.{Agrees, AgreesFields, AgreesPlaces, chosen, named, names_of}
 use Rattle.fact_types.specs.Shapes.{Shape, Members, no_members, bare, typed}
 use Rattle.fact_types.specs.Tables.{Tables, HasShape}
-use Rattle.fact_abi.specs.declared.value.Value.{Value, out-Value}
-use Rattle.fact_abi.specs.declared.value.Value.TheVariants as value
-use Rattle.fact_abi.specs.Carry.{take_number}
-use Rattle.fact_abi.specs.Handles.{Step, done_step, then_step, given, each_step, cross, cross_fields, cross_places, cross_case}
+use Rattle.fact_values.specs.declared.value.Value.{Value, out-Value}
+use Rattle.fact_values.specs.declared.value.Value.TheVariants as value
+use Rattle.fact_values.specs.Carry.{take_number}
+use Rattle.fact_values.specs.Handles.{Step, done_step, then_step, given, each_step, cross, cross_fields, cross_places, cross_case}
 use Rattle.fact_abi.specs.Nodes.{AreOf}
-use Rattle.fact_abi.specs.Opened.{fields_in, members_in, elements_in, map_entries_in, case_in}
-use Rattle.fact_abi.specs.Places.{typed_names}
+use Rattle.fact_values.specs.Opened.{fields_in, members_in, elements_in, map_entries_in, case_in}
+use Rattle.fact_values.specs.Places.{typed_names}
 
 -- What a step gives, with the numbers that it leaves.
 abbrev pub StepGives : {A : Type 0} → Option A → List ℕ → Option (A × List ℕ) → Type 0

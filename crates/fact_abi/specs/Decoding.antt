@@ -4,7 +4,7 @@ use Rattle.std.specs.Prelude.{◌≡◌, ℕ, List, ◌∷◌, Option, Some, Non
 use denote.Ref.{Bor}
 use Rattle.std.specs.Char.Utf16.{utf16_chars}
 use Rattle.fact_types.specs.Steps.{◌>>=◌}
-use Rattle.fact_abi.specs.Texts.{all_there}
+use Rattle.fact_values.specs.Texts.{all_there}
 
 -- Units begin with a scalar value, with other units behind it, or else they spell no text.
 abbrev pub Begins : Option (ℕ × Bor (List ℕ)) → List ℕ → Type 0

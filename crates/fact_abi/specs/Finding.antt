@@ -7,10 +7,10 @@ use Rattle.fact_types.specs.declared.interface.InterfaceType.{InterfaceType}
 use Rattle.fact_types.specs.Agrees.{named, names_of}
 use Rattle.fact_types.specs.Shapes.{Shape, Members}
 use Rattle.fact_types.specs.Tables.{Tables, HasShape}
-use Rattle.fact_abi.specs.declared.value.Value.{Value}
-use Rattle.fact_abi.specs.declared.value.Value.TheOpen.{Value-F}
-use Rattle.fact_abi.specs.declared.value.Value.TheOpen as o
-use Rattle.fact_abi.specs.IsA.{IsA, AreMembers}
+use Rattle.fact_values.specs.declared.value.Value.{Value}
+use Rattle.fact_values.specs.declared.value.Value.TheOpen.{Value-F}
+use Rattle.fact_values.specs.declared.value.Value.TheOpen as o
+use Rattle.fact_values.specs.IsA.{IsA, AreMembers}
 use Rattle.fact_abi.specs.Nodes.{AreOf}
 use Rattle.fact_types.specs.Steps.{◌>>=◌}
 

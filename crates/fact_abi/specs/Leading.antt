@@ -10,12 +10,12 @@ use Rattle.fact_types.specs.FlatShapes.{flat_members, flat_any, times}
 use Rattle.fact_types.specs.Shapes.{Members}
 use Rattle.fact_types.specs.Tables.{Tables}
 use Rattle.fact_machine.specs.World.{number_of}
-use Rattle.fact_abi.specs.declared.side.SideAbi.{SideAbi}
-use Rattle.fact_abi.specs.declared.value.Value.{Value}
-use Rattle.fact_abi.specs.Lift.{can_stand, numbers_as, each_of, lift_members}
+use Rattle.fact_values.specs.declared.side.SideAbi.{SideAbi}
+use Rattle.fact_values.specs.declared.value.Value.{Value}
+use Rattle.fact_values.specs.Lift.{can_stand, numbers_as, each_of, lift_members}
 use Rattle.fact_abi.specs.Nodes.{AreOf}
-use Rattle.fact_abi.specs.Numbers.{number_of_words}
-use Rattle.fact_abi.specs.Places.{width_of}
+use Rattle.fact_values.specs.Numbers.{number_of_words}
+use Rattle.fact_values.specs.Places.{width_of}
 
 -- Flat types of 32 bits.
 abbrev pub IsHalf : FlatType → Type 0

@@ -6,13 +6,13 @@ use Rattle.fact_types.specs.Layout.{extents, payloads, greatest_align}
 use Rattle.fact_types.specs.Shapes.{Members, layouts_of, ends_of}
 use Rattle.fact_types.specs.Steps.{◌>>=◌}
 use Rattle.fact_types.specs.Tables.{Tables}
-use Rattle.fact_abi.specs.declared.side.SideAbi.{SideAbi}
-use Rattle.fact_abi.specs.declared.value.Value.{Value}
-use Rattle.fact_abi.specs.Load.{text_value, entry_of, load_members}
+use Rattle.fact_values.specs.declared.side.SideAbi.{SideAbi}
+use Rattle.fact_values.specs.declared.value.Value.{Value}
+use Rattle.fact_values.specs.Load.{text_value, entry_of, load_members}
 use Rattle.fact_abi.specs.Nodes.{AreOf}
-use Rattle.fact_abi.specs.Numbers.{flags_of_number}
+use Rattle.fact_values.specs.Numbers.{flags_of_number}
 use Rattle.fact_machine.specs.World.{number_of}
-use Rattle.fact_abi.specs.Places.{width_of, Pair, each_at}
+use Rattle.fact_values.specs.Places.{width_of, Pair, each_at}
 
 -- The text of a pointer and a length, where they are there.
 abbrev pub text_of_pair : SideAbi → List ℕ → Option Pair → Option Value

@@ -10,7 +10,7 @@ use Rattle.fact_types.specs.Tables.{Tables, HasShape}
 use Rattle.fact_abi.specs.declared.nodes.NodeKind.{NodeKind}
 use Rattle.fact_abi.specs.declared.nodes.NodeKind.TheVariants as is
 use Rattle.fact_abi.specs.declared.nodes.Node.{Node}
-use Rattle.fact_abi.specs.Places.{typed_names}
+use Rattle.fact_values.specs.Places.{typed_names}
 
 abbrev pub kind_of : NodeKind → Kind
 kind_of is.Record = k_record

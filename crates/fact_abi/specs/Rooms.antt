@@ -7,9 +7,9 @@ use Rattle.fact_types.specs.declared.widths.MemoryWidth.{MemoryWidth}
 use Rattle.fact_types.specs.Layout.{extent}
 use Rattle.fact_types.specs.Shapes.{Members, ends_of}
 use Rattle.fact_types.specs.Tables.{Tables, abi_at}
-use Rattle.fact_abi.specs.declared.side.SideAbi.{SideAbi}
+use Rattle.fact_values.specs.declared.side.SideAbi.{SideAbi}
 use Rattle.fact_abi.specs.Nodes.{AreOf}
-use Rattle.fact_abi.specs.Places.{width_of, payload_place}
+use Rattle.fact_values.specs.Places.{width_of, payload_place}
 
 -- The bytes of a value of a type without members, but for a string.
 abbrev pub plain_bytes : InterfaceType → ℕ

@@ -8,19 +8,19 @@ ghost use Rattle.fact_types.specs.Agrees.{names_of};
 ghost use Rattle.fact_types.specs.Heights.{Within};
 ghost use Rattle.fact_types.specs.Shapes.{Shape, Members};
 ghost use Rattle.fact_types.specs.Tables.{IsLive, HasShape};
-ghost use Rattle.fact_abi.specs.declared.value.Value.{Value, out-Value};
+ghost use Rattle.fact_values.specs.declared.value.Value.{Value, out-Value};
 ghost use Rattle.fact_abi.specs.Finding.{IsIndexOf, IsMapOf, IsTaken, name_is, member_type_at};
-ghost use Rattle.fact_abi.specs.Handles.{only as only_one};
-ghost use Rattle.fact_abi.specs.IsA.{IsHandle, IsPlainValue, IsRecord, IsTuple, IsListOf, IsFixedList, IsMap, IsFlags, IsCase, IsA, AreMembers, HasCase};
+ghost use Rattle.fact_values.specs.Handles.{only as only_one};
+ghost use Rattle.fact_values.specs.IsA.{IsHandle, IsPlainValue, IsRecord, IsTuple, IsListOf, IsFixedList, IsMap, IsFlags, IsCase, IsA, AreMembers, HasCase};
 ghost use Rattle.fact_abi.specs.Nodes.{AreOf, HasNode, AreLower};
-ghost use Rattle.fact_abi.specs.Numbers.{character, float32, float64, plain_of, signed, text, unsigned};
-ghost use Rattle.fact_abi.specs.Places.{typed_names};
+ghost use Rattle.fact_values.specs.Numbers.{character, float32, float64, plain_of, signed, text, unsigned};
+ghost use Rattle.fact_values.specs.Places.{typed_names};
 
 use crate::OutOfMemory;
 use crate::nodes::{Node, NodeKind, node_of_type};
-use crate::value::{HandleKind, Value};
 use fact_entity::EntityRef;
 use fact_types::{ComponentTypes, InterfaceType};
+use fact_values::{HandleKind, Value};
 use fact_wasm::{Seq, Text};
 use std::alloc::Global;
 

@@ -1,7 +1,7 @@
 //! Values that core values stand for (canonical ABI, "Flat Lifting").
 
 ghost use Rattle.std.specs.Prelude.{◌≡◌, [], ◌∷◌, ◌^◌, ◌<◌, List, length, ℕ, option_map, replicate, true, IfOk, IfSome, Some};
-ghost use Rattle.fact_abi.specs.declared.value.Value.TheVariants as a_value;
+ghost use Rattle.fact_values.specs.declared.value.Value.TheVariants as a_value;
 ghost use Rattle.fact_types.specs.declared.flats.FlatType.TheVariants as f;
 ghost use Rattle.fact_types.specs.Agrees.{names_of};
 ghost use Rattle.fact_types.specs.FlatShapes.{flat, flat_members, flat_any, times};
@@ -13,20 +13,19 @@ ghost use Rattle.fact_types.specs.Tables.{IsLive, HasShape};
 ghost use Rattle.fact_machine.specs.World.{number_of};
 ghost use Rattle.fact_abi.specs.declared.nodes.NodeKind.TheVariants as kinds;
 ghost use Rattle.fact_abi.specs.Leading.{can_lead, IsHalf};
-ghost use Rattle.fact_abi.specs.Lift.{lift as lifts, lift_leading, lift_plain as plain_lifts, lift_members as members_lift, lift_case as case_lifts, lift_variant as variant_lifts, one_number, numbers_as, leading_pair as pair_there, each_of};
+ghost use Rattle.fact_values.specs.Lift.{lift as lifts, lift_leading, lift_plain as plain_lifts, lift_members as members_lift, lift_case as case_lifts, lift_variant as variant_lifts, one_number, numbers_as, leading_pair as pair_there, each_of};
 ghost use Rattle.fact_abi.specs.Loading.{text_of_pair};
 ghost use Rattle.fact_abi.specs.Nodes.{AreOf, AreTold, HasNode, AreLower};
-ghost use Rattle.fact_abi.specs.Numbers.{plain_of, flags_of_number, number_of_words};
+ghost use Rattle.fact_values.specs.Numbers.{plain_of, flags_of_number, number_of_words};
 
 use crate::loading::{flags_in, list_behind, map_behind, named};
 use crate::nodes::{Node, NodeKind, node_of_type};
 use crate::numbers::value_of_number;
-use crate::side::SideAbi;
 use crate::standing::{flags_words, flat_of_plain, leading_values, number_as, pointer_of};
 use crate::texts::text_at;
-use crate::value::{HandleKind, Value};
 use fact_machine::CoreValue;
 use fact_types::{ComponentTypes, FlatType, InterfaceType, MAX_FLAT_TYPES};
+use fact_values::{HandleKind, SideAbi, Value};
 use fact_wasm::{OutOfMemory, Seq, Text};
 use std::alloc::Global;
 

@@ -2,7 +2,7 @@
 
 ghost use Rattle.std.specs.Prelude.{◌≡◌, [], ◌∷◌, ◌+◌, ◌*◌, ◌<◌, ◌≤◌, ◌^◌, List, length, ℕ, option_map, slice_get, drop, IfOk, IfSome, Some};
 ghost use Rattle.std.specs.List.{zip};
-ghost use Rattle.fact_abi.specs.declared.value.Value.TheVariants as a_value;
+ghost use Rattle.fact_values.specs.declared.value.Value.TheVariants as a_value;
 ghost use Rattle.fact_types.specs.declared.interface.InterfaceType.{InterfaceType};
 ghost use Rattle.fact_types.specs.Agrees.{names_of};
 ghost use Rattle.fact_types.specs.Heights.{Within};
@@ -11,20 +11,19 @@ ghost use Rattle.fact_types.specs.Shapes.{layouts_of, k_record, k_tuple, k_list,
 ghost use Rattle.fact_types.specs.Signatures.{width};
 ghost use Rattle.fact_types.specs.Tables.{IsLive, HasShape, abi_at};
 ghost use Rattle.fact_abi.specs.declared.nodes.NodeKind.TheVariants as kinds;
-ghost use Rattle.fact_abi.specs.Load.{entry_of as entry, load as stands, load_members as stand, load_case as case_stands, load_plain as plain_stands, load_variant as variant_stands, load_element as element_stands, list_value, map_value};
+ghost use Rattle.fact_values.specs.Load.{entry_of as entry, load as stands, load_members as stand, load_case as case_stands, load_plain as plain_stands, load_variant as variant_stands, load_element as element_stands, list_value, map_value};
 ghost use Rattle.fact_abi.specs.Loading.{text_of_pair, entry_of_members};
 ghost use Rattle.fact_abi.specs.Nodes.{AreOf, AreTold, HasNode, AreLower};
 ghost use Rattle.fact_machine.specs.World.{number_of};
-ghost use Rattle.fact_abi.specs.Numbers.{plain_of, flags_of_number, number_in as number_there};
-ghost use Rattle.fact_abi.specs.Places.{each_at, pair_at as pair_there, element_extent as extent_of_element};
+ghost use Rattle.fact_values.specs.Numbers.{plain_of, flags_of_number, number_in as number_there};
+ghost use Rattle.fact_values.specs.Places.{each_at, pair_at as pair_there, element_extent as extent_of_element};
 ghost use Rattle.fact_abi.specs.Rooms.{plain_bytes, RoomFor, RoomForMembers, RoomForPayload, RoomForCases};
 
 use crate::nodes::{Node, NodeKind, node_of_type};
 use crate::numbers::{number_in, value_of_number};
-use crate::side::SideAbi;
 use crate::texts::{is_in_range, text_at};
-use crate::value::{HandleKind, Value};
 use fact_types::{ComponentTypes, InterfaceType};
+use fact_values::{HandleKind, SideAbi, Value};
 use fact_wasm::{OutOfMemory, Seq, Text};
 use std::alloc::Global;
 

@@ -12,13 +12,13 @@ ghost use Rattle.fact_types.specs.Shapes.{Shape, Members, plain_layout};
 ghost use Rattle.fact_types.specs.Signatures.{width};
 ghost use Rattle.fact_types.specs.Tables.{IsLive, HasShape};
 ghost use Rattle.fact_abi.specs.Leading.{leading, IsHalf};
-ghost use Rattle.fact_abi.specs.Lift.{can_stand as stands, bits_of as bits_there, number_as as number_there};
+ghost use Rattle.fact_values.specs.Lift.{can_stand as stands, bits_of as bits_there, number_as as number_there};
 ghost use Rattle.fact_abi.specs.Nodes.{AreOf, HasNode, AreLower};
 
 use crate::nodes::{Node, NodeKind, node_of_type};
-use crate::side::SideAbi;
 use fact_machine::CoreValue;
 use fact_types::{ComponentTypes, FlatType, InterfaceType};
+use fact_values::SideAbi;
 use fact_wasm::OutOfMemory;
 use std::alloc::Global;
 

@@ -7,7 +7,7 @@ ghost use Rattle.std.specs.Char.Utf16.{utf16_chars as utf16_chars_of};
 ghost use Rattle.fact_types.specs.declared.outside.FixedEncoding.TheVariants as fixed;
 ghost use Rattle.fact_types.specs.declared.outside.StringEncoding.TheVariants as side;
 ghost use Rattle.fact_abi.specs.Decoding.{Begins};
-ghost use Rattle.fact_abi.specs.Texts.{unit_bytes as bytes_of_unit, two_byte_units, all_there, decoded as decoded_text, lies_aligned as lies_in, form_of as form_at, text_at as text_there};
+ghost use Rattle.fact_values.specs.Texts.{unit_bytes as bytes_of_unit, two_byte_units, all_there, decoded as decoded_text, lies_aligned as lies_in, form_of as form_at, text_at as text_there};
 
 use fact_types::{FixedEncoding, StringEncoding};
 use fact_wasm::{OutOfMemory, Seq};

@@ -8,8 +8,8 @@ use Rattle.fact_moves.specs.Adapters.{AdapterTunables, flat_results, move_params
 use Rattle.fact_types.specs.Adapters.{LinkedAdapter, is_wide}
 use Rattle.fact_types.specs.Tuples.{tuple_members}
 use Rattle.fact_moves.specs.Running.{ImportPlaces}
-use Rattle.fact_abi.specs.declared.value.Value.{Value}
-use Rattle.fact_abi.specs.Places.{typed_names}
+use Rattle.fact_values.specs.declared.value.Value.{Value}
+use Rattle.fact_values.specs.Places.{typed_names}
 use Rattle.std.specs.List.{zip}
 use Rattle.fact_carry.specs.FaithfulLaws.{setting_of_params, setting_of_results}
 use Rattle.fact_carry.specs.Items.{items_fields}

@@ -7,7 +7,7 @@ use Rattle.fact_types.proofs.ShapeLaws.{same_some, none_some}
 use Rattle.fact_machine.specs.World.{number_at, number_of, with_number}
 use Rattle.fact_machine.proofs.Bytes.{number_below}
 use Rattle.fact_machine.proofs.Places.{load_after_store, store_keeps_others, store_keeps_length}
-use Rattle.fact_abi.specs.Numbers.{number_in}
+use Rattle.fact_values.specs.Numbers.{number_in}
 use Rattle.fact_carry.specs.Footprints.{HasPlaced}
 
 -- bytes that agree on a range

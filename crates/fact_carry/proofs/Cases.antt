@@ -12,14 +12,14 @@ use Rattle.fact_types.proofs.AlignLaws.{aligned_bounds, inside_tagged}
 use Rattle.fact_types.proofs.FieldLaws.{greatest_align_pos}
 use Rattle.fact_types.proofs.ShapeLaws.{same_some, none_some}
 use Rattle.fact_machine.specs.declared.types.CoreValue.{CoreValue}
-use Rattle.fact_abi.specs.Limits.{CaseType, case_type}
-use Rattle.fact_abi.specs.Places.{count_of_members, case_bytes, payload_place}
+use Rattle.fact_values.specs.Limits.{CaseType, case_type}
+use Rattle.fact_values.specs.Places.{count_of_members, case_bytes, payload_place}
 use Rattle.fact_moves.specs.Sides.{LiftLowerOptions, width_of_side, side_abi}
-use Rattle.fact_abi.specs.declared.side.SideAbi.{SideAbi}
-use Rattle.fact_abi.specs.declared.value.Value.{Value}
-use Rattle.fact_abi.specs.declared.value.Value.TheVariants as value
-use Rattle.fact_abi.specs.Lift.{lift_leading, lift_case}
-use Rattle.fact_abi.specs.Load.{load, load_case}
+use Rattle.fact_values.specs.declared.side.SideAbi.{SideAbi}
+use Rattle.fact_values.specs.declared.value.Value.{Value}
+use Rattle.fact_values.specs.declared.value.Value.TheVariants as value
+use Rattle.fact_values.specs.Lift.{lift_leading, lift_case}
+use Rattle.fact_values.specs.Load.{load, load_case}
 use Rattle.fact_carry.proofs.Products.{mapped}
 
 -- ---- discriminants

@@ -10,11 +10,11 @@ use Rattle.fact_types.specs.Signatures.{address, flat_values, flat_or, flat_para
 use Rattle.fact_machine.specs.declared.types.CoreValue.{CoreValue}
 use Rattle.fact_types.specs.Tuples.{tuple_members}
 use Rattle.fact_machine.specs.Typed.{is_value, are_values}
-use Rattle.fact_abi.specs.Lift.{bits_of}
+use Rattle.fact_values.specs.Lift.{bits_of}
 use Rattle.fact_types.specs.Adapters.{is_wide}
 use Rattle.fact_moves.specs.Sides.{width_of_side, Values}
-use Rattle.fact_abi.specs.declared.value.Value.{Value}
-use Rattle.fact_abi.specs.Tuples.{lift_all, behind_only, where_flat, flat_or_behind}
+use Rattle.fact_values.specs.declared.value.Value.{Value}
+use Rattle.fact_values.specs.Tuples.{lift_all, behind_only, where_flat, flat_or_behind}
 use Rattle.fact_carry.specs.Faithful.{AreInBounds}
 use Rattle.fact_carry.proofs.Lawful.{AreFit}
 use Rattle.fact_carry.specs.Law.{AreWellFormed, moving}

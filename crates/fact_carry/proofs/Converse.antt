@@ -8,12 +8,12 @@ use Rattle.fact_types.specs.Shapes.{Kind, k_record, k_variant, k_list, k_tuple, 
 use Rattle.fact_types.specs.Valid.{IsValid, AreDistinct}
 use Rattle.fact_types.proofs.ShapeLaws.{none_some}
 use Rattle.fact_machine.specs.World.{World}
-use Rattle.fact_abi.specs.Limits.{CaseType}
-use Rattle.fact_abi.specs.Places.{count_of_members, case_bytes}
+use Rattle.fact_values.specs.Limits.{CaseType}
+use Rattle.fact_values.specs.Places.{count_of_members, case_bytes}
 use Rattle.fact_moves.specs.Moves.{move}
 use Rattle.fact_moves.specs.Sides.{Source, Target, width_of_side}
-use Rattle.fact_abi.specs.declared.value.Value.{Value}
-use Rattle.fact_abi.specs.Numbers.{plain_of, value_of_number}
+use Rattle.fact_values.specs.declared.value.Value.{Value}
+use Rattle.fact_values.specs.Numbers.{plain_of, value_of_number}
 use Rattle.fact_carry.specs.Law.{HasPointers, IsSupplied, AreSupplied, IsWellFormed, AreWellFormed, AreTyped, size_on}
 use Rattle.fact_carry.specs.Places.{value_at_source, IsSource, IsTarget, HoldsMemories, IsGrounded}
 use Rattle.fact_moves.specs.Regions.{Region}

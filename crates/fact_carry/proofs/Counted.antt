@@ -10,19 +10,19 @@ use Rattle.fact_types.specs.Agrees.{Agrees, AgreesBy, AgreesFields, AgreesCase, 
 use Rattle.fact_types.specs.Shapes.{Kind, k_record, k_variant, k_list, k_tuple, k_map, k_flags, k_enum, k_option, k_result, k_fixed, k_future, k_stream, Shape, s_plain, s_node, Members, no_members, bare, typed}
 use Rattle.fact_types.specs.Valid.{IsRuled, AreRuled, AreDistinct}
 use Rattle.fact_types.proofs.ShapeLaws.{same_some, none_some}
-use Rattle.fact_abi.specs.declared.side.SideAbi.{SideAbi}
-use Rattle.fact_abi.specs.declared.value.HandleKind.{HandleKind}
-use Rattle.fact_abi.specs.declared.value.Value.{Value, out-Value}
-use Rattle.fact_abi.specs.declared.value.Value.TheOpen.{Value-F}
-use Rattle.fact_abi.specs.declared.value.Value.TheOpen as o
-use Rattle.fact_abi.specs.Formed.{AreBare}
-use Rattle.fact_abi.specs.Handles.{table_number_of, value_named, only}
-use Rattle.fact_abi.specs.IsA.{IsA, AreMembers, HasCase, IsElement, IsOnePayload, IsCase, IsRecord, IsTuple, IsListOf, IsFixedList, IsMap}
-use Rattle.fact_abi.specs.Limits.{CaseType, case_type}
-use Rattle.fact_abi.specs.Numbers.{Plain, boolean, unsigned, signed, float32, float64, character, handle, text, nothing, plain_of}
-use Rattle.fact_abi.specs.Opened.{fields_in, members_in, elements_in, map_entries_in, case_in, number_of_handle}
-use Rattle.fact_abi.specs.Places.{typed_names}
-use Rattle.fact_abi.specs.Weight.{weight, weight_members, weight_case, weight_element, weight_in}
+use Rattle.fact_values.specs.declared.side.SideAbi.{SideAbi}
+use Rattle.fact_values.specs.declared.value.HandleKind.{HandleKind}
+use Rattle.fact_values.specs.declared.value.Value.{Value, out-Value}
+use Rattle.fact_values.specs.declared.value.Value.TheOpen.{Value-F}
+use Rattle.fact_values.specs.declared.value.Value.TheOpen as o
+use Rattle.fact_values.specs.Formed.{AreBare}
+use Rattle.fact_values.specs.Handles.{table_number_of, value_named, only}
+use Rattle.fact_values.specs.IsA.{IsA, AreMembers, HasCase, IsElement, IsOnePayload, IsCase, IsRecord, IsTuple, IsListOf, IsFixedList, IsMap}
+use Rattle.fact_values.specs.Limits.{CaseType, case_type}
+use Rattle.fact_values.specs.Numbers.{Plain, boolean, unsigned, signed, float32, float64, character, handle, text, nothing, plain_of}
+use Rattle.fact_values.specs.Opened.{fields_in, members_in, elements_in, map_entries_in, case_in, number_of_handle}
+use Rattle.fact_values.specs.Places.{typed_names}
+use Rattle.fact_values.specs.Weight.{weight, weight_members, weight_case, weight_element, weight_in}
 use Rattle.fact_moves.specs.Running.{Call}
 use Rattle.fact_carry.specs.Items.{ValueItem, HandleItem, RegionItem, TextItem, of_some, chars_in, handle_item, items_plain, Inner, items, items_fields, items_case, items_places, items_element, case_items, AreItemCalls, BeginItemCalls, IsItemCalls, BeginsItem}
 use Rattle.fact_carry.specs.Law.{AreTyped, IsWellFormed, AreWellFormed}
@@ -33,8 +33,8 @@ use Rattle.fact_carry.proofs.Weights.{record_weight}
 use Rattle.fact_carry.proofs.Variants.{case_has}
 use Rattle.std.proofs.Common.{inl, inr}
 use Rattle.fact_carry.specs.Items.{region_item}
-use Rattle.fact_abi.specs.declared.value.HandleKind.TheVariants.{Future, Stream}
-use Rattle.fact_abi.specs.Opened.{CaseOf}
+use Rattle.fact_values.specs.declared.value.HandleKind.TheVariants.{Future, Stream}
+use Rattle.fact_values.specs.Opened.{CaseOf}
 
 -- ---- items of plain values
 

@@ -7,18 +7,18 @@ use Rattle.std.proofs.lemmas.List.{append-nil}
 use Rattle.fact_types.specs.Agrees.{named, names_of}
 use Rattle.fact_types.specs.Shapes.{Kind, k_record, k_variant, k_list, k_tuple, k_map, k_flags, k_enum, k_option, k_result, k_fixed, k_future, k_stream, Shape, s_plain, s_node, Members, no_members, bare, typed}
 use Rattle.fact_types.proofs.ShapeLaws.{same_some, none_some}
-use Rattle.fact_abi.specs.declared.side.SideAbi.{SideAbi}
-use Rattle.fact_abi.specs.declared.value.HandleKind.{HandleKind}
-use Rattle.fact_abi.specs.declared.value.HandleKind.TheVariants.{Future, Stream}
-use Rattle.fact_abi.specs.declared.value.Value.{Value, out-Value}
-use Rattle.fact_abi.specs.declared.value.Value.TheVariants as value
-use Rattle.fact_abi.specs.Carry.{take_number, note, noted, handles}
-use Rattle.fact_abi.specs.Handles.{Crossing, Step, Asked, done_step, then_step, given, each_step, members_of, table_number_of, value_named, only, Across, cross, cross_handle, cross_plain, cross_node, cross_entry, cross_list, cross_case_value, cross_fields, cross_case, cross_places, cross_element, flags_named}
-use Rattle.fact_abi.specs.Load.{entry_of}
-use Rattle.fact_abi.specs.Numbers.{Plain, boolean, unsigned, signed, float32, float64, character, text, handle, nothing, plain_of}
+use Rattle.fact_values.specs.declared.side.SideAbi.{SideAbi}
+use Rattle.fact_values.specs.declared.value.HandleKind.{HandleKind}
+use Rattle.fact_values.specs.declared.value.HandleKind.TheVariants.{Future, Stream}
+use Rattle.fact_values.specs.declared.value.Value.{Value, out-Value}
+use Rattle.fact_values.specs.declared.value.Value.TheVariants as value
+use Rattle.fact_values.specs.Carry.{take_number, note, noted, handles}
+use Rattle.fact_values.specs.Handles.{Crossing, Step, Asked, done_step, then_step, given, each_step, members_of, table_number_of, value_named, only, Across, cross, cross_handle, cross_plain, cross_node, cross_entry, cross_list, cross_case_value, cross_fields, cross_case, cross_places, cross_element, flags_named}
+use Rattle.fact_values.specs.Load.{entry_of}
+use Rattle.fact_values.specs.Numbers.{Plain, boolean, unsigned, signed, float32, float64, character, text, handle, nothing, plain_of}
 use Rattle.fact_types.specs.Steps.{◌>>=◌}
-use Rattle.fact_abi.specs.Opened.{fields_in, members_in, elements_in, map_entries_in, case_in, number_of_handle, flags_in}
-use Rattle.fact_abi.specs.Places.{typed_names}
+use Rattle.fact_values.specs.Opened.{fields_in, members_in, elements_in, map_entries_in, case_in, number_of_handle, flags_in}
+use Rattle.fact_values.specs.Places.{typed_names}
 use Rattle.fact_carry.specs.Items.{ValueItem, HandleItem, RegionItem, TextItem, Inner, of_some, chars_in, handle_item, items_plain, case_items, items_node, items, items_fields, items_case, items_places, items_element, crossings, IsItemCalls, AreItemCalls}
 use Rattle.fact_moves.specs.Running.{Call}
 use Rattle.fact_carry.proofs.Plain.{both}

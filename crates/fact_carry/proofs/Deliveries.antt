@@ -10,11 +10,11 @@ use Rattle.fact_machine.specs.declared.types.CoreValue.{CoreValue}
 use Rattle.fact_machine.specs.declared.types.MachineState.{MachineState}
 use Rattle.fact_machine.specs.World.{World}
 use Rattle.fact_machine.specs.Typed.{are_values}
-use Rattle.fact_abi.specs.declared.value.Value.{Value}
-use Rattle.fact_abi.specs.IsA.{AreMembers}
-use Rattle.fact_abi.specs.Places.{typed_names}
-use Rattle.fact_abi.specs.Tuples.{flat_or_behind}
-use Rattle.fact_abi.proofs.TupleLaws.{tuples_are}
+use Rattle.fact_values.specs.declared.value.Value.{Value}
+use Rattle.fact_values.specs.IsA.{AreMembers}
+use Rattle.fact_values.specs.Places.{typed_names}
+use Rattle.fact_values.specs.Tuples.{flat_or_behind}
+use Rattle.fact_values.proofs.TupleLaws.{tuples_are}
 use Rattle.fact_moves.specs.Adapters.{AdapterTunables, flat_results, last_bits, move_params, move_results}
 use Rattle.fact_moves.specs.Calls.{side_memory}
 use Rattle.fact_moves.specs.Honest.{AreHonest}

@@ -7,9 +7,9 @@ use Rattle.fact_types.specs.Agrees.{named, first_of, names_of, chosen, BothThere
 use Rattle.fact_types.specs.Shapes.{Shape, Members, no_members, bare, typed}
 use Rattle.fact_types.specs.Valid.{AreDistinct}
 use Rattle.fact_types.proofs.ShapeLaws.{same_some, none_some}
-use Rattle.fact_abi.specs.Limits.{CaseType, case_type}
-use Rattle.fact_abi.specs.declared.value.Value.{Value}
-use Rattle.fact_abi.specs.Weight.{weight, weight_case}
+use Rattle.fact_values.specs.Limits.{CaseType, case_type}
+use Rattle.fact_values.specs.declared.value.Value.{Value}
+use Rattle.fact_values.specs.Weight.{weight, weight_case}
 use Rattle.fact_carry.proofs.Sums.{payload_weight}
 
 pub same_name : (x : List ℕ) → bytes_eq x x ≡ true

@@ -13,10 +13,10 @@ use Rattle.fact_types.specs.Valid.{IsValid}
 use Rattle.fact_types.proofs.PlaceLaws.{ends_grow}
 use Rattle.fact_types.proofs.ShapeLaws.{same_some}
 use Rattle.fact_types.proofs.ValidLaws.{valid_takes_bytes}
-use Rattle.fact_abi.specs.Canonical.{EachAt}
-use Rattle.fact_abi.specs.Handles.{Step, each_step, then_step, done_step}
+use Rattle.fact_values.specs.Canonical.{EachAt}
+use Rattle.fact_values.specs.Handles.{Step, each_step, then_step, done_step}
 use Rattle.fact_types.specs.Steps.{◌>>=◌}
-use Rattle.fact_abi.specs.Places.{each_at}
+use Rattle.fact_values.specs.Places.{each_at}
 use Rattle.fact_carry.specs.Law.{AreTyped}
 use Rattle.fact_carry.proofs.Plain.{both}
 

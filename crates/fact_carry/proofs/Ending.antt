@@ -13,10 +13,10 @@ use Rattle.fact_types.specs.Tuples.{tuple_members}
 use Rattle.fact_machine.specs.declared.types.CoreValue.{CoreValue}
 use Rattle.fact_machine.specs.Typed.{are_values}
 use Rattle.fact_machine.specs.World.{World, Stop, Trap, Throw, Lack}
-use Rattle.fact_abi.specs.declared.side.SideAbi.{SideAbi}
-use Rattle.fact_abi.specs.declared.value.Value.{Value}
-use Rattle.fact_abi.specs.IsA.{AreMembers}
-use Rattle.fact_abi.specs.Places.{typed_names}
+use Rattle.fact_values.specs.declared.side.SideAbi.{SideAbi}
+use Rattle.fact_values.specs.declared.value.Value.{Value}
+use Rattle.fact_values.specs.IsA.{AreMembers}
+use Rattle.fact_values.specs.Places.{typed_names}
 use Rattle.fact_moves.specs.Adapters.{AdapterTunables, flat_results, last_bits, move_params, move_results, sync, lower_signature_of, lift_signature_of}
 use Rattle.fact_moves.specs.Calls.{side_memory, results, state_after, is_call_of, is_import_of}
 use Rattle.fact_moves.specs.Honest.{AreHonest, AreHonestSync, IsStraight, IsHonestRun}

@@ -15,20 +15,20 @@ use Rattle.fact_types.proofs.PayloadLaws.{enum_is_scalar}
 use Rattle.fact_types.proofs.ShapeLaws.{same_some, none_some}
 use Rattle.fact_machine.specs.declared.types.CoreValue.{CoreValue}
 use Rattle.fact_moves.specs.Actions.{Visit, unless}
-use Rattle.fact_abi.specs.Places.{count_of_members, case_bytes, payload_place}
+use Rattle.fact_values.specs.Places.{count_of_members, case_bytes, payload_place}
 use Rattle.fact_moves.specs.Moves.{move, move_enum}
 use Rattle.fact_moves.specs.Sides.{Source, Values, AtAddress, Target, Slots, Into, width_of_side, write_number}
-use Rattle.fact_abi.specs.declared.side.SideAbi.{SideAbi}
-use Rattle.fact_abi.specs.declared.value.Value.{Value}
-use Rattle.fact_abi.specs.declared.value.Value.TheVariants as value
-use Rattle.fact_abi.specs.Canonical.{ThereIs, IsCanonicalAt, IsCanonicalFlat, IsCanonicalCaseAt, IsCanonicalCaseFlat}
-use Rattle.fact_abi.specs.Carry.{take_number}
-use Rattle.fact_abi.specs.Handles.{cross, cross_case, given, done_step}
-use Rattle.fact_abi.specs.Lift.{lift_leading, lift_case, number_as}
-use Rattle.fact_abi.specs.Load.{load, load_case}
+use Rattle.fact_values.specs.declared.side.SideAbi.{SideAbi}
+use Rattle.fact_values.specs.declared.value.Value.{Value}
+use Rattle.fact_values.specs.declared.value.Value.TheVariants as value
+use Rattle.fact_values.specs.Canonical.{ThereIs, IsCanonicalAt, IsCanonicalFlat, IsCanonicalCaseAt, IsCanonicalCaseFlat}
+use Rattle.fact_values.specs.Carry.{take_number}
+use Rattle.fact_values.specs.Handles.{cross, cross_case, given, done_step}
+use Rattle.fact_values.specs.Lift.{lift_leading, lift_case, number_as}
+use Rattle.fact_values.specs.Load.{load, load_case}
 use Rattle.fact_types.specs.Steps.{◌>>=◌}
-use Rattle.fact_abi.specs.Numbers.{number_in}
-use Rattle.fact_abi.specs.Weight.{weight}
+use Rattle.fact_values.specs.Numbers.{number_in}
+use Rattle.fact_values.specs.Weight.{weight}
 use Rattle.fact_carry.specs.Items.{items, items_case, of_some, numbers, AreItemCalls}
 use Rattle.fact_carry.specs.Law.{size_on, IsFit, IsMoved, MayStop}
 use Rattle.fact_carry.specs.Places.{from_side, to_side, value_at_source, IsTarget, IsAtTarget, StandsAtTarget, IsGrounded}
@@ -41,7 +41,7 @@ use Rattle.fact_carry.proofs.Placing.{leaves_wider}
 use Rattle.fact_carry.proofs.Plain.{both, does_aligned}
 use Rattle.fact_carry.proofs.Realloc.{does_pass}
 use Rattle.fact_carry.proofs.Variants.{sum_number, case_of}
-use Rattle.fact_abi.specs.Formed.{AreBare}
+use Rattle.fact_values.specs.Formed.{AreBare}
 use Rattle.fact_carry.specs.Judged.{RunsHonestly}
 use Rattle.fact_carry.specs.Lawful.{IsLawfulMove}
 

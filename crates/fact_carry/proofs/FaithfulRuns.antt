@@ -8,8 +8,8 @@ use Rattle.fact_types.specs.Tuples.{tuple_members}
 use Rattle.fact_machine.specs.declared.types.CoreValue.{CoreValue}
 use Rattle.fact_machine.specs.World.{World}
 use Rattle.fact_machine.specs.Typed.{are_values}
-use Rattle.fact_abi.specs.declared.value.Value.{Value}
-use Rattle.fact_abi.specs.Places.{typed_names}
+use Rattle.fact_values.specs.declared.value.Value.{Value}
+use Rattle.fact_values.specs.Places.{typed_names}
 use Rattle.fact_moves.specs.Adapters.{AdapterTunables, flat_results, last_bits, move_params, move_results, lower_signature_of, sync}
 use Rattle.fact_moves.specs.AdapterLaws.{HasNotGiven}
 use Rattle.fact_moves.specs.Calls.{side_memory, results, state_after, is_call_of, is_import_of}
@@ -20,7 +20,7 @@ use Rattle.fact_moves.specs.Running.{ImportPlaces, Call, Ended, Gave, Halted, St
 use Rattle.fact_moves.specs.Sides.{options_of, first_bits, width_of_side}
 use Rattle.fact_moves.proofs.CheckedMoves.{sync_checked}
 use Rattle.fact_moves.proofs.OwnParts.{same_self}
-use Rattle.fact_abi.specs.Tuples.{lower_result_values, lift_param_values}
+use Rattle.fact_values.specs.Tuples.{lower_result_values, lift_param_values}
 use Rattle.fact_carry.specs.Faithful.{IsFaithful, WhereGiven, params_given, params_passed, results_answered, results_got, flat_results_of, weight_of_values, whole_weight, answered_weight}
 use Rattle.fact_carry.specs.FaithfulLaws.{quiet, IsCheckedAdapter, HasSyncSides, TextsMove, RunsAreFaithful, RunsWeigh}
 use Rattle.fact_carry.specs.Places.{to_side}

@@ -15,16 +15,16 @@ use Rattle.fact_types.specs.Valid.{IsRuled, AreRuled}
 use Rattle.fact_types.proofs.ShapeLaws.{same_some, none_some}
 use Rattle.fact_machine.specs.declared.types.CoreValue.{CoreValue}
 use Rattle.fact_moves.specs.Moves.{part}
-use Rattle.fact_abi.specs.Limits.{place_in}
+use Rattle.fact_values.specs.Limits.{place_in}
 use Rattle.fact_types.specs.declared.widths.MemoryWidth.{MemoryWidth}
 use Rattle.fact_moves.specs.Sides.{Source, Values, AtAddress, width_of_side}
 use Rattle.fact_types.specs.Adapters.{is_wide}
-use Rattle.fact_abi.specs.declared.side.SideAbi.{SideAbi}
-use Rattle.fact_abi.specs.declared.value.Value.{Value}
-use Rattle.fact_abi.specs.Handles.{value_named}
-use Rattle.fact_abi.specs.Lift.{lift_leading, lift_members}
-use Rattle.fact_abi.specs.Load.{load, load_members}
-use Rattle.fact_abi.specs.Places.{typed_names}
+use Rattle.fact_values.specs.declared.side.SideAbi.{SideAbi}
+use Rattle.fact_values.specs.declared.value.Value.{Value}
+use Rattle.fact_values.specs.Handles.{value_named}
+use Rattle.fact_values.specs.Lift.{lift_leading, lift_members}
+use Rattle.fact_values.specs.Load.{load, load_members}
+use Rattle.fact_values.specs.Places.{typed_names}
 use Rattle.fact_carry.specs.Law.{IsWellFormed, AreWellFormed}
 use Rattle.fact_carry.specs.Places.{from_side, value_at_source, AreInRange, IsSource}
 use Rattle.fact_carry.specs.Regions.{TransferSetting}

@@ -16,19 +16,19 @@ use Rattle.fact_machine.specs.declared.types.CoreValue.{CoreValue}
 use Rattle.fact_moves.specs.Actions.{Visit}
 use Rattle.fact_moves.specs.Moves.{move, move_fields, move_fixed, entry_extent}
 use Rattle.fact_moves.specs.Sides.{Source, Values, AtAddress, Target, Slots, Into, width_of_side}
-use Rattle.fact_abi.specs.declared.side.SideAbi.{SideAbi}
-use Rattle.fact_abi.specs.declared.value.Value.{Value}
-use Rattle.fact_abi.specs.declared.value.Value.TheVariants as value
-use Rattle.fact_abi.specs.Canonical.{EachAt, EachOf, IsCanonicalAt, IsCanonicalFlat, AreCanonicalFlat, IsCanonicalElementAt, IsCanonicalElementFlat}
-use Rattle.fact_abi.specs.Carry.{take_number}
-use Rattle.fact_abi.specs.Handles.{cross, cross_element, each_step, then_step, done_step, given}
-use Rattle.fact_abi.specs.Lift.{lift_leading, lift_members, lift_element, each_of}
-use Rattle.fact_abi.specs.Limits.{IsWithinLimits, IsWithinAt, AreWithinLimits, IsElementWithin, IsElementWithinAt}
-use Rattle.fact_abi.specs.Load.{load, load_members, load_element}
+use Rattle.fact_values.specs.declared.side.SideAbi.{SideAbi}
+use Rattle.fact_values.specs.declared.value.Value.{Value}
+use Rattle.fact_values.specs.declared.value.Value.TheVariants as value
+use Rattle.fact_values.specs.Canonical.{EachAt, EachOf, IsCanonicalAt, IsCanonicalFlat, AreCanonicalFlat, IsCanonicalElementAt, IsCanonicalElementFlat}
+use Rattle.fact_values.specs.Carry.{take_number}
+use Rattle.fact_values.specs.Handles.{cross, cross_element, each_step, then_step, done_step, given}
+use Rattle.fact_values.specs.Lift.{lift_leading, lift_members, lift_element, each_of}
+use Rattle.fact_values.specs.Limits.{IsWithinLimits, IsWithinAt, AreWithinLimits, IsElementWithin, IsElementWithinAt}
+use Rattle.fact_values.specs.Load.{load, load_members, load_element}
 use Rattle.fact_types.specs.Steps.{◌>>=◌}
-use Rattle.fact_abi.specs.Opened.{elements_in}
-use Rattle.fact_abi.specs.Places.{each_at}
-use Rattle.fact_abi.specs.Weight.{weight, weight_element, weight_in}
+use Rattle.fact_values.specs.Opened.{elements_in}
+use Rattle.fact_values.specs.Places.{each_at}
+use Rattle.fact_values.specs.Weight.{weight, weight_element, weight_in}
 use Rattle.fact_carry.specs.Items.{items, items_element, of_some, numbers, AreItemCalls}
 use Rattle.fact_carry.specs.Law.{size_on, moving, IsFit, IsWellFormed, IsMoved, MayStop}
 use Rattle.fact_carry.specs.Places.{from_side, to_side, value_at_source, IsSource, IsTarget, IsGiven, IsAtTarget, StandsAtTarget, IsGrounded}

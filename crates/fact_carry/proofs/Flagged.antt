@@ -17,16 +17,16 @@ use Rattle.fact_types.specs.Shapes.{k_flags, s_node, Members, no_members, bare, 
 use Rattle.fact_types.proofs.ShapeLaws.{same_some, none_some}
 use Rattle.fact_machine.specs.declared.types.CoreValue.{CoreValue}
 use Rattle.fact_moves.specs.Actions.{Visit}
-use Rattle.fact_abi.specs.Places.{count_of_members, flags_bytes}
+use Rattle.fact_values.specs.Places.{count_of_members, flags_bytes}
 use Rattle.fact_moves.specs.Moves.{move, move_flags}
 use Rattle.fact_moves.specs.Sides.{Source, Values, AtAddress, Target, Slots, Into, width_of_side, write_number}
-use Rattle.fact_abi.specs.Lift.{bits_of, lift_leading, number_as, numbers_as}
-use Rattle.fact_abi.specs.declared.value.Value.{Value}
-use Rattle.fact_abi.specs.declared.value.Value.TheVariants as value
-use Rattle.fact_abi.specs.Canonical.{ThereIs, IsCanonicalAt, IsCanonicalFlat, AreNarrow}
-use Rattle.fact_abi.specs.Handles.{cross, cross_flags, flags_named, given, done_step}
-use Rattle.fact_abi.specs.Load.{load}
-use Rattle.fact_abi.specs.Weight.{weight}
+use Rattle.fact_values.specs.Lift.{bits_of, lift_leading, number_as, numbers_as}
+use Rattle.fact_values.specs.declared.value.Value.{Value}
+use Rattle.fact_values.specs.declared.value.Value.TheVariants as value
+use Rattle.fact_values.specs.Canonical.{ThereIs, IsCanonicalAt, IsCanonicalFlat, AreNarrow}
+use Rattle.fact_values.specs.Handles.{cross, cross_flags, flags_named, given, done_step}
+use Rattle.fact_values.specs.Load.{load}
+use Rattle.fact_values.specs.Weight.{weight}
 use Rattle.fact_carry.specs.Items.{items, numbers}
 use Rattle.fact_carry.specs.Law.{size_on}
 use Rattle.fact_carry.specs.Places.{value_at_source, IsTarget, IsAtTarget, StandsAtTarget, IsGrounded}
@@ -37,11 +37,11 @@ use Rattle.fact_carry.proofs.Numbers.{number_at_source, reads_number, does_write
 use Rattle.fact_carry.proofs.Placing.{leaves_wider}
 use Rattle.fact_carry.proofs.Plain.{does_aligned, reads_flat}
 use Rattle.fact_carry.proofs.Products.{mapped}
-use Rattle.fact_abi.specs.Numbers.{flags_of_number, number_in, number_of_words}
-use Rattle.fact_abi.specs.Opened.{flags_in}
-use Rattle.fact_abi.proofs.FlagLaws.{flags_stay}
-use Rattle.fact_abi.proofs.IsALaws.{flags_is}
-use Rattle.fact_abi.specs.IsA.{IsFlags}
+use Rattle.fact_values.specs.Numbers.{flags_of_number, number_in, number_of_words}
+use Rattle.fact_values.specs.Opened.{flags_in}
+use Rattle.fact_values.proofs.FlagLaws.{flags_stay}
+use Rattle.fact_values.proofs.IsALaws.{flags_is}
+use Rattle.fact_values.specs.IsA.{IsFlags}
 use Rattle.fact_types.specs.Valid.{AreDistinct}
 use Rattle.fact_carry.specs.Lawful.{IsLawfulMove}
 

@@ -10,19 +10,19 @@ use Rattle.fact_types.specs.FlatShapes.{flat, flat_by, flat_members, flat_any, f
 use Rattle.fact_types.specs.Layout.{flags_size, flags_flat}
 use Rattle.fact_types.specs.Shapes.{Kind, k_record, k_variant, k_list, k_tuple, k_map, k_flags, k_enum, k_option, k_result, k_fixed, k_future, k_stream, Shape, s_plain, s_node, Members, no_members, bare, typed, layouts_of}
 use Rattle.fact_machine.specs.declared.types.CoreValue.{CoreValue}
-use Rattle.fact_abi.specs.declared.side.SideAbi.{SideAbi}
-use Rattle.fact_abi.specs.declared.value.HandleKind.TheVariants.{Future, Stream}
-use Rattle.fact_abi.specs.declared.value.Value.{Value}
-use Rattle.fact_abi.specs.declared.value.Value.TheVariants as value
-use Rattle.fact_abi.specs.Lift.{lift_leading, lift_members, lift_case, lift_element, lift_plain, lift_number, lift_variant, leading_pair, one_number, numbers_as, number_as, each_of, element_count}
-use Rattle.fact_abi.specs.Load.{text_value, list_value, map_value, load_members, load_element}
-use Rattle.fact_abi.specs.Numbers.{Plain, plain_of, flags_of_number, number_of_words}
+use Rattle.fact_values.specs.declared.side.SideAbi.{SideAbi}
+use Rattle.fact_values.specs.declared.value.HandleKind.TheVariants.{Future, Stream}
+use Rattle.fact_values.specs.declared.value.Value.{Value}
+use Rattle.fact_values.specs.declared.value.Value.TheVariants as value
+use Rattle.fact_values.specs.Lift.{lift_leading, lift_members, lift_case, lift_element, lift_plain, lift_number, lift_variant, leading_pair, one_number, numbers_as, number_as, each_of, element_count}
+use Rattle.fact_values.specs.Load.{text_value, list_value, map_value, load_members, load_element}
+use Rattle.fact_values.specs.Numbers.{Plain, plain_of, flags_of_number, number_of_words}
 use Rattle.fact_types.specs.Steps.{◌>>=◌}
-use Rattle.fact_abi.specs.Places.{width_of, count_of_members, typed_names}
+use Rattle.fact_values.specs.Places.{width_of, count_of_members, typed_names}
 use Rattle.std.specs.List.{zip}
 use Rattle.fact_types.specs.Agrees.{names_of}
 use Rattle.fact_carry.specs.Law.{IsWellFormedBy, IsWellFormed, AreWellFormed}
-use Rattle.fact_abi.specs.Formed.{AreBare}
+use Rattle.fact_values.specs.Formed.{AreBare}
 
 -- ---- lengths
 

@@ -21,7 +21,7 @@ use Rattle.fact_machine.specs.declared.types.CoreValue.{CoreValue}
 use Rattle.fact_machine.specs.declared.types.CoreValue.TheVariants.{I32, I64, F32, F64, Func}
 use Rattle.fact_machine.specs.declared.types.MachineState.{MachineState}
 use Rattle.fact_machine.specs.Typed.{are_memories, is_memory, are_values}
-use Rattle.fact_abi.specs.Bytes.{AreBytes, AreCores}
+use Rattle.fact_values.specs.Bytes.{AreBytes, AreCores}
 use Rattle.fact_moves.specs.Calls.{side_memory}
 use Rattle.fact_moves.specs.Running.{ImportPlaces, is_state}
 use Rattle.fact_moves.specs.Sides.{LiftLowerOptions, Values, width_of_side}

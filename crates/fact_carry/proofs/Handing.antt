@@ -23,21 +23,21 @@ use Rattle.fact_types.specs.declared.import.Import.{Import}
 use Rattle.fact_types.specs.declared.import.Import.TheVariants as import
 use Rattle.fact_moves.specs.Actions.{Ask, Visit, unless}
 use Rattle.fact_moves.specs.Moves.{move, move_char, move_handle}
-use Rattle.fact_abi.specs.Numbers.{is_scalar_value, value_of_number, plain_of, number_in}
+use Rattle.fact_values.specs.Numbers.{is_scalar_value, value_of_number, plain_of, number_in}
 use Rattle.fact_moves.specs.Running.{Call}
 use Rattle.fact_machine.specs.Typed.{are_values, is_value}
 use Rattle.fact_moves.specs.Sides.{Source, Values, AtAddress, Target, Slots, Into, width_of_side, first_bits, write_number}
-use Rattle.fact_abi.specs.declared.value.HandleKind.{HandleKind}
-use Rattle.fact_abi.specs.declared.value.HandleKind.TheVariants.{Own, Borrow, Future, Stream, ErrorContext}
-use Rattle.fact_abi.specs.declared.value.Value.{Value, out-Value}
-use Rattle.fact_abi.specs.declared.value.Value.TheVariants as value
-use Rattle.fact_abi.specs.Canonical.{IsCanonicalAt, IsCanonicalFlat, AreNarrow}
-use Rattle.fact_abi.specs.Carry.{take_number}
-use Rattle.fact_abi.specs.Handles.{cross, cross_handle, given, then_step, done_step}
-use Rattle.fact_abi.specs.Lift.{lift_leading, one_number, number_as}
-use Rattle.fact_abi.specs.Load.{load}
-use Rattle.fact_abi.specs.Opened.{number_of_handle}
-use Rattle.fact_abi.specs.Weight.{weight}
+use Rattle.fact_values.specs.declared.value.HandleKind.{HandleKind}
+use Rattle.fact_values.specs.declared.value.HandleKind.TheVariants.{Own, Borrow, Future, Stream, ErrorContext}
+use Rattle.fact_values.specs.declared.value.Value.{Value, out-Value}
+use Rattle.fact_values.specs.declared.value.Value.TheVariants as value
+use Rattle.fact_values.specs.Canonical.{IsCanonicalAt, IsCanonicalFlat, AreNarrow}
+use Rattle.fact_values.specs.Carry.{take_number}
+use Rattle.fact_values.specs.Handles.{cross, cross_handle, given, then_step, done_step}
+use Rattle.fact_values.specs.Lift.{lift_leading, one_number, number_as}
+use Rattle.fact_values.specs.Load.{load}
+use Rattle.fact_values.specs.Opened.{number_of_handle}
+use Rattle.fact_values.specs.Weight.{weight}
 use Rattle.fact_carry.specs.Footprints.{HasPlaced}
 use Rattle.fact_carry.specs.Honest.{IsHonestResult}
 use Rattle.fact_carry.specs.Items.{HandleItem, items, handle_item, of_some, numbers, crossings, requests, AreItemCalls}

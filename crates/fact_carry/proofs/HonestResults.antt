@@ -18,9 +18,9 @@ use Rattle.fact_machine.specs.declared.types.Answer.{Answer}
 use Rattle.fact_machine.specs.declared.types.Answer.TheVariants.{Returns}
 use Rattle.fact_machine.specs.declared.types.End.TheVariants.{Returned}
 use Rattle.fact_machine.specs.Exits.{first_world}
-use Rattle.fact_abi.specs.Lift.{bits_of, lift_leading, lift_members}
-use Rattle.fact_abi.specs.Load.{load_members}
-use Rattle.fact_abi.specs.Limits.{AreWithinAt, AreWithinLimits}
+use Rattle.fact_values.specs.Lift.{bits_of, lift_leading, lift_members}
+use Rattle.fact_values.specs.Load.{load_members}
+use Rattle.fact_values.specs.Limits.{AreWithinAt, AreWithinLimits}
 use Rattle.fact_moves.specs.Calls.{is_import_of}
 use Rattle.fact_moves.specs.Honest.{IsHonestRun}
 use Rattle.fact_moves.specs.Moves.{move_fields}

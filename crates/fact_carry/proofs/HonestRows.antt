@@ -24,10 +24,10 @@ use Rattle.fact_machine.specs.declared.types.Answer.TheVariants.{Returns}
 use Rattle.fact_machine.specs.declared.types.End.{End}
 use Rattle.fact_machine.specs.declared.types.End.TheVariants.{Returned, Trapped}
 use Rattle.fact_machine.specs.Exits.{first_world}
-use Rattle.fact_abi.specs.Lift.{lift_leading, bits_of}
-use Rattle.fact_abi.specs.Limits.{AreWithinLimits}
-use Rattle.fact_abi.specs.Tuples.{lift_result_values}
-use Rattle.fact_abi.specs.declared.value.Value.{Value}
+use Rattle.fact_values.specs.Lift.{lift_leading, bits_of}
+use Rattle.fact_values.specs.Limits.{AreWithinLimits}
+use Rattle.fact_values.specs.Tuples.{lift_result_values}
+use Rattle.fact_values.specs.declared.value.Value.{Value}
 use Rattle.fact_moves.specs.Calls.{is_import_of, is_call_of, results, state_after, side_memory}
 use Rattle.fact_moves.specs.Honest.{IsHonestRun}
 use Rattle.fact_moves.specs.Moves.{move_fields}

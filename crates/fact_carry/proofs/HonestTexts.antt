@@ -23,9 +23,9 @@ use Rattle.fact_machine.specs.declared.types.Answer.{Answer}
 use Rattle.fact_machine.specs.declared.types.Answer.TheVariants.{Returns}
 use Rattle.fact_machine.specs.declared.types.End.{End}
 use Rattle.fact_machine.specs.declared.types.End.TheVariants.{Returned}
-use Rattle.fact_abi.specs.Lift.{lift_leading}
-use Rattle.fact_abi.specs.Limits.{AreWithinLimits}
-use Rattle.fact_abi.specs.declared.value.Value.TheVariants as value
+use Rattle.fact_values.specs.Lift.{lift_leading}
+use Rattle.fact_values.specs.Limits.{AreWithinLimits}
+use Rattle.fact_values.specs.declared.value.Value.TheVariants as value
 use Rattle.fact_moves.specs.Moves.{move_fields}
 use Rattle.fact_moves.specs.Regions.{Region, byte}
 use Rattle.fact_moves.specs.Running.{Ended}

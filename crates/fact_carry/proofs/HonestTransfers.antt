@@ -13,8 +13,8 @@ use Rattle.fact_machine.specs.declared.types.CoreValue.{CoreValue}
 use Rattle.fact_machine.specs.declared.types.End.TheVariants.{Returned}
 use Rattle.fact_machine.specs.declared.types.MachineState.{MachineState}
 use Rattle.fact_machine.specs.Exits.{first_world}
-use Rattle.fact_abi.specs.Lift.{lift_leading}
-use Rattle.fact_abi.specs.Limits.{AreWithinLimits}
+use Rattle.fact_values.specs.Lift.{lift_leading}
+use Rattle.fact_values.specs.Limits.{AreWithinLimits}
 use Rattle.fact_moves.specs.Adapters.{async_start, async_return}
 use Rattle.fact_moves.specs.Honest.{IsHonestStart, IsHonestReturn}
 use Rattle.fact_moves.specs.Moves.{move_fields}

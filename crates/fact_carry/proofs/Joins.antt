@@ -10,7 +10,7 @@ use Rattle.fact_types.specs.FlatShapes.{joined}
 use Rattle.fact_types.proofs.JoinLaws.{join_swaps, join_joins, join_absorbs}
 use Rattle.fact_machine.specs.Typed.{is_value, are_values}
 use Rattle.fact_moves.specs.Sides.{core_value, zeros}
-use Rattle.fact_abi.specs.Lift.{is_same}
+use Rattle.fact_values.specs.Lift.{is_same}
 use Rattle.fact_carry.specs.Places.{can_hold, can_hold_all}
 use Rattle.fact_carry.proofs.Targets.{both_true, left_true, right_true}
 

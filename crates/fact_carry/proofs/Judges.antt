@@ -17,7 +17,7 @@ use Rattle.fact_machine.proofs.MemoryRows.{write_within}
 use Rattle.fact_types.specs.declared.import.Import.{Import}
 use Rattle.fact_moves.specs.Actions.{Action, Give, Visit, Read, Write, MemoryLength, Ask, ◌>>=◌, trap, unless}
 use Rattle.fact_moves.specs.Running.{Call, Ended, Gave, Halted, Strayed, heavier, later, then_ended, or_strayed, ended, if_typed, is_answer, with_answer, call_of, run}
-use Rattle.fact_abi.specs.Numbers.{number_in}
+use Rattle.fact_values.specs.Numbers.{number_in}
 use Rattle.fact_moves.specs.Regions.{Region}
 use Rattle.fact_carry.specs.Regions.{TransferSetting, regions_by, regions_after}
 use Rattle.fact_carry.specs.Honest.{IsHonestResult, AreHonestCalls}

@@ -16,13 +16,13 @@ use Rattle.fact_moves.specs.Calls.{side_memory}
 use Rattle.fact_moves.specs.Running.{Call}
 use Rattle.fact_machine.specs.Typed.{are_values}
 use Rattle.fact_moves.specs.Sides.{Slots, Into, first_bits, width_of_side}
-use Rattle.fact_abi.specs.Lift.{bits_of}
+use Rattle.fact_values.specs.Lift.{bits_of}
 use Rattle.fact_types.specs.Adapters.{is_wide}
-use Rattle.fact_abi.specs.declared.value.Value.{Value}
-use Rattle.fact_abi.specs.Canonical.{AreCanonicalAt, AreCanonicalFlat}
-use Rattle.fact_abi.specs.IsA.{AreMembers}
-use Rattle.fact_abi.specs.Places.{typed_names}
-use Rattle.fact_abi.specs.Tuples.{lift_all, load_tuple, behind_only, behind_last, where_flat, lift_param_values, sync_lower_results}
+use Rattle.fact_values.specs.declared.value.Value.{Value}
+use Rattle.fact_values.specs.Canonical.{AreCanonicalAt, AreCanonicalFlat}
+use Rattle.fact_values.specs.IsA.{AreMembers}
+use Rattle.fact_values.specs.Places.{typed_names}
+use Rattle.fact_values.specs.Tuples.{lift_all, load_tuple, behind_only, behind_last, where_flat, lift_param_values, sync_lower_results}
 use Rattle.fact_carry.specs.Faithful.{IsTransferred, AreCanonical}
 use Rattle.fact_carry.specs.Law.{AreWellFormed}
 use Rattle.fact_carry.specs.Places.{to_side}

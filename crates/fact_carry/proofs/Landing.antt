@@ -22,12 +22,12 @@ use Rattle.fact_moves.specs.Running.{ImportPlaces}
 use Rattle.fact_machine.specs.Typed.{is_value, are_values}
 use Rattle.fact_types.specs.declared.outside.MemoryOption.{MemoryOption}
 use Rattle.fact_moves.specs.Sides.{LiftLowerOptions, Slots, Into, width_of_side}
-use Rattle.fact_abi.specs.Lift.{bits_of, can_stand_all, number_as}
-use Rattle.fact_abi.specs.declared.side.SideAbi.{SideAbi}
-use Rattle.fact_abi.specs.declared.value.Value.{Value}
-use Rattle.fact_abi.specs.Load.{load_members}
-use Rattle.fact_abi.specs.Texts.{lies_aligned}
-use Rattle.fact_abi.specs.Tuples.{lift_all, load_tuple, behind, behind_last}
+use Rattle.fact_values.specs.Lift.{bits_of, can_stand_all, number_as}
+use Rattle.fact_values.specs.declared.side.SideAbi.{SideAbi}
+use Rattle.fact_values.specs.declared.value.Value.{Value}
+use Rattle.fact_values.specs.Load.{load_members}
+use Rattle.fact_values.specs.Texts.{lies_aligned}
+use Rattle.fact_values.specs.Tuples.{lift_all, load_tuple, behind, behind_last}
 use Rattle.fact_carry.specs.Law.{AreWellFormed}
 use Rattle.fact_carry.specs.Places.{to_side}
 use Rattle.fact_carry.specs.Regions.{TransferSetting, AreBytesOf}

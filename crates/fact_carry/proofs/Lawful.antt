@@ -9,15 +9,15 @@ use Rattle.fact_machine.specs.World.{World}
 use Rattle.fact_moves.specs.Moves.{move_fields}
 use Rattle.fact_moves.specs.Running.{Call}
 use Rattle.fact_moves.specs.Sides.{Source, Values, AtAddress, Target, Slots, Into, width_of_side}
-use Rattle.fact_abi.specs.declared.value.Value.{Value}
-use Rattle.fact_abi.specs.Canonical.{AreCanonicalAt, AreCanonicalFlat}
-use Rattle.fact_abi.specs.Carry.{take_number}
-use Rattle.fact_abi.specs.Handles.{cross_fields, value_named}
-use Rattle.fact_abi.specs.Lift.{lift_members}
-use Rattle.fact_abi.specs.Limits.{AreWithinLimits, AreWithinAt}
-use Rattle.fact_abi.specs.Load.{load_members}
-use Rattle.fact_abi.specs.Places.{typed_names}
-use Rattle.fact_abi.specs.Weight.{weight}
+use Rattle.fact_values.specs.declared.value.Value.{Value}
+use Rattle.fact_values.specs.Canonical.{AreCanonicalAt, AreCanonicalFlat}
+use Rattle.fact_values.specs.Carry.{take_number}
+use Rattle.fact_values.specs.Handles.{cross_fields, value_named}
+use Rattle.fact_values.specs.Lift.{lift_members}
+use Rattle.fact_values.specs.Limits.{AreWithinLimits, AreWithinAt}
+use Rattle.fact_values.specs.Load.{load_members}
+use Rattle.fact_values.specs.Places.{typed_names}
+use Rattle.fact_values.specs.Weight.{weight}
 use Rattle.fact_carry.specs.Footprints.{HasChanged}
 use Rattle.fact_carry.specs.Items.{items_fields, numbers, AreItemCalls}
 use Rattle.fact_carry.specs.Law.{moving, MayStop}

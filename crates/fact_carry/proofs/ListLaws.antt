@@ -20,20 +20,20 @@ use Rattle.fact_moves.specs.Actions.{Visit}
 use Rattle.fact_moves.specs.Moves.{move, move_fields, move_list, entry_extent}
 use Rattle.fact_moves.specs.Sides.{LiftLowerOptions, Source, Values, AtAddress, Target, Slots, Into, width_of_side, bytes_of_addresses}
 use Rattle.fact_types.specs.Adapters.{is_wide}
-use Rattle.fact_abi.specs.declared.side.SideAbi.{SideAbi}
-use Rattle.fact_abi.specs.declared.value.Value.{Value, out-Value}
-use Rattle.fact_abi.specs.declared.value.Value.TheVariants as value
-use Rattle.fact_abi.specs.Canonical.{ThereIs, EachAt, IsCanonicalAt, IsCanonicalFlat, AreCanonicalAt, IsCanonicalElementAt, AreNarrow}
-use Rattle.fact_abi.specs.Carry.{take_number}
-use Rattle.fact_abi.specs.Handles.{cross, cross_fields, cross_element, each_step, then_step, done_step, given}
-use Rattle.fact_abi.specs.Lift.{lift_leading, number_as, leading_pair}
-use Rattle.fact_abi.specs.Limits.{place_in, IsWithinLimits, IsWithinAt, AreWithinAt, IsElementWithinAt, IsListWithin}
-use Rattle.fact_abi.specs.Load.{load, load_members, load_element, list_value, elements_of}
+use Rattle.fact_values.specs.declared.side.SideAbi.{SideAbi}
+use Rattle.fact_values.specs.declared.value.Value.{Value, out-Value}
+use Rattle.fact_values.specs.declared.value.Value.TheVariants as value
+use Rattle.fact_values.specs.Canonical.{ThereIs, EachAt, IsCanonicalAt, IsCanonicalFlat, AreCanonicalAt, IsCanonicalElementAt, AreNarrow}
+use Rattle.fact_values.specs.Carry.{take_number}
+use Rattle.fact_values.specs.Handles.{cross, cross_fields, cross_element, each_step, then_step, done_step, given}
+use Rattle.fact_values.specs.Lift.{lift_leading, number_as, leading_pair}
+use Rattle.fact_values.specs.Limits.{place_in, IsWithinLimits, IsWithinAt, AreWithinAt, IsElementWithinAt, IsListWithin}
+use Rattle.fact_values.specs.Load.{load, load_members, load_element, list_value, elements_of}
 use Rattle.fact_types.specs.Steps.{◌>>=◌}
-use Rattle.fact_abi.specs.Opened.{elements_in}
-use Rattle.fact_abi.specs.Places.{Pair, pair_at, each_at, element_extent as abi_extent, pointer_bytes}
-use Rattle.fact_abi.specs.Texts.{lies_aligned}
-use Rattle.fact_abi.specs.Weight.{weight, weight_element, weight_in}
+use Rattle.fact_values.specs.Opened.{elements_in}
+use Rattle.fact_values.specs.Places.{Pair, pair_at, each_at, element_extent as abi_extent, pointer_bytes}
+use Rattle.fact_values.specs.Texts.{lies_aligned}
+use Rattle.fact_values.specs.Weight.{weight, weight_element, weight_in}
 use Rattle.fact_carry.specs.Items.{RegionItem, items, items_fields, items_element, of_some, numbers, AreItemCalls}
 use Rattle.fact_carry.specs.Law.{HasPointers, moving, IsFit, IsMoved, MayStop}
 use Rattle.fact_carry.specs.Places.{from_side, to_side, value_at_source, IsTarget, IsAtTarget, StandsAtTarget, IsGrounded}

@@ -16,11 +16,11 @@ use Rattle.fact_moves.specs.Moves.{entry_extent, move_fields, move_list}
 use Rattle.fact_moves.specs.Running.{Call}
 use Rattle.fact_moves.specs.Sides.{Source, AtAddress, Target, Into, width_of_side, bytes_of_addresses, write_pair, check_region, reallocate}
 use Rattle.fact_types.specs.Adapters.{is_wide}
-use Rattle.fact_abi.specs.declared.value.Value.{Value}
-use Rattle.fact_abi.specs.Handles.{each_step}
-use Rattle.fact_abi.specs.Load.{load_members}
-use Rattle.fact_abi.specs.Places.{Pair, each_at}
-use Rattle.fact_abi.specs.Texts.{lies_aligned}
+use Rattle.fact_values.specs.declared.value.Value.{Value}
+use Rattle.fact_values.specs.Handles.{each_step}
+use Rattle.fact_values.specs.Load.{load_members}
+use Rattle.fact_values.specs.Places.{Pair, each_at}
+use Rattle.fact_values.specs.Texts.{lies_aligned}
 use Rattle.fact_carry.specs.Footprints.{HasChanged}
 use Rattle.fact_carry.specs.Items.{RegionItem, numbers, AreItemCalls}
 use Rattle.fact_carry.specs.Law.{HasPointers, MayStop}

@@ -14,19 +14,19 @@ use Rattle.fact_moves.specs.Actions.{Visit}
 use Rattle.fact_moves.specs.Moves.{move, move_fields, move_list, entry_extent}
 use Rattle.fact_moves.specs.Sides.{Source, Values, AtAddress, Target, Slots, Into, width_of_side}
 use Rattle.fact_types.specs.Adapters.{is_wide}
-use Rattle.fact_abi.specs.declared.side.SideAbi.{SideAbi}
-use Rattle.fact_abi.specs.declared.value.Value.{Value, out-Value}
-use Rattle.fact_abi.specs.declared.value.Value.TheVariants as value
-use Rattle.fact_abi.specs.Canonical.{ThereIs, EachAt, IsCanonicalAt, IsCanonicalFlat, AreCanonicalAt}
-use Rattle.fact_abi.specs.Carry.{take_number}
-use Rattle.fact_abi.specs.Handles.{cross, cross_places, each_step, then_step, done_step, given}
-use Rattle.fact_abi.specs.Lift.{lift_leading, leading_pair}
-use Rattle.fact_abi.specs.Limits.{IsWithinLimits, IsWithinAt, AreWithinAt, IsListWithin}
-use Rattle.fact_abi.specs.Load.{load, load_members, map_value, elements_of, entry_of}
+use Rattle.fact_values.specs.declared.side.SideAbi.{SideAbi}
+use Rattle.fact_values.specs.declared.value.Value.{Value, out-Value}
+use Rattle.fact_values.specs.declared.value.Value.TheVariants as value
+use Rattle.fact_values.specs.Canonical.{ThereIs, EachAt, IsCanonicalAt, IsCanonicalFlat, AreCanonicalAt}
+use Rattle.fact_values.specs.Carry.{take_number}
+use Rattle.fact_values.specs.Handles.{cross, cross_places, each_step, then_step, done_step, given}
+use Rattle.fact_values.specs.Lift.{lift_leading, leading_pair}
+use Rattle.fact_values.specs.Limits.{IsWithinLimits, IsWithinAt, AreWithinAt, IsListWithin}
+use Rattle.fact_values.specs.Load.{load, load_members, map_value, elements_of, entry_of}
 use Rattle.fact_types.specs.Steps.{◌>>=◌}
-use Rattle.fact_abi.specs.Opened.{map_entries_in}
-use Rattle.fact_abi.specs.Places.{Pair, pair_at}
-use Rattle.fact_abi.specs.Weight.{weight, weight_members, weight_in}
+use Rattle.fact_values.specs.Opened.{map_entries_in}
+use Rattle.fact_values.specs.Places.{Pair, pair_at}
+use Rattle.fact_values.specs.Weight.{weight, weight_members, weight_in}
 use Rattle.fact_carry.specs.Items.{RegionItem, items, items_places, of_some, numbers, AreItemCalls}
 use Rattle.fact_carry.specs.Law.{HasPointers, moving, IsFit, IsMoved, MayStop}
 use Rattle.fact_carry.specs.Places.{from_side, to_side, value_at_source, IsTarget, IsAtTarget, StandsAtTarget, IsGrounded}

@@ -11,13 +11,13 @@ use Rattle.fact_machine.specs.World.{World}
 use Rattle.fact_types.specs.Tuples.{members_from, tuple_members}
 use Rattle.fact_moves.specs.Running.{Call}
 use Rattle.fact_moves.specs.Sides.{Target}
-use Rattle.fact_abi.specs.declared.side.SideAbi.{SideAbi}
-use Rattle.fact_abi.specs.declared.value.Value.{Value}
-use Rattle.fact_abi.specs.Carry.{take_number, handles}
-use Rattle.fact_abi.specs.Handles.{cross, cross_fields, cross_places, then_step, done_step}
-use Rattle.fact_abi.specs.IsA.{AreMembers}
-use Rattle.fact_abi.specs.Places.{typed_names}
-use Rattle.fact_abi.specs.Weight.{weight_members}
+use Rattle.fact_values.specs.declared.side.SideAbi.{SideAbi}
+use Rattle.fact_values.specs.declared.value.Value.{Value}
+use Rattle.fact_values.specs.Carry.{take_number, handles}
+use Rattle.fact_values.specs.Handles.{cross, cross_fields, cross_places, then_step, done_step}
+use Rattle.fact_values.specs.IsA.{AreMembers}
+use Rattle.fact_values.specs.Places.{typed_names}
+use Rattle.fact_values.specs.Weight.{weight_members}
 use Rattle.fact_carry.specs.Faithful.{AreCarried, all_handles, IsTransferred}
 use Rattle.fact_carry.specs.Items.{items, items_fields, items_places, crossing, crossings, number_if, numbers}
 use Rattle.fact_carry.specs.Law.{AreTyped, ArePlaces, IsWellFormed, AreWellFormed}

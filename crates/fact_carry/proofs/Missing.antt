@@ -20,14 +20,14 @@ use Rattle.fact_moves.specs.Actions.{Action, Give, Visit, ◌>>=◌}
 use Rattle.fact_moves.specs.Moves.{move, move_fields, with_field, part, spot, past}
 use Rattle.fact_moves.specs.Sides.{Source, Values, AtAddress, Target, width_of_side}
 use Rattle.fact_types.specs.Adapters.{is_wide}
-use Rattle.fact_abi.specs.declared.side.SideAbi.{SideAbi}
-use Rattle.fact_abi.specs.declared.value.Value.{Value}
-use Rattle.fact_abi.specs.declared.value.Value.TheVariants as value
-use Rattle.fact_abi.specs.Places.{typed_names}
-use Rattle.fact_abi.specs.Lift.{lift_leading, lift_members}
-use Rattle.fact_abi.specs.Load.{load, load_members}
+use Rattle.fact_values.specs.declared.side.SideAbi.{SideAbi}
+use Rattle.fact_values.specs.declared.value.Value.{Value}
+use Rattle.fact_values.specs.declared.value.Value.TheVariants as value
+use Rattle.fact_values.specs.Places.{typed_names}
+use Rattle.fact_values.specs.Lift.{lift_leading, lift_members}
+use Rattle.fact_values.specs.Load.{load, load_members}
 use Rattle.fact_types.specs.Steps.{◌>>=◌ as and_then}
-use Rattle.fact_abi.specs.Limits.{place_in}
+use Rattle.fact_values.specs.Limits.{place_in}
 use Rattle.fact_carry.specs.Law.{AreTyped, AreWellFormed}
 use Rattle.fact_carry.specs.Places.{from_side, value_at_source, IsSource, HoldsMemories, IsGrounded}
 use Rattle.fact_moves.specs.Regions.{Region}

@@ -10,7 +10,7 @@ use Rattle.fact_moves.specs.Actions.{Action, Read, ◌>>=◌, unless, trap}
 use Rattle.fact_moves.specs.Running.{Call, Ended, Gave, Halted, Strayed, or_strayed, ended, run}
 use Rattle.fact_moves.specs.Sides.{LiftLowerOptions, Source, Values, AtAddress, with_memory, read_number, check_region}
 use Rattle.fact_types.specs.declared.outside.MemoryOption.{MemoryOption}
-use Rattle.fact_abi.specs.Numbers.{number_in}
+use Rattle.fact_values.specs.Numbers.{number_in}
 use Rattle.fact_carry.specs.Places.{HasSideMemory, IsSource, IsGrounded}
 use Rattle.fact_moves.specs.Regions.{Region}
 use Rattle.fact_carry.specs.Regions.{TransferSetting, AreBytesOf, regions_after}

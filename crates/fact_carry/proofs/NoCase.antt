@@ -11,16 +11,16 @@ use Rattle.fact_types.proofs.ShapeLaws.{none_some}
 use Rattle.fact_machine.specs.declared.types.CoreValue.{CoreValue}
 use Rattle.fact_machine.specs.World.{World}
 use Rattle.fact_moves.specs.Actions.{Action, Give, ◌>>=◌}
-use Rattle.fact_abi.specs.Limits.{CaseType, case_type}
-use Rattle.fact_abi.specs.Places.{count_of_members, case_bytes, payload_place}
+use Rattle.fact_values.specs.Limits.{CaseType, case_type}
+use Rattle.fact_values.specs.Places.{count_of_members, case_bytes, payload_place}
 use Rattle.fact_moves.specs.Moves.{move, move_case, write_case, payload_part, payload_spot, padded}
 use Rattle.fact_moves.specs.Sides.{Source, Values, AtAddress, Target, width_of_side, read_number, write_number, side_abi}
-use Rattle.fact_abi.specs.declared.value.Value.{Value}
-use Rattle.fact_abi.specs.declared.value.Value.TheVariants as value
-use Rattle.fact_abi.specs.Lift.{lift_leading, number_as}
-use Rattle.fact_abi.specs.Load.{load, load_case}
+use Rattle.fact_values.specs.declared.value.Value.{Value}
+use Rattle.fact_values.specs.declared.value.Value.TheVariants as value
+use Rattle.fact_values.specs.Lift.{lift_leading, number_as}
+use Rattle.fact_values.specs.Load.{load, load_case}
 use Rattle.fact_types.specs.Steps.{◌>>=◌ as and_then}
-use Rattle.fact_abi.specs.Numbers.{number_in}
+use Rattle.fact_values.specs.Numbers.{number_in}
 use Rattle.fact_carry.specs.Law.{AreWellFormed, size_on}
 use Rattle.fact_carry.specs.Places.{from_side, value_at_source, AreInRange, IsSource, IsTarget, HoldsMemories, IsGrounded, HasSideMemory}
 use Rattle.fact_moves.specs.Regions.{Region}

@@ -20,15 +20,15 @@ use Rattle.fact_types.specs.declared.import.Import.{Import}
 use Rattle.fact_types.specs.declared.import.Import.TheVariants as import
 use Rattle.fact_moves.specs.Actions.{Visit, Ask, unless}
 use Rattle.fact_moves.specs.Moves.{move, move_handle, move_flags, move_enum}
-use Rattle.fact_abi.specs.Places.{count_of_members, case_bytes, payload_place, flags_bytes}
+use Rattle.fact_values.specs.Places.{count_of_members, case_bytes, payload_place, flags_bytes}
 use Rattle.fact_moves.specs.Sides.{Source, Values, AtAddress, Target, width_of_side, first_bits, write_number}
-use Rattle.fact_abi.specs.declared.value.HandleKind.TheVariants.{Own, Borrow, Future, Stream, ErrorContext}
-use Rattle.fact_abi.specs.declared.value.Value.{Value}
-use Rattle.fact_abi.specs.declared.value.Value.TheVariants as value
-use Rattle.fact_abi.specs.Lift.{lift_leading, lift_case, number_as, numbers_as}
-use Rattle.fact_abi.specs.Load.{load, load_case}
+use Rattle.fact_values.specs.declared.value.HandleKind.TheVariants.{Own, Borrow, Future, Stream, ErrorContext}
+use Rattle.fact_values.specs.declared.value.Value.{Value}
+use Rattle.fact_values.specs.declared.value.Value.TheVariants as value
+use Rattle.fact_values.specs.Lift.{lift_leading, lift_case, number_as, numbers_as}
+use Rattle.fact_values.specs.Load.{load, load_case}
 use Rattle.fact_types.specs.Steps.{◌>>=◌}
-use Rattle.fact_abi.specs.Numbers.{number_in, plain_of, value_of_number, number_of_words, flags_of_number}
+use Rattle.fact_values.specs.Numbers.{number_in, plain_of, value_of_number, number_of_words, flags_of_number}
 use Rattle.fact_carry.specs.Places.{from_side, value_at_source, IsSource, IsGrounded}
 use Rattle.fact_moves.specs.Regions.{Region}
 use Rattle.fact_carry.specs.Regions.{TransferSetting, AreBytesOf}
@@ -40,7 +40,7 @@ use Rattle.fact_carry.proofs.Numeric.{IsNumeric, own_is, borrow_is, error_contex
 use Rattle.fact_carry.proofs.Plain.{does_aligned}
 use Rattle.fact_carry.proofs.Refusals.{NumberAt, no_number, of_number, number_or_none, never_visit}
 use Rattle.fact_carry.proofs.Variants.{sum_number}
-use Rattle.fact_abi.specs.Formed.{AreBare}
+use Rattle.fact_values.specs.Formed.{AreBare}
 use Rattle.fact_carry.specs.Judged.{GivesNothing}
 use Rattle.fact_carry.specs.Lawful.{Refuses}
 

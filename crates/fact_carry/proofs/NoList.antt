@@ -15,14 +15,14 @@ use Rattle.fact_moves.specs.Actions.{Action, Give, Visit, each, each_from, unles
 use Rattle.fact_moves.specs.Moves.{entry_extent, move, move_fields, move_list}
 use Rattle.fact_moves.specs.Sides.{Source, Values, AtAddress, Target, Into, width_of_side, bytes_of_addresses, read_number, read_pair, write_pair, check_region, reallocate}
 use Rattle.fact_types.specs.Adapters.{is_wide}
-use Rattle.fact_abi.specs.declared.value.Value.{Value}
-use Rattle.fact_abi.specs.declared.value.Value.TheVariants as value
-use Rattle.fact_abi.specs.Lift.{lift_leading}
-use Rattle.fact_abi.specs.Load.{load, load_members, load_element, list_value, map_value}
+use Rattle.fact_values.specs.declared.value.Value.{Value}
+use Rattle.fact_values.specs.declared.value.Value.TheVariants as value
+use Rattle.fact_values.specs.Lift.{lift_leading}
+use Rattle.fact_values.specs.Load.{load, load_members, load_element, list_value, map_value}
 use Rattle.fact_types.specs.Steps.{◌>>=◌ as and_then}
-use Rattle.fact_abi.specs.Numbers.{number_in}
-use Rattle.fact_abi.specs.Places.{Pair, pair_at, pointer_bytes, each_at}
-use Rattle.fact_abi.specs.Texts.{lies_aligned}
+use Rattle.fact_values.specs.Numbers.{number_in}
+use Rattle.fact_values.specs.Places.{Pair, pair_at, pointer_bytes, each_at}
+use Rattle.fact_values.specs.Texts.{lies_aligned}
 use Rattle.fact_carry.specs.Law.{HasPointers}
 use Rattle.fact_carry.specs.Places.{from_side, value_at_source, IsSource, HoldsMemories, IsGrounded, HasSideMemory}
 use Rattle.fact_moves.specs.Regions.{Region}

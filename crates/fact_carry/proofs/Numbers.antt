@@ -16,8 +16,8 @@ use Rattle.fact_moves.specs.Running.{Call}
 use Rattle.fact_machine.specs.Typed.{is_value}
 use Rattle.fact_moves.specs.Sides.{LiftLowerOptions, Source, Values, AtAddress, Target, Slots, Into, core_value, with_memory, read_number, write_number}
 use Rattle.fact_types.specs.declared.outside.MemoryOption.{MemoryOption}
-use Rattle.fact_abi.specs.Lift.{bits_of, number_as}
-use Rattle.fact_abi.specs.Numbers.{number_in}
+use Rattle.fact_values.specs.Lift.{bits_of, number_as}
+use Rattle.fact_values.specs.Numbers.{number_in}
 use Rattle.fact_moves.specs.Regions.{Region}
 use Rattle.fact_carry.specs.Regions.{TransferSetting, IsInHand, AreBytesOf}
 use Rattle.fact_carry.specs.Places.{HasSideMemory, IsSource, can_hold, IsTarget, IsAtTarget, IsGiven, HoldsMemories, IsGrounded}

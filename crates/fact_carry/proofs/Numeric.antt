@@ -19,18 +19,18 @@ use Rattle.fact_machine.specs.declared.types.CoreValue.{CoreValue}
 use Rattle.fact_machine.specs.Numerics.{extend_s}
 use Rattle.fact_moves.specs.Moves.{canonical_number, plain_size, move_number, move_plain}
 use Rattle.fact_moves.specs.Sides.{Transfer, Source, Target}
-use Rattle.fact_abi.specs.declared.side.SideAbi.{SideAbi}
-use Rattle.fact_abi.specs.Carry.{take_number}
-use Rattle.fact_abi.specs.Handles.{cross_plain}
-use Rattle.fact_abi.specs.Lift.{lift_plain, lift_number}
-use Rattle.fact_abi.specs.Load.{load_plain}
-use Rattle.fact_abi.specs.Places.{width_of, extent_on}
+use Rattle.fact_values.specs.declared.side.SideAbi.{SideAbi}
+use Rattle.fact_values.specs.Carry.{take_number}
+use Rattle.fact_values.specs.Handles.{cross_plain}
+use Rattle.fact_values.specs.Lift.{lift_plain, lift_number}
+use Rattle.fact_values.specs.Load.{load_plain}
+use Rattle.fact_values.specs.Places.{width_of, extent_on}
 use Rattle.fact_carry.specs.Items.{items_plain}
-use Rattle.fact_abi.specs.declared.value.HandleKind.TheVariants.{Own, Borrow, ErrorContext}
-use Rattle.fact_abi.specs.declared.value.Value.{Value}
-use Rattle.fact_abi.specs.declared.value.Value.TheVariants as value
-use Rattle.fact_abi.specs.Canonical.{IsCanonicalByte, IsCanonicalNumber}
-use Rattle.fact_abi.specs.Numbers.{character, handle, number_in, plain_of, value_of_number, twos_complement}
+use Rattle.fact_values.specs.declared.value.HandleKind.TheVariants.{Own, Borrow, ErrorContext}
+use Rattle.fact_values.specs.declared.value.Value.{Value}
+use Rattle.fact_values.specs.declared.value.Value.TheVariants as value
+use Rattle.fact_values.specs.Canonical.{IsCanonicalByte, IsCanonicalNumber}
+use Rattle.fact_values.specs.Numbers.{character, handle, number_in, plain_of, value_of_number, twos_complement}
 use Rattle.fact_types.specs.Steps.{◌>>=◌}
 use Rattle.fact_carry.proofs.Numbers.{flat_bound}
 

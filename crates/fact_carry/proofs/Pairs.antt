@@ -13,11 +13,11 @@ use Rattle.fact_moves.specs.Actions.{Action, Give, ◌>>=◌}
 use Rattle.fact_moves.specs.Running.{Call}
 use Rattle.fact_machine.specs.Typed.{is_value, are_values}
 use Rattle.fact_moves.specs.Sides.{Source, Values, AtAddress, Target, Slots, Into, bytes_of_addresses, nth_part, nth_spot, read_number, read_pair, write_number, write_pair}
-use Rattle.fact_abi.specs.Lift.{bits_of, number_as, leading_pair}
+use Rattle.fact_values.specs.Lift.{bits_of, number_as, leading_pair}
 use Rattle.fact_types.specs.Adapters.{is_wide}
 use Rattle.fact_types.specs.Steps.{◌>>=◌ as and_then}
-use Rattle.fact_abi.specs.Numbers.{number_in}
-use Rattle.fact_abi.specs.Places.{Pair, pair_at, pointer_bytes}
+use Rattle.fact_values.specs.Numbers.{number_in}
+use Rattle.fact_values.specs.Places.{Pair, pair_at, pointer_bytes}
 use Rattle.fact_carry.specs.Footprints.{HasChanged}
 use Rattle.fact_carry.specs.Places.{from_side, to_side, IsSource, can_hold, IsTarget, IsAtTarget, IsGiven, HoldsMemories, IsGrounded}
 use Rattle.fact_moves.specs.Regions.{Region}

@@ -15,16 +15,16 @@ use Rattle.fact_moves.specs.Actions.{Action, Visit}
 use Rattle.fact_moves.specs.Running.{Call}
 use Rattle.fact_moves.specs.Moves.{move, move_plain, plain_size, canonical_number, aligned_node, aligned_source, aligned_target}
 use Rattle.fact_moves.specs.Sides.{Source, Values, AtAddress, Target, Slots, Into, width_of_side, write_number}
-use Rattle.fact_abi.specs.Lift.{bits_of, number_as, lift_leading, lift_number}
-use Rattle.fact_abi.specs.declared.value.Value.{Value}
-use Rattle.fact_abi.specs.Canonical.{IsCanonicalAt, IsCanonicalFlat, ThereIs, IsCanonicalByte, AreNarrow, IsCanonicalFirst, IsCanonicalNumber}
-use Rattle.fact_abi.specs.Carry.{take_number}
-use Rattle.fact_abi.specs.Handles.{cross, cross_plain, table_number_of}
-use Rattle.fact_abi.specs.Load.{load}
+use Rattle.fact_values.specs.Lift.{bits_of, number_as, lift_leading, lift_number}
+use Rattle.fact_values.specs.declared.value.Value.{Value}
+use Rattle.fact_values.specs.Canonical.{IsCanonicalAt, IsCanonicalFlat, ThereIs, IsCanonicalByte, AreNarrow, IsCanonicalFirst, IsCanonicalNumber}
+use Rattle.fact_values.specs.Carry.{take_number}
+use Rattle.fact_values.specs.Handles.{cross, cross_plain, table_number_of}
+use Rattle.fact_values.specs.Load.{load}
 use Rattle.fact_types.specs.Steps.{◌>>=◌}
-use Rattle.fact_abi.specs.Numbers.{plain_of, value_of_number, number_in}
-use Rattle.fact_abi.specs.Places.{extent_on}
-use Rattle.fact_abi.specs.Weight.{weight}
+use Rattle.fact_values.specs.Numbers.{plain_of, value_of_number, number_in}
+use Rattle.fact_values.specs.Places.{extent_on}
+use Rattle.fact_values.specs.Weight.{weight}
 use Rattle.fact_carry.specs.Items.{items, numbers, AreItemCalls}
 use Rattle.fact_carry.specs.Law.{size_on, IsMoved, MayStop}
 use Rattle.fact_carry.specs.Places.{from_side, to_side, value_at_source, IsInRange, IsSource, IsTarget, IsAtTarget, StandsAtTarget, HoldsMemories, IsGrounded}

@@ -11,8 +11,8 @@ use Rattle.fact_types.specs.Shapes.{Kind, k_record, k_variant, k_list, k_tuple, 
 use Rattle.fact_types.specs.Tuples.{tuple_members}
 use Rattle.fact_types.specs.Valid.{IsRuled, AreRuled, AreDistinct}
 use Rattle.fact_types.proofs.ShapeLaws.{same_some, none_some}
-use Rattle.fact_abi.specs.Formed.{AreBare}
-use Rattle.fact_abi.specs.Limits.{CaseType, case_type}
+use Rattle.fact_values.specs.Formed.{AreBare}
+use Rattle.fact_values.specs.Limits.{CaseType, case_type}
 use Rattle.fact_carry.specs.Law.{AreTyped, IsWellFormed, AreWellFormed}
 use Rattle.fact_carry.proofs.Distinct.{case_named, each_agrees}
 use Rattle.fact_carry.specs.FaithfulLaws.{AreWellFormedTypes, OwnMemoriesServe}

@@ -13,18 +13,18 @@ use Rattle.fact_moves.specs.Actions.{Visit}
 use Rattle.fact_moves.specs.Moves.{move, move_fields}
 use Rattle.fact_moves.specs.Running.{Call}
 use Rattle.fact_moves.specs.Sides.{Source, Values, AtAddress, Target, Slots, Into, width_of_side}
-use Rattle.fact_abi.specs.declared.value.Value.{Value, out-Value}
-use Rattle.fact_abi.specs.declared.value.Value.TheVariants as value
-use Rattle.fact_abi.specs.Canonical.{IsCanonicalFlat, IsCanonicalAt}
-use Rattle.fact_abi.specs.Carry.{take_number}
-use Rattle.fact_abi.specs.Handles.{cross, cross_fields, cross_places, then_step, done_step, given}
-use Rattle.fact_abi.specs.Lift.{lift_leading}
-use Rattle.fact_abi.specs.Limits.{IsWithinLimits, IsWithinAt}
-use Rattle.fact_abi.specs.Load.{load}
+use Rattle.fact_values.specs.declared.value.Value.{Value, out-Value}
+use Rattle.fact_values.specs.declared.value.Value.TheVariants as value
+use Rattle.fact_values.specs.Canonical.{IsCanonicalFlat, IsCanonicalAt}
+use Rattle.fact_values.specs.Carry.{take_number}
+use Rattle.fact_values.specs.Handles.{cross, cross_fields, cross_places, then_step, done_step, given}
+use Rattle.fact_values.specs.Lift.{lift_leading}
+use Rattle.fact_values.specs.Limits.{IsWithinLimits, IsWithinAt}
+use Rattle.fact_values.specs.Load.{load}
 use Rattle.fact_types.specs.Steps.{◌>>=◌}
-use Rattle.fact_abi.specs.Opened.{fields_in, members_in}
-use Rattle.fact_abi.specs.Places.{typed_names}
-use Rattle.fact_abi.specs.Weight.{weight, weight_members, weight_in}
+use Rattle.fact_values.specs.Opened.{fields_in, members_in}
+use Rattle.fact_values.specs.Places.{typed_names}
+use Rattle.fact_values.specs.Weight.{weight, weight_members, weight_in}
 use Rattle.fact_carry.specs.Items.{ValueItem, items, items_fields, items_places, of_some, numbers, AreItemCalls}
 use Rattle.fact_carry.specs.Law.{IsFit, IsMoved, MayStop}
 use Rattle.fact_carry.specs.Places.{to_side, value_at_source, IsTarget, IsAtTarget, StandsAtTarget, IsGrounded}

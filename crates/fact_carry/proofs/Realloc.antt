@@ -24,7 +24,7 @@ use Rattle.fact_moves.specs.Sides.{LiftLowerOptions, address_value, type_of_addr
 use Rattle.fact_types.specs.declared.outside.MemoryOption.{MemoryOption}
 use Rattle.fact_types.specs.Adapters.{is_wide}
 use Rattle.fact_machine.specs.Typing.{address_bits, address_operand}
-use Rattle.fact_abi.specs.Lift.{bits_of}
+use Rattle.fact_values.specs.Lift.{bits_of}
 use Rattle.fact_carry.specs.Honest.{IsHonestRealloc}
 use Rattle.fact_carry.specs.Items.{crossings, requests, IsRegionTold, IsRegionBegun}
 use Rattle.fact_moves.specs.Requests.{new_region}

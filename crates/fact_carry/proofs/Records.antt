@@ -13,16 +13,16 @@ use Rattle.fact_moves.specs.Actions.{Action, Give, ◌>>=◌}
 use Rattle.fact_moves.specs.Moves.{move, move_fields, with_field, part, spot, past}
 use Rattle.fact_moves.specs.Running.{Call}
 use Rattle.fact_moves.specs.Sides.{Source, Values, AtAddress, Target, Slots, Into, width_of_side}
-use Rattle.fact_abi.specs.declared.value.Value.{Value}
-use Rattle.fact_abi.specs.Canonical.{ThereIs, IsCanonicalFlat, AreCanonicalFlat, AreCanonicalAt}
-use Rattle.fact_abi.specs.Carry.{take_number}
-use Rattle.fact_abi.specs.Handles.{cross, cross_fields, value_named, then_step, done_step, given}
-use Rattle.fact_abi.specs.Lift.{lift_members}
-use Rattle.fact_abi.specs.Load.{load_members}
-use Rattle.fact_abi.specs.Limits.{place_in, AreWithinLimits, AreWithinAt, IsWithinLimits, IsWithinAt}
+use Rattle.fact_values.specs.declared.value.Value.{Value}
+use Rattle.fact_values.specs.Canonical.{ThereIs, IsCanonicalFlat, AreCanonicalFlat, AreCanonicalAt}
+use Rattle.fact_values.specs.Carry.{take_number}
+use Rattle.fact_values.specs.Handles.{cross, cross_fields, value_named, then_step, done_step, given}
+use Rattle.fact_values.specs.Lift.{lift_members}
+use Rattle.fact_values.specs.Load.{load_members}
+use Rattle.fact_values.specs.Limits.{place_in, AreWithinLimits, AreWithinAt, IsWithinLimits, IsWithinAt}
 use Rattle.fact_types.specs.Steps.{◌>>=◌ as and_then}
-use Rattle.fact_abi.specs.Places.{typed_names}
-use Rattle.fact_abi.specs.Weight.{weight}
+use Rattle.fact_values.specs.Places.{typed_names}
+use Rattle.fact_values.specs.Weight.{weight}
 use Rattle.fact_carry.specs.Items.{ValueItem, items, items_fields, of_some, numbers, AreItemCalls}
 use Rattle.fact_carry.specs.Law.{IsWellFormed, AreWellFormed, size_on, moving, IsFit, IsMoved, MayStop}
 use Rattle.fact_carry.specs.Places.{to_side, IsTarget, IsGiven, StandsAtTarget}

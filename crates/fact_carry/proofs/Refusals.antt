@@ -14,13 +14,13 @@ use Rattle.fact_types.proofs.ShapeLaws.{none_some}
 use Rattle.fact_machine.specs.World.{World}
 use Rattle.fact_moves.specs.Actions.{Action, Visit, unless}
 use Rattle.fact_moves.specs.Moves.{move, move_fields, move_number, move_plain, move_char, plain_size, canonical_number}
-use Rattle.fact_abi.specs.Numbers.{is_scalar_value, number_in, plain_of, value_of_number}
+use Rattle.fact_values.specs.Numbers.{is_scalar_value, number_in, plain_of, value_of_number}
 use Rattle.fact_moves.specs.Sides.{Source, Values, AtAddress, Target, width_of_side, write_number}
-use Rattle.fact_abi.specs.Lift.{bits_of, lift_leading, lift_number, number_as}
-use Rattle.fact_abi.specs.declared.value.Value.TheVariants as V
-use Rattle.fact_abi.specs.Load.{load}
+use Rattle.fact_values.specs.Lift.{bits_of, lift_leading, lift_number, number_as}
+use Rattle.fact_values.specs.declared.value.Value.TheVariants as V
+use Rattle.fact_values.specs.Load.{load}
 use Rattle.fact_types.specs.Steps.{◌>>=◌}
-use Rattle.fact_abi.specs.Places.{extent_on}
+use Rattle.fact_values.specs.Places.{extent_on}
 use Rattle.fact_carry.specs.Places.{from_side, value_at_source, IsSource, HoldsMemories, IsGrounded}
 use Rattle.fact_moves.specs.Regions.{Region}
 use Rattle.fact_carry.specs.Regions.{TransferSetting, IsInHand, AreBytesOf}

@@ -18,7 +18,7 @@ use Rattle.fact_moves.specs.Adapters.{check_tuple, from_values, into_params, fla
 use Rattle.fact_moves.specs.Moves.{move_fields, entry_extent}
 use Rattle.fact_moves.specs.Regions.{Region}
 use Rattle.fact_moves.specs.Sides.{Source, Values, AtAddress, Slots, Into, width_of_side, address_value, first_bits, reallocate}
-use Rattle.fact_abi.specs.declared.value.Value.{Value}
+use Rattle.fact_values.specs.declared.value.Value.{Value}
 use Rattle.fact_carry.specs.Law.{CanAllocate, AreSupplied, AreWellFormed}
 use Rattle.fact_carry.specs.Places.{IsSource, HoldsMemories, IsGrounded, HasSideMemory, from_side}
 use Rattle.fact_carry.specs.Regions.{TransferSetting, IsInHand, regions_after}
@@ -32,14 +32,14 @@ use Rattle.fact_carry.proofs.Refusals.{RefusesFields}
 use Rattle.fact_carry.proofs.Theorem.{AreValid}
 use Rattle.fact_carry.proofs.Transfers.{ComeBy, IsPlaceOf, ends_at, leading, leads, slots_hold, results_hold, flats_are}
 use Rattle.fact_machine.specs.Typed.{are_values, is_value}
-use Rattle.fact_abi.specs.Tuples.{flat_or_behind, behind_only, where_flat, lift_all, load_tuple}
-use Rattle.fact_abi.specs.Load.{load_members}
-use Rattle.fact_abi.specs.Places.{extent_on}
-use Rattle.fact_abi.specs.declared.side.SideAbi.{SideAbi}
+use Rattle.fact_values.specs.Tuples.{flat_or_behind, behind_only, where_flat, lift_all, load_tuple}
+use Rattle.fact_values.specs.Load.{load_members}
+use Rattle.fact_values.specs.Places.{extent_on}
+use Rattle.fact_values.specs.declared.side.SideAbi.{SideAbi}
 use Rattle.fact_carry.proofs.Landed.{flat_of}
 use Rattle.fact_carry.proofs.Landing.{behind_typed, all_each}
 use Rattle.fact_carry.proofs.Standing.{lifts_all, each_flat, all_stand}
-use Rattle.fact_abi.specs.Lift.{can_stand_all, bits_of}
+use Rattle.fact_values.specs.Lift.{can_stand_all, bits_of}
 use Rattle.fact_types.specs.FlatShapes.{flat_all, flat_members}
 use Rattle.fact_types.specs.declared.flats.FlatType.{FlatType}
 use Rattle.fact_types.specs.Flat.{value_type}

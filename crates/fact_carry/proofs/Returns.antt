@@ -16,12 +16,12 @@ use Rattle.fact_machine.specs.declared.types.CoreValue.{CoreValue}
 use Rattle.fact_machine.specs.declared.types.MachineState.{MachineState}
 use Rattle.fact_machine.specs.Typed.{is_value, are_values}
 use Rattle.fact_machine.specs.World.{World}
-use Rattle.fact_abi.specs.declared.value.Value.{Value}
-use Rattle.fact_abi.specs.Canonical.{AreCanonicalAt, AreCanonicalFlat}
-use Rattle.fact_abi.specs.IsA.{AreMembers}
-use Rattle.fact_abi.specs.Lift.{lift_members}
-use Rattle.fact_abi.specs.Places.{typed_names}
-use Rattle.fact_abi.specs.Tuples.{load_tuple, behind_last, lower_result_values}
+use Rattle.fact_values.specs.declared.value.Value.{Value}
+use Rattle.fact_values.specs.Canonical.{AreCanonicalAt, AreCanonicalFlat}
+use Rattle.fact_values.specs.IsA.{AreMembers}
+use Rattle.fact_values.specs.Lift.{lift_members}
+use Rattle.fact_values.specs.Places.{typed_names}
+use Rattle.fact_values.specs.Tuples.{load_tuple, behind_last, lower_result_values}
 use Rattle.fact_moves.specs.Actions.{Action}
 use Rattle.fact_moves.specs.Adapters.{AdapterTunables, check_tuple, flat_results, into_results, last_bits, return_params, async_return, move_results}
 use Rattle.fact_moves.specs.AdapterLaws.{IsChecked}

@@ -11,14 +11,14 @@ use Rattle.fact_moves.specs.Actions.{Action, Give, each_from, ◌>>=◌}
 use Rattle.fact_moves.specs.Moves.{move_fields}
 use Rattle.fact_moves.specs.Running.{Call}
 use Rattle.fact_moves.specs.Sides.{AtAddress, Into, width_of_side}
-use Rattle.fact_abi.specs.declared.value.Value.{Value}
-use Rattle.fact_abi.specs.Canonical.{EachAt, AreCanonicalAt}
-use Rattle.fact_abi.specs.Carry.{take_number}
-use Rattle.fact_abi.specs.Handles.{each_step, then_step, done_step, cross_fields}
-use Rattle.fact_abi.specs.Limits.{AreWithinAt}
-use Rattle.fact_abi.specs.Load.{load_members}
+use Rattle.fact_values.specs.declared.value.Value.{Value}
+use Rattle.fact_values.specs.Canonical.{EachAt, AreCanonicalAt}
+use Rattle.fact_values.specs.Carry.{take_number}
+use Rattle.fact_values.specs.Handles.{each_step, then_step, done_step, cross_fields}
+use Rattle.fact_values.specs.Limits.{AreWithinAt}
+use Rattle.fact_values.specs.Load.{load_members}
 use Rattle.fact_types.specs.Steps.{◌>>=◌ as and_then}
-use Rattle.fact_abi.specs.Places.{typed_names, each_at}
+use Rattle.fact_values.specs.Places.{typed_names, each_at}
 use Rattle.fact_carry.specs.Footprints.{HasChanged}
 use Rattle.fact_carry.specs.Items.{ValueItem, items_fields, numbers, AreItemCalls}
 use Rattle.fact_carry.specs.Law.{moving, MayStop}

@@ -10,10 +10,10 @@ use Rattle.fact_types.specs.Tables.{Tables, Node, node_of, is_plain, placed, Has
 use Rattle.fact_types.specs.Tuples.{members_from}
 use Rattle.fact_types.proofs.ShapeLaws.{none_some}
 use Rattle.fact_agreement.specs.Lists.{AgreeAll}
-use Rattle.fact_abi.specs.Formed.{AreBare}
-use Rattle.fact_abi.specs.Numbers.{plain_of}
-use Rattle.fact_abi.proofs.FormedLaws.{each_entry}
-use Rattle.fact_abi.proofs.ToldLaws.{names_told}
+use Rattle.fact_values.specs.Formed.{AreBare}
+use Rattle.fact_values.specs.Numbers.{plain_of}
+use Rattle.fact_values.proofs.FormedLaws.{each_entry}
+use Rattle.fact_values.proofs.MemberLaws.{names_told}
 use Rattle.fact_carry.specs.FaithfulLaws.{ShapesAreWellFormed, TuplesAgree}
 use Rattle.fact_carry.specs.Law.{AreTyped, ArePlaces, HasValues, IsWellFormedBy, IsWellFormed, AreWellFormed}
 

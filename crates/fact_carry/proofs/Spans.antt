@@ -15,8 +15,8 @@ use Rattle.fact_moves.specs.Actions.{Action, Give, each_from, ◌>>=◌}
 use Rattle.fact_moves.specs.Moves.{move_fields}
 use Rattle.fact_moves.specs.Running.{Call}
 use Rattle.fact_moves.specs.Sides.{Source, Values, AtAddress, Target, Slots, Into, width_of_side, nth_part, nth_spot}
-use Rattle.fact_abi.specs.declared.value.Value.{Value}
-use Rattle.fact_abi.specs.Handles.{each_step, then_step, done_step}
+use Rattle.fact_values.specs.declared.value.Value.{Value}
+use Rattle.fact_values.specs.Handles.{each_step, then_step, done_step}
 use Rattle.fact_types.specs.Steps.{◌>>=◌ as and_then}
 use Rattle.fact_carry.specs.Footprints.{HasChanged}
 use Rattle.fact_carry.specs.Items.{numbers, AreItemCalls}

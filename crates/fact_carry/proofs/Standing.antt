@@ -14,11 +14,11 @@ use Rattle.fact_machine.specs.declared.types.CoreValue.{CoreValue}
 use Rattle.fact_machine.specs.declared.types.CoreValue.TheVariants.{I32, I64, F32, F64, Func}
 use Rattle.fact_types.specs.Tuples.{members_from}
 use Rattle.fact_machine.specs.Typed.{is_value, are_values}
-use Rattle.fact_abi.specs.declared.side.SideAbi.{SideAbi}
-use Rattle.fact_abi.specs.declared.value.Value.{Value}
-use Rattle.fact_abi.specs.Lift.{can_stand, can_stand_all, lift, lift_leading, lift_members}
+use Rattle.fact_values.specs.declared.side.SideAbi.{SideAbi}
+use Rattle.fact_values.specs.declared.value.Value.{Value}
+use Rattle.fact_values.specs.Lift.{can_stand, can_stand_all, lift, lift_leading, lift_members}
 use Rattle.fact_types.specs.Steps.{◌>>=◌}
-use Rattle.fact_abi.specs.Tuples.{lift_all}
+use Rattle.fact_values.specs.Tuples.{lift_all}
 use Rattle.fact_carry.specs.Law.{AreWellFormed}
 use Rattle.fact_carry.proofs.FixedLaws.{leads_back}
 use Rattle.fact_carry.proofs.Plain.{both}

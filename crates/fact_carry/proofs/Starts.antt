@@ -14,8 +14,8 @@ use Rattle.fact_machine.specs.declared.types.CoreValue.{CoreValue}
 use Rattle.fact_machine.specs.declared.types.MachineState.{MachineState}
 use Rattle.fact_machine.specs.Typed.{are_values}
 use Rattle.fact_machine.specs.World.{World}
-use Rattle.fact_abi.specs.declared.value.Value.{Value}
-use Rattle.fact_abi.specs.Places.{typed_names}
+use Rattle.fact_values.specs.declared.value.Value.{Value}
+use Rattle.fact_values.specs.Places.{typed_names}
 use Rattle.fact_moves.specs.Adapters.{AdapterTunables, start_params, async_start, move_params}
 use Rattle.fact_moves.specs.AdapterLaws.{IsChecked, HasNotGiven}
 use Rattle.fact_moves.specs.Calls.{side_memory}

@@ -15,22 +15,22 @@ use Rattle.fact_types.specs.Shapes.{Shape, Members, no_members, bare, typed}
 use Rattle.fact_machine.specs.declared.types.CoreValue.{CoreValue}
 use Rattle.fact_machine.specs.World.{World, Stop}
 use Rattle.fact_moves.specs.Actions.{Action, Give, ◌>>=◌}
-use Rattle.fact_abi.specs.Limits.{CaseType, Where, IsWithinLimits, IsWithinAt, IsCaseWithin, IsCaseWithinAt}
+use Rattle.fact_values.specs.Limits.{CaseType, Where, IsWithinLimits, IsWithinAt, IsCaseWithin, IsCaseWithinAt}
 use Rattle.fact_moves.specs.Moves.{move, move_case, write_case, payload_part, payload_spot, padded}
-use Rattle.fact_abi.specs.Places.{payload_place, case_bytes, count_of_members}
+use Rattle.fact_values.specs.Places.{payload_place, case_bytes, count_of_members}
 use Rattle.fact_moves.specs.Running.{Call}
 use Rattle.fact_machine.specs.Typed.{is_value, are_values}
 use Rattle.fact_moves.specs.Sides.{LiftLowerOptions, Source, Values, AtAddress, Target, Slots, Into, width_of_side, zeros, write_number, side_abi}
-use Rattle.fact_abi.specs.declared.value.Value.{Value}
-use Rattle.fact_abi.specs.declared.value.Value.TheVariants as value
-use Rattle.fact_abi.specs.Canonical.{IsCanonicalCaseAt, IsCanonicalCaseFlat, IsCanonicalFlat, IsZero}
-use Rattle.fact_abi.specs.Carry.{take_number}
-use Rattle.fact_abi.specs.Handles.{cross, cross_case, only, given, then_step, done_step}
-use Rattle.fact_abi.specs.Lift.{bits_of, number_as, lift_case}
-use Rattle.fact_abi.specs.Load.{load_case}
+use Rattle.fact_values.specs.declared.value.Value.{Value}
+use Rattle.fact_values.specs.declared.value.Value.TheVariants as value
+use Rattle.fact_values.specs.Canonical.{IsCanonicalCaseAt, IsCanonicalCaseFlat, IsCanonicalFlat, IsZero}
+use Rattle.fact_values.specs.Carry.{take_number}
+use Rattle.fact_values.specs.Handles.{cross, cross_case, only, given, then_step, done_step}
+use Rattle.fact_values.specs.Lift.{bits_of, number_as, lift_case}
+use Rattle.fact_values.specs.Load.{load_case}
 use Rattle.fact_types.specs.Steps.{◌>>=◌ as and_then}
-use Rattle.fact_abi.specs.Numbers.{number_in}
-use Rattle.fact_abi.specs.Weight.{weight}
+use Rattle.fact_values.specs.Numbers.{number_in}
+use Rattle.fact_values.specs.Weight.{weight}
 use Rattle.fact_carry.specs.Footprints.{HasChanged}
 use Rattle.fact_carry.specs.Items.{items, items_case, of_some, numbers, AreItemCalls}
 use Rattle.fact_carry.specs.Law.{IsWellFormed, size_on, moving, IsFit, MayStop}

@@ -9,15 +9,15 @@ use Rattle.fact_types.specs.declared.flats.FlatType.{FlatType}
 use Rattle.fact_types.specs.declared.widths.MemoryWidth.TheVariants.{Memory32, Memory64}
 use Rattle.fact_types.specs.FlatShapes.{flat, flat_plain}
 use Rattle.fact_machine.specs.declared.types.CoreValue.{CoreValue}
-use Rattle.fact_abi.specs.declared.value.Value.{Value}
-use Rattle.fact_abi.specs.Lift.{lift_leading, lift_plain, lift_number}
-use Rattle.fact_abi.specs.Load.{load, load_plain}
-use Rattle.fact_abi.specs.Numbers.{nothing, plain_of, value_of_number, number_in}
-use Rattle.fact_abi.specs.Places.{extent_on, count_of_members, case_bytes}
+use Rattle.fact_values.specs.declared.value.Value.{Value}
+use Rattle.fact_values.specs.Lift.{lift_leading, lift_plain, lift_number}
+use Rattle.fact_values.specs.Load.{load, load_plain}
+use Rattle.fact_values.specs.Numbers.{nothing, plain_of, value_of_number, number_in}
+use Rattle.fact_values.specs.Places.{extent_on, count_of_members, case_bytes}
 use Rattle.fact_types.specs.Shapes.{Kind, k_record, k_variant, k_list, k_tuple, k_map, k_flags, k_enum, k_option, k_result, k_fixed, k_future, k_stream, Shape, s_plain, s_node, Members, no_members, bare, typed, layouts_of, next_of}
 use Rattle.fact_types.specs.Valid.{AreRuled, IsValid, nesting, deepest_nesting, AreDistinct}
 use Rattle.fact_types.proofs.ShapeLaws.{none_some}
-use Rattle.fact_abi.specs.Limits.{CaseType, case_type}
+use Rattle.fact_values.specs.Limits.{CaseType, case_type}
 use Rattle.fact_moves.specs.Sides.{Source, Values, AtAddress, width_of_side}
 use Rattle.fact_carry.specs.Law.{HasPointers, IsSupplied, AreSupplied, IsWellFormed, AreWellFormed, AreTyped, ArePlaces, size_on}
 use Rattle.fact_carry.specs.Places.{from_side, to_side, value_at_source, IsGrounded}

@@ -6,8 +6,8 @@ use Rattle.fact_types.specs.declared.outside.Transcode.{Transcode}
 use Rattle.fact_machine.specs.declared.types.MachineState.{MachineState}
 use Rattle.fact_machine.specs.World.{put_at}
 use Rattle.fact_machine.proofs.Places.{put_below, put_within, put_above, put_length}
-use Rattle.fact_abi.specs.Lift.{bits_of}
-use Rattle.fact_abi.specs.Texts.{unit_bytes}
+use Rattle.fact_values.specs.Lift.{bits_of}
+use Rattle.fact_values.specs.Texts.{unit_bytes}
 use Rattle.fact_moves.specs.Calls.{arg_number, results, state_after, side_memory}
 use Rattle.fact_moves.specs.Honest.{room_of, IsHonestTranscode}
 use Rattle.fact_moves.specs.Order.{HaveTwoMemories, IsMemoryOf}

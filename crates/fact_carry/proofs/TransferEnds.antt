@@ -10,10 +10,10 @@ use Rattle.fact_types.specs.Tuples.{tuple_members}
 use Rattle.fact_machine.specs.declared.types.CoreValue.{CoreValue}
 use Rattle.fact_machine.specs.Typed.{are_values}
 use Rattle.fact_machine.specs.World.{World, Stop, Trap, Throw, Lack}
-use Rattle.fact_abi.specs.declared.value.Value.{Value}
-use Rattle.fact_abi.specs.IsA.{AreMembers}
-use Rattle.fact_abi.specs.Places.{typed_names}
-use Rattle.fact_abi.specs.Weight.{weight_members}
+use Rattle.fact_values.specs.declared.value.Value.{Value}
+use Rattle.fact_values.specs.IsA.{AreMembers}
+use Rattle.fact_values.specs.Places.{typed_names}
+use Rattle.fact_values.specs.Weight.{weight_members}
 use Rattle.fact_moves.specs.Actions.{Action}
 use Rattle.fact_moves.specs.Adapters.{AdapterTunables, start_params, return_params, async_start, async_return, flat_results, last_bits, move_params, move_results}
 use Rattle.fact_moves.specs.AdapterLaws.{IsFew}

@@ -24,8 +24,8 @@ use Rattle.fact_moves.specs.Sides.{Source, Values, AtAddress, Target, Slots, Int
 use Rattle.fact_types.specs.Adapters.{is_wide, Side}
 use Rattle.fact_types.specs.Tuples.{members_from, tuple_members}
 use Rattle.fact_moves.specs.Adapters.{check_tuple, from_values, into_params, flat_results, into_results}
-use Rattle.fact_abi.specs.declared.value.Value.{Value}
-use Rattle.fact_abi.specs.Places.{typed_names}
+use Rattle.fact_values.specs.declared.value.Value.{Value}
+use Rattle.fact_values.specs.Places.{typed_names}
 use Rattle.fact_carry.specs.Items.{ValueItem, RegionItem, items_fields}
 use Rattle.fact_carry.specs.Law.{MayStop, CanAllocate}
 use Rattle.fact_carry.specs.Places.{to_side, HasSideMemory, IsSource, HoldsMemories, can_hold, can_hold_all}

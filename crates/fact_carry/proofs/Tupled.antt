@@ -11,13 +11,13 @@ use Rattle.fact_machine.specs.declared.types.CoreValue.{CoreValue}
 use Rattle.fact_types.specs.Tuples.{members_from, tuple_members}
 use Rattle.fact_moves.specs.Moves.{entry_extent}
 use Rattle.fact_moves.specs.Sides.{Values, AtAddress, width_of_side}
-use Rattle.fact_abi.specs.declared.side.SideAbi.{SideAbi}
-use Rattle.fact_abi.specs.declared.value.Value.{Value}
-use Rattle.fact_abi.specs.Lift.{can_stand, can_stand_all, lift, lift_leading, lift_members}
-use Rattle.fact_abi.specs.Load.{load_members}
+use Rattle.fact_values.specs.declared.side.SideAbi.{SideAbi}
+use Rattle.fact_values.specs.declared.value.Value.{Value}
+use Rattle.fact_values.specs.Lift.{can_stand, can_stand_all, lift, lift_leading, lift_members}
+use Rattle.fact_values.specs.Load.{load_members}
 use Rattle.fact_types.specs.Steps.{◌>>=◌}
-use Rattle.fact_abi.specs.Texts.{lies_aligned}
-use Rattle.fact_abi.specs.Tuples.{lift_all, load_tuple}
+use Rattle.fact_values.specs.Texts.{lies_aligned}
+use Rattle.fact_values.specs.Tuples.{lift_all, load_tuple}
 use Rattle.fact_carry.specs.Law.{AreWellFormed}
 use Rattle.fact_carry.specs.Places.{from_side, AreInRange, HasSideMemory, IsSource}
 use Rattle.fact_carry.specs.Regions.{TransferSetting}

@@ -6,13 +6,13 @@ use Rattle.std.specs.Str.{bytes_eq}
 use Rattle.fact_types.specs.Agrees.{named, first_of, names_of, BothThere, Agrees, AgreesFields, AgreesPlaces}
 use Rattle.fact_types.specs.Shapes.{Shape, Members, no_members, bare, typed}
 use Rattle.fact_types.specs.Valid.{AreDistinct}
-use Rattle.fact_abi.specs.declared.side.SideAbi.{SideAbi}
-use Rattle.fact_abi.specs.declared.value.Value.{Value}
-use Rattle.fact_abi.specs.Carry.{take_number}
-use Rattle.fact_abi.specs.Handles.{cross, cross_fields, cross_places, value_named, then_step, done_step, given}
+use Rattle.fact_values.specs.declared.side.SideAbi.{SideAbi}
+use Rattle.fact_values.specs.declared.value.Value.{Value}
+use Rattle.fact_values.specs.Carry.{take_number}
+use Rattle.fact_values.specs.Handles.{cross, cross_fields, cross_places, value_named, then_step, done_step, given}
 use Rattle.fact_types.specs.Steps.{◌>>=◌}
-use Rattle.fact_abi.specs.Places.{typed_names}
-use Rattle.fact_abi.specs.Weight.{weight, weight_members}
+use Rattle.fact_values.specs.Places.{typed_names}
+use Rattle.fact_values.specs.Weight.{weight, weight_members}
 use Rattle.fact_carry.specs.Items.{items, items_fields, items_places, of_some}
 use Rattle.fact_carry.specs.Law.{AreTyped}
 use Rattle.fact_carry.proofs.Distinct.{same_name, other_name, distinct_later, head_same, tail_same}

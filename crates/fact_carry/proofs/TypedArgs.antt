@@ -13,7 +13,7 @@ use Rattle.fact_types.specs.Signatures.{width, address, flat_values, flat_or, un
 use Rattle.fact_machine.specs.declared.types.CoreValue.{CoreValue}
 use Rattle.fact_machine.specs.declared.types.CoreValue.TheVariants.{I32, I64, F32, F64, Func}
 use Rattle.fact_machine.specs.Typed.{is_value, are_values}
-use Rattle.fact_abi.specs.Lift.{bits_of, number_as}
+use Rattle.fact_values.specs.Lift.{bits_of, number_as}
 use Rattle.fact_carry.specs.Places.{IsInRange, AreInRange}
 use Rattle.fact_carry.proofs.Targets.{left_true, right_true}
 use Rattle.fact_machine.specs.Machine.{has_type}

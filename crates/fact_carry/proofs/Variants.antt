@@ -15,23 +15,23 @@ use Rattle.fact_types.specs.Valid.{AreDistinct}
 use Rattle.fact_machine.specs.declared.types.CoreValue.{CoreValue}
 use Rattle.fact_machine.specs.World.{World, Stop}
 use Rattle.fact_moves.specs.Actions.{Action, Visit, trap}
-use Rattle.fact_abi.specs.Limits.{CaseType, case_type, IsWithinLimits, IsWithinAt, IsCaseWithin, IsCaseWithinAt, IsVariantWithinAt}
-use Rattle.fact_abi.specs.Places.{count_of_members, case_bytes, payload_place}
+use Rattle.fact_values.specs.Limits.{CaseType, case_type, IsWithinLimits, IsWithinAt, IsCaseWithin, IsCaseWithinAt, IsVariantWithinAt}
+use Rattle.fact_values.specs.Places.{count_of_members, case_bytes, payload_place}
 use Rattle.fact_moves.specs.Moves.{move, move_case}
 use Rattle.fact_moves.specs.Running.{Call}
 use Rattle.fact_moves.specs.Sides.{LiftLowerOptions, Transfer, Source, Values, AtAddress, Target, Slots, Into, width_of_side, read_number, side_abi}
-use Rattle.fact_abi.specs.Lift.{bits_of, lift_leading, lift_case, lift_variant, number_as}
-use Rattle.fact_abi.specs.declared.side.SideAbi.{SideAbi}
-use Rattle.fact_abi.specs.declared.value.Value.{Value, out-Value}
-use Rattle.fact_abi.specs.declared.value.Value.TheVariants as value
-use Rattle.fact_abi.specs.Canonical.{ThereIs, IsCanonicalAt, IsCanonicalFlat, IsCanonicalCaseAt, IsCanonicalCaseFlat, IsNarrow, IsCanonicalVariant}
-use Rattle.fact_abi.specs.Carry.{take_number}
-use Rattle.fact_abi.specs.Handles.{cross, cross_case, given}
-use Rattle.fact_abi.specs.Load.{load, load_case, load_variant}
+use Rattle.fact_values.specs.Lift.{bits_of, lift_leading, lift_case, lift_variant, number_as}
+use Rattle.fact_values.specs.declared.side.SideAbi.{SideAbi}
+use Rattle.fact_values.specs.declared.value.Value.{Value, out-Value}
+use Rattle.fact_values.specs.declared.value.Value.TheVariants as value
+use Rattle.fact_values.specs.Canonical.{ThereIs, IsCanonicalAt, IsCanonicalFlat, IsCanonicalCaseAt, IsCanonicalCaseFlat, IsNarrow, IsCanonicalVariant}
+use Rattle.fact_values.specs.Carry.{take_number}
+use Rattle.fact_values.specs.Handles.{cross, cross_case, given}
+use Rattle.fact_values.specs.Load.{load, load_case, load_variant}
 use Rattle.fact_types.specs.Steps.{◌>>=◌}
-use Rattle.fact_abi.specs.Numbers.{number_in}
-use Rattle.fact_abi.specs.Opened.{case_in}
-use Rattle.fact_abi.specs.Weight.{weight, weight_case, weight_in}
+use Rattle.fact_values.specs.Numbers.{number_in}
+use Rattle.fact_values.specs.Opened.{case_in}
+use Rattle.fact_values.specs.Weight.{weight, weight_case, weight_in}
 use Rattle.fact_carry.specs.Items.{items, items_case, of_some, numbers, AreItemCalls}
 use Rattle.fact_carry.specs.Law.{IsWellFormed, AreWellFormed, size_on, moving, IsFit, IsMoved, MayStop}
 use Rattle.fact_carry.specs.Places.{from_side, to_side, value_at_source, AreInRange, IsSource, can_hold, HasSideMemory, IsTarget, IsAtTarget, StandsAtTarget, IsGrounded}

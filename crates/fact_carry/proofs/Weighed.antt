@@ -11,8 +11,8 @@ use Rattle.fact_types.specs.Tuples.{tuple_members}
 use Rattle.fact_moves.specs.Calls.{is_call_of}
 use Rattle.fact_moves.specs.Running.{ImportPlaces, Call, Gave, run}
 use Rattle.fact_moves.specs.Sides.{Target}
-use Rattle.fact_abi.specs.declared.value.Value.{Value}
-use Rattle.fact_abi.specs.Places.{typed_names}
+use Rattle.fact_values.specs.declared.value.Value.{Value}
+use Rattle.fact_values.specs.Places.{typed_names}
 use Rattle.fact_carry.specs.Faithful.{results_answered, weight_of_values, answered_weight}
 use Rattle.fact_carry.specs.Honest.{AreHonestCalls}
 use Rattle.fact_moves.specs.Regions.{Region}

@@ -11,13 +11,13 @@ use Rattle.fact_types.specs.Shapes.{Shape, Members, no_members, bare, typed}
 use Rattle.fact_types.specs.Valid.{AreDistinct}
 use Rattle.fact_types.proofs.ShapeLaws.{same_some, none_some}
 use Rattle.fact_moves.specs.Sides.{Source, Values, AtAddress}
-use Rattle.fact_abi.specs.declared.side.SideAbi.{SideAbi}
-use Rattle.fact_abi.specs.declared.value.Value.{Value}
-use Rattle.fact_abi.specs.Handles.{value_named}
-use Rattle.fact_abi.specs.Lift.{lift_leading, lift_members}
-use Rattle.fact_abi.specs.Load.{load, load_members}
-use Rattle.fact_abi.specs.Places.{typed_names}
-use Rattle.fact_abi.specs.Weight.{weight_members}
+use Rattle.fact_values.specs.declared.side.SideAbi.{SideAbi}
+use Rattle.fact_values.specs.declared.value.Value.{Value}
+use Rattle.fact_values.specs.Handles.{value_named}
+use Rattle.fact_values.specs.Lift.{lift_leading, lift_members}
+use Rattle.fact_values.specs.Load.{load, load_members}
+use Rattle.fact_values.specs.Places.{typed_names}
+use Rattle.fact_values.specs.Weight.{weight_members}
 use Rattle.fact_machine.specs.declared.types.CoreValue.{CoreValue}
 use Rattle.fact_carry.specs.Law.{AreTyped}
 use Rattle.fact_carry.specs.Regions.{TransferSetting}

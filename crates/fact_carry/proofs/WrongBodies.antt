@@ -46,19 +46,19 @@ use Rattle.fact_machine.specs.declared.types.MachineState.{MachineState}
 use Rattle.fact_machine.specs.declared.types.Answer.TheVariants.{Returns}
 use Rattle.fact_machine.specs.Exits.{first_world}
 use Rattle.fact_machine.specs.World.{World}
-use Rattle.fact_abi.specs.declared.value.Value.{Value, out-Value}
-use Rattle.fact_abi.specs.declared.value.Value.TheVariants as value
-use Rattle.fact_abi.specs.declared.value.Value.TheOpen.{Value-F}
-use Rattle.fact_abi.specs.declared.value.Value.TheOpen as o
-use Rattle.fact_abi.specs.Canonical.{AreCanonicalFlat, IsCanonicalFlat}
-use Rattle.fact_abi.specs.Carry.{take_number}
-use Rattle.fact_abi.specs.Handles.{cross, cross_fields, cross_places, given as given_step, then_step, done_step, members_of}
+use Rattle.fact_values.specs.declared.value.Value.{Value, out-Value}
+use Rattle.fact_values.specs.declared.value.Value.TheVariants as value
+use Rattle.fact_values.specs.declared.value.Value.TheOpen.{Value-F}
+use Rattle.fact_values.specs.declared.value.Value.TheOpen as o
+use Rattle.fact_values.specs.Canonical.{AreCanonicalFlat, IsCanonicalFlat}
+use Rattle.fact_values.specs.Carry.{take_number}
+use Rattle.fact_values.specs.Handles.{cross, cross_fields, cross_places, given as given_step, then_step, done_step, members_of}
 use Rattle.fact_types.specs.Steps.{◌>>=◌}
-use Rattle.fact_abi.specs.Lift.{lift_leading, lift_members}
-use Rattle.fact_abi.specs.Opened.{fields_in}
-use Rattle.fact_abi.specs.Lift.{bits_of}
-use Rattle.fact_abi.specs.Limits.{AreWithinLimits}
-use Rattle.fact_abi.specs.Weight.{weight_members}
+use Rattle.fact_values.specs.Lift.{lift_leading, lift_members}
+use Rattle.fact_values.specs.Opened.{fields_in}
+use Rattle.fact_values.specs.Lift.{bits_of}
+use Rattle.fact_values.specs.Limits.{AreWithinLimits}
+use Rattle.fact_values.specs.Weight.{weight_members}
 use Rattle.fact_moves.specs.Actions.{Action, Give, Read, Write, SetFlags, Ask, Unreachable, ◌>>◌, each}
 use Rattle.fact_moves.specs.AdapterLaws.{EndsTyped}
 use Rattle.fact_moves.specs.Calls.{HasOwnCallee, is_import_of, is_call_of, state_after, side_memory}

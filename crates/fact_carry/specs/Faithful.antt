@@ -18,15 +18,15 @@ use Rattle.fact_types.specs.Tuples.{tuple_members}
 use Rattle.fact_moves.specs.Adapters.{last_bits}
 use Rattle.fact_moves.specs.Calls.{is_call_of, results, state_after, side_memory}
 use Rattle.fact_moves.specs.Order.{flag_in}
-use Rattle.fact_abi.specs.declared.side.SideAbi.{SideAbi}
-use Rattle.fact_abi.specs.declared.value.Value.{Value}
-use Rattle.fact_abi.specs.Canonical.{AreCanonicalAt, AreCanonicalFlat}
-use Rattle.fact_abi.specs.Carry.{take_number, handles}
-use Rattle.fact_abi.specs.Handles.{Crossing, cross_places}
-use Rattle.fact_abi.specs.IsA.{AreMembers}
-use Rattle.fact_abi.specs.Limits.{Moving, AreWithinLimits, AreWithinAt}
-use Rattle.fact_abi.specs.Tuples.{lower_param_values, lift_param_values, lower_result_values, lift_result_values}
-use Rattle.fact_abi.specs.Weight.{weight_members}
+use Rattle.fact_values.specs.declared.side.SideAbi.{SideAbi}
+use Rattle.fact_values.specs.declared.value.Value.{Value}
+use Rattle.fact_values.specs.Canonical.{AreCanonicalAt, AreCanonicalFlat}
+use Rattle.fact_values.specs.Carry.{take_number, handles}
+use Rattle.fact_values.specs.Handles.{Crossing, cross_places}
+use Rattle.fact_values.specs.IsA.{AreMembers}
+use Rattle.fact_values.specs.Limits.{Moving, AreWithinLimits, AreWithinAt}
+use Rattle.fact_values.specs.Tuples.{lower_param_values, lift_param_values, lower_result_values, lift_result_values}
+use Rattle.fact_values.specs.Weight.{weight_members}
 use Rattle.fact_carry.specs.Items.{crossings, numbers}
 use Rattle.fact_moves.specs.AdapterLaws.{IsCalledOnce}
 use Rattle.fact_moves.specs.Regions.{IsAreaSound}

@@ -8,9 +8,9 @@ use Rattle.fact_machine.specs.declared.types.Answer.TheVariants.{Returns, Traps,
 use Rattle.fact_types.specs.declared.import.Import.{Import}
 use Rattle.fact_types.specs.declared.import.Import.TheVariants as import
 use Rattle.fact_moves.specs.Running.{Call}
-use Rattle.fact_abi.specs.Lift.{bits_of}
+use Rattle.fact_values.specs.Lift.{bits_of}
 use Rattle.fact_moves.specs.Sides.{first_bits}
-use Rattle.fact_abi.specs.Texts.{unit_bytes}
+use Rattle.fact_values.specs.Texts.{unit_bytes}
 use Rattle.fact_moves.specs.Transcoders.{from_encoding, IsHonestTranscoding, transcode_kind}
 use Rattle.fact_moves.specs.Regions.{Region, IsIn, without, byte}
 use Rattle.fact_carry.specs.Regions.{TransferSetting, IsInHand, request_by, old_region, region_from, regions_by}

@@ -12,16 +12,16 @@ use Rattle.fact_types.specs.declared.import.Import.{Import}
 use Rattle.fact_types.specs.declared.import.Import.TheVariants as import
 use Rattle.fact_moves.specs.Running.{Call}
 use Rattle.fact_moves.specs.Sides.{first_bits}
-use Rattle.fact_abi.specs.declared.side.SideAbi.{SideAbi}
-use Rattle.fact_abi.specs.declared.value.HandleKind.{HandleKind}
-use Rattle.fact_abi.specs.declared.value.HandleKind.TheVariants.{Own, Borrow, Future, Stream, ErrorContext}
-use Rattle.fact_abi.specs.declared.value.Value.{Value, out-Value}
-use Rattle.fact_abi.specs.declared.value.Value.TheOpen.{Value-F}
-use Rattle.fact_abi.specs.declared.value.Value.TheOpen as o
-use Rattle.fact_abi.specs.Handles.{Crossing, members_of, table_number_of, value_named, only}
-use Rattle.fact_abi.specs.Numbers.{Plain, handle, text, plain_of}
-use Rattle.fact_abi.specs.Opened.{fields_in, members_in, elements_in, map_entries_in, case_in, number_of_handle}
-use Rattle.fact_abi.specs.Places.{element_extent}
+use Rattle.fact_values.specs.declared.side.SideAbi.{SideAbi}
+use Rattle.fact_values.specs.declared.value.HandleKind.{HandleKind}
+use Rattle.fact_values.specs.declared.value.HandleKind.TheVariants.{Own, Borrow, Future, Stream, ErrorContext}
+use Rattle.fact_values.specs.declared.value.Value.{Value, out-Value}
+use Rattle.fact_values.specs.declared.value.Value.TheOpen.{Value-F}
+use Rattle.fact_values.specs.declared.value.Value.TheOpen as o
+use Rattle.fact_values.specs.Handles.{Crossing, members_of, table_number_of, value_named, only}
+use Rattle.fact_values.specs.Numbers.{Plain, handle, text, plain_of}
+use Rattle.fact_values.specs.Opened.{fields_in, members_in, elements_in, map_entries_in, case_in, number_of_handle}
+use Rattle.fact_values.specs.Places.{element_extent}
 use Rattle.fact_moves.specs.Requests.{Request, new_region}
 use Rattle.fact_carry.specs.Regions.{request_by}
 use Rattle.fact_moves.specs.Calls.{nth_number}

@@ -7,18 +7,18 @@ use Rattle.fact_machine.specs.declared.types.CoreValue.{CoreValue}
 use Rattle.fact_machine.specs.World.{World, Stop, Trap, Throw, Lack}
 use Rattle.fact_moves.specs.Running.{Call}
 use Rattle.fact_moves.specs.Sides.{LiftLowerOptions, Source, Values, AtAddress, Target, width_of_side}
-use Rattle.fact_abi.specs.declared.value.Value.{Value}
-use Rattle.fact_abi.specs.Carry.{take_number}
-use Rattle.fact_abi.specs.Handles.{cross}
-use Rattle.fact_abi.specs.Limits.{Moving, IsWithinLimits, IsWithinAt}
-use Rattle.fact_abi.specs.Numbers.{Plain, nothing, plain_of}
-use Rattle.fact_abi.specs.Weight.{weight}
+use Rattle.fact_values.specs.declared.value.Value.{Value}
+use Rattle.fact_values.specs.Carry.{take_number}
+use Rattle.fact_values.specs.Handles.{cross}
+use Rattle.fact_values.specs.Limits.{Moving, IsWithinLimits, IsWithinAt}
+use Rattle.fact_values.specs.Numbers.{Plain, nothing, plain_of}
+use Rattle.fact_values.specs.Weight.{weight}
 use Rattle.fact_carry.specs.Footprints.{HasChanged}
 use Rattle.fact_carry.specs.Items.{ValueItem, items, numbers, AreItemCalls, BeginItemCalls}
 use Rattle.fact_carry.specs.Places.{from_side, to_side, HasSideMemory, IsAtTarget, IsGiven, StandsAtTarget}
 use Rattle.fact_moves.specs.Regions.{Region}
 use Rattle.fact_carry.specs.Regions.{TransferSetting}
-use Rattle.fact_abi.specs.Formed.{AreBare}
+use Rattle.fact_values.specs.Formed.{AreBare}
 use Rattle.fact_types.specs.PointerPairs.{has_pointer_pair, have_pointer_pair}
 
 -- ---- what is known of types

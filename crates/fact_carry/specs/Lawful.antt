@@ -10,7 +10,7 @@ use Rattle.fact_machine.specs.World.{World}
 use Rattle.fact_moves.specs.Moves.{move}
 use Rattle.fact_moves.specs.Regions.{Region}
 use Rattle.fact_moves.specs.Sides.{Source, Target, width_of_side}
-use Rattle.fact_abi.specs.declared.value.Value.{Value}
+use Rattle.fact_values.specs.declared.value.Value.{Value}
 use Rattle.fact_carry.specs.Items.{items}
 use Rattle.fact_carry.specs.Judged.{RunsHonestly, GivesNothing}
 use Rattle.fact_carry.specs.Law.{IsFit, IsMoved, MayStop, HasPointers, IsSupplied, IsWellFormed, size_on}

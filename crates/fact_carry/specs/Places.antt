@@ -11,11 +11,11 @@ use Rattle.fact_machine.specs.declared.types.CoreValue.TheVariants.{I32, I64, F3
 use Rattle.fact_machine.specs.World.{World}
 use Rattle.fact_machine.specs.Typed.{are_values}
 use Rattle.fact_moves.specs.Sides.{LiftLowerOptions, Source, Values, AtAddress, Target, Slots, Into, side_abi}
-use Rattle.fact_abi.specs.declared.side.SideAbi.{SideAbi}
-use Rattle.fact_abi.specs.declared.value.Value.{Value}
-use Rattle.fact_abi.specs.Canonical.{IsCanonicalAt, IsCanonicalFlat}
-use Rattle.fact_abi.specs.Lift.{is_same, lift_leading}
-use Rattle.fact_abi.specs.Load.{load}
+use Rattle.fact_values.specs.declared.side.SideAbi.{SideAbi}
+use Rattle.fact_values.specs.declared.value.Value.{Value}
+use Rattle.fact_values.specs.Canonical.{IsCanonicalAt, IsCanonicalFlat}
+use Rattle.fact_values.specs.Lift.{is_same, lift_leading}
+use Rattle.fact_values.specs.Load.{load}
 use Rattle.fact_carry.specs.Regions.{TransferSetting, AreBytesOf}
 use Rattle.fact_moves.specs.Order.{HaveTwoMemories}
 use Rattle.fact_moves.specs.Running.{ImportPlaces}

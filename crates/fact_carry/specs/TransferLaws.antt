@@ -7,9 +7,9 @@ use Rattle.fact_types.specs.Signatures.{flat_params, lift_results_limit}
 use Rattle.fact_machine.specs.declared.types.CoreValue.{CoreValue}
 use Rattle.fact_machine.specs.declared.types.MachineState.{MachineState}
 use Rattle.fact_machine.specs.World.{World}
-use Rattle.fact_abi.specs.declared.value.Value.{Value}
-use Rattle.fact_abi.specs.Limits.{Moving}
-use Rattle.fact_abi.specs.Tuples.{lift_param_values, lift_result_values}
+use Rattle.fact_values.specs.declared.value.Value.{Value}
+use Rattle.fact_values.specs.Limits.{Moving}
+use Rattle.fact_values.specs.Tuples.{lift_param_values, lift_result_values}
 use Rattle.fact_moves.specs.Adapters.{AdapterTunables, async_start, async_return, last_bits}
 use Rattle.fact_moves.specs.Calls.{side_memory}
 use Rattle.fact_moves.specs.Honest.{IsHonestStart, IsHonestReturn}

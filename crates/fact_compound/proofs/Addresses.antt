@@ -7,7 +7,7 @@ use Rattle.fact_machine.specs.declared.types.CoreValue.{CoreValue}
 use Rattle.fact_machine.specs.declared.types.CoreValue.TheVariants.{I32, I64, F32, F64, Func}
 use Rattle.fact_machine.specs.Typed.{is_value}
 use Rattle.fact_machine.specs.Typing.{address_bits, address_type, address_operand}
-use Rattle.fact_abi.specs.Lift.{bits_of}
+use Rattle.fact_values.specs.Lift.{bits_of}
 use Rattle.fact_moves.specs.Adapters.{last_bits}
 use Rattle.fact_moves.specs.Sides.{first_bits}
 use Rattle.fact_pieces.specs.Does.{Locals}

@@ -46,4 +46,5 @@ pub mod TakenLocals
 pub mod TaskCallsNamed
 pub mod TaskItems
 pub mod TranscodersNamed
+pub mod TypesAdded
 pub mod Using

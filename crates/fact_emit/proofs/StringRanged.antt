@@ -6,7 +6,7 @@ use Rattle.fact_wasm.specs.declared.instr.Instr.TheVariants as I
 use Rattle.fact_wasm.specs.declared.types.ValType.TheVariants as val
 use Rattle.fact_wasm.specs.Ranges.{AreRanged}
 use Rattle.fact_types.specs.declared.outside.Transcode.{Transcode}
-use Rattle.fact_abi.specs.Texts.{unit_bytes, utf16_tag}
+use Rattle.fact_values.specs.Texts.{unit_bytes, utf16_tag}
 use Rattle.fact_moves.specs.Paths.{Amount, SourceUnits, WrittenUnits, Test, AllRead, WrittenIs, HasNoTag, KeepsUnits}
 use Rattle.fact_moves.specs.Transcoders.{TranscodeKind, AllUnits, Counted, Fitting, Narrow, Tagged, Widening, from_encoding}
 use Rattle.fact_pieces.specs.Lists.{address_code, const_code, put_code}

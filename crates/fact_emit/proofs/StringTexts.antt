@@ -8,7 +8,7 @@ use Rattle.fact_types.specs.declared.outside.StringEncoding.TheVariants as strin
 use Rattle.fact_types.specs.declared.outside.Transcode.{Transcode}
 use Rattle.fact_types.specs.declared.outside.Trap.{Trap}
 use Rattle.fact_types.specs.declared.outside.Trap.TheVariants.{StringOutOfBounds}
-use Rattle.fact_abi.specs.Texts.{utf16_tag}
+use Rattle.fact_values.specs.Texts.{utf16_tag}
 use Rattle.fact_moves.specs.Paths.{Amount, Path, End, Limit, Resize, Pass, If, Tag, Assert, Test, TextForm, AsUtf8, AsUtf16, AsCompactLatin1, AsCompactUtf16, align_of, path}
 use Rattle.fact_pieces.specs.Code.{guard_code}
 use Rattle.fact_pieces.specs.Places.{From, To}

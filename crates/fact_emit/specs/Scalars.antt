@@ -7,7 +7,7 @@ use Rattle.fact_types.specs.declared.interface.InterfaceType.TheVariants as ty
 use Rattle.fact_types.specs.declared.outside.Trap.{Trap}
 use Rattle.fact_types.specs.declared.outside.Trap.TheVariants.{InvalidChar, InvalidDiscriminant}
 use Rattle.fact_types.specs.Shapes.{s_plain}
-use Rattle.fact_abi.specs.Numbers.{is_scalar_value}
+use Rattle.fact_values.specs.Numbers.{is_scalar_value}
 use Rattle.fact_moves.specs.Actions.{Visit, unless}
 use Rattle.fact_moves.specs.Moves.{canonical_number, move_number}
 use Rattle.fact_moves.specs.Sides.{read_number, write_number}

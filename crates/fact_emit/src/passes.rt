@@ -2,7 +2,7 @@
 
 ghost use Rattle.std.specs.Prelude.{OnOk, ◌≡◌, ◌∷◌, [], ◌++◌, ◌&&◌, true, false};
 ghost use Rattle.fact_wasm.specs.declared.instr.Instr.TheVariants as I;
-ghost use Rattle.fact_abi.specs.Texts.{unit_bytes};
+ghost use Rattle.fact_values.specs.Texts.{unit_bytes};
 ghost use Rattle.fact_moves.specs.Transcoders.{Fitting, Widening, from_encoding, transcode_kind};
 ghost use Rattle.fact_pieces.specs.Lists.{address_code};
 ghost use Rattle.fact_pieces.specs.StringCode.{add_to_code, answer_code, keep_code, pass_code, source_code, target_code};

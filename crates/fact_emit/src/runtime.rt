@@ -2,6 +2,7 @@
 
 ghost use Rattle.std.specs.Prelude.{◌≡◌, IfOk, OnErr, OnOk, [], Some, slice_get, string_bytes};
 ghost use Rattle.fact_types.specs.declared.import.Import.TheVariants as known;
+ghost use Rattle.fact_wasm.specs.CoreTypes.{signature};
 ghost use Rattle.fact_wasm.specs.declared.module.ImportType.TheVariants as import_type;
 ghost use Rattle.fact_emit.specs.declared.imported.RuntimeFunction.TheVariants as function_is;
 ghost use Rattle.fact_emit.specs.Imports.{AreOnce, Extended, HasImport};
@@ -84,25 +85,39 @@ fn name(alloc: Global, function: RuntimeFunction) -> Result<String, OutOfMemory>
     }
 }
 
-impl ModuleSections {
-    /// The number of the type of a function of the context's slots.
-    fn slot_type(&mut self, slot: UnsafeIntrinsic) -> Result<u32, OutOfMemory>
-        ensures place { IfOk result (λ n. slice_get self.new.types n ≡ Some (type_of_runtime (function_is.UnsafeIntrinsic slot))) }
-        ensures types { OnOk result (HasType self.old self.new (type_of_runtime (function_is.UnsafeIntrinsic slot))) }
-        ensures keeps { Extended self.old self.new }
-        ensures once { AreOnce self.old → AreOnce self.new }
-        ensures refused { OnErr result (self.new ≡ self.old) }
-    {
-        match slot {
-            UnsafeIntrinsic::ContextGetI32_0 | UnsafeIntrinsic::ContextGetI32_1 => {
-                self.function(&[], &[ValType::I32])
-            }
-            UnsafeIntrinsic::ContextSetI32_0 | UnsafeIntrinsic::ContextSetI32_1 => {
-                self.function(&[ValType::I32], &[])
-            }
+/// The parameters and the results of a function of the context's slots.
+fn slot_types(slot: UnsafeIntrinsic) -> (&'static [ValType], &'static [ValType])
+    ensures { signature result.0.now result.1.now ≡ type_of_runtime (function_is.UnsafeIntrinsic slot) }
+{
+    match slot {
+        UnsafeIntrinsic::ContextGetI32_0 | UnsafeIntrinsic::ContextGetI32_1 => {
+            (&[], &[ValType::I32])
+        }
+        UnsafeIntrinsic::ContextSetI32_0 | UnsafeIntrinsic::ContextSetI32_1 => {
+            (&[ValType::I32], &[])
         }
     }
+}
 
+/// The parameters and the results of a function of the runtime.
+fn types_of(function: RuntimeFunction) -> (&'static [ValType], &'static [ValType])
+    ensures { signature result.0.now result.1.now ≡ type_of_runtime function }
+{
+    match function {
+        RuntimeFunction::Trap(_) | RuntimeFunction::ExitSyncCall => (&[], &[]),
+        RuntimeFunction::EnterSyncCall => (&[ValType::I32, ValType::I32], &[]),
+        RuntimeFunction::UnsafeIntrinsic(slot) => slot_types(slot),
+        RuntimeFunction::ResourceTransferOwn
+        | RuntimeFunction::ResourceTransferBorrow
+        | RuntimeFunction::FutureTransfer
+        | RuntimeFunction::StreamTransfer
+        | RuntimeFunction::ErrorContextTransfer => {
+            (&[ValType::I32, ValType::I32, ValType::I32], &[ValType::I32])
+        }
+    }
+}
+
+impl ModuleSections {
     /// The number of the type of a function of the runtime.
     fn runtime_type(&mut self, function: RuntimeFunction) -> Result<u32, OutOfMemory>
         ensures place { IfOk result (λ n. slice_get self.new.types n ≡ Some (type_of_runtime function)) }
@@ -111,18 +126,8 @@ impl ModuleSections {
         ensures once { AreOnce self.old → AreOnce self.new }
         ensures refused { OnErr result (self.new ≡ self.old) }
     {
-        match function {
-            RuntimeFunction::Trap(_) | RuntimeFunction::ExitSyncCall => self.function(&[], &[]),
-            RuntimeFunction::EnterSyncCall => self.function(&[ValType::I32, ValType::I32], &[]),
-            RuntimeFunction::UnsafeIntrinsic(slot) => self.slot_type(slot),
-            RuntimeFunction::ResourceTransferOwn
-            | RuntimeFunction::ResourceTransferBorrow
-            | RuntimeFunction::FutureTransfer
-            | RuntimeFunction::StreamTransfer
-            | RuntimeFunction::ErrorContextTransfer => {
-                self.function(&[ValType::I32, ValType::I32, ValType::I32], &[ValType::I32])
-            }
-        }
+        let (params, results) = types_of(function);
+        self.function(params, results)
     }
 
     /// The place of a function of the runtime among the imported functions. A new one is imported last, under this name, with the

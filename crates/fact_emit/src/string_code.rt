@@ -4,7 +4,7 @@
 ghost use Rattle.std.specs.Prelude.{IfOk, OnOk, ◌≡◌, ◌∷◌, [], ◌++◌, ◌<◌, ◌-◌};
 ghost use Rattle.fact_wasm.specs.declared.instr.Instr.TheVariants as I;
 ghost use Rattle.fact_types.specs.declared.outside.Trap.TheVariants.{StringOutOfBounds};
-ghost use Rattle.fact_abi.specs.Texts.{utf16_tag};
+ghost use Rattle.fact_values.specs.Texts.{utf16_tag};
 ghost use Rattle.fact_moves.specs.Paths.{align_of};
 ghost use Rattle.fact_pieces.specs.Code.{guard_code};
 ghost use Rattle.fact_pieces.specs.StringCode.{add_to_code, amount_code, assert_code, from_address as from_address_code, keep_code, limit_code, no_tag_code, regrow_code, resize_code, test_code, times_code, to_address as to_address_code, wrap_code};

@@ -3,7 +3,7 @@
 ghost use Rattle.std.specs.Prelude.{IfOk, OnOk, ◌≡◌, ◌∷◌, []};
 ghost use Rattle.fact_types.specs.declared.outside.StringEncoding.TheVariants.{CompactUtf16};
 ghost use Rattle.fact_wasm.specs.declared.instr.Instr.TheVariants as I;
-ghost use Rattle.fact_abi.specs.Texts.{utf16_tag};
+ghost use Rattle.fact_values.specs.Texts.{utf16_tag};
 ghost use Rattle.fact_moves.specs.Paths.{AsCompactLatin1, AsCompactUtf16, align_of};
 ghost use Rattle.fact_pieces.specs.StringCode.{align_of_form, check_text_code, either_code, encoded_code, no_tag_code, path_code, test_code, text_code, untag_code};
 ghost use Rattle.fact_pieces.specs.StringNeeds.{NeedsEncoded, NeedsPath, NeedsRegion, NeedsText};

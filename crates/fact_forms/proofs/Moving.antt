@@ -20,10 +20,10 @@ use Rattle.fact_types.specs.Tuples.{members_from, tuple_members}
 use Rattle.fact_types.specs.Valid.{AreDistinct, FollowsRules, IsValid}
 use Rattle.fact_types.proofs.PlaceLaws.{ends_within}
 use Rattle.fact_types.proofs.ValidLaws.{valid_counted}
-use Rattle.fact_abi.specs.Canonical.{ThereIs}
-use Rattle.fact_abi.specs.Limits.{CaseType, case_type}
-use Rattle.fact_abi.specs.Numbers.{plain_of}
-use Rattle.fact_abi.specs.Places.{count_of_members}
+use Rattle.fact_values.specs.Canonical.{ThereIs}
+use Rattle.fact_values.specs.Limits.{CaseType, case_type}
+use Rattle.fact_values.specs.Numbers.{plain_of}
+use Rattle.fact_values.specs.Places.{count_of_members}
 use Rattle.fact_carry.specs.FaithfulLaws.{AreWellFormedTypes}
 use Rattle.fact_carry.specs.Law.{AreTyped, HasValues, IsWellFormed, IsWellFormedBy, AreWellFormed}
 use Rattle.fact_carry.proofs.Distinct.{each_agrees, places_agree}

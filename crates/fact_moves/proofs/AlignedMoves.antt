@@ -26,9 +26,9 @@ use Rattle.fact_types.specs.Shapes.{Kind, k_record, k_variant, k_list, k_tuple, 
 use Rattle.fact_types.specs.Signatures.{flat_values, lower_limit, lift_results_limit}
 use Rattle.fact_machine.specs.declared.types.CoreValue.{CoreValue}
 use Rattle.fact_machine.specs.World.{Throw, Trap, Lack}
-use Rattle.fact_abi.specs.Limits.{CaseType, case_type}
-use Rattle.fact_abi.specs.Places.{payload_place, case_bytes, flags_bytes}
-use Rattle.fact_abi.specs.Texts.{form_of}
+use Rattle.fact_values.specs.Limits.{CaseType, case_type}
+use Rattle.fact_values.specs.Places.{payload_place, case_bytes, flags_bytes}
+use Rattle.fact_values.specs.Texts.{form_of}
 use Rattle.fact_moves.specs.Actions.{Action, Give, Unreachable, ◌>>◌, trap, unless}
 use Rattle.fact_moves.specs.AdapterLaws.{EachSync, EachStart, EachReturn, is_misplaced, NoneMisplaced, HasCountedTypes}
 use Rattle.fact_moves.specs.Plain.{guarded_if}

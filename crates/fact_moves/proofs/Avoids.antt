@@ -16,7 +16,7 @@ use Rattle.fact_machine.specs.declared.types.CoreValue.TheVariants.{I32, I64, F3
 use Rattle.fact_machine.specs.declared.types.Answer.{Answer}
 use Rattle.fact_machine.specs.World.{World, Res, Done, Halt, read, write, outside, set_global}
 use Rattle.fact_machine.specs.Machine.{i32_of}
-use Rattle.fact_abi.specs.Lift.{bits_of}
+use Rattle.fact_values.specs.Lift.{bits_of}
 use Rattle.fact_moves.specs.Actions.{Action, Give, Visit, Read, Write, MemoryLength, GetFlags, SetFlags, Ask, Unreachable, ◌>>=◌, unless, each_from}
 use Rattle.fact_moves.specs.AdapterLaws.{is_misplaced}
 use Rattle.fact_moves.specs.Running.{ImportPlaces, Call, Ended, Gave, Halted, Strayed, calls_in, heavier, later, or_strayed, ended, if_typed, is_answer, call_of, run}

@@ -16,9 +16,9 @@ use Rattle.fact_types.specs.Fields.{Field, field_of}
 use Rattle.fact_types.specs.Shapes.{Kind, k_record, k_variant, k_list, k_tuple, k_map, k_flags, k_enum, k_option, k_result, k_fixed, k_future, k_stream, Shape, s_plain, s_node, Members, no_members, bare, typed}
 use Rattle.fact_types.specs.Signatures.{flat_values, lower_limit, lift_results_limit}
 use Rattle.fact_machine.specs.declared.types.CoreValue.{CoreValue}
-use Rattle.fact_abi.specs.Limits.{CaseType, case_type}
-use Rattle.fact_abi.specs.Places.{case_bytes, flags_bytes}
-use Rattle.fact_abi.specs.Texts.{form_of}
+use Rattle.fact_values.specs.Limits.{CaseType, case_type}
+use Rattle.fact_values.specs.Places.{case_bytes, flags_bytes}
+use Rattle.fact_values.specs.Texts.{form_of}
 use Rattle.fact_moves.specs.Actions.{Action, Give, Unreachable, ◌>>◌, trap}
 use Rattle.fact_moves.specs.Adapters.{into_params, into_results, enter_call, exit_call, AdapterTunables, params_transfer, results_transfer, check_tuple, from_values, flat_results, move_params, move_results, last_bits, make_call, cleared, read_slots, sync, async_start, async_return, lift_signature_of}
 use Rattle.fact_types.specs.Tuples.{tuple_members}

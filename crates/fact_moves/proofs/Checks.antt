@@ -15,7 +15,7 @@ use Rattle.fact_machine.specs.declared.types.Answer.TheVariants.{Returns, Traps,
 use Rattle.fact_machine.specs.declared.types.TraceEntry.TheVariants.{Called}
 use Rattle.fact_machine.specs.World.{World, Res, Done, Halt, read, write, asked, outside, set_global}
 use Rattle.fact_machine.specs.World as world
-use Rattle.fact_abi.specs.Lift.{bits_of}
+use Rattle.fact_values.specs.Lift.{bits_of}
 use Rattle.fact_moves.specs.Actions.{Action, Give, Visit, Read, Write, MemoryLength, GetFlags, SetFlags, Ask, Unreachable, ◌>>=◌, trap, unless, each_from}
 use Rattle.fact_moves.specs.AdapterLaws.{is_check, HasNotGiven, HasLacked, IsCutShort, IsChecked}
 use Rattle.fact_moves.specs.Running.{ImportPlaces, Call, Ended, Gave, Halted, Strayed, calls_in, world_in, heavier, later, or_strayed, ended, if_typed, is_answer, with_answer, call_of, run}

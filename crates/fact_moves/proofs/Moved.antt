@@ -14,9 +14,9 @@ use Rattle.fact_types.specs.Fields.{Field, field_of}
 use Rattle.fact_machine.specs.declared.types.CoreValue.{CoreValue}
 use Rattle.fact_types.specs.declared.import.Import.{Import}
 use Rattle.fact_types.specs.declared.import.Import.TheVariants as import
-use Rattle.fact_abi.specs.Limits.{CaseType, case_type}
-use Rattle.fact_abi.specs.Places.{case_bytes}
-use Rattle.fact_abi.specs.Texts.{form_of}
+use Rattle.fact_values.specs.Limits.{CaseType, case_type}
+use Rattle.fact_values.specs.Places.{case_bytes}
+use Rattle.fact_values.specs.Texts.{form_of}
 use Rattle.fact_moves.specs.Actions.{Action, trap}
 use Rattle.fact_moves.specs.Sides.{LiftLowerOptions, Transfer, Source, Target, Values, AtAddress, Slots, Into}
 use Rattle.fact_moves.specs.Transcoders.{transcode_kind}

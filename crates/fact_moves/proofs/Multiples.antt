@@ -16,7 +16,7 @@ use Rattle.fact_types.specs.Layout.{extent, extents, aligned, payload_offset, pa
 use Rattle.fact_types.specs.Shapes.{k_record, k_variant, k_fixed, Shape, s_node, Members, no_members, bare, typed, layout_of, layouts_of, place_of, next_of}
 use Rattle.fact_types.proofs.AlignLaws.{power_pos}
 use Rattle.fact_types.proofs.PlaceLaws.{sound_in}
-use Rattle.fact_abi.specs.Limits.{CaseType, case_type, place_in}
+use Rattle.fact_values.specs.Limits.{CaseType, case_type, place_in}
 
 -- the alignment of a value, and of a record of members
 abbrev pub align_in : MemoryWidth → Shape → ℕ

@@ -12,7 +12,7 @@ use Rattle.fact_machine.specs.Machine.{i32_of}
 use Rattle.fact_types.specs.declared.import.Import.{Import}
 use Rattle.fact_types.specs.declared.import.Import.TheVariants as import
 use Rattle.fact_types.specs.Adapters.{LinkedAdapter}
-use Rattle.fact_abi.specs.Lift.{bits_of}
+use Rattle.fact_values.specs.Lift.{bits_of}
 use Rattle.fact_moves.specs.Actions.{Action, Give, SetFlags, ◌>>=◌, ◌>>◌, trap, unless}
 use Rattle.fact_moves.specs.Running.{ImportPlaces, Call, Ended, Gave, Halted, Strayed, later, run}
 use Rattle.fact_moves.specs.Adapters.{AdapterTunables, Slotted, none, when_due, get_flags, cleared, make_call, enters, enter_call, exit_call, read_slots, finish_call, last_bits, params_transfer, results_transfer, move_params, move_results, sync, async_start, async_return}

@@ -16,8 +16,8 @@ use Rattle.fact_machine.specs.Typing.{address_bits}
 use Rattle.fact_machine.specs.World.{World}
 use Rattle.fact_types.specs.declared.import.Import.TheVariants as import
 use Rattle.fact_types.specs.Adapters.{is_wide, same_def}
-use Rattle.fact_abi.specs.Places.{pointer_bytes}
-use Rattle.fact_abi.specs.Texts.{form_of}
+use Rattle.fact_values.specs.Places.{pointer_bytes}
+use Rattle.fact_values.specs.Texts.{form_of}
 use Rattle.fact_moves.specs.Actions.{Action, Give}
 use Rattle.fact_moves.specs.Running.{ImportPlaces, Call}
 use Rattle.fact_moves.specs.Sides.{LiftLowerOptions, Transfer, Source, Target, Slots, Into, wrap, width_of_side, bytes_of_addresses, nth_spot, write_number, write_pair}

@@ -12,8 +12,8 @@ use Rattle.fact_machine.specs.declared.types.CoreValue.{CoreValue}
 use Rattle.fact_machine.specs.World.{World}
 use Rattle.fact_types.specs.declared.import.Import.{Import}
 use Rattle.fact_types.specs.declared.import.Import.TheVariants as import
-use Rattle.fact_abi.specs.Limits.{CaseType, case_type}
-use Rattle.fact_abi.specs.Places.{case_bytes, payload_place, flags_bytes}
+use Rattle.fact_values.specs.Limits.{CaseType, case_type}
+use Rattle.fact_values.specs.Places.{case_bytes, payload_place, flags_bytes}
 use Rattle.fact_moves.specs.Actions.{Action, Unreachable, trap, each_from}
 use Rattle.fact_moves.specs.Running.{ImportPlaces, Call}
 use Rattle.fact_moves.specs.Sides.{LiftLowerOptions, Transfer, Source, Values, AtAddress, Target, Slots, Into, width_of_side, bytes_of_addresses, nth_spot, write_number, write_pair, side_abi}

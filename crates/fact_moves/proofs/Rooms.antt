@@ -11,7 +11,7 @@ use Rattle.fact_types.proofs.AlignLaws.{aligned_bounds, inside_tagged}
 use Rattle.fact_types.proofs.FieldLaws.{greatest_align_pos}
 use Rattle.fact_types.proofs.PayloadLaws.{enum_is_scalar}
 use Rattle.fact_types.proofs.PlaceLaws.{ends_grow, ends_within}
-use Rattle.fact_abi.specs.Places.{pointer_bytes, case_bytes, payload_place, flags_bytes}
+use Rattle.fact_values.specs.Places.{pointer_bytes, case_bytes, payload_place, flags_bytes}
 use Rattle.fact_moves.specs.Sides.{LiftLowerOptions, width_of_side, bytes_of_addresses, side_abi}
 use Rattle.fact_moves.specs.Moves.{plain_size}
 use Rattle.fact_moves.specs.Confined.{node_size}

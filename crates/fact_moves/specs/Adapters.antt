@@ -19,7 +19,7 @@ use Rattle.fact_machine.specs.declared.types.CoreValue.{CoreValue}
 use Rattle.fact_machine.specs.declared.types.CoreValue.TheVariants.{I32, Func}
 use Rattle.fact_types.specs.declared.import.Import.{Import}
 use Rattle.fact_types.specs.declared.import.Import.TheVariants as import
-use Rattle.fact_abi.specs.Lift.{bits_of}
+use Rattle.fact_values.specs.Lift.{bits_of}
 use Rattle.fact_types.specs.Tuples.{tuple_members}
 use Rattle.fact_moves.specs.Actions.{Action, Give, GetFlags, SetFlags, Ask, ◌>>=◌, ◌>>◌, trap, unless}
 use Rattle.fact_moves.specs.Sides.{LiftLowerOptions, Transfer, Source, Values, AtAddress, Target, Slots, Into, options_of, width_of_side, address_value, first_bits, check_region, reallocate, get_slots, set_slots}

@@ -13,7 +13,7 @@ use Rattle.fact_types.specs.Signatures.{flat_values}
 use Rattle.fact_types.specs.Shapes.{Kind, k_list, k_map, k_fixed, Shape, s_plain, s_node, Members, no_members, bare, typed, layout_of, layouts_of}
 use Rattle.fact_types.specs.declared.outside.MemoryOption.{MemoryOption}
 use Rattle.fact_types.specs.Adapters.{LinkedAdapter, is_wide}
-use Rattle.fact_abi.specs.Texts.{unit_bytes}
+use Rattle.fact_values.specs.Texts.{unit_bytes}
 use Rattle.fact_moves.specs.Moves.{entry_extent}
 use Rattle.fact_moves.specs.Transcoders.{TranscodeKind, AllUnits, Counted, Fitting, Narrow, Tagged, Widening, transcode_kind, from_encoding, to_encoding}
 use Rattle.fact_moves.specs.Sides.{LiftLowerOptions, width_of_side, options_of}

@@ -10,8 +10,8 @@ use Rattle.fact_machine.specs.World.{put_at}
 use Rattle.fact_types.specs.declared.import.Import.{Import}
 use Rattle.fact_types.specs.declared.import.Import.TheVariants as import
 use Rattle.fact_types.specs.Adapters.{LinkedAdapter}
-use Rattle.fact_abi.specs.Lift.{bits_of}
-use Rattle.fact_abi.specs.Texts.{unit_bytes}
+use Rattle.fact_values.specs.Lift.{bits_of}
+use Rattle.fact_values.specs.Texts.{unit_bytes}
 use Rattle.fact_moves.specs.Transcoders.{TranscodeKind, Fitting, Widening, transcode_kind, from_encoding, Room, IsHonestTranscoding}
 use Rattle.fact_moves.specs.Sides.{LiftLowerOptions, options_of}
 use Rattle.fact_machine.specs.Typed.{are_values}

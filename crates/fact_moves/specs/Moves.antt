@@ -16,9 +16,9 @@ use Rattle.fact_machine.specs.declared.types.CoreValue.{CoreValue}
 use Rattle.fact_machine.specs.declared.types.CoreValue.TheVariants.{I32}
 use Rattle.fact_types.specs.declared.import.Import.{Import}
 use Rattle.fact_types.specs.declared.import.Import.TheVariants as import
-use Rattle.fact_abi.specs.Limits.{CaseType, case_type, place_in}
-use Rattle.fact_abi.specs.Numbers.{is_scalar_value}
-use Rattle.fact_abi.specs.Places.{count_of_members, case_bytes, payload_place, flags_bytes}
+use Rattle.fact_values.specs.Limits.{CaseType, case_type, place_in}
+use Rattle.fact_values.specs.Numbers.{is_scalar_value}
+use Rattle.fact_values.specs.Places.{count_of_members, case_bytes, payload_place, flags_bytes}
 use Rattle.fact_moves.specs.Actions.{Action, Give, Visit, Ask, Unreachable, ◌>>=◌, trap, unless, each}
 use Rattle.fact_moves.specs.Strings.{move_string}
 use Rattle.fact_moves.specs.Sides.{LiftLowerOptions, Transfer, Source, Values, AtAddress, Target, Slots, Into, side_abi, width_of_side, first_bits, zeros, read_number, write_number, nth_part, nth_spot, read_pair, write_pair, check_region, reallocate}

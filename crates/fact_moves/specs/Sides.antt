@@ -16,9 +16,9 @@ use Rattle.fact_machine.specs.declared.types.CoreValue.{CoreValue}
 use Rattle.fact_machine.specs.declared.types.CoreValue.TheVariants.{I32, I64, F32, F64}
 use Rattle.fact_machine.specs.Typing.{address_bits, address_operand}
 use Rattle.fact_types.specs.declared.import.Import.TheVariants as import
-use Rattle.fact_abi.specs.declared.side.SideAbi.{SideAbi}
-use Rattle.fact_abi.specs.Lift.{bits_of}
-use Rattle.fact_abi.specs.Places.{width_of, pointer_bytes}
+use Rattle.fact_values.specs.declared.side.SideAbi.{SideAbi}
+use Rattle.fact_values.specs.Lift.{bits_of}
+use Rattle.fact_values.specs.Places.{width_of, pointer_bytes}
 use Rattle.fact_moves.specs.Actions.{Action, Give, Read, Write, MemoryLength, Ask, Unreachable, ◌>>=◌, unless}
 
 -- How a side keeps values in memory: all that a move asks of a side.

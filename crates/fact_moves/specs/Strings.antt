@@ -11,7 +11,7 @@ use Rattle.fact_machine.specs.declared.types.CoreValue.{CoreValue}
 use Rattle.fact_machine.specs.declared.types.CoreValue.TheVariants.{I32}
 use Rattle.fact_types.specs.declared.import.Import.TheVariants as import
 use Rattle.fact_machine.specs.Typing.{address_bits}
-use Rattle.fact_abi.specs.Texts.{unit_bytes, Form, has_tag, form_of, byte_length}
+use Rattle.fact_values.specs.Texts.{unit_bytes, Form, has_tag, form_of, byte_length}
 use Rattle.fact_moves.specs.Actions.{Action, Give, Ask, ◌>>=◌, unless}
 use Rattle.fact_moves.specs.Sides.{LiftLowerOptions, Transfer, Source, Target, address_value, wrap, first_bits, with_memory, check_region, reallocate, read_pair, write_pair}
 use Rattle.fact_moves.specs.Transcoders.{TranscodeKind, AllUnits, Counted, Fitting, Narrow, Tagged, Widening, transcode_kind, from_encoding, transcode_types}

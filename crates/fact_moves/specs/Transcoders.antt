@@ -7,7 +7,7 @@ use Rattle.fact_types.specs.declared.outside.FixedEncoding.TheVariants.{Utf8, Ut
 use Rattle.fact_types.specs.declared.outside.Transcode.{Transcode}
 use Rattle.fact_types.specs.declared.outside.Transcode.TheVariants as op
 use Rattle.fact_types.specs.Signatures.{address}
-use Rattle.fact_abi.specs.Texts.{IsSpelled, AreSpelled, char_spelling, spelled_text, units_of_text}
+use Rattle.fact_values.specs.Texts.{IsSpelled, AreSpelled, char_spelling, spelled_text, units_of_text}
 
 -- the encoding that is read, and the one that is written
 abbrev pub from_encoding : Transcode → FixedEncoding

@@ -15,8 +15,8 @@ use Rattle.fact_machine.proofs.Laws.{leaves_next, leaves_as}
 use Rattle.fact_machine.proofs.RowLaws.{leaves_local_get, leaves_i32_const}
 use Rattle.fact_machine.proofs.NumericLaws.{leaves_i32_lt_u, leaves_i32_gt_u, leaves_i32_and, leaves_i32_or}
 use Rattle.fact_types.specs.declared.import.Import.TheVariants as import
-use Rattle.fact_abi.specs.Numbers.{is_scalar_value}
-use Rattle.fact_abi.specs.Places.{case_bytes, count_of_members}
+use Rattle.fact_values.specs.Numbers.{is_scalar_value}
+use Rattle.fact_values.specs.Places.{case_bytes, count_of_members}
 use Rattle.fact_moves.specs.Sides.{read_number, write_number}
 use Rattle.fact_moves.specs.Moves.{move}
 use Rattle.fact_pieces.specs.Does.{Locals, PushesValue}

@@ -22,8 +22,8 @@ use Rattle.fact_machine.proofs.Laws.{leaves_then, leaves_next, leaves_as}
 use Rattle.fact_machine.proofs.NumericLaws.{leaves_i32_and, leaves_i32_shr_u}
 use Rattle.fact_machine.proofs.RowLaws.{leaves_i32_const}
 use Rattle.fact_machine.proofs.Tests.{get_append}
-use Rattle.fact_abi.specs.Limits.{CaseType, case_type}
-use Rattle.fact_abi.specs.Places.{count_of_members}
+use Rattle.fact_values.specs.Limits.{CaseType, case_type}
+use Rattle.fact_values.specs.Places.{count_of_members}
 use Rattle.fact_moves.specs.Actions.{Action, trap}
 use Rattle.fact_moves.specs.Running.{ImportPlaces}
 use Rattle.fact_pieces.specs.Choices.{all_of_chunks, AreChunks, chunk_number, place_in_chunk, full_chunk_code, chunk_codes, IsChoice, InOneTable, InChunks}

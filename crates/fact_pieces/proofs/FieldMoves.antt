@@ -3,7 +3,7 @@ use Rattle.std.proofs.Common.{◌≡◌, ℕ, zero, suc, ◌+◌, Bool, true, fa
 use Rattle.fact_wasm.specs.declared.types.ValType.{ValType}
 use Rattle.fact_wasm.specs.declared.instr.Instr.{Instr}
 use Rattle.fact_machine.specs.declared.types.CoreValue.{CoreValue}
-use Rattle.fact_abi.specs.Limits.{place_in}
+use Rattle.fact_values.specs.Limits.{place_in}
 use Rattle.fact_moves.specs.Actions.{Action, Give, ◌>>=◌, Visit}
 use Rattle.fact_moves.specs.Sides.{Transfer, width_of_side, Source, Values, AtAddress, Target, Slots, Into}
 use Rattle.fact_types.specs.Fields.{Field, field_of}

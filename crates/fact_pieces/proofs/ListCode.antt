@@ -20,7 +20,7 @@ use Rattle.fact_machine.proofs.Laws.{leaves_next, leaves_as}
 use Rattle.fact_machine.proofs.RowLaws.{leaves_local_get, leaves_i32_const}
 use Rattle.fact_machine.proofs.NumericLaws.{leaves_i64_const, leaves_i32_add, leaves_i64_add, leaves_i64_sub, leaves_i64_eqz}
 use Rattle.fact_types.specs.declared.import.Import.TheVariants as import
-use Rattle.fact_abi.specs.Lift.{bits_of}
+use Rattle.fact_values.specs.Lift.{bits_of}
 use Rattle.fact_moves.specs.Actions.{Action, Give, Ask, ◌>>=◌, unless, each}
 use Rattle.fact_moves.specs.Running.{ImportPlaces}
 use Rattle.fact_moves.specs.Sides.{LiftLowerOptions, get_slots, set_slots, Source, AtAddress, Target, Into, first_bits, read_number, write_number, check_region}

@@ -13,7 +13,7 @@ use Rattle.fact_types.specs.Signatures.{width, address as pointer_type}
 use Rattle.fact_machine.specs.declared.types.CoreValue.{CoreValue}
 use Rattle.fact_machine.specs.declared.types.CoreValue.TheVariants.{I32}
 use Rattle.fact_machine.specs.Typing.{address_bits, address_type, address_operand}
-use Rattle.fact_abi.specs.Places.{pointer_bytes}
+use Rattle.fact_values.specs.Places.{pointer_bytes}
 use Rattle.fact_moves.specs.Actions as action
 use Rattle.fact_moves.specs.Actions.{Action, Give, Visit, Ask, ◌>>=◌, unless, each}
 use Rattle.fact_moves.specs.Moves.{entry_extent, move_list, move, move_fields}

@@ -19,7 +19,7 @@ use Rattle.fact_machine.proofs.RowLaws.{leaves_local_get}
 use Rattle.fact_machine.proofs.NumericLaws.{leaves_i32_wrap_i64, leaves_i32_reinterpret_f32, leaves_i64_reinterpret_f64, leaves_i64_extend_i32_u, leaves_f32_reinterpret_i32, leaves_f64_reinterpret_i64, leaves_i64_const, leaves_i64_shr_u, leaves_i64_eqz}
 use Rattle.fact_machine.specs.Typing.{address_operand}
 use Rattle.fact_types.specs.declared.outside.CoreDef.{CoreDef}
-use Rattle.fact_abi.specs.Lift.{bits_of}
+use Rattle.fact_values.specs.Lift.{bits_of}
 use Rattle.fact_moves.specs.Actions as action
 use Rattle.fact_moves.specs.Actions.{Action, Give, Read, Write, unless}
 use Rattle.fact_moves.specs.Running.{ImportPlaces}

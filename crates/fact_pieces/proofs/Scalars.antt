@@ -18,7 +18,7 @@ use Rattle.fact_machine.specs.Numerics.{truth, extend_s}
 use Rattle.fact_machine.proofs.Laws.{leaves_next, leaves_none, leaves_as}
 use Rattle.fact_machine.proofs.RowLaws.{leaves_i32_const}
 use Rattle.fact_machine.proofs.NumericLaws.{leaves_i32_ne, leaves_i32_and, leaves_i32_extend8_s, leaves_i32_extend16_s}
-use Rattle.fact_abi.specs.Places.{flags_bytes, count_of_members}
+use Rattle.fact_values.specs.Places.{flags_bytes, count_of_members}
 use Rattle.fact_moves.specs.Actions.{Action, Visit}
 use Rattle.fact_moves.specs.Running.{ImportPlaces}
 use Rattle.fact_moves.specs.Sides.{Source, Target}

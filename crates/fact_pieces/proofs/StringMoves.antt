@@ -20,8 +20,8 @@ use Rattle.fact_machine.specs.declared.types.CoreValue.TheVariants.{I32, I64}
 use Rattle.fact_machine.specs.Numerics.{truth}
 use Rattle.fact_machine.specs.Typing.{address_bits, address_type}
 use Rattle.fact_machine.specs.World.{World}
-use Rattle.fact_abi.specs.Places.{pointer_bytes}
-use Rattle.fact_abi.specs.Texts.{Form, form_of, byte_length, has_tag, utf16_tag}
+use Rattle.fact_values.specs.Places.{pointer_bytes}
+use Rattle.fact_values.specs.Texts.{Form, form_of, byte_length, has_tag, utf16_tag}
 use Rattle.fact_moves.specs.Actions as action
 use Rattle.fact_moves.specs.Actions.{Action, Give, Visit, MemoryLength, ◌>>=◌, unless}
 use Rattle.fact_moves.specs.Paths.{TextForm, AsUtf8, AsUtf16, AsCompactLatin1, AsCompactUtf16, align_of, path}

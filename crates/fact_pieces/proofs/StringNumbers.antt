@@ -18,7 +18,7 @@ use Rattle.fact_machine.proofs.NumericLaws.{leaves_i64_const, leaves_i64_eq, lea
 use Rattle.fact_machine.proofs.RowLaws.{leaves_local_get}
 use Rattle.fact_machine.specs.Typing.{address_bits}
 use Rattle.fact_types.specs.Adapters.{is_wide}
-use Rattle.fact_abi.specs.Texts.{has_tag, utf16_tag}
+use Rattle.fact_values.specs.Texts.{has_tag, utf16_tag}
 use Rattle.fact_moves.specs.Paths.{Test, AllRead, WrittenIs, HasNoTag, KeepsUnits}
 use Rattle.fact_moves.specs.Strings.{PathPoint, holds, most_string_bytes}
 use Rattle.fact_pieces.specs.Does.{Locals, PushesValue}

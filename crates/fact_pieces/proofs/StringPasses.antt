@@ -20,7 +20,7 @@ use Rattle.fact_machine.specs.Typed.{is_value, are_values}
 use Rattle.fact_machine.specs.Typing.{address_bits, address_type, address_operand}
 use Rattle.fact_machine.proofs.Tests.{first_of, second_of, both}
 use Rattle.fact_machine.proofs.RowLaws.{leaves_i32_const}
-use Rattle.fact_abi.specs.Texts.{unit_bytes}
+use Rattle.fact_values.specs.Texts.{unit_bytes}
 use Rattle.fact_moves.specs.Actions.{Action, Give}
 use Rattle.fact_moves.specs.Sides.{LiftLowerOptions, Transfer, first_bits}
 use Rattle.fact_moves.specs.Strings.{PathPoint, source_args, target_args, passed, transcode}

@@ -17,7 +17,7 @@ use Rattle.fact_machine.specs.declared.types.CoreValue.{CoreValue}
 use Rattle.fact_machine.specs.declared.types.CoreValue.TheVariants.{I32, I64}
 use Rattle.fact_machine.specs.Numerics.{truth}
 use Rattle.fact_machine.proofs.NumericLaws.{leaves_i64_const}
-use Rattle.fact_abi.specs.Texts.{utf16_tag}
+use Rattle.fact_values.specs.Texts.{utf16_tag}
 use Rattle.fact_moves.specs.Actions.{Action}
 use Rattle.fact_moves.specs.Paths.{Amount, Path, End, Limit, Resize, Pass, If, Tag, Assert, TextForm, AsUtf8, AsUtf16, AsCompactLatin1, AsCompactUtf16, align_of, path}
 use Rattle.fact_moves.specs.Running.{ImportPlaces}

@@ -10,8 +10,8 @@ use Rattle.fact_types.specs.Shapes.{s_node, k_variant, k_option, k_result, Membe
 use Rattle.fact_machine.specs.declared.types.CoreValue.{CoreValue}
 use Rattle.fact_machine.proofs.Laws.{leaves_next, leaves_none}
 use Rattle.fact_machine.proofs.RowLaws.{leaves_local_get}
-use Rattle.fact_abi.specs.Limits.{CaseType, case_type}
-use Rattle.fact_abi.specs.Places.{count_of_members, case_bytes}
+use Rattle.fact_values.specs.Limits.{CaseType, case_type}
+use Rattle.fact_values.specs.Places.{count_of_members, case_bytes}
 use Rattle.fact_moves.specs.Actions.{Action, Visit, trap}
 use Rattle.fact_moves.specs.Moves.{move, move_case}
 use Rattle.fact_moves.specs.Sides.{Source, Target, read_number}

@@ -12,8 +12,8 @@ use Rattle.fact_types.specs.Shapes.{Members, no_members, bare, typed}
 use Rattle.fact_machine.specs.declared.types.CoreValue.TheVariants.{I32}
 use Rattle.fact_machine.specs.Machine.{label_at}
 use Rattle.fact_types.specs.declared.import.Import.TheVariants as import
-use Rattle.fact_abi.specs.Limits.{CaseType, case_type}
-use Rattle.fact_abi.specs.Places.{count_of_members}
+use Rattle.fact_values.specs.Limits.{CaseType, case_type}
+use Rattle.fact_values.specs.Places.{count_of_members}
 use Rattle.fact_moves.specs.Actions.{Action, trap}
 use Rattle.fact_moves.specs.Running.{ImportPlaces}
 use Rattle.fact_pieces.specs.Code.{trap_code, labels_from, sum_code}

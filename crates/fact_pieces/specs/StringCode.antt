@@ -13,7 +13,7 @@ use Rattle.fact_types.specs.declared.outside.Transcode.{Transcode}
 use Rattle.fact_types.specs.declared.outside.Trap.{Trap}
 use Rattle.fact_types.specs.declared.outside.Trap.TheVariants.{StringOutOfBounds, UnalignedPointer}
 use Rattle.fact_types.specs.Signatures.{address}
-use Rattle.fact_abi.specs.Texts.{unit_bytes, utf16_tag}
+use Rattle.fact_values.specs.Texts.{unit_bytes, utf16_tag}
 use Rattle.fact_moves.specs.Paths.{Amount, SourceUnits, WrittenUnits, Test, AllRead, WrittenIs, HasNoTag, KeepsUnits, Path, End, Limit, Resize, Pass, If, Tag, Assert, TextForm, AsUtf8, AsUtf16, AsCompactLatin1, AsCompactUtf16, align_of, path}
 use Rattle.fact_moves.specs.Strings.{most_string_bytes}
 use Rattle.fact_moves.specs.Transcoders.{TranscodeKind, AllUnits, Counted, Fitting, Narrow, Tagged, Widening, transcode_kind, from_encoding, transcode_types}

@@ -18,7 +18,7 @@ use Rattle.fact_types.specs.Adapters.{LinkedAdapter}
 use Rattle.fact_types.specs.Shapes.{Shape}
 use Rattle.fact_types.specs.declared.import.Import.{Import}
 use Rattle.fact_types.specs.declared.import.Import.TheVariants as known
-use Rattle.fact_abi.specs.declared.value.Value.{Value}
+use Rattle.fact_values.specs.declared.value.Value.{Value}
 use Rattle.fact_moves.specs.AdapterLaws.{entry_outcome, is_write}
 use Rattle.fact_moves.specs.Adapters.{AdapterTunables, References, def_of_memory, params_transfer, results_transfer}
 use Rattle.fact_moves.specs.Confined.{AreOwnWrites, AreRangedReturn, AreRangedStart, HaveHonestTranscoders, room_in}

@@ -15,11 +15,11 @@ use Rattle.fact_types.specs.declared.outside.CoreDef.{CoreDef}
 use Rattle.fact_types.specs.declared.outside.Trap.TheVariants.{ListOutOfBounds, InvalidChar, InvalidDiscriminant}
 use Rattle.fact_types.proofs.ShapeLaws.{none_some, same_some}
 use Rattle.fact_machine.specs.declared.types.CoreValue.{CoreValue}
-use Rattle.fact_abi.specs.Handles.{members_of}
-use Rattle.fact_abi.specs.Lift.{number_as}
-use Rattle.fact_abi.specs.Limits.{CaseType, case_type}
-use Rattle.fact_abi.specs.Numbers.{is_scalar_value}
-use Rattle.fact_abi.specs.Places.{count_of_members, flags_bytes, case_bytes, payload_place}
+use Rattle.fact_values.specs.Handles.{members_of}
+use Rattle.fact_values.specs.Lift.{number_as}
+use Rattle.fact_values.specs.Limits.{CaseType, case_type}
+use Rattle.fact_values.specs.Numbers.{is_scalar_value}
+use Rattle.fact_values.specs.Places.{count_of_members, flags_bytes, case_bytes, payload_place}
 use Rattle.fact_moves.specs.Actions.{Action, Give, Unreachable, ◌>>=◌, trap, each}
 use Rattle.fact_moves.specs.Calls.{is_import_of}
 use Rattle.fact_moves.specs.Moves.{canonical_number, plain_size, move_number, move_char, move_handle, move_enum, write_case, entry_extent, element_flats, move_list, move_fixed, move_plain, move_to_plain, aligned_source, aligned_target, aligned_node, MovingMembers, move_sum, move_node, move_to_node, weight_of, with_field, part, spot, past, payload_part, payload_spot, padded, move, move_fields, move_case}

@@ -2,10 +2,10 @@
 use Rattle.std.proofs.Common.{◌≡◌, ℕ, ◌*◌, ◌/◌, ◌^◌, ◌≤◌, ◌<◌, List, refl, arith, length}
 use Rattle.fact_types.specs.declared.outside.StringEncoding.{StringEncoding}
 use Rattle.fact_types.specs.declared.outside.StringEncoding.TheVariants as string
-use Rattle.fact_abi.specs.Texts.{unit_bytes}
+use Rattle.fact_values.specs.Texts.{unit_bytes}
 use Rattle.fact_moves.specs.Paths.{Path, Limit, TextForm, AsUtf8, AsUtf16, AsCompactLatin1, AsCompactUtf16, path, Amount, Resize}
 use Rattle.fact_moves.specs.Strings.{most_string_bytes}
-use Rattle.fact_abi.specs.Limits.{most_units}
+use Rattle.fact_values.specs.Limits.{most_units}
 use Rattle.fact_texts.proofs.Stages.{beginning, Leads, Moved}
 use Rattle.fact_texts.proofs.Copies.{utf8_copies, utf16_copies, latin1_copies, latin1_widens, utf8_to_utf16}
 use Rattle.fact_texts.proofs.IntoUtf8.{utf16_to_utf8, latin1_to_utf8}

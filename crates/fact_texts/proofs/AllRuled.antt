@@ -14,9 +14,9 @@ use Rattle.fact_types.specs.declared.outside.CoreDef.{CoreDef}
 use Rattle.fact_types.specs.declared.outside.Trap.{Trap as TrapCode}
 use Rattle.fact_types.specs.declared.outside.Trap.TheVariants.{ListOutOfBounds, InvalidChar, InvalidDiscriminant}
 use Rattle.fact_machine.specs.declared.types.CoreValue.{CoreValue}
-use Rattle.fact_abi.specs.Limits.{CaseType, case_type}
-use Rattle.fact_abi.specs.Numbers.{is_scalar_value}
-use Rattle.fact_abi.specs.Places.{count_of_members, flags_bytes, case_bytes, payload_place}
+use Rattle.fact_values.specs.Limits.{CaseType, case_type}
+use Rattle.fact_values.specs.Numbers.{is_scalar_value}
+use Rattle.fact_values.specs.Places.{count_of_members, flags_bytes, case_bytes, payload_place}
 use Rattle.fact_moves.specs.Actions.{Action, Give, Visit, Ask, Unreachable, ◌>>=◌, trap, unless, each, each_from}
 use Rattle.fact_moves.specs.Calls.{is_import_of}
 use Rattle.fact_moves.specs.Confined.{IsRangedBy}

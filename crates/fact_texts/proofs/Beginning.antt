@@ -8,7 +8,7 @@ use Rattle.fact_types.specs.declared.outside.StringEncoding.TheVariants as strin
 use Rattle.fact_types.specs.Adapters.{is_wide}
 use Rattle.fact_machine.specs.declared.types.MachineState.{MachineState}
 use Rattle.fact_machine.specs.Typing.{address_bits}
-use Rattle.fact_abi.specs.Texts.{unit_bytes}
+use Rattle.fact_values.specs.Texts.{unit_bytes}
 use Rattle.fact_moves.specs.Paths.{align_of}
 use Rattle.fact_moves.specs.Regions.{Region, IsIn, IsInAny, without}
 use Rattle.fact_moves.specs.Strings.{PathPoint, path_start}

@@ -6,7 +6,7 @@ use Rattle.std.proofs.lemmas.Str.{length-encode, len_utf8_bounds}
 use Rattle.std.specs.Char.{len_utf8}
 use Rattle.fact_types.specs.declared.outside.FixedEncoding.{FixedEncoding}
 use Rattle.fact_types.specs.declared.outside.FixedEncoding.TheVariants.{Utf8, Utf16, Latin1}
-use Rattle.fact_abi.specs.Texts.{unit_bytes, IsSpelled, AreSpelled, low_first, char_spelling, units, spelled_text, units_of_text}
+use Rattle.fact_values.specs.Texts.{unit_bytes, IsSpelled, AreSpelled, low_first, char_spelling, units, spelled_text, units_of_text}
 
 -- the most bytes of one encoding for a unit of another
 abbrev pub growth : (from to : FixedEncoding) → ℕ

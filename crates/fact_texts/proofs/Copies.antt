@@ -6,7 +6,7 @@ use Rattle.fact_types.specs.declared.outside.FixedEncoding.{FixedEncoding}
 use Rattle.fact_types.specs.declared.outside.FixedEncoding.TheVariants.{Utf8, Utf16, Latin1}
 use Rattle.fact_types.specs.declared.outside.StringEncoding.TheVariants as string
 use Rattle.fact_types.specs.declared.outside.Transcode.TheVariants as op
-use Rattle.fact_abi.specs.Texts.{unit_bytes, AreSpelled, units_of_text}
+use Rattle.fact_values.specs.Texts.{unit_bytes, AreSpelled, units_of_text}
 use Rattle.fact_moves.specs.Transcoders.{AllUnits, Room, IsHonestPass}
 use Rattle.fact_moves.specs.Paths.{End, Pass, whole, cut}
 use Rattle.fact_moves.specs.Strings.{most_string_bytes}

@@ -11,7 +11,7 @@ use Rattle.std.specs.Str.{chars, is_utf8}
 use Rattle.fact_types.specs.declared.outside.FixedEncoding.{FixedEncoding}
 use Rattle.fact_types.specs.declared.outside.FixedEncoding.TheVariants.{Utf8, Utf16, Latin1}
 use Rattle.fact_types.proofs.ShapeLaws.{same_some, none_some}
-use Rattle.fact_abi.specs.Texts.{AreSpelled, spelled_text, low_first, two_byte_units, all_there, decoded}
+use Rattle.fact_values.specs.Texts.{AreSpelled, spelled_text, low_first, two_byte_units, all_there, decoded}
 use Rattle.fact_carry.proofs.Plain.{both}
 use Rattle.fact_texts.proofs.Decoded.{units_of, bytes_units, same_bytes, latin_bytes}
 use Rattle.fact_texts.proofs.Spelled.{SpellsText}

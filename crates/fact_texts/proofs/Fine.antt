@@ -16,7 +16,7 @@ use Rattle.fact_machine.specs.declared.types.CoreValue.TheVariants.{I32, I64, F3
 use Rattle.fact_machine.specs.declared.types.MachineState.{MachineState}
 use Rattle.fact_machine.specs.Typed.{are_values, are_memories, are_globals, is_grown}
 use Rattle.fact_machine.specs.World.{World}
-use Rattle.fact_abi.specs.Lift.{bits_of}
+use Rattle.fact_values.specs.Lift.{bits_of}
 use Rattle.fact_moves.specs.Actions.{Action, Give, Visit, GetFlags, SetFlags, Ask, Unreachable, ◌>>=◌, unless, each_from}
 use Rattle.fact_moves.specs.Calls.{is_import_of}
 use Rattle.fact_moves.specs.Confined.{IsRangedBy}

@@ -12,7 +12,7 @@ use Rattle.fact_types.specs.declared.outside.StringEncoding.TheVariants as strin
 use Rattle.fact_types.specs.declared.outside.Transcode.{Transcode}
 use Rattle.fact_types.specs.declared.outside.Transcode.TheVariants as op
 use Rattle.fact_types.specs.declared.outside.Trap.TheVariants.{DebugAssertEqualCodeUnits}
-use Rattle.fact_abi.specs.Texts.{unit_bytes, AreSpelled, char_spelling, spelled_text, units_of_text}
+use Rattle.fact_values.specs.Texts.{unit_bytes, AreSpelled, char_spelling, spelled_text, units_of_text}
 use Rattle.fact_moves.specs.Transcoders.{Narrow, Widening, transcode_kind, from_encoding, to_encoding, Room, all_latin1, widened, IsHonestPass}
 use Rattle.fact_moves.specs.Paths.{SourceUnits, WrittenUnits, AllRead, HasNoTag, KeepsUnits, Path, End, Limit, Resize, Pass, If, Tag, Assert, whole, cut, to_compact, to_wide}
 use Rattle.fact_moves.specs.Strings.{most_string_bytes}

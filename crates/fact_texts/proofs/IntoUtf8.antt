@@ -11,7 +11,7 @@ use Rattle.fact_types.specs.declared.outside.StringEncoding.TheVariants as strin
 use Rattle.fact_types.specs.declared.outside.Transcode.{Transcode}
 use Rattle.fact_types.specs.declared.outside.Transcode.TheVariants as op
 use Rattle.fact_types.specs.declared.outside.Trap.TheVariants.{DebugAssertStringEncodingFinished}
-use Rattle.fact_abi.specs.Texts.{unit_bytes, IsSpelled, char_spelling, units, spelled_text, units_of_text}
+use Rattle.fact_values.specs.Texts.{unit_bytes, IsSpelled, char_spelling, units, spelled_text, units_of_text}
 use Rattle.fact_moves.specs.Transcoders.{Fitting, transcode_kind, from_encoding, to_encoding, Room, IsHonestPass}
 use Rattle.fact_moves.specs.Paths.{SourceUnits, WrittenUnits, AllRead, WrittenIs, Path, End, Limit, Resize, Pass, If, Assert, to_utf8}
 use Rattle.fact_moves.specs.Strings.{most_string_bytes}

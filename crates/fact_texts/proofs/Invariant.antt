@@ -12,9 +12,9 @@ use Rattle.fact_moves.specs.Paths.{align_of, Amount, SourceUnits, WrittenUnits}
 use Rattle.fact_moves.specs.Sides.{LiftLowerOptions, Transfer, wrap, first_bits}
 use Rattle.fact_types.specs.Adapters.{is_wide}
 use Rattle.fact_machine.specs.Typing.{address_bits}
-use Rattle.fact_abi.specs.Lift.{bits_of}
+use Rattle.fact_values.specs.Lift.{bits_of}
 use Rattle.fact_moves.specs.Strings.{PathPoint, minus, amount}
-use Rattle.fact_abi.specs.Texts.{unit_bytes, spelled_text, units_of_text}
+use Rattle.fact_values.specs.Texts.{unit_bytes, spelled_text, units_of_text}
 use Rattle.fact_moves.specs.Transcoders.{TranscodeKind, AllUnits, Counted, Fitting, Narrow, Tagged, Widening, transcode_kind, from_encoding, to_encoding, Room, StopsBy, widened, IsHonestTranscoding, IsHonestPass}
 use Rattle.fact_moves.specs.Regions.{IsIn, Region, without}
 use Rattle.fact_carry.specs.Regions.{TransferSetting, IsInHand}

@@ -3,7 +3,7 @@ use Rattle.std.proofs.Common.{◌≡◌, ℕ, ◌+◌, ◌*◌, ◌/◌, ◌%◌
 use Rattle.fact_machine.specs.World.{World}
 use Rattle.fact_moves.specs.Paths.{Path, Limit, TextForm}
 use Rattle.fact_moves.specs.Strings.{PathPoint, path_start, most_string_bytes, walk}
-use Rattle.fact_abi.specs.Texts.{unit_bytes}
+use Rattle.fact_values.specs.Texts.{unit_bytes}
 use Rattle.fact_moves.specs.Regions.{Region, without, Position}
 use Rattle.fact_carry.specs.Regions.{TransferSetting}
 use Rattle.fact_texts.proofs.Equipped.{IsEquipped}

@@ -14,8 +14,8 @@ use Rattle.fact_types.specs.declared.outside.Trap.{Trap as TrapCode}
 use Rattle.fact_types.specs.declared.outside.Trap.TheVariants.{MemoryOutOfBounds, StringOutOfBounds}
 use Rattle.fact_machine.specs.declared.types.CoreValue.{CoreValue}
 use Rattle.fact_machine.specs.declared.types.CoreValue.TheVariants.{I32, I64, F32, F64, Func}
-use Rattle.fact_abi.specs.Lift.{bits_of}
-use Rattle.fact_abi.specs.Texts.{form_of}
+use Rattle.fact_values.specs.Lift.{bits_of}
+use Rattle.fact_values.specs.Texts.{form_of}
 use Rattle.fact_moves.specs.Actions.{Action, Give, Ask, Unreachable, ◌>>◌, unless, each_from}
 use Rattle.fact_moves.specs.Adapters.{AdapterTunables, results_transfer, check_tuple, from_values, into_params, flat_results, move_params, move_results}
 use Rattle.fact_moves.specs.Moves.{entry_extent, move_fields}

@@ -16,10 +16,10 @@ use Rattle.fact_types.specs.declared.outside.Trap.TheVariants.{StringOutOfBounds
 use Rattle.fact_machine.specs.World.{World, Done, Halt, Trap, read, write, written, with_number, number_at}
 use Rattle.fact_machine.specs.declared.types.CoreValue.{CoreValue}
 use Rattle.fact_machine.specs.declared.types.CoreValue.TheVariants.{I32, I64, F32, F64, Func}
-use Rattle.fact_abi.specs.Lift.{bits_of, number_as}
-use Rattle.fact_abi.specs.Numbers.{number_in}
-use Rattle.fact_abi.specs.Places.{Pair, pointer_bytes}
-use Rattle.fact_abi.specs.Texts.{form_of}
+use Rattle.fact_values.specs.Lift.{bits_of, number_as}
+use Rattle.fact_values.specs.Numbers.{number_in}
+use Rattle.fact_values.specs.Places.{Pair, pointer_bytes}
+use Rattle.fact_values.specs.Texts.{form_of}
 use Rattle.fact_moves.specs.Actions.{Action, Give, Visit, Read, Ask, Unreachable, ◌>>=◌, unless, each_from}
 use Rattle.fact_moves.specs.Calls.{is_import_of}
 use Rattle.fact_moves.specs.Paths.{TextForm, path}

@@ -12,9 +12,9 @@ use Rattle.fact_machine.specs.declared.types.MachineState.{MachineState}
 use Rattle.fact_moves.specs.Paths.{SourceUnits}
 use Rattle.fact_moves.specs.Sides.{Transfer, address_value, wrap, first_bits}
 use Rattle.fact_machine.specs.Typing.{address_bits}
-use Rattle.fact_abi.specs.Lift.{bits_of}
+use Rattle.fact_values.specs.Lift.{bits_of}
 use Rattle.fact_moves.specs.Strings.{PathPoint, minus, amount, passed, source_args, target_args}
-use Rattle.fact_abi.specs.Texts.{unit_bytes, spelled_text, units_of_text}
+use Rattle.fact_values.specs.Texts.{unit_bytes, spelled_text, units_of_text}
 use Rattle.fact_moves.specs.Transcoders.{TranscodeKind, AllUnits, Counted, Fitting, Narrow, Tagged, Widening, transcode_kind, from_encoding, to_encoding, Room, IsHonestPass}
 use Rattle.fact_carry.specs.Honest.{IsTranscoded}
 use Rattle.fact_moves.specs.Regions.{Region, IsIn}

@@ -18,11 +18,11 @@ use Rattle.fact_machine.specs.declared.types.Answer.TheVariants.{Returns}
 use Rattle.fact_machine.specs.declared.types.CoreValue.{CoreValue}
 use Rattle.fact_machine.specs.Typing.{address_bits}
 use Rattle.fact_machine.specs.World.{World}
-use Rattle.fact_abi.specs.Lift.{bits_of}
-use Rattle.fact_abi.specs.Limits.{most_units}
-use Rattle.fact_abi.specs.Places.{Pair}
-use Rattle.fact_abi.specs.Numbers.{number_in}
-use Rattle.fact_abi.specs.Texts.{unit_bytes, AreSpelled, IsSpelled, byte_length, decoded, Form, form_of, spelled_text, text_of_form, units, units_of_text}
+use Rattle.fact_values.specs.Lift.{bits_of}
+use Rattle.fact_values.specs.Limits.{most_units}
+use Rattle.fact_values.specs.Places.{Pair}
+use Rattle.fact_values.specs.Numbers.{number_in}
+use Rattle.fact_values.specs.Texts.{unit_bytes, AreSpelled, IsSpelled, byte_length, decoded, Form, form_of, spelled_text, text_of_form, units, units_of_text}
 use Rattle.fact_moves.specs.Actions as action
 use Rattle.fact_moves.specs.Actions.{Action, Give, Read, Ask, ◌>>=◌}
 use Rattle.fact_moves.specs.Calls.{nth_number}

@@ -13,7 +13,7 @@ use Rattle.fact_machine.specs.declared.types.Answer.TheVariants.{Returns, Traps,
 use Rattle.fact_machine.specs.declared.types.CoreValue.{CoreValue}
 use Rattle.fact_machine.specs.declared.types.MachineState.{MachineState}
 use Rattle.fact_machine.specs.World.{World, Stop, Trap, Throw, Lack}
-use Rattle.fact_abi.specs.Texts.{unit_bytes, form_of, byte_length}
+use Rattle.fact_values.specs.Texts.{unit_bytes, form_of, byte_length}
 use Rattle.fact_moves.specs.Actions.{Action, ◌>>=◌}
 use Rattle.fact_moves.specs.Confined.{AreRangedCalls, IsHonestTranscoder, HaveHonestTranscoders}
 use Rattle.fact_moves.specs.Paths.{TextForm, align_of, path}

@@ -10,7 +10,7 @@ use Rattle.fact_types.specs.declared.outside.StringEncoding.{StringEncoding}
 use Rattle.fact_types.specs.declared.outside.StringEncoding.TheVariants as string
 use Rattle.fact_types.proofs.ShapeLaws.{none_some}
 use Rattle.fact_moves.specs.Paths.{TextForm, AsUtf8, AsUtf16, AsCompactLatin1, AsCompactUtf16, align_of}
-use Rattle.fact_abi.specs.Texts.{unit_bytes, spelled_text, decoded, Form, form_of, utf16_tag, has_tag, lies_aligned, text_of_form, text_at}
+use Rattle.fact_values.specs.Texts.{unit_bytes, spelled_text, decoded, Form, form_of, utf16_tag, has_tag, lies_aligned, text_of_form, text_at}
 use Rattle.fact_moves.proofs.States.{and_left, and_right}
 use Rattle.fact_moves.specs.Strings.{form_in}
 use Rattle.fact_texts.proofs.Bounds.{length_text}

@@ -3,7 +3,7 @@
 use Rattle.std.specs.Prelude.{◌≡◌, ℕ, List}
 use Rattle.fact_types.specs.declared.outside.FixedEncoding.{FixedEncoding}
 use Rattle.fact_types.specs.declared.outside.FixedEncoding.TheVariants.{Utf8, Utf16, Latin1}
-use Rattle.fact_abi.specs.Texts.{Form, AreSpelled, spelled_text}
+use Rattle.fact_values.specs.Texts.{Form, AreSpelled, spelled_text}
 use Rattle.fact_moves.specs.Paths.{TextForm, AsUtf8, AsUtf16, AsCompactLatin1, AsCompactUtf16}
 
 -- the encoding of a text in a form, and its alignment

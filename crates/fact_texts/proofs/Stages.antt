@@ -5,7 +5,7 @@ use Rattle.fact_types.specs.declared.outside.FixedEncoding.{FixedEncoding}
 use Rattle.fact_types.specs.declared.outside.FixedEncoding.TheVariants.{Utf8, Utf16, Latin1}
 use Rattle.fact_types.specs.declared.outside.StringEncoding.{StringEncoding}
 use Rattle.fact_types.specs.declared.outside.StringEncoding.TheVariants as string
-use Rattle.fact_abi.specs.Texts.{unit_bytes, AreSpelled, spelled_text, units_of_text}
+use Rattle.fact_values.specs.Texts.{unit_bytes, AreSpelled, spelled_text, units_of_text}
 use Rattle.fact_moves.specs.Transcoders.{TranscodeKind, AllUnits, Counted, Fitting, Narrow, Tagged, Widening, transcode_kind, from_encoding, to_encoding, Room, IsHonestPass}
 use Rattle.fact_moves.specs.Paths.{Amount, SourceUnits, WrittenUnits, Test, AllRead, WrittenIs, HasNoTag, KeepsUnits, Path, End, Limit, Resize, Pass, If, Tag, Assert}
 use Rattle.fact_moves.specs.Strings.{most_string_bytes}

@@ -16,7 +16,7 @@ use Rattle.fact_moves.specs.Sides.{LiftLowerOptions, address_value, type_of_addr
 use Rattle.fact_types.specs.Adapters.{is_wide}
 use Rattle.fact_machine.specs.Typing.{address_bits, address_operand}
 use Rattle.fact_types.specs.Signatures.{address as pointer_type}
-use Rattle.fact_abi.specs.Lift.{bits_of}
+use Rattle.fact_values.specs.Lift.{bits_of}
 use Rattle.fact_carry.specs.Regions.{TransferSetting, request_by}
 use Rattle.fact_moves.specs.Calls.{side_memory}
 use Rattle.fact_moves.proofs.States.{and_left, and_right}

@@ -23,19 +23,19 @@ use Rattle.fact_types.specs.declared.outside.MemoryOption.{MemoryOption}
 use Rattle.fact_types.specs.Adapters.{is_wide}
 use Rattle.fact_machine.specs.Typing.{address_bits}
 use Rattle.fact_moves.specs.Strings.{PathPoint, path_start, form_in, check_text, walk, move_string}
-use Rattle.fact_abi.specs.Texts.{unit_bytes, Form, form_of, byte_length, text_of_form, text_at}
-use Rattle.fact_abi.specs.declared.value.Value.{Value, out-Value}
-use Rattle.fact_abi.specs.declared.value.Value.TheVariants as value
-use Rattle.fact_abi.specs.Canonical.{IsCanonicalAt, IsCanonicalFlat, ThereIs, IsCanonicalByte, AreNarrow}
-use Rattle.fact_abi.specs.Carry.{take_number}
-use Rattle.fact_abi.specs.Handles.{Crossing, cross}
-use Rattle.fact_abi.specs.Lift.{lift_leading, number_as, leading_pair}
-use Rattle.fact_abi.specs.Limits.{IsFewUnits, IsTextWithin, IsWithinLimits, IsWithinAt, most_units}
-use Rattle.fact_abi.specs.Load.{load, text_value}
+use Rattle.fact_values.specs.Texts.{unit_bytes, Form, form_of, byte_length, text_of_form, text_at}
+use Rattle.fact_values.specs.declared.value.Value.{Value, out-Value}
+use Rattle.fact_values.specs.declared.value.Value.TheVariants as value
+use Rattle.fact_values.specs.Canonical.{IsCanonicalAt, IsCanonicalFlat, ThereIs, IsCanonicalByte, AreNarrow}
+use Rattle.fact_values.specs.Carry.{take_number}
+use Rattle.fact_values.specs.Handles.{Crossing, cross}
+use Rattle.fact_values.specs.Lift.{lift_leading, number_as, leading_pair}
+use Rattle.fact_values.specs.Limits.{IsFewUnits, IsTextWithin, IsWithinLimits, IsWithinAt, most_units}
+use Rattle.fact_values.specs.Load.{load, text_value}
 use Rattle.fact_types.specs.Steps.{◌>>=◌ as and_then}
-use Rattle.fact_abi.specs.Numbers.{text, number_in}
-use Rattle.fact_abi.specs.Places.{Pair, pair_at, pointer_bytes}
-use Rattle.fact_abi.specs.Weight.{weight}
+use Rattle.fact_values.specs.Numbers.{text, number_in}
+use Rattle.fact_values.specs.Places.{Pair, pair_at, pointer_bytes}
+use Rattle.fact_values.specs.Weight.{weight}
 use Rattle.fact_carry.specs.Footprints.{HasPlaced}
 use Rattle.fact_carry.specs.Items.{TextItem, chars_in, of_some, items, crossing, crossings, number_if, numbers, AreItemCalls, BeginItemCalls}
 use Rattle.fact_carry.specs.Law.{moving, IsFit, IsMoved, MayStop}

@@ -5,7 +5,7 @@ use Rattle.std.proofs.lemmas.Bool.{cases_lt}
 use Rattle.std.proofs.lemmas.List.{append-nil, take_all, drop_at}
 use Rattle.fact_types.specs.declared.outside.FixedEncoding.{FixedEncoding}
 use Rattle.fact_types.specs.declared.outside.FixedEncoding.TheVariants.{Utf8, Utf16, Latin1}
-use Rattle.fact_abi.specs.Texts.{unit_bytes, AreSpelled, char_spelling, spelled_text, units_of_text}
+use Rattle.fact_values.specs.Texts.{unit_bytes, AreSpelled, char_spelling, spelled_text, units_of_text}
 use Rattle.fact_types.specs.declared.outside.StringEncoding.{StringEncoding}
 use Rattle.fact_types.specs.declared.outside.Transcode.{Transcode}
 use Rattle.fact_moves.specs.Transcoders.{TranscodeKind, transcode_kind, from_encoding, to_encoding}

@@ -21,7 +21,7 @@ use Rattle.fact_machine.specs.declared.types.MachineState.{MachineState}
 use Rattle.fact_machine.specs.declared.types.TraceEntry.TheVariants.{Called}
 use Rattle.fact_machine.specs.World.{World, Done, Halt, Stop, Trap, Lack, read, number_at}
 use Rattle.fact_machine.specs.World as machine
-use Rattle.fact_abi.specs.Numbers.{number_in}
+use Rattle.fact_values.specs.Numbers.{number_in}
 use Rattle.fact_moves.specs.Actions as action
 use Rattle.fact_moves.specs.Actions.{Action, MemoryLength, Read, Ask, ◌>>=◌, trap, unless}
 use Rattle.fact_moves.specs.Calls.{side_memory}

@@ -12,12 +12,12 @@ use Rattle.fact_moves.specs.Moves.{move}
 use Rattle.fact_moves.specs.Paths.{TextForm, path}
 use Rattle.fact_moves.specs.Sides.{Source, Values, AtAddress, Target, wrap, write_pair}
 use Rattle.fact_moves.specs.Strings.{path_start, form_in, most_string_bytes, walk, check_text, move_string}
-use Rattle.fact_abi.specs.Texts.{byte_length, form_of, unit_bytes, text_of_form, text_at, decoded}
-use Rattle.fact_abi.specs.declared.value.Value.TheVariants as value
-use Rattle.fact_abi.specs.Lift.{lift_leading, leading_pair}
-use Rattle.fact_abi.specs.Load.{load, text_value}
+use Rattle.fact_values.specs.Texts.{byte_length, form_of, unit_bytes, text_of_form, text_at, decoded}
+use Rattle.fact_values.specs.declared.value.Value.TheVariants as value
+use Rattle.fact_values.specs.Lift.{lift_leading, leading_pair}
+use Rattle.fact_values.specs.Load.{load, text_value}
 use Rattle.fact_types.specs.Steps.{◌>>=◌ as and_then}
-use Rattle.fact_abi.specs.Places.{Pair, pair_at}
+use Rattle.fact_values.specs.Places.{Pair, pair_at}
 use Rattle.fact_carry.specs.Places.{from_side, value_at_source, IsSource, HoldsMemories, IsGrounded}
 use Rattle.fact_moves.specs.Regions.{Region}
 use Rattle.fact_carry.specs.Regions.{TransferSetting}

@@ -15,7 +15,7 @@ use Rattle.fact_moves.specs.Actions.{Action}
 use Rattle.fact_moves.specs.Paths.{align_of}
 use Rattle.fact_moves.specs.Running.{Call, Ended, Gave, Halted, Strayed, run}
 use Rattle.fact_moves.specs.Strings.{PathPoint}
-use Rattle.fact_abi.specs.Texts.{unit_bytes, decoded, text_at}
+use Rattle.fact_values.specs.Texts.{unit_bytes, decoded, text_at}
 use Rattle.fact_carry.specs.Footprints.{HasPlaced}
 use Rattle.fact_carry.specs.Honest.{IsHonestResult, IsHonestAnswer, AreHonestCalls}
 use Rattle.fact_moves.specs.Regions.{Region, IsIn, without, moved_on}

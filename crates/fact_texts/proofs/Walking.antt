@@ -18,9 +18,9 @@ use Rattle.fact_moves.specs.Actions.{Action, Give, Ask}
 use Rattle.fact_moves.specs.Paths.{Test, AllRead, WrittenIs, HasNoTag, KeepsUnits, Path, End, Limit, Resize, Pass, If, Tag, Assert, TextForm, AsUtf8, AsUtf16, AsCompactLatin1, AsCompactUtf16, align_of, path}
 use Rattle.fact_types.specs.declared.outside.MemoryOption.{MemoryOption}
 use Rattle.fact_moves.specs.Sides.{with_memory, wrap, reallocate}
-use Rattle.fact_abi.specs.Lift.{bits_of}
+use Rattle.fact_values.specs.Lift.{bits_of}
 use Rattle.fact_moves.specs.Strings.{PathPoint, holds, amount, passed, source_args, target_args, transcode, most_string_bytes, asserted, choose_action, walk}
-use Rattle.fact_abi.specs.Texts.{unit_bytes, utf16_tag, has_tag}
+use Rattle.fact_values.specs.Texts.{unit_bytes, utf16_tag, has_tag}
 use Rattle.fact_moves.specs.Running.{Call, is_answer}
 use Rattle.fact_moves.specs.Transcoders.{TranscodeKind, AllUnits, Counted, Fitting, Narrow, Tagged, Widening, transcode_kind, from_encoding, to_encoding, Room, IsHonestTranscoding, transcode_types}
 use Rattle.fact_carry.specs.Honest.{IsTranscoded}

@@ -24,7 +24,7 @@ use Rattle.fact_machine.specs.declared.types.MachineState.{MachineState}
 use Rattle.fact_machine.specs.declared.types.Answer.TheVariants.{Returns, Traps}
 use Rattle.fact_machine.specs.Exits.{first_world}
 use Rattle.fact_machine.specs.World.{Trap}
-use Rattle.fact_abi.specs.Lift.{bits_of}
+use Rattle.fact_values.specs.Lift.{bits_of}
 use Rattle.fact_moves.specs.Actions.{Action, Give, Read, Write, SetFlags, Ask, ◌>>=◌, ◌>>◌, each}
 use Rattle.fact_moves.specs.Adapters.{params_transfer}
 use Rattle.fact_moves.specs.Calls.{is_import_of}

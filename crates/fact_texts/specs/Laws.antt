@@ -11,9 +11,9 @@ use Rattle.fact_machine.specs.declared.types.CoreValue.TheVariants.{I32}
 use Rattle.fact_machine.specs.declared.types.MachineState.{MachineState}
 use Rattle.fact_machine.specs.Trace.{Grows}
 use Rattle.fact_machine.specs.World.{World, Stop}
-use Rattle.fact_abi.specs.Limits.{most_units}
-use Rattle.fact_abi.specs.Places.{Pair}
-use Rattle.fact_abi.specs.Texts.{AreSpelled, form_of, units_of_text}
+use Rattle.fact_values.specs.Limits.{most_units}
+use Rattle.fact_values.specs.Places.{Pair}
+use Rattle.fact_values.specs.Texts.{AreSpelled, form_of, units_of_text}
 use Rattle.fact_moves.specs.Actions.{trap}
 use Rattle.fact_moves.specs.Adapters.{AdapterTunables, params_transfer, results_transfer, move_params, move_results, async_start, async_return}
 use Rattle.fact_moves.specs.Calls.{HasOwnCallee}

@@ -13,12 +13,12 @@ use Rattle.fact_types.specs.declared.flats.FlatType.TheVariants.{I32}
 use Rattle.fact_types.specs.declared.interface.InterfaceType.{InterfaceType}
 use Rattle.fact_types.specs.declared.interface.InterfaceType.TheVariants as ty
 use Rattle.fact_machine.specs.declared.types.CoreValue.{CoreValue}
-use Rattle.fact_abi.specs.Handles.{members_of}
-use Rattle.fact_abi.specs.Lift.{number_as, leading_pair}
-use Rattle.fact_abi.specs.Limits.{CaseType, case_type}
-use Rattle.fact_abi.specs.Numbers.{number_in}
-use Rattle.fact_abi.specs.Places.{Pair, pair_at, case_bytes, payload_place}
-use Rattle.fact_abi.specs.Texts.{form_of}
+use Rattle.fact_values.specs.Handles.{members_of}
+use Rattle.fact_values.specs.Lift.{number_as, leading_pair}
+use Rattle.fact_values.specs.Limits.{CaseType, case_type}
+use Rattle.fact_values.specs.Numbers.{number_in}
+use Rattle.fact_values.specs.Places.{Pair, pair_at, case_bytes, payload_place}
+use Rattle.fact_values.specs.Texts.{form_of}
 use Rattle.fact_moves.specs.Moves.{entry_extent, element_flats, part, payload_part}
 use Rattle.fact_moves.specs.Requests.{RequestPart, TextPart, list_part, tuple_part}
 use Rattle.fact_moves.specs.Sides.{LiftLowerOptions, Source, Values, AtAddress, first_bits, nth_part, side_abi, options_of}

@@ -11,9 +11,9 @@ use Rattle.fact_machine.specs.declared.types.Answer.{Answer}
 use Rattle.fact_machine.specs.declared.types.CoreValue.{CoreValue}
 use Rattle.fact_machine.specs.declared.types.MachineState.{MachineState}
 use Rattle.fact_machine.specs.World.{Lack}
-use Rattle.fact_abi.specs.Limits.{most_units}
-use Rattle.fact_abi.specs.Places.{Pair}
-use Rattle.fact_abi.specs.Texts.{AreSpelled, form_of, text_at, units_of_text}
+use Rattle.fact_values.specs.Limits.{most_units}
+use Rattle.fact_values.specs.Places.{Pair}
+use Rattle.fact_values.specs.Texts.{AreSpelled, form_of, text_at, units_of_text}
 use Rattle.fact_moves.specs.Paths.{Path, End, Limit, Resize, Pass, If, Tag, Assert, TextForm, AsUtf8, AsUtf16, AsCompactLatin1, AsCompactUtf16}
 use Rattle.fact_moves.specs.Regions.{Region}
 use Rattle.fact_moves.specs.Running.{Call, Ended, Gave, Halted, Strayed}

@@ -18,7 +18,7 @@ use Rattle.fact_types.specs.Shapes.{Shape, Members, no_members, layout_of, next_
 use Rattle.fact_types.specs.Signatures.{width}
 use Rattle.fact_types.specs.Tables.{Tables, HasShape}
 use Rattle.fact_machine.specs.declared.types.CoreValue.{CoreValue}
-use Rattle.fact_abi.specs.Limits.{place_in}
+use Rattle.fact_values.specs.Limits.{place_in}
 use Rattle.fact_moves.specs.Actions.{Action}
 use Rattle.fact_moves.specs.Moves.{element_flats, entry_extent, flat_length, move, move_fields}
 use Rattle.fact_moves.specs.Running.{ImportPlaces}

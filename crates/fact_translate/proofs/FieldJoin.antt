@@ -13,7 +13,7 @@ use Rattle.fact_types.specs.FlatShapes.{flat, flat_members, AreCounted}
 use Rattle.fact_types.specs.Shapes.{Shape, Members, typed, place_of, next_of, ends_of}
 use Rattle.fact_types.specs.Signatures.{width}
 use Rattle.fact_types.proofs.PlaceLaws.{ends_grow}
-use Rattle.fact_abi.specs.Limits.{place_in}
+use Rattle.fact_values.specs.Limits.{place_in}
 use Rattle.fact_moves.specs.Actions.{Action}
 use Rattle.fact_moves.specs.Moves.{flat_length}
 use Rattle.fact_moves.specs.Running.{ImportPlaces}

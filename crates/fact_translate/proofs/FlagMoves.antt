@@ -16,7 +16,7 @@ use Rattle.fact_types.specs.Layout.{discriminant_size, discriminant_bytes, flags
 use Rattle.fact_types.specs.Ordered.{FlagsType, EnumType}
 use Rattle.fact_types.specs.Shapes.{k_flags, k_enum, Shape, s_plain, s_node, Members}
 use Rattle.fact_types.specs.Tables.{Tables, HasShape}
-use Rattle.fact_abi.specs.Places.{count_of_members, case_bytes, flags_bytes}
+use Rattle.fact_values.specs.Places.{count_of_members, case_bytes, flags_bytes}
 use Rattle.fact_moves.specs.Actions.{Visit, unless}
 use Rattle.fact_moves.specs.Moves.{move_number}
 use Rattle.fact_moves.specs.Sides.{read_number, write_number}

@@ -20,7 +20,7 @@ use Rattle.fact_types.proofs.PlaceLaws.{ends_grow, ends_within, sound_in}
 use Rattle.fact_types.proofs.ShapeLaws.{same_some, none_some}
 use Rattle.fact_wasm.specs.declared.types.ValType.{ValType}
 use Rattle.fact_wasm.specs.declared.module.WasmModule.{WasmModule}
-use Rattle.fact_abi.specs.Canonical.{ThereIs}
+use Rattle.fact_values.specs.Canonical.{ThereIs}
 use Rattle.fact_moves.specs.Moves.{move_fields}
 use Rattle.fact_moves.specs.Running.{ImportPlaces}
 use Rattle.fact_moves.specs.Sides.{LiftLowerOptions}

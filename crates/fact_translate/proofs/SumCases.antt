@@ -13,9 +13,9 @@ use Rattle.fact_types.specs.Heights.{height}
 use Rattle.fact_types.specs.Tables.{Tables, Node, node_of, IsLive, IsLiveMember, HasShape, HasMembers, IsSound, abi_at}
 use Rattle.fact_types.proofs.HeightLaws.{member_within}
 use Rattle.fact_types.proofs.ShapeLaws.{layouts_are, same_some, none_some}
-use Rattle.fact_abi.specs.Canonical.{ThereIs}
-use Rattle.fact_abi.specs.Limits.{CaseType, case_type}
-use Rattle.fact_abi.specs.Places.{count_of_members, case_bytes}
+use Rattle.fact_values.specs.Canonical.{ThereIs}
+use Rattle.fact_values.specs.Limits.{CaseType, case_type}
+use Rattle.fact_values.specs.Places.{count_of_members, case_bytes}
 use Rattle.fact_moves.specs.Actions.{Action, Give, ◌>>=◌}
 use Rattle.fact_moves.specs.Actions as action
 use Rattle.fact_moves.specs.Moves.{padded, write_case, move, move_case}

@@ -20,8 +20,8 @@ use Rattle.fact_types.specs.Shapes.{k_variant, k_option, k_result, Shape, s_plai
 use Rattle.fact_types.specs.Signatures.{width}
 use Rattle.fact_types.specs.Tables.{Tables, HasShape, IsSound}
 use Rattle.fact_types.proofs.ShapeLaws.{same_some, none_some}
-use Rattle.fact_abi.specs.Limits.{CaseType, case_type}
-use Rattle.fact_abi.specs.Places.{count_of_members, case_bytes}
+use Rattle.fact_values.specs.Limits.{CaseType, case_type}
+use Rattle.fact_values.specs.Places.{count_of_members, case_bytes}
 use Rattle.fact_moves.specs.Actions.{Give, ◌>>=◌}
 use Rattle.fact_moves.specs.Moves.{padded, write_case, move}
 use Rattle.fact_moves.specs.Running.{ImportPlaces}

@@ -15,8 +15,8 @@ use Rattle.fact_types.specs.Layout.{extents, payloads, payload_offset, variant_i
 use Rattle.fact_types.specs.Shapes.{k_variant, Shape, s_node, Members, no_members, bare, typed, layouts_of}
 use Rattle.fact_types.specs.Signatures.{width}
 use Rattle.fact_types.proofs.ShapeLaws.{none_some}
-use Rattle.fact_abi.specs.Limits.{CaseType, case_type}
-use Rattle.fact_abi.specs.Places.{count_of_members, case_bytes, payload_place}
+use Rattle.fact_values.specs.Limits.{CaseType, case_type}
+use Rattle.fact_values.specs.Places.{count_of_members, case_bytes, payload_place}
 use Rattle.fact_moves.specs.Actions.{Give, ◌>>=◌}
 use Rattle.fact_moves.specs.Moves.{flat_length, padded, move, move_case, payload_part, payload_spot, write_case}
 use Rattle.fact_moves.specs.Running.{ImportPlaces}

@@ -18,8 +18,8 @@ use Rattle.fact_types.proofs.FieldLaws.{greatest_align_pos}
 use Rattle.fact_types.proofs.JoinLaws.{joined_swaps}
 use Rattle.fact_types.proofs.ShapeLaws.{same_some, none_some}
 use Rattle.fact_machine.specs.Typing.{is_number}
-use Rattle.fact_abi.specs.Limits.{CaseType, case_type}
-use Rattle.fact_abi.specs.Places.{case_bytes, payload_place}
+use Rattle.fact_values.specs.Limits.{CaseType, case_type}
+use Rattle.fact_values.specs.Places.{case_bytes, payload_place}
 use Rattle.fact_moves.specs.Moves.{flat_length}
 use Rattle.fact_moves.specs.Running.{ImportPlaces}
 use Rattle.fact_moves.specs.Sides.{LiftLowerOptions, side_abi, width_of_side}

@@ -24,7 +24,7 @@ use Rattle.fact_types.specs.Ordered.{FlagsType, EnumType}
 use Rattle.fact_types.specs.Shapes.{Kind, k_record, k_variant, k_list, k_tuple, k_map, k_flags, k_enum, k_option, k_result, k_fixed, k_future, k_stream, Shape, s_plain, s_node, Members, no_members, bare, typed}
 use Rattle.fact_types.specs.Tables.{Tables, Node, node_of, record_node, variant_node, list_node, tuple_node, map_node, flags_node, enum_node, option_node, result_node, future_node, stream_node, fixed_length_list_node, placed, is_plain, HasShape, HasMembers}
 use Rattle.fact_types.proofs.ShapeLaws.{same_some, none_some}
-use Rattle.fact_abi.specs.Places.{count_of_members}
+use Rattle.fact_values.specs.Places.{count_of_members}
 
 -- the kind of the shapes of a type with members
 abbrev KindIs : InterfaceType → Kind → Type 0

@@ -10,9 +10,9 @@ use Rattle.fact_types.specs.Fields.{field_of}
 use Rattle.fact_types.specs.Layout.{payloads, record_layout}
 use Rattle.fact_types.specs.Shapes.{Kind, k_record, k_variant, k_list, k_tuple, k_map, k_flags, k_enum, k_fixed, k_option, k_result, k_future, k_stream, Shape, s_plain, s_node, Members, no_members, bare, typed, layouts_of}
 use Rattle.fact_types.specs.Sound.{TakesBytes}
-use Rattle.fact_abi.specs.Canonical.{ThereIs}
-use Rattle.fact_abi.specs.Limits.{CaseType, case_type}
-use Rattle.fact_abi.specs.Places.{count_of_members}
+use Rattle.fact_values.specs.Canonical.{ThereIs}
+use Rattle.fact_values.specs.Limits.{CaseType, case_type}
+use Rattle.fact_values.specs.Places.{count_of_members}
 use Rattle.fact_emit.specs.Scalars.{is_scalar}
 
 -- handles of one kind that are plain

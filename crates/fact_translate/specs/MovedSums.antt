@@ -12,7 +12,7 @@ use Rattle.fact_types.specs.Layout.{variant_info}
 use Rattle.fact_types.specs.Shapes.{Kind, k_variant, Shape, s_node, Members, layouts_of}
 use Rattle.fact_types.specs.Signatures.{width}
 use Rattle.fact_types.specs.Tables.{Tables, IsLiveMember, HasShape, HasMembers}
-use Rattle.fact_abi.specs.Limits.{CaseType, case_type}
+use Rattle.fact_values.specs.Limits.{CaseType, case_type}
 use Rattle.fact_moves.specs.Moves.{move_case}
 use Rattle.fact_moves.specs.Running.{ImportPlaces}
 use Rattle.fact_moves.specs.Sides.{LiftLowerOptions}

@@ -4,7 +4,7 @@ use Rattle.std.specs.List.{AllByRecursion}
 use Rattle.fact_types.specs.Shapes.{k_record, k_tuple, k_variant, k_enum, k_option, k_result, k_flags, k_future, k_stream}
 use Rattle.fact_abi.specs.declared.nodes.NodeKind.TheVariants as is
 use Rattle.fact_abi.specs.Finding.{IsTaken}
-use Rattle.fact_abi.specs.IsA.{IsA}
+use Rattle.fact_values.specs.IsA.{IsA}
 use Rattle.fact_abi.specs.Nodes.{IsNodeOf, AreOf}
 use Rattle.fact_abi.proofs.BelongLaws.{is_so, is_not, yes_says, no_says, by_same, item_at, place_within, length_mapped, other_way, few_taken, matching_starts, matching_taken, matching_fails, all_matched, all_past, not_all, all_passed, bare_case_has, typed_case_has, case_form, map_form, case_found, case_missing, many_payloads, payload_belongs, plain_belongs, node_belongs, list_belongs, fixed_list_belongs, map_belongs}
 use Rattle.fact_abi.proofs.KindLaws.{if_ok}

@@ -5,7 +5,7 @@ use Rattle.fact_types.specs.Heights.{height}
 use Rattle.fact_types.specs.Shapes.{Shape, Members}
 use Rattle.fact_types.specs.Tables.{HasShape}
 use Rattle.fact_abi.specs.Finding.{Matching}
-use Rattle.fact_abi.specs.IsA.{IsA}
+use Rattle.fact_values.specs.IsA.{IsA}
 use Rattle.fact_abi.specs.Nodes.{AreOf}
 use Rattle.fact_abi.proofs.belonging.+belonging.Given as goal
 

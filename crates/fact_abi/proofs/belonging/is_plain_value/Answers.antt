@@ -1,8 +1,8 @@
 use Rattle.std.proofs.Common.{◌↔◌, sym, subst, refl}
 use Rattle.std.specs.Prelude.{IsTrue}
-use Rattle.fact_abi.specs.declared.value.Value.{out-Value}
-use Rattle.fact_abi.specs.IsA.{IsPlainValue}
-use Rattle.fact_abi.specs.Numbers.{plain_of}
+use Rattle.fact_values.specs.declared.value.Value.{out-Value}
+use Rattle.fact_values.specs.IsA.{IsPlainValue}
+use Rattle.fact_values.specs.Numbers.{plain_of}
 use Rattle.fact_abi.proofs.belonging.is_plain_value.Goals as goal
 
 pub returns-in-S8 : goal.returns-in-S8

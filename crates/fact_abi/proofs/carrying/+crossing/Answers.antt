@@ -4,11 +4,11 @@ use Rattle.std.specs.List.{zip}
 use Rattle.std.specs.Option.{option_copied}
 use Rattle.fact_types.specs.Agrees.{named}
 use Rattle.fact_types.specs.Shapes.{typed}
-use Rattle.fact_abi.specs.declared.value.Value.TheVariants as value
-use Rattle.fact_abi.specs.Carry.{take_number}
+use Rattle.fact_values.specs.declared.value.Value.TheVariants as value
+use Rattle.fact_values.specs.Carry.{take_number}
 use Rattle.fact_abi.specs.CrossingWalks.{StepGives, NamingGives, Placing, PlacingGives, PayloadGives, entry_crossed}
 use Rattle.fact_abi.specs.Finding.{member_type_at}
-use Rattle.fact_abi.specs.Handles.{each_step, cross, cross_fields, cross_places, cross_case}
+use Rattle.fact_values.specs.Handles.{each_step, cross, cross_fields, cross_places, cross_case}
 use Rattle.fact_abi.specs.Nodes.{IsNodeOf}
 use Rattle.fact_abi.proofs.BelongLaws.{item_at, place_within, case_found, index_nowhere}
 use Rattle.fact_abi.proofs.KindLaws.{if_ok}

@@ -3,9 +3,9 @@ use Rattle.fact_types.specs.Agrees.{Agrees, AgreesFields, AgreesPlaces, names_of
 use Rattle.fact_types.specs.Heights.{height}
 use Rattle.fact_types.specs.Shapes.{Shape, Members, typed}
 use Rattle.fact_types.specs.Tables.{HasShape}
-use Rattle.fact_abi.specs.Carry.{take_number}
+use Rattle.fact_values.specs.Carry.{take_number}
 use Rattle.fact_abi.specs.CrossingWalks.{Naming, Placing, Listing, entry_crossed}
-use Rattle.fact_abi.specs.Handles.{cross}
+use Rattle.fact_values.specs.Handles.{cross}
 use Rattle.fact_abi.specs.Nodes.{AreOf}
 use Rattle.fact_abi.proofs.carrying.+crossing.Given as goal
 

@@ -1,7 +1,7 @@
 use Rattle.std.proofs.Common.{subst}
-use Rattle.fact_abi.specs.Carry.{take_number}
+use Rattle.fact_values.specs.Carry.{take_number}
 use Rattle.fact_abi.specs.CrossingWalks.{StepGives}
-use Rattle.fact_abi.specs.Handles.{cross}
+use Rattle.fact_values.specs.Handles.{cross}
 use Rattle.fact_abi.proofs.BelongLaws.{yes_says, no_says}
 use Rattle.fact_abi.proofs.KindLaws.{if_ok}
 use Rattle.fact_abi.proofs.WalkLaws.{carried_gives, not_a_value, not_agreed}

@@ -1,5 +1,5 @@
 use Rattle.std.proofs.Common.{◌∙◌, ap, sym, None, Some}
-use Rattle.fact_abi.specs.Handles.{flags_named}
+use Rattle.fact_values.specs.Handles.{flags_named}
 use Rattle.fact_abi.proofs.WalkLaws.{flags_gives}
 use Rattle.fact_abi.proofs.carrying.cross_flags.Goals as goal
 

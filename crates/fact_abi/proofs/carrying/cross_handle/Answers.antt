@@ -1,8 +1,8 @@
 use Rattle.std.proofs.Common.{subst, sym}
 use Rattle.std.proofs.lemmas.Bool.{MatchBool-at_true, MatchBool-at_false}
-use Rattle.fact_abi.specs.Carry.{take_number}
+use Rattle.fact_values.specs.Carry.{take_number}
 use Rattle.fact_abi.specs.CrossingWalks.{StepGives}
-use Rattle.fact_abi.specs.Handles.{cross_handle}
+use Rattle.fact_values.specs.Handles.{cross_handle}
 use Rattle.fact_abi.proofs.WalkLaws.{no_handle_there, handle_gives}
 use Rattle.fact_abi.proofs.carrying.cross_handle.Goals as goal
 

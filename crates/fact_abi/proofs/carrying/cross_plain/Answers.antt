@@ -1,9 +1,9 @@
 use Rattle.std.proofs.Common.{◌∙◌, ap, subst, sym, Some}
-use Rattle.fact_abi.specs.declared.value.HandleKind.TheVariants.{Own, Borrow, ErrorContext}
-use Rattle.fact_abi.specs.Carry.{take_number}
+use Rattle.fact_values.specs.declared.value.HandleKind.TheVariants.{Own, Borrow, ErrorContext}
+use Rattle.fact_values.specs.Carry.{take_number}
 use Rattle.fact_abi.specs.CrossingWalks.{StepGives}
-use Rattle.fact_abi.specs.Handles.{cross_handle, cross_plain}
-use Rattle.fact_abi.specs.Numbers.{plain_of}
+use Rattle.fact_values.specs.Handles.{cross_handle, cross_plain}
+use Rattle.fact_values.specs.Numbers.{plain_of}
 use Rattle.fact_abi.proofs.NodeWalkLaws.{stays}
 use Rattle.fact_abi.proofs.carrying.cross_plain.Goals as goal
 

@@ -1,5 +1,5 @@
 use Rattle.std.proofs.Common.{◌≡◌, drop}
-use Rattle.fact_abi.specs.Handles.{flag_named}
+use Rattle.fact_values.specs.Handles.{flag_named}
 use Rattle.fact_abi.proofs.carrying.flag_of_name.Given as goal
 
 abbrev pub invariant-loop-flag : goal.invariant-loop-flag

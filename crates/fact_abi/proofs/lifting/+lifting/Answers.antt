@@ -7,12 +7,12 @@ use Rattle.fact_types.specs.declared.flats.FlatType.TheVariants.{I32}
 use Rattle.fact_types.specs.Signatures.{width}
 use Rattle.fact_types.specs.Tables.{HasShape}
 use Rattle.fact_abi.specs.declared.nodes.NodeKind.TheVariants as is
-use Rattle.fact_abi.specs.declared.value.Value.TheVariants as value
-use Rattle.fact_abi.specs.Formed.{IsFormed}
+use Rattle.fact_values.specs.declared.value.Value.TheVariants as value
+use Rattle.fact_values.specs.Formed.{IsFormed}
 use Rattle.fact_abi.specs.Leading.{can_lead, leading, Lifted, LiftedEach}
-use Rattle.fact_abi.specs.Lift.{lift_leading, lift_variant, lift_case}
+use Rattle.fact_values.specs.Lift.{lift_leading, lift_variant, lift_case}
 use Rattle.fact_abi.specs.Nodes.{IsNodeOf, AreOf}
-use Rattle.fact_abi.proofs.FormedLaws.{formed}
+use Rattle.fact_values.proofs.FormedLaws.{formed}
 use Rattle.fact_abi.proofs.KindLaws.{if_ok}
 use Rattle.fact_abi.proofs.LeadingLaws.{from_place, split_first, still_within, bare_any}
 use Rattle.fact_abi.proofs.LiftingLaws.{lifted_starts, lifted_past, lifted_on, not_lifted, member_leads, all_lifted, each_starts, each_on, not_each, element_leads, all_each, plain_lifts, record_lifts, no_record, tuple_lifts, variant_lifts, flags_lift, future_lifts, stream_lifts, fixed_list_lifts, no_case, no_case_name, bare_case_lifts, typed_case_lifts, payload_leads}

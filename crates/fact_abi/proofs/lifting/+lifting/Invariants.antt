@@ -6,7 +6,7 @@ use Rattle.fact_types.specs.Shapes.{Shape, Members}
 use Rattle.fact_types.specs.Signatures.{width}
 use Rattle.fact_types.specs.Tables.{HasShape}
 use Rattle.fact_abi.specs.Leading.{can_lead, Lifted, LiftedEach}
-use Rattle.fact_abi.specs.Lift.{lift_leading}
+use Rattle.fact_values.specs.Lift.{lift_leading}
 use Rattle.fact_abi.specs.Nodes.{AreOf}
 use Rattle.fact_abi.proofs.lifting.+lifting.Given as goal
 

@@ -2,14 +2,14 @@ use Rattle.std.proofs.Common.{◌≡◌, ◌∙◌, ◌+◌, ◌*◌, ap, sym, s
 use Rattle.std.specs.Prelude.{option_map}
 use Rattle.fact_types.specs.Tables.{HasShape}
 use Rattle.fact_abi.specs.declared.nodes.NodeKind.TheVariants as is
-use Rattle.fact_abi.specs.declared.value.Value.TheVariants as value
+use Rattle.fact_values.specs.declared.value.Value.TheVariants as value
 use Rattle.fact_types.specs.Signatures.{width}
 use Rattle.fact_abi.specs.Nodes.{IsNodeOf, AreOf, AreLower}
-use Rattle.fact_abi.specs.Load.{load, load_members, entry_of}
+use Rattle.fact_values.specs.Load.{load, load_members, entry_of}
 use Rattle.fact_abi.proofs.MapLaws.{map_loads, map_stands, no_map_range, no_map_pair, flags_load, entries_room, entries_end, entry_read, no_entry_read}
 use Rattle.fact_abi.specs.Loading.{Loading}
 use Rattle.fact_abi.specs.Rooms.{RoomForPayload, RoomForMembers}
-use Rattle.fact_abi.specs.Places.{each_at}
+use Rattle.fact_values.specs.Places.{each_at}
 use Rattle.fact_types.specs.Agrees.{names_of}
 use Rattle.std.proofs.Common.{None}
 use Rattle.std.specs.Prelude.{true, false}
@@ -20,9 +20,9 @@ use Rattle.std.proofs.Common.{length}
 use Rattle.fact_types.specs.Layout.{discriminant_size, discriminant_bytes}
 use Rattle.fact_types.specs.Shapes.{k_variant, k_option, k_result}
 use Rattle.fact_types.specs.Steps.{◌>>=◌}
-use Rattle.fact_abi.specs.Formed.{IsFormed}
+use Rattle.fact_values.specs.Formed.{IsFormed}
 use Rattle.fact_abi.specs.Loading.{Repeating}
-use Rattle.fact_abi.proofs.FormedLaws.{formed}
+use Rattle.fact_values.proofs.FormedLaws.{formed}
 use Rattle.fact_abi.proofs.LoadLaws.{of_kind}
 use Rattle.fact_abi.proofs.PartLaws.{count_told, no_case, no_case_name, bare_case_loads, typed_case_loads, repeating_starts, repeating_on, not_repeated, all_repeated, no_pair, list_loads, list_stands, no_range, fixed_list_loads, range_small, future_loads, stream_loads, variant_loads, cases_room, no_payloads, no_number, number_loads, place_told, range_told, fixed_room, element_fits, next_element, element_room, typed_case, bare_case}
 use Rattle.fact_abi.proofs.loading.+loading.Goals as goal

@@ -3,7 +3,7 @@ use Rattle.fact_types.specs.Heights.{height}
 use Rattle.fact_types.specs.Shapes.{Shape, Members}
 use Rattle.fact_types.specs.Steps.{◌>>=◌}
 use Rattle.fact_types.specs.Tables.{HasShape}
-use Rattle.fact_abi.specs.Load.{load, load_members, entry_of}
+use Rattle.fact_values.specs.Load.{load, load_members, entry_of}
 use Rattle.fact_abi.specs.Loading.{Loading, Repeating}
 use Rattle.fact_abi.specs.Nodes.{AreOf}
 use Rattle.fact_abi.proofs.loading.+loading.Given as goal

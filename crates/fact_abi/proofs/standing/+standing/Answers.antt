@@ -6,10 +6,10 @@ use Rattle.fact_types.specs.Layout.{flags_size, flags_flat}
 use Rattle.fact_types.specs.declared.flats.FlatType.TheVariants.{I32}
 use Rattle.fact_types.specs.Signatures.{width}
 use Rattle.fact_abi.specs.declared.nodes.NodeKind.TheVariants as is
-use Rattle.fact_abi.specs.Formed.{IsFormed}
+use Rattle.fact_values.specs.Formed.{IsFormed}
 use Rattle.fact_abi.specs.Leading.{leading, Adding, IsWidening}
 use Rattle.fact_abi.specs.Nodes.{IsNodeOf, AreOf, AreLower}
-use Rattle.fact_abi.proofs.FormedLaws.{formed}
+use Rattle.fact_values.proofs.FormedLaws.{formed}
 use Rattle.fact_abi.proofs.KindLaws.{if_ok}
 use Rattle.fact_abi.proofs.LeadingLaws.{at_some, from_place, split_first, still_within, adding_starts, adding_past, adding_on, not_added, all_added, widening_starts, widening_past, widening_on, not_widened, all_widened, counting_starts, counting_on, not_counted, all_counted, discriminant_leads, no_discriminant, plain_leads, enum_leads, flags_lead, fixed_list_leads}
 use Rattle.fact_abi.proofs.LoadLaws.{by_kind, of_kind, member_within}

@@ -1,14 +1,21 @@
-use Rattle.std.proofs.Common.{◌∙◌, ap, sym, get_or, length, arith}
+use Rattle.std.proofs.Common.{◌≡◌, ◌∙◌, ap, sym, subst, get_or, length, arith}
 use Rattle.std.specs.Prelude.{slice_get}
 use Rattle.std.proofs.lemmas.Option.{slice_get-get_or, slice_get_within}
 use Rattle.std.proofs.lemmas.Result.{on_ok_weaker}
+use Rattle.fact_types.specs.Heights.{height}
+use Rattle.fact_types.specs.Tables.{IsLive, Tables}
+use Rattle.fact_types.specs.declared.interface.InterfaceType.{InterfaceType}
 use Rattle.fact_types.specs.declared.kinds.TypeFixedLengthList.{TypeFixedLengthList}
 use Rattle.fact_types.proofs.ShapeLaws.{same_some}
 use Rattle.fact_types.proofs.HeightLaws.{fixed_length_list_within, list_within, map_key_within, map_value_within}
+use Rattle.fact_pieces.specs.Places.{From, To}
+use Rattle.fact_emit.specs.declared.places.Sides.{Sides}
+use Rattle.fact_emit.specs.declared.writer.Writer.{Writer}
 use Rattle.fact_emit.proofs.Emitting.{grew_on}
 use Rattle.fact_emit.proofs.RangedCode.{unreachable_ranged}
 use Rattle.fact_emit.proofs.SidesImported.{sides_later, sides_same}
 use Rattle.fact_translate.specs.MemberPairs.{members_at}
+use Rattle.fact_translate.specs.Moved.{MovedNode}
 use Rattle.fact_translate.proofs.ElementRuns.{element_passed, elements_begin, elements_end}
 use Rattle.fact_translate.proofs.FixedMembers.{fixed_alone, fixed_locals_taken, fixed_moved, loop_at, loop_moved}
 use Rattle.fact_translate.proofs.ListMembers.{list_moved, list_alone, locals_taken}
@@ -24,6 +31,10 @@ use Rattle.fact_translate.proofs.StringMoves.{string_alone, string_moved}
 use Rattle.fact_translate.proofs.TypeKinds.{list_members, map_members}
 use Rattle.fact_translate.proofs.products.+moving.Goals as goal
 
+-- a node by what its two types are
+kinds_moved : {t : Tables} {from to kind kind' : InterfaceType} {sides : Sides} {src : From} {dst : To} {first last : Writer} → from ≡ kind → to ≡ kind' → MovedNode t kind kind' sides src dst first last → MovedNode t from to sides src dst first last
+kinds_moved {t} {from} {to} {kind} {kind'} {sides} {src} {dst} {first} {last} is is' m = subst (λ x. MovedNode t x to sides src dst first last) (sym is) (subst (λ y. MovedNode t kind y sides src dst first last) (sym is') m)
+
 -- ---- values
 
 pub translate-move_node-requires : goal.translate-move_node-requires
@@ -37,6 +48,51 @@ translate-returns-in_ok-move_handle-in-Some t c = value_moved c.in_ok-check_plac
 
 pub translate-returns-in_ok-move_node-in-None : goal.translate-returns-in_ok-move_node-in-None
 translate-returns-in_ok-move_node-in-None t c = value_moved c.in_ok-check_places.ensures c.in_ok-move_node-in-None.ensures
+
+pub move_node-move_record-requires : goal.move_node-move_record-requires
+move_node-move_record-requires t c = (omega (arith, c.decreases, ap (height c.args.types.now) c.in-Record-to.is), (subst (IsLive c.args.types.now) c.in-Record.is c.requires.from_live, (subst (IsLive c.args.types.now) c.in-Record-to.is c.requires.to_live, c.requires.sides)))
+
+pub move_node-returns-in_ok-move_record-in-Record-to : goal.move_node-returns-in_ok-move_record-in-Record-to
+move_node-returns-in_ok-move_record-in-Record-to t c = kinds_moved c.in-Record.is c.in-Record-to.is c.in_ok-move_record-in-Record-to.ensures
+
+pub move_node-move_variant-requires : goal.move_node-move_variant-requires
+move_node-move_variant-requires t c = (omega (arith, c.decreases, ap (height c.args.types.now) c.in-Variant-to.is), (subst (IsLive c.args.types.now) c.in-Variant.is c.requires.from_live, (subst (IsLive c.args.types.now) c.in-Variant-to.is c.requires.to_live, c.requires.sides)))
+
+pub move_node-returns-in_ok-move_variant-in-Variant-to : goal.move_node-returns-in_ok-move_variant-in-Variant-to
+move_node-returns-in_ok-move_variant-in-Variant-to t c = kinds_moved c.in-Variant.is c.in-Variant-to.is c.in_ok-move_variant-in-Variant-to.ensures
+
+pub move_node-move_option-requires : goal.move_node-move_option-requires
+move_node-move_option-requires t c = (omega (arith, c.decreases, ap (height c.args.types.now) c.in-Option-to.is), (subst (IsLive c.args.types.now) c.in-Option.is c.requires.from_live, (subst (IsLive c.args.types.now) c.in-Option-to.is c.requires.to_live, c.requires.sides)))
+
+pub move_node-returns-in_ok-move_option-in-Option-to : goal.move_node-returns-in_ok-move_option-in-Option-to
+move_node-returns-in_ok-move_option-in-Option-to t c = kinds_moved c.in-Option.is c.in-Option-to.is c.in_ok-move_option-in-Option-to.ensures
+
+pub move_node-move_result-requires : goal.move_node-move_result-requires
+move_node-move_result-requires t c = (omega (arith, c.decreases, ap (height c.args.types.now) c.in-Result-to.is), (subst (IsLive c.args.types.now) c.in-Result.is c.requires.from_live, (subst (IsLive c.args.types.now) c.in-Result-to.is c.requires.to_live, c.requires.sides)))
+
+pub move_node-returns-in_ok-move_result-in-Result-to : goal.move_node-returns-in_ok-move_result-in-Result-to
+move_node-returns-in_ok-move_result-in-Result-to t c = kinds_moved c.in-Result.is c.in-Result-to.is c.in_ok-move_result-in-Result-to.ensures
+
+pub move_node-move_list-requires : goal.move_node-move_list-requires
+move_node-move_list-requires t c = (omega (arith, c.decreases, ap (height c.args.types.now) c.in-List-to.is), (subst (IsLive c.args.types.now) c.in-List.is c.requires.from_live, (subst (IsLive c.args.types.now) c.in-List-to.is c.requires.to_live, c.requires.sides)))
+
+pub move_node-returns-in_ok-move_list-in-List-to : goal.move_node-returns-in_ok-move_list-in-List-to
+move_node-returns-in_ok-move_list-in-List-to t c = kinds_moved c.in-List.is c.in-List-to.is c.in_ok-move_list-in-List-to.ensures
+
+pub move_node-move_map-requires : goal.move_node-move_map-requires
+move_node-move_map-requires t c = (omega (arith, c.decreases, ap (height c.args.types.now) c.in-Map-to.is), (subst (IsLive c.args.types.now) c.in-Map.is c.requires.from_live, (subst (IsLive c.args.types.now) c.in-Map-to.is c.requires.to_live, c.requires.sides)))
+
+pub move_node-returns-in_ok-move_map-in-Map-to : goal.move_node-returns-in_ok-move_map-in-Map-to
+move_node-returns-in_ok-move_map-in-Map-to t c = kinds_moved c.in-Map.is c.in-Map-to.is c.in_ok-move_map-in-Map-to.ensures
+
+pub move_node-move_fixed_list-requires : goal.move_node-move_fixed_list-requires
+move_node-move_fixed_list-requires t c = (omega (arith, c.decreases, ap (height c.args.types.now) c.in-FixedLengthList-to.is), (subst (IsLive c.args.types.now) c.in-FixedLengthList.is c.requires.from_live, (subst (IsLive c.args.types.now) c.in-FixedLengthList-to.is c.requires.to_live, c.requires.sides)))
+
+pub move_node-returns-in_ok-move_fixed_list-in-FixedLengthList-to : goal.move_node-returns-in_ok-move_fixed_list-in-FixedLengthList-to
+move_node-returns-in_ok-move_fixed_list-in-FixedLengthList-to t c = kinds_moved c.in-FixedLengthList.is c.in-FixedLengthList-to.is c.in_ok-move_fixed_list-in-FixedLengthList-to.ensures
+
+pub move_node-move_tuple-requires : goal.move_node-move_tuple-requires
+move_node-move_tuple-requires t c = (omega (arith, c.decreases, ap (height c.args.types.now) c.in-Tuple-to.is), (subst (IsLive c.args.types.now) c.in-Tuple.is c.requires.from_live, (subst (IsLive c.args.types.now) c.in-Tuple-to.is c.requires.to_live, c.requires.sides)))
 
 pub move_node-returns-in_ok-put-in_default-to : goal.move_node-returns-in_ok-put-in_default-to
 move_node-returns-in_ok-put-in_default-to t c =
@@ -155,6 +211,9 @@ move_option-returns t c = option_moved c.args.from c.args.to c.in_ok-move_sum.en
 
 pub move_result-returns : goal.move_result-returns
 move_result-returns t c = result_moved c.args.from c.args.to c.in_ok-move_sum.ensures
+
+pub move_sum-free_local-requires : goal.move_sum-free_local-requires
+move_sum-free_local-requires t c = c.in_ok-move_sum_by.ensures.grew.still c.in_ok-local.local ∙ c.in_ok-local.ensures.taken
 
 pub move_sum-returns : goal.move_sum-returns
 move_sum-returns t c = sum_around c.in_ok-local.ensures c.in_ok-move_sum_by.ensures c.in_ok-free_local.ensures

@@ -1,5 +1,23 @@
+use Rattle.std.proofs.Common.{refl, codes}
+use Rattle.fact_wasm.specs.declared.module.ImportType.TheVariants as import_type
+use Rattle.fact_emit.specs.States.{import_as}
 use Rattle.fact_emit.proofs.ImportLaws.{extended_on}
 use Rattle.fact_emit.proofs.state.ModuleSections.callee.Goals as goal
 
 pub returns-clause-keeps : goal.returns-clause-keeps
 returns-clause-keeps c = extended_on c.function.ensures.keeps c.core_def.ensures.keeps
+
+pub returns-clause-once : goal.returns-clause-once
+returns-clause-once c = λ o. c.core_def.ensures.once (c.function.ensures.once o)
+
+pub returns-clause-imported : goal.returns-clause-imported
+returns-clause-imported c =
+    let place = rw (c.as_slice.ensures, c.as_slice-2.ensures) at c.in_ok-ty.ensures.place in
+    let has = rw (c.as_slice.ensures, c.as_slice-2.ensures) at c.in_ok-ty.ensures.types in
+    record {
+      typed = c.function.new.self;
+      types = has;
+      import = import_as (codes "callee") c.args.adapter.now (import_type.Func c.in_ok-ty.ty);
+      stands = record { is_from = refl; is_named = refl; is_typed = place };
+      imported = c.in_ok-place.ensures.imported;
+    }

@@ -13,3 +13,6 @@ returns-clause-imported c =
 
 pub returns-clause-keeps : goal.returns-clause-keeps
 returns-clause-keeps c = extended_on c.prepare_type.ensures.keeps c.import.ensures.keeps
+
+pub returns-clause-once : goal.returns-clause-once
+returns-clause-once c = λ o. c.import.ensures.once (c.prepare_type.ensures.once o)

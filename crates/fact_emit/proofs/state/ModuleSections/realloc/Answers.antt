@@ -4,6 +4,7 @@ use Rattle.fact_wasm.specs.CoreTypes.{signature}
 use Rattle.fact_wasm.specs.declared.types.ValType.{ValType}
 use Rattle.fact_wasm.specs.declared.module.ImportType.TheVariants as import_type
 use Rattle.fact_emit.specs.States.{HasType, import_as}
+use Rattle.fact_emit.proofs.ImportLaws.{extended_on}
 use Rattle.fact_emit.proofs.state.ModuleSections.realloc.Goals as goal
 
 pub returns-clause-imported : goal.returns-clause-imported
@@ -18,3 +19,6 @@ returns-clause-imported c = record {
   };
   imported = c.in_ok-place.ensures.imported;
 }
+
+pub returns-clause-keeps : goal.returns-clause-keeps
+returns-clause-keeps c = extended_on c.function.ensures.keeps c.core_def.ensures.keeps

@@ -13,3 +13,6 @@ returns-clause-imported c =
 
 pub returns-clause-keeps : goal.returns-clause-keeps
 returns-clause-keeps c = extended_on c.function.ensures.keeps c.import.ensures.keeps
+
+pub returns-clause-once : goal.returns-clause-once
+returns-clause-once c = λ o. c.import.ensures.once (c.function.ensures.once o)

@@ -1,4 +1,5 @@
 use Rattle.std.proofs.Common.{◌∙◌}
+use Rattle.fact_emit.proofs.ImportLaws.{extended_on}
 use Rattle.fact_emit.proofs.StateLaws.{has_transcoder}
 use Rattle.fact_emit.proofs.TaskItems.{transcoder-imported, transcoder-may}
 use Rattle.fact_emit.proofs.state.ModuleSections.transcoder.Goals as goal
@@ -14,3 +15,6 @@ returns-clause-imported c =
 
 pub returns-clause-place : goal.returns-clause-place
 returns-clause-place c = has_transcoder c.args.transcoder c.in_ok-item.item c.in_ok-place.place c.in_ok-item.ensures c.in_ok-place.ensures.keeps c.in_ok-place.ensures.typed
+
+pub returns-clause-keeps : goal.returns-clause-keeps
+returns-clause-keeps c = extended_on c.transcoder_type.ensures.keeps c.import.ensures.keeps

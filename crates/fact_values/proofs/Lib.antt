@@ -1,0 +1,12 @@
+pub mod CarriedLaws
+pub mod CarryLaws
+pub mod CrossLaws
+pub mod FlagLaws
+pub mod FormedLaws
+pub mod IsALaws
+pub mod LiftLaws
+pub mod MemberLaws
+pub mod NumberLaws
+pub mod OwnLaws
+pub mod StepLaws
+pub mod TupleLaws

@@ -1,0 +1,17 @@
+pub mod Bytes
+pub mod Canonical
+pub mod Carry
+pub mod Formed
+pub mod Handles
+pub mod IsA
+pub mod Lift
+pub mod Limits
+pub mod Load
+pub mod Numbers
+pub mod Opened
+pub mod Own
+pub mod Places
+pub mod Texts
+pub mod Tuples
+pub mod ValueLaws
+pub mod Weight
