@@ -9,6 +9,7 @@ pub mod MemberLaws
 pub mod NameLaws
 pub mod PushLaws
 pub mod ReadyLaws
+pub mod RuleLaws
 pub mod ShapeLists
 pub mod StepLaws
 pub mod TableLaws

@@ -1,7 +1,8 @@
 use Rattle.std.proofs.Common.{refl}
+use Rattle.std.proofs.lemmas.Result.{err_from_is_err_and}
 use Rattle.fact_uses.proofs.FrontLaws.{IsFront-itself}
 use Rattle.fact_checks.proofs.Decisions.{denied, granted}
-use Rattle.fact_checks.proofs.StageLaws.{first-conflict, first-memory, first-mismatch, first-name, first-signature, none-at-all}
+use Rattle.fact_checks.proofs.StageLaws.{first-conflict, first-memory, first-mismatch, first-name, first-options, first-signature, none-at-all}
 use Rattle.fact_checks.proofs.checks.check_behind.Goals as goal
 
 pub returns-then-branch-clause-refused : goal.returns-then-branch-clause-refused
@@ -215,3 +216,113 @@ returns-clause-uses c = c.has_import_conflict.ensures.front
 
 pub returns-clause-names : goal.returns-clause-names
 returns-clause-names c = c.has_duplicate_name.ensures.front
+
+pub returns-then-has_bad_options-clause-refused : goal.returns-then-has_bad_options-clause-refused
+returns-then-has_bad_options-clause-refused c = (λ before a b l. (granted _ _ (c.has_bad_options.ensures a l) c.if-has_bad_options.true, first-options _ before a), refl)
+
+pub returns-in_err-has_type_mismatch-clause-sound : goal.returns-in_err-has_type_mismatch-clause-sound
+returns-in_err-has_type_mismatch-clause-sound c =
+    let p = err_from_is_err_and c.from_residual.result c.from_residual.ensures.1 in
+    rw p.1 tt
+
+pub returns-in_err-has_type_mismatch-clause-refused : goal.returns-in_err-has_type_mismatch-clause-refused
+returns-in_err-has_type_mismatch-clause-refused c =
+    let p = err_from_is_err_and c.from_residual.result c.from_residual.ensures.1 in
+    rw (p.1, p.2) tt
+
+pub returns-in_err-has_bad_memory-clause-sound : goal.returns-in_err-has_bad_memory-clause-sound
+returns-in_err-has_bad_memory-clause-sound c =
+    let p = err_from_is_err_and c.from_residual-in_err-has_bad_memory.result c.from_residual-in_err-has_bad_memory.ensures.1 in
+    rw p.1 tt
+
+pub returns-in_err-has_bad_memory-clause-refused : goal.returns-in_err-has_bad_memory-clause-refused
+returns-in_err-has_bad_memory-clause-refused c =
+    let p = err_from_is_err_and c.from_residual-in_err-has_bad_memory.result c.from_residual-in_err-has_bad_memory.ensures.1 in
+    rw (p.1, p.2) tt
+
+pub returns-in_err-has_bad_signature-clause-sound : goal.returns-in_err-has_bad_signature-clause-sound
+returns-in_err-has_bad_signature-clause-sound c =
+    let p = err_from_is_err_and c.from_residual-in_err-has_bad_signature.result c.from_residual-in_err-has_bad_signature.ensures.1 in
+    rw p.1 tt
+
+pub returns-in_err-has_bad_signature-clause-refused : goal.returns-in_err-has_bad_signature-clause-refused
+returns-in_err-has_bad_signature-clause-refused c =
+    let p = err_from_is_err_and c.from_residual-in_err-has_bad_signature.result c.from_residual-in_err-has_bad_signature.ensures.1 in
+    rw (p.1, p.2) tt
+
+pub returns-in_err-has_import_conflict-clause-sound : goal.returns-in_err-has_import_conflict-clause-sound
+returns-in_err-has_import_conflict-clause-sound c =
+    let p = err_from_is_err_and c.from_residual-in_err-has_import_conflict.result c.from_residual-in_err-has_import_conflict.ensures.1 in
+    rw p.1 tt
+
+pub returns-in_err-has_import_conflict-clause-refused : goal.returns-in_err-has_import_conflict-clause-refused
+returns-in_err-has_import_conflict-clause-refused c =
+    let p = err_from_is_err_and c.from_residual-in_err-has_import_conflict.result c.from_residual-in_err-has_import_conflict.ensures.1 in
+    rw (p.1, p.2) tt
+
+pub returns-in_err-has_duplicate_name-clause-sound : goal.returns-in_err-has_duplicate_name-clause-sound
+returns-in_err-has_duplicate_name-clause-sound c =
+    let p = err_from_is_err_and c.from_residual-in_err-has_duplicate_name.result c.from_residual-in_err-has_duplicate_name.ensures.1 in
+    rw p.1 tt
+
+pub returns-in_err-has_duplicate_name-clause-refused : goal.returns-in_err-has_duplicate_name-clause-refused
+returns-in_err-has_duplicate_name-clause-refused c =
+    let p = err_from_is_err_and c.from_residual-in_err-has_duplicate_name.result c.from_residual-in_err-has_duplicate_name.ensures.1 in
+    rw (p.1, p.2) tt
+
+pub returns-then-has_bad_options-clause-sound : goal.returns-then-has_bad_options-clause-sound
+returns-then-has_bad_options-clause-sound c = tt
+
+pub returns-then-branch-clause-sound : goal.returns-then-branch-clause-sound
+returns-then-branch-clause-sound c = tt
+
+pub returns-then-branch-2-clause-sound : goal.returns-then-branch-2-clause-sound
+returns-then-branch-2-clause-sound c = tt
+
+pub returns-then-branch-3-clause-sound : goal.returns-then-branch-3-clause-sound
+returns-then-branch-3-clause-sound c = tt
+
+pub returns-then-branch-4-clause-sound : goal.returns-then-branch-4-clause-sound
+returns-then-branch-4-clause-sound c = tt
+
+pub returns-then-branch-5-clause-sound : goal.returns-then-branch-5-clause-sound
+returns-then-branch-5-clause-sound c = tt
+
+pub returns-then-has_bad_options-clause-same : goal.returns-then-has_bad_options-clause-same
+returns-then-has_bad_options-clause-same c = refl
+
+pub returns-in_err-has_type_mismatch-clause-same : goal.returns-in_err-has_type_mismatch-clause-same
+returns-in_err-has_type_mismatch-clause-same c = c.has_type_mismatch.ensures.same
+
+pub returns-in_err-has_bad_memory-clause-same : goal.returns-in_err-has_bad_memory-clause-same
+returns-in_err-has_bad_memory-clause-same c = c.has_type_mismatch.ensures.same
+
+pub returns-in_err-has_bad_signature-clause-same : goal.returns-in_err-has_bad_signature-clause-same
+returns-in_err-has_bad_signature-clause-same c = c.has_type_mismatch.ensures.same
+
+pub returns-in_err-has_import_conflict-clause-same : goal.returns-in_err-has_import_conflict-clause-same
+returns-in_err-has_import_conflict-clause-same c = c.has_type_mismatch.ensures.same
+
+pub returns-in_err-has_duplicate_name-clause-same : goal.returns-in_err-has_duplicate_name-clause-same
+returns-in_err-has_duplicate_name-clause-same c = c.has_type_mismatch.ensures.same
+
+pub returns-then-branch-clause-same : goal.returns-then-branch-clause-same
+returns-then-branch-clause-same c = c.has_type_mismatch.ensures.same
+
+pub returns-then-branch-2-clause-same : goal.returns-then-branch-2-clause-same
+returns-then-branch-2-clause-same c = c.has_type_mismatch.ensures.same
+
+pub returns-then-branch-3-clause-same : goal.returns-then-branch-3-clause-same
+returns-then-branch-3-clause-same c = c.has_type_mismatch.ensures.same
+
+pub returns-then-branch-4-clause-same : goal.returns-then-branch-4-clause-same
+returns-then-branch-4-clause-same c = c.has_type_mismatch.ensures.same
+
+pub returns-then-branch-5-clause-same : goal.returns-then-branch-5-clause-same
+returns-then-branch-5-clause-same c = c.has_type_mismatch.ensures.same
+
+pub returns-clause-same : goal.returns-clause-same
+returns-clause-same c = c.has_type_mismatch.ensures.same
+
+pub returns-clause-refused : goal.returns-clause-refused
+returns-clause-refused c = tt

@@ -129,6 +129,11 @@ agree_fields-loop-field-preserved t c = record {
 pub agree_fields-returns-clause-exact : goal.agree_fields-returns-clause-exact
 agree_fields-returns-clause-exact t c = λ ms ns h k. is_so (no_more_fields c.args.self.now c.args.to.now c.loop-field.field-index ms ns (omega (arith, c.loop-field-test.false)) (c.loop-field.invariant.left ms ns h k))
 
+pub agree_records-agree_fields-requires : goal.agree_records-agree_fields-requires
+agree_records-agree_fields-requires t c =
+    let same = c.in_ok-source.ensures in
+    (omega (arith, c.decreases, ap (λ fs. above c.args.self.now (of_fields fs)) same), (subst (λ fs. AreLive c.args.self.now (of_fields fs)) (sym same) c.requires.from_live, c.requires.to_live))
+
 pub agree_records-returns-then-not-names_there-clause-exact : goal.agree_records-returns-then-not-names_there-clause-exact
 agree_records-returns-then-not-names_there-clause-exact t c = no_records c.args.self.now c.args.from.now c.args.to.now c.in_ok-names_there.names_there c.in_ok-names_there.ensures c.if-not-names_there.true
 
@@ -154,6 +159,35 @@ agrees-invariant_of-self-2 t c =
     c.self-2.invariant (λ q. c.in_ok-insert.ensures.updates.0 q) (subst (λ t. Tells t c.args.from.now c.args.to.now c.in_ok-agrees.agrees) (sym tables) c.in_ok-agrees.ensures.exact)
 
 -- ---- by kind
+pub compare-agree_records-requires : goal.compare-agree_records-requires
+compare-agree_records-requires t c =
+    let left = subst (λ t. IsLeft t c.args.from.now c.args.to.now (of_fields c.in-Records.from.now) (of_fields c.in-Records.to.now) (TellsRecords t c.in-Records.from.now c.in-Records.to.now)) c.types.ensures c.in-Records.ensures in
+    (omega (arith, c.decreases, left.lower), (left.from_live, left.to_live))
+
+pub compare-agree_cases-requires : goal.compare-agree_cases-requires
+compare-agree_cases-requires t c =
+    let xs = c.in-Variants.from.now.entries in
+    let ys = c.in-Variants.to.now.entries in
+    let left = subst (λ t. IsLeft t c.args.from.now c.args.to.now xs ys (TellsCases t xs ys)) c.types.ensures c.in-Variants.ensures in
+    (omega (arith, c.decreases, left.lower), (left.from_live, left.to_live))
+
+pub compare-agree_payload-requires : goal.compare-agree_payload-requires
+compare-agree_payload-requires t c =
+    let p = c.in-Payloads.first in
+    let q = c.in-Payloads.second in
+    let left = subst (λ t. AreLeft t c.args.from.now c.args.to.now p q) c.types.ensures c.in-Payloads.ensures in
+    (omega (arith, c.decreases, left.first_lower), left.first_live)
+
+pub compare-agree_payload-requires-then-branch : goal.compare-agree_payload-requires-then-branch
+compare-agree_payload-requires-then-branch t c =
+    let p = c.in-Payloads.first in
+    let q = c.in-Payloads.second in
+    let same = c.in_ok-agree_payload-in-Payloads.ensures.same in
+    let left = subst (λ t. AreLeft t c.args.from.now c.args.to.now p q) c.types.ensures c.in-Payloads.ensures in (
+      omega (arith, c.decreases, left.second_lower, ap (λ t. over t q.0) same),
+      (subst (λ t. IsLiveMember t q.0) (sym same) left.second_live.0, subst (λ t. IsLiveMember t q.1) (sym same) left.second_live.1),
+    )
+
 pub compare-agree_all-requires : goal.compare-agree_all-requires
 compare-agree_all-requires t c =
     let left = subst (λ t. IsLeft t c.args.from.now c.args.to.now (placed 0 c.in-Tuples.from.now) (placed 0 c.in-Tuples.to.now) (TellsAll t c.in-Tuples.from.now c.in-Tuples.to.now)) c.types.ensures c.in-Tuples.ensures in
