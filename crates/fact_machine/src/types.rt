@@ -3,7 +3,7 @@
 use fact_wasm::{FuncName, Seq};
 
 /// A value: a number by its bits, or a reference to a function.
-#[derive(Clone, Copy, Debug, Drop, PartialEq, Eq)]
+#[derive(Clone, Copy, Drop, PartialEq, Eq)]
 pub enum CoreValue {
     I32(u32),
     I64(u64),
@@ -13,14 +13,14 @@ pub enum CoreValue {
 }
 
 /// The memories and the globals of a module, in the order of its imports.
-#[derive(Debug, Drop)]
+#[derive(Drop)]
 pub struct MachineState {
     pub memories: Seq<Seq<u8>>,
     pub globals: Seq<CoreValue>,
 }
 
 /// What the outside does at a call: it returns results and leaves a state, traps, or throws.
-#[derive(Debug, Drop)]
+#[derive(Drop)]
 pub enum Answer {
     Returns {
         results: Seq<CoreValue>,
@@ -31,7 +31,7 @@ pub enum Answer {
 }
 
 /// An outside call: the number of the imported function, the arguments, the state before the call, and the answer.
-#[derive(Debug, Drop)]
+#[derive(Drop)]
 pub struct Event {
     pub func: u32,
     pub args: Seq<CoreValue>,
@@ -40,7 +40,7 @@ pub struct Event {
 }
 
 /// Something that the outside can see of a run.
-#[derive(Debug, Drop)]
+#[derive(Drop)]
 pub enum TraceEntry {
     /// An outside call.
     Called(Event),
@@ -59,7 +59,7 @@ pub enum TraceEntry {
 }
 
 /// How a run ended.
-#[derive(Debug, Drop)]
+#[derive(Drop)]
 pub enum End {
     /// The function returned these results.
     Returned(Seq<CoreValue>),
@@ -77,7 +77,7 @@ pub enum End {
 }
 
 /// The end of a run, the state then, and its outside calls in order.
-#[derive(Debug, Drop)]
+#[derive(Drop)]
 pub struct Outcome {
     pub end: End,
     pub state: MachineState,

@@ -5,14 +5,14 @@ use crate::types::ValType;
 
 /// A function of a module: the nth that is imported, or the nth that the module defines, both counted from 0. The index
 /// that the binary format has for it is known only when all imports are.
-#[derive(Clone, Copy, Debug, Drop, PartialEq, Eq, Hash)]
+#[derive(Clone, Copy, Drop, PartialEq, Eq, Hash)]
 pub enum FuncName {
     Import(u32),
     Defined(u32),
 }
 
 /// What a block takes and gives: nothing, one result, or the parameters and results of a function type by its index.
-#[derive(Clone, Copy, Debug, Drop, PartialEq, Eq, Hash)]
+#[derive(Clone, Copy, Drop, PartialEq, Eq, Hash)]
 pub enum BlockType {
     Empty,
     Result(ValType),
@@ -20,7 +20,7 @@ pub enum BlockType {
 }
 
 /// The immediate of a load or store: the alignment as an exponent of 2, the offset in bytes, the memory.
-#[derive(Clone, Copy, Debug, Drop, PartialEq, Eq, Hash)]
+#[derive(Clone, Copy, Drop, PartialEq, Eq, Hash)]
 pub struct MemArg {
     pub offset: u64,
     pub align: u32,
@@ -29,7 +29,7 @@ pub struct MemArg {
 
 /// An instruction, with its body where it has one. Labels count enclosing blocks from the innermost, which is 0; shift
 /// counts are taken modulo the width; constants and floats are their bits.
-#[derive(Debug, Drop)]
+#[derive(Drop)]
 pub enum Instr {
     Unreachable,
     Block(BlockType, Seq<Instr>),

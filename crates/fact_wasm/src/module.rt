@@ -7,7 +7,7 @@ use crate::types::{FuncType, ValType};
 
 /// What an import is: a function by the index of its type, a memory, or a global. A memory's minimum counts its pages, of
 /// 65,536 bytes or of 2 to the power of `page_size_log2`; it has no maximum and is not shared.
-#[derive(Debug, Drop)]
+#[derive(Drop)]
 pub enum ImportType {
     Func(u32),
     Memory {
@@ -22,7 +22,7 @@ pub enum ImportType {
 }
 
 /// An import by its two names.
-#[derive(Debug, Drop)]
+#[derive(Drop)]
 pub struct WasmImport {
     pub module: Text,
     pub name: Text,
@@ -30,7 +30,7 @@ pub struct WasmImport {
 }
 
 /// A function of the module: the index of its type, runs of so many locals of one type, and its code.
-#[derive(Debug, Drop)]
+#[derive(Drop)]
 pub struct WasmFunc {
     pub ty: u32,
     pub locals: Seq<(u32, ValType)>,
@@ -38,14 +38,14 @@ pub struct WasmFunc {
 }
 
 /// A function under the name that it is exported by.
-#[derive(Debug, Drop)]
+#[derive(Drop)]
 pub struct WasmExport {
     pub name: Text,
     pub func: FuncName,
 }
 
 /// A module, in the order of its sections.
-#[derive(Debug, Drop)]
+#[derive(Drop)]
 pub struct WasmModule {
     pub types: Seq<FuncType>,
     pub imports: Seq<WasmImport>,
