@@ -1,20 +1,77 @@
-//! Adapters that a module takes one after another, over the types of a builder.
+//! A module that takes adapters one after another, over types that a builder was given.
 
-ghost use Rattle.std.specs.Prelude.{◌<◌, length};
+ghost use Rattle.std.specs.Prelude.{◌<◌, All, IsTrue, length};
+ghost use Rattle.fact_types.specs.Tables.{IsLive};
 
-use crate::types::{add_func, fill};
+use crate::plans::{edited, end_in};
 use fact_builder::ComponentTypesBuilder as Builder;
-use fact_entity::{AdapterId, EntityRef};
+use fact_entity::{AdapterId, EntityRef, PushError};
+use fact_making::{make_option, make_tuple};
 use fact_module::{
-    Adapter, AdapterOptionsDfg, ComponentDfg, CoreDef, FuseError, MemoryOption, Module,
+    Adapter, AdapterOptionsDfg, ComponentDfg, CoreDef, FuseError, Import, Module,
     RuntimeComponentInstanceIndex, RuntimeInstanceIndex, StringEncoding, Tunables, WasmFeatures,
 };
-use fact_types::{ModuleInternedTypeIndex, TypeFuncIndex};
-use fact_wasm::{Text, WasmModule, encode};
+use fact_types::{
+    InterfaceType, Lookup, ModuleInternedTypeIndex, TypeFunc, TypeFuncIndex, TypeTupleIndex,
+};
+use fact_wasm::{FuncType, Seq, Text, ValType, WasmModule, encode};
 use std::alloc::{AllocError, Global};
-use std::mem::replace;
 use std::process::Abort;
 use std::test::Fail;
+
+/// The plan of the adapters that are taken, of which the second has a definition, instances and a signature of its own.
+const PLAN: &str =
+    r#"{"instances":4,"types":[],"tables":[],"funcs":[{"params":[["x","u32"]],"results":[]},{"params":[["x","u64"]],"results":["u32"]}],"core_types":[{"params":["i32"],"results":[]},{"params":["i64"],"results":["i32"]}],"core_defs":[{"export":[0,"run"]},{"export":[0,"walk"]}],"adapters":[{"name":"f0","func":0,"lift":{"ty":0,"instance":1,"core_type":0},"lower":{"ty":0,"instance":0,"core_type":0}},{"name":"f1","func":1,"lift":{"ty":1,"instance":3,"core_type":1},"lower":{"ty":1,"instance":2,"core_type":1},"transparent":true}]}"#;
+
+/// The edit that leaves the first one alone.
+const FIRST: &str =
+    r#",{"name":"f1","func":1,"lift":{"ty":1,"instance":3,"core_type":1},"lower":{"ty":1,"instance":2,"core_type":1},"transparent":true} =>"#;
+
+/// An adapter that is asked for: its name, its callee, the function types, the instances and the core type of its sides, the lift side
+/// first, and what is answered.
+#[derive(Clone, Copy)]
+struct Call<'a> {
+    name: &'a str,
+    callee: &'a str,
+    types: (u32, u32),
+    instances: (u32, u32),
+    core_type: u32,
+    transparent: bool,
+    answer: &'a str,
+}
+
+const TAKEN: [Call<'static>; 2] = [
+    Call {
+        name: "f0",
+        callee: "run",
+        types: (0, 0),
+        instances: (1, 0),
+        core_type: 0,
+        transparent: false,
+        answer: "taken",
+    },
+    Call {
+        name: "f1",
+        callee: "walk",
+        types: (1, 1),
+        instances: (3, 2),
+        core_type: 1,
+        transparent: true,
+        answer: "taken",
+    },
+];
+
+/// What is answered to a second adapter of these names and types, whose callee the one that is taken has with another signature.
+const REFUSED: [(&str, (u32, u32), &str); 8] = [
+    ("f0", (0, 0), "duplicate name at Adapter(1)"),
+    ("f1", (4, 0), "unknown index at Adapter(2)"),
+    ("f1", (2, 4), "unknown index at Adapter(3)"),
+    ("f1", (2, 0), "bad type at Adapter(4)"),
+    ("f1", (3, 2), "bad type at Adapter(5)"),
+    ("f1", (3, 0), "too large at Adapter(6)"),
+    ("f1", (0, 3), "too large at Adapter(7)"),
+    ("f1", (0, 1), "type mismatch at Adapter(8)"),
+];
 
 fn export(alloc: Global, name: &str) -> Result<CoreDef, AllocError> {
     Ok(CoreDef::Export {
@@ -23,8 +80,8 @@ fn export(alloc: Global, name: &str) -> Result<CoreDef, AllocError> {
     })
 }
 
-/// A side of an instance, with the first core type and no options.
-fn side(instance: u32) -> AdapterOptionsDfg {
+/// A side without options.
+fn side(instance: u32, core_type: u32) -> AdapterOptionsDfg {
     AdapterOptionsDfg {
         instance: RuntimeComponentInstanceIndex::from_u32(instance),
         string_encoding: StringEncoding::Utf8,
@@ -33,492 +90,263 @@ fn side(instance: u32) -> AdapterOptionsDfg {
         callback: None,
         post_return: None,
         async_: false,
-        core_type: ModuleInternedTypeIndex::from_u32(0),
+        core_type: ModuleInternedTypeIndex::from_u32(core_type),
     }
 }
 
-/// Two numbers: of the lift side, and of the lower one.
-fn pair_of(text: &str) -> Option<(u32, u32)> {
-    let (lift, lower) = text.split_once(",")?;
-    Some((lift.parse::<u32>().ok()?, lower.parse::<u32>().ok()?))
-}
-
-/// Sets what both sides have: function types, core types or instances.
-fn apply_pair(adapter: &mut Adapter, kind: &str, lift: u32, lower: u32) {
-    match kind {
-        "types" => {
-            adapter.lift_ty = TypeFuncIndex::from_u32(lift);
-            adapter.lower_ty = TypeFuncIndex::from_u32(lower);
-        }
-        "core" => {
-            adapter.lift_options.core_type = ModuleInternedTypeIndex::from_u32(lift);
-            adapter.lower_options.core_type = ModuleInternedTypeIndex::from_u32(lower);
-        }
-        _ => {
-            adapter.lift_options.instance = RuntimeComponentInstanceIndex::from_u32(lift);
-            adapter.lower_options.instance = RuntimeComponentInstanceIndex::from_u32(lower);
-        }
-    }
-}
-
-/// Sets a memory of a side, of a name and an exponent of its page size.
-fn apply_memory(
-    alloc: Global,
-    adapter: &mut Adapter,
-    kind: &str,
-    memory: &str,
-) -> Result<(), AllocError> {
-    let (name, size) = memory.split_once(",").unwrap_or((memory, ""));
-    let def = export(alloc, name)?;
-    let memory = MemoryOption {
-        def,
-        memory64: false,
-        shared: false,
-        page_size_log2: size.parse::<u8>().unwrap_or(0),
-    };
-    let side = if kind == "lift-memory" {
-        &mut adapter.lift_options
-    } else {
-        &mut adapter.lower_options
-    };
-    drop(side.memory.replace(memory));
-    Ok(())
-}
-
-/// Sets a function of a side.
-fn set(option: &mut Option<CoreDef>, def: CoreDef) {
-    drop(option.replace(def));
-}
-
-/// Sets a function of a name: the callee, or an option of a side.
-fn apply_name(
-    alloc: Global,
-    adapter: &mut Adapter,
-    kind: &str,
-    name: &str,
-) -> Result<(), AllocError> {
-    let def = export(alloc, name)?;
-    match kind {
-        "callee" => drop(replace(&mut adapter.func, def)),
-        "lift-realloc" => set(&mut adapter.lift_options.realloc, def),
-        "lift-callback" => set(&mut adapter.lift_options.callback, def),
-        "lift-post-return" => set(&mut adapter.lift_options.post_return, def),
-        _ => set(&mut adapter.lower_options.post_return, def),
-    }
-    Ok(())
-}
-
-/// Does an edit: a kind, and behind `:` what it needs. `transparent` is no part of an adapter.
-fn apply(alloc: Global, adapter: &mut Adapter, edit: &str) -> Result<(), AllocError> {
-    let (kind, value) = edit.split_once(":").unwrap_or((edit, ""));
-    if kind == "transparent" {
-        return Ok(());
-    }
-    if kind == "lift-async" {
-        adapter.lift_options.async_ = true;
-        return Ok(());
-    }
-    if let Some((lift, lower)) = pair_of(value) {
-        apply_pair(adapter, kind, lift, lower);
-        return Ok(());
-    }
-    if value.contains(",") {
-        return apply_memory(alloc, adapter, kind, value);
-    }
-    apply_name(alloc, adapter, kind, value)
-}
-
-/// Does each of these edits.
-fn apply_all(alloc: Global, adapter: &mut Adapter, edits: &str) -> Result<(), AllocError> {
-    for edit in edits.split_whitespace() {
-        apply(alloc, adapter, edit)?;
-    }
-    Ok(())
-}
-
-/// The worked adapter with these edits.
-fn edited(alloc: Global, edits: &str) -> Result<Adapter, AllocError> {
-    let func = export(alloc, "run")?;
-    let mut adapter = Adapter {
-        lift_ty: TypeFuncIndex::from_u32(0),
-        lift_options: side(1),
-        lower_ty: TypeFuncIndex::from_u32(0),
-        lower_options: side(0),
+fn adapter(func: CoreDef, call: &Call<'_>) -> Adapter {
+    Adapter {
+        lift_ty: TypeFuncIndex::from_u32(call.types.0),
+        lift_options: side(call.instances.0, call.core_type),
+        lower_ty: TypeFuncIndex::from_u32(call.types.1),
+        lower_options: side(call.instances.1, call.core_type),
         func,
-    };
-    match apply_all(alloc, &mut adapter, edits) {
-        Ok(()) => Ok(adapter),
-        Err(error) => {
-            drop(adapter);
-            Err(error)
-        }
     }
 }
 
-/// Whether a refusal of the adapter of an id is told by this line, but for its place.
-fn is_refusal(
-    alloc: Global,
-    error: FuseError,
-    id: AdapterId,
-    wanted: &str,
-) -> Result<bool, AllocError> {
-    let line = format!(in alloc; "{error}")?;
-    let Ok(place) = format!(in alloc; " at Adapter({})", id.as_u32()) else {
-        drop(line);
-        return Err(AllocError);
-    };
-    let is = matches!(line.as_str().strip_suffix(place.as_str()), Some(kind) if kind == wanted);
-    drop(line);
-    drop(place);
-    Ok(is)
+/// Whether a type is a plain one, or names an entry that the builder holds.
+fn is_live(builder: &Builder, ty: &InterfaceType) -> bool
+    ensures { IsTrue result → IsLive builder.now.tables ty.now }
+{
+    builder.component_types().is_live(*ty)
 }
 
-/// Asks a module to take an adapter, and answers whether it says this.
-fn says(
+fn are_live(builder: &Builder, types: &[InterfaceType]) -> bool
+    ensures { IsTrue result → All (IsLive builder.now.tables) types.now }
+{
+    types.iter().all(|ty| is_live(builder, ty))
+}
+
+/// The tuple of parameters or of results.
+fn add_tuple(
+    rt: &impl Abort,
+    alloc: Global,
+    builder: &mut Builder,
+    types: &[InterfaceType],
+) -> Result<TypeTupleIndex, PushError> {
+    assert!(rt; are_live(builder, types));
+    let types = Seq::from_vec(Vec::from_slice(alloc, types)?);
+    match make_tuple(alloc, builder, types)? {
+        InterfaceType::Tuple(index) => Ok(index),
+        _ => Err(PushError::TooLarge),
+    }
+}
+
+/// One name for so many parameters.
+fn param_names(alloc: Global, count: usize) -> Result<Seq<Text>, AllocError> {
+    let mut names = Seq::new(alloc);
+    for _ in 0..count {
+        names.push(Text::from_str(alloc, "x")?)?;
+    }
+    Ok(names)
+}
+
+/// Adds a function, whose parameters have one name.
+fn add_func(
+    rt: &impl Abort,
+    alloc: Global,
+    builder: &mut Builder,
+    takes: &[InterfaceType],
+    gives: &[InterfaceType],
+) -> Result<(), PushError> {
+    let params = add_tuple(rt, alloc, builder, takes)?;
+    let results = add_tuple(rt, alloc, builder, gives)?;
+    let param_names = param_names(alloc, takes.len())?;
+    let types = builder.component_types();
+    assert!(rt; types.get(params).is_some() && types.get(results).is_some());
+    builder.add_func_type(TypeFunc {
+        async_: false,
+        param_names,
+        params,
+        results,
+    })?;
+    Ok(())
+}
+
+/// A type in so many options, each around the one before.
+fn add_options(
+    rt: &impl Abort,
+    builder: &mut Builder,
+    count: u32,
+) -> Result<InterfaceType, PushError> {
+    let mut ty = InterfaceType::U32;
+    for _ in 0..count {
+        assert!(rt; is_live(builder, &ty));
+        ty = make_option(builder, ty)?;
+    }
+    Ok(ty)
+}
+
+/// Adds four functions: two that are sound, one whose parameters have one name, and one of types that are 101 in one another.
+fn add_funcs(rt: &impl Abort, alloc: Global, builder: &mut Builder) -> Result<(), PushError> {
+    let nested = add_options(rt, builder, 100)?;
+    add_func(rt, alloc, builder, &[InterfaceType::U32], &[])?;
+    add_func(
+        rt,
+        alloc,
+        builder,
+        &[InterfaceType::U64],
+        &[InterfaceType::U32],
+    )?;
+    add_func(
+        rt,
+        alloc,
+        builder,
+        &[InterfaceType::U32, InterfaceType::U32],
+        &[],
+    )?;
+    add_func(rt, alloc, builder, &[nested], &[])
+}
+
+/// Adds the core types of the two sound ones.
+fn add_core_types(alloc: Global, builder: &mut Builder) -> Result<(), PushError> {
+    let first = FuncType::from_slices(alloc, &[ValType::I32], &[])?;
+    builder.module_types_builder_mut().intern(first)?;
+    let second = FuncType::from_slices(alloc, &[ValType::I64], &[ValType::I32])?;
+    builder.module_types_builder_mut().intern(second)?;
+    Ok(())
+}
+
+/// What a module answers to an adapter.
+fn answer(
     alloc: Global,
     made: &mut Module<'_>,
     name: &str,
     component: &ComponentDfg,
     id: AdapterId,
-    wanted: &str,
-) -> Result<bool, FuseError>
+) -> Result<String, AllocError>
     requires { id.number < length component.now.adapters }
 {
     match made.adapt(name, component, id) {
-        Ok(()) => Ok(wanted == "taken"),
-        Err(FuseError::OutOfMemory) => Err(FuseError::OutOfMemory),
-        Err(error) => Ok(is_refusal(alloc, error, id, wanted)?),
+        Ok(()) => String::from_str(alloc, "taken"),
+        Err(FuseError::OutOfMemory) => Err(AllocError),
+        Err(error) => format!(in alloc; "{error}"),
     }
 }
 
-/// Adds an adapter of these edits to a component.
-fn added(alloc: Global, component: &mut ComponentDfg, edits: &str) -> Result<AdapterId, Fail> {
-    let adapter = edited(alloc, edits)?;
-    Ok(component.add(adapter, edits.contains("transparent"))?)
-}
-
-/// Adds an adapter to a component, and answers whether the module says this to it.
+/// Adds an adapter to a component, and answers whether the module says to it what is wanted.
 fn is_answered(
     alloc: Global,
     made: &mut Module<'_>,
     component: &mut ComponentDfg,
-    call: &str,
-    wanted: &str,
+    call: &Call<'_>,
 ) -> Result<bool, Fail> {
-    let (name, edits) = call.split_once(" ").unwrap_or((call, ""));
-    let id = added(alloc, component, edits)?;
+    let func = export(alloc, call.callee)?;
+    let id = component.add(adapter(func, call), call.transparent)?;
     if component.adapters.get(id).is_none() {
         return Ok(false);
     }
-    Ok(says(alloc, made, name, component, id, wanted)?)
+    let answer = answer(alloc, made, call.name, component, id)?;
+    Ok(answer.as_str() == call.answer)
 }
 
-/// Whether a module is in range and is spelled by the bytes.
-fn is_spelled(alloc: Global, module: &WasmModule, bytes: &[u8]) -> Result<bool, AllocError> {
+/// Says that the module refuses each of these adapters.
+fn say_refused(
+    rt: &impl Abort,
+    alloc: Global,
+    made: &mut Module<'_>,
+    component: &mut ComponentDfg,
+) -> Result<(), Fail> {
+    for (name, types, answer) in REFUSED {
+        let call = Call {
+            name,
+            callee: "walk",
+            types,
+            answer,
+            ..TAKEN[0]
+        };
+        assert!(rt; is_answered(alloc, made, component, &call)?, "{answer}");
+    }
+    Ok(())
+}
+
+/// Whether a module is in range, is spelled by the bytes, and each import is printed as its copy.
+fn is_whole(
+    alloc: Global,
+    module: &WasmModule,
+    bytes: &[u8],
+    imports: &[Import],
+) -> Result<bool, AllocError> {
     if !module.in_range() {
         return Ok(false);
     }
-    let spelled = encode(alloc, module)?;
-    Ok(spelled.as_slice() == bytes)
+    for import in imports {
+        let copy = import.try_clone()?;
+        if format!(in alloc; "{copy:?}")?.as_str() != format!(in alloc; "{import:?}")?.as_str() {
+            return Ok(false);
+        }
+    }
+    Ok(encode(alloc, module)?.as_slice() == bytes)
 }
 
-/// Whether a module is built as these bytes.
+/// Whether a module is built as its bytes say.
 fn is_built(alloc: Global, made: &mut Module<'_>, bytes: &[u8]) -> Result<bool, Fail> {
     let module = made.build()?;
-    let spelled = is_spelled(alloc, &module, bytes);
+    let is = is_whole(alloc, &module, bytes, made.imports());
     drop(module);
-    Ok(spelled?)
+    Ok(is?)
 }
 
-/// The bytes in hex, and what the imports of a module are.
-fn page_with(alloc: Global, made: &Module<'_>, bytes: &[u8]) -> Result<String, Fail> {
-    let text = hex::encode(alloc, bytes)?;
-    let page = format!(in alloc; "{text} {:?}", made.imports());
-    drop(text);
-    Ok(page?)
-}
-
-/// Whether a module is encoded and built as these bytes, and has this page, or any: the bytes in hex, and what its imports are.
-fn has_page(
+/// Says that a module is that of the plan with these edits.
+fn say_page(
+    rt: &impl Abort,
     alloc: Global,
     made: &mut Module<'_>,
-    bytes: &[u8],
-    wanted: &str,
-) -> Result<bool, Fail> {
-    if !is_built(alloc, made, bytes)? {
-        return Ok(false);
-    }
-    if wanted == "any" {
-        return Ok(true);
-    }
-    let page = page_with(alloc, made, bytes)?;
-    let is = page.as_str() == wanted;
-    drop(page);
-    Ok(is)
-}
-
-fn is_page(alloc: Global, made: &mut Module<'_>, wanted: &str) -> Result<bool, Fail> {
+    edits: &str,
+) -> Result<(), Fail> {
     let bytes = made.encode()?;
-    let is = has_page(alloc, made, bytes.as_slice(), wanted);
-    drop(bytes);
-    is
-}
-
-/// A page by its name: without adapters; with the worked one, and with the one of which the runtime is told with concurrency; with two that
-/// share all but their names; and with two that share nothing but the trap. `any` is none of them.
-fn page_named(name: &str) -> &'static str {
-    match name {
-        "one" =>
-            "0061736d0100000001080260017f0060000002430405666c61677309696e7374616e636531037f0105666c61677309696e7374616e636530037f010663616c6c656502663000000772756e74696d6505747261703000010302010007060102663000020a2a012801027f0240230122010d001001000b2300210241002400200020022400100041002401200124010b [CoreDef(InstanceFlags(Id { number: 1, .. })), CoreDef(InstanceFlags(Id { number: 0, .. })), CoreDef(Export { instance: Id { number: 0, .. }, name: Text { text: \"run\" } }), Trap(CannotLeaveComponent)]",
-        "told" =>
-            "0061736d01000000010d0360017f0060000060027f7f0002720605666c61677309696e7374616e636531037f0105666c61677309696e7374616e636530037f010663616c6c656502663000000772756e74696d650574726170300001056173796e630f656e7465722d73796e632d63616c6c0002056173796e630e657869742d73796e632d63616c6c00010302010007060102663000040a32013001027f0240230122010d001001000b41004101100223002102410024002000200224001000100341002401200124010b [CoreDef(InstanceFlags(Id { number: 1, .. })), CoreDef(InstanceFlags(Id { number: 0, .. })), CoreDef(Export { instance: Id { number: 0, .. }, name: Text { text: \"run\" } }), Trap(CannotLeaveComponent), EnterSyncCall, ExitSyncCall]",
-        "two" =>
-            "0061736d0100000001080260017f0060000002430405666c61677309696e7374616e636531037f0105666c61677309696e7374616e636530037f010663616c6c656502663000000772756e74696d6505747261703000010303020000070b02026630000202663100030a53022801027f0240230122010d001001000b2300210241002400200020022400100041002401200124010b2801027f0240230122010d001001000b2300210241002400200020022400100041002401200124010b [CoreDef(InstanceFlags(Id { number: 1, .. })), CoreDef(InstanceFlags(Id { number: 0, .. })), CoreDef(Export { instance: Id { number: 0, .. }, name: Text { text: \"run\" } }), Trap(CannotLeaveComponent)]",
-        "apart" =>
-            "0061736d01000000010d0360017f0060000060017e017f02750705666c61677309696e7374616e636531037f0105666c61677309696e7374616e636530037f010663616c6c656502663000000772756e74696d65057472617030000105666c61677309696e7374616e636533037f0105666c61677309696e7374616e636532037f010663616c6c656502663100020303020002070b02026630000302663100040a5b022801027f0240230122010d001001000b2300210241002400200020022400100041002401200124010b3001047f0240230322010d001001000b23022102410024022000200224021002210341002403200321042001240320040b [CoreDef(InstanceFlags(Id { number: 1, .. })), CoreDef(InstanceFlags(Id { number: 0, .. })), CoreDef(Export { instance: Id { number: 0, .. }, name: Text { text: \"run\" } }), Trap(CannotLeaveComponent), CoreDef(InstanceFlags(Id { number: 3, .. })), CoreDef(InstanceFlags(Id { number: 2, .. })), CoreDef(Export { instance: Id { number: 0, .. }, name: Text { text: \"walk\" } })]",
-        "any" => "any",
-        _ => "0061736d010000000101000201000301000701000a0100 []",
-    }
-}
-
-/// Says what a module answers to an adapter, and which page it has then. A step is the name of the adapter and its edits, `=`,
-/// the answer, and the name of the page.
-fn say_step(
-    rt: &impl Abort,
-    alloc: Global,
-    made: &mut Module<'_>,
-    component: &mut ComponentDfg,
-    step: &str,
-) -> Result<(), Fail> {
-    let (call, end) = step.split_once(" = ").ok_or("no answer")?;
-    let (answer, page) = end.split_once(", ").ok_or("no page")?;
-    assert!(rt;
-        is_answered(alloc, made, component, call, answer)?,
-        "{step}"
-    );
-    assert!(rt; is_page(alloc, made, page_named(page))?, "{step}");
+    let page = format!(in alloc; "{:?} {:?}", bytes.as_slice(), made.imports())?;
+    assert!(rt; is_built(alloc, made, bytes.as_slice())?);
+    let plan = edited(alloc, PLAN, edits)?;
+    let wanted = end_in(rt, alloc, plan.as_str())?;
+    assert!(rt; page.as_str() == wanted.as_str());
     Ok(())
 }
 
-fn say_steps_of(
-    rt: &impl Abort,
-    alloc: Global,
-    made: &mut Module<'_>,
-    component: &mut ComponentDfg,
-    steps: &str,
-) -> Result<(), Fail> {
-    for step in steps.split("; ") {
-        say_step(rt, alloc, made, component, step)?;
-    }
-    Ok(())
-}
-
-/// A module over a builder, without adapters at first, goes through these steps. The settings are words.
+/// A module takes an adapter, refuses others, which leave nothing, and takes another one.
 fn say_steps(
     rt: &impl Abort,
     alloc: Global,
-    builder: &Builder,
-    settings: &str,
-    steps: &str,
+    made: &mut Module<'_>,
+    component: &mut ComponentDfg,
 ) -> Result<(), Fail> {
+    assert!(rt; is_answered(alloc, made, component, &TAKEN[0])?);
+    say_page(rt, alloc, made, FIRST)?;
+    say_refused(rt, alloc, made, component)?;
+    say_page(rt, alloc, made, FIRST)?;
+    assert!(rt; is_answered(alloc, made, component, &TAKEN[1])?);
+    say_page(rt, alloc, made, "\"instances\":4 => \"instances\":4")
+}
+
+/// A module over these types takes the steps, and the component has marked the last of its ten adapters.
+fn say_over(rt: &impl Abort, alloc: Global, builder: &Builder) -> Result<(), Fail> {
     let tunables = Tunables {
-        concurrency_support: settings == "concurrency",
-        debug_adapter_modules: settings == "debug",
+        concurrency_support: false,
+        debug_adapter_modules: false,
         fuel: 1,
     };
-    let exceptions = settings == "exceptions";
-    let mut made = Module::new(alloc, builder, &tunables, WasmFeatures { exceptions });
+    let features = WasmFeatures { exceptions: false };
+    let mut made = Module::new(alloc, builder, &tunables, features);
     let mut component = ComponentDfg::new(alloc);
-    let said = say_steps_of(rt, alloc, &mut made, &mut component, steps);
+    let said = say_steps(rt, alloc, &mut made, &mut component);
+    let marked = component.transparent_adapters.as_slice() == [AdapterId::from_u32(9)].as_slice();
     drop(component);
     drop(made);
+    assert!(rt; marked);
     said
 }
 
-/// Settings, and steps of a module. An adapter that was not taken leaves nothing: not how it used its callee.
-const STEPS: &str = "
-plain: f0 = taken, one; f1 = taken, two
-plain: f0 = taken, one; f1 types:1,1 core:1,1 instances:3,2 callee:walk = taken, apart
-plain: f0 = taken, one; f0 callee:walk = duplicate name, one; f1 types:1,1 core:1,1 instances:3,2 callee:walk = taken, apart
-plain: f0 = taken, one; f1 callee:walk types:2,2 core:2,2 lift-memory:m,16 lift-realloc:r lower-memory:n,16 = taken, any
-concurrency: f0 = taken, told
-concurrency: f0 lift-async = taken, any; [async-start]f0 = duplicate name, any; [async-return]f0 = duplicate name, any; [adapter-callee]f0 = duplicate name, any; f1 lift-async = taken, any
-concurrency: [adapter-callee]f0 = taken, any; f0 lift-async = duplicate name, any; f0 = taken, any
-concurrency: f0 transparent = taken, one; f1 transparent = taken, two
-debug: f0 = taken, one; f1 types:1,1 core:1,1 instances:3,2 callee:walk = taken, apart
-exceptions: f0 = taken, any; f1 lift-post-return:free = taken, any
-plain: f0 = taken, one; f1 lower-memory:memory,0 = taken, any
-plain: f0 = taken, one; f1 types:3,3 = taken, any
-plain: f0 = taken, one; f1 instances:1,1 = taken, any; f2 instances:2147483647,2147483647 = taken, any
-plain: f0 = taken, one; f1 transparent = taken, two
-plain: f0 = taken, one; f1 lift-post-return:free = taken, any
-plain: f0 = taken, one; f1 lift-callback:resume = taken, any
-";
-
-/// What the module that took the worked adapter answers to a second one. The greatest number of an instance is 2,147,483,647.
-const ANSWERS: &str = "
-unknown index: types:6,0
-unknown index: types:4,6
-unknown index: core:3,0
-unknown index: core:0,4294967295
-bad type: types:4,0
-bad type: types:5,4
-too large: instances:2147483648,0
-too large: instances:1,2147483648
-too large: types:5,0
-too large: types:0,5 lift-async
-bad options: lower-post-return:free
-bad options: lift-async
-bad options: types:3,0 transparent
-type mismatch: types:0,1
-bad memory: types:2,2
-bad memory: lift-realloc:realloc
-bad memory: lower-memory:memory,12
-bad memory: lift-memory:m,0 lower-memory:m,0
-bad signature: core:1,0
-bad signature: core:0,1
-import conflict: types:1,1 core:1,1
-import conflict: types:2,2 core:2,2 lift-memory:m,16 lift-realloc:r lower-memory:n,16
-import conflict: lift-post-return:run
-import conflict: lift-callback:run
-import conflict: lower-memory:run,16
-";
-
-/// Types, each as its kind, its number of names and the options around it; and the answers and the pages where one side has it, and
-/// where both have it. The last two are 100 types in one another, and 101.
-const TYPES: &str = "
-bool 0 0: type mismatch, empty / taken, any
-record 0 0: bad type, empty / bad type, empty
-record 1 0: type mismatch, empty / taken, any
-record 2 0: bad type, empty / bad type, empty
-flags 0 0: bad type, empty / bad type, empty
-flags 32 0: type mismatch, empty / taken, any
-flags 33 0: bad type, empty / bad type, empty
-flags 33 100: bad type, empty / bad type, empty
-enum 0 0: bad type, empty / bad type, empty
-enum 4097 0: type mismatch, empty / taken, any
-variant 0 1: bad type, empty / bad type, empty
-variant 4096 0: type mismatch, empty / taken, any
-variant 4097 1: too large, empty / too large, empty
-enum 1 99: type mismatch, empty / bad memory, empty
-enum 1 100: too large, empty / too large, empty
-";
-
-/// The module that took the worked adapter answers this to a second one of these edits, and takes a third one as if there had
-/// been no second.
-fn say_second(
-    rt: &impl Abort,
-    alloc: Global,
-    builder: &Builder,
-    answer: &str,
-    edits: &str,
-) -> Result<(), Fail> {
-    let steps = format!(in alloc; "f0 = taken, one; f1 {edits} = {answer}, one; f1 = taken, two")?;
-    let said = say_steps(rt, alloc, builder, "plain", steps.as_str());
-    drop(steps);
-    said
-}
-
-/// A module without adapters answers this to the worked adapter with function types of these numbers, and has this page then.
-fn say_first(
-    rt: &impl Abort,
-    alloc: Global,
-    builder: &Builder,
-    lift: u32,
-    lower: u32,
-    answer: &str,
-) -> Result<(), Fail> {
-    let step = format!(in alloc; "f0 types:{lift},{lower} = {answer}")?;
-    let said = say_steps(rt, alloc, builder, "plain", step.as_str());
-    drop(step);
-    said
-}
-
-/// Functions that take and give a type get these answers.
-fn say_type(
-    rt: &impl Abort,
-    alloc: Global,
-    builder: &mut Builder,
-    ty: &str,
-    answers: &str,
-) -> Result<(), Fail> {
-    let (one, both) = answers.split_once(" / ").ok_or("no second answer")?;
-    let takes = add_func(rt, alloc, builder, ty, "")?;
-    let gives = add_func(rt, alloc, builder, "", ty)?;
-    say_first(rt, alloc, builder, takes, 0, one)?;
-    say_first(rt, alloc, builder, 0, takes, one)?;
-    say_first(rt, alloc, builder, gives, 0, one)?;
-    say_first(rt, alloc, builder, 0, gives, one)?;
-    say_first(rt, alloc, builder, takes, takes, both)
-}
-
-/// A row of a table holds.
-fn say_row(
-    rt: &impl Abort,
-    alloc: Global,
-    builder: &mut Builder,
-    table: &str,
-    row: &str,
-) -> Result<(), Fail> {
-    let (front, end) = row.split_once(": ").ok_or("no second part")?;
-    match table {
-        "steps" => say_steps(rt, alloc, builder, front, end),
-        "answers" => say_second(rt, alloc, builder, front, end),
-        _ => say_type(rt, alloc, builder, front, end),
-    }
-}
-
-/// Each row of a table holds.
-fn say_rows(
-    rt: &impl Abort,
-    alloc: Global,
-    builder: &mut Builder,
-    table: &str,
-    rows: &str,
-) -> Result<(), Fail> {
-    for row in rows.trim().lines() {
-        say_row(rt, alloc, builder, table, row)?;
-    }
-    Ok(())
-}
-
-fn say_tables(rt: &impl Abort, alloc: Global, builder: &mut Builder) -> Result<(), Fail> {
-    fill(rt, alloc, builder)?;
-    say_rows(rt, alloc, builder, "steps", STEPS)?;
-    say_rows(rt, alloc, builder, "answers", ANSWERS)?;
-    say_rows(rt, alloc, builder, "types", TYPES)
+/// The steps over types that are added here.
+fn say_all(rt: &impl Abort, alloc: Global, builder: &mut Builder) -> Result<(), Fail> {
+    add_funcs(rt, alloc, builder)?;
+    add_core_types(alloc, builder)?;
+    say_over(rt, alloc, builder)
 }
 
 #[test]
 fn adapters_are_taken_or_not(rt: HostRuntime) -> Result<(), Fail> {
     let mut builder = Builder::new(rt.alloc(), 7);
-    let said = say_tables(&rt, rt.alloc(), &mut builder);
+    let said = say_all(&rt, rt.alloc(), &mut builder);
     drop(builder);
-    said
-}
-
-/// Whether a further adapter gets this number. Those of odd numbers are marked.
-fn is_next(alloc: Global, component: &mut ComponentDfg, number: u32) -> Result<bool, Fail> {
-    let edits = if number % 2 == 1 { "transparent" } else { "" };
-    let id = added(alloc, component, edits)?;
-    Ok(id.as_u32() == number)
-}
-
-/// Says that adapters get their numbers, and which of them are marked.
-fn say_added(rt: &impl Abort, alloc: Global, component: &mut ComponentDfg) -> Result<(), Fail> {
-    for number in 0..4u32 {
-        assert!(rt; is_next(alloc, component, number)?);
-    }
-    assert_eq!(rt; component.adapters.len(), 4);
-    let marked = [AdapterId::from_u32(1), AdapterId::from_u32(3)];
-    assert!(rt; component.transparent_adapters.as_slice() == marked.as_slice());
-    Ok(())
-}
-
-#[test]
-fn adapters_are_added(rt: HostRuntime) -> Result<(), Fail> {
-    let mut component = ComponentDfg::new(rt.alloc());
-    let said = say_added(&rt, rt.alloc(), &mut component);
-    drop(component);
     said
 }

@@ -1,8 +1,6 @@
-//! What comes of plans: a module, or their first fault.
+//! What comes of plans that were not checked before: a module, or their first fault.
 
-use crate::machine::{module_of, plan_in};
-use crate::plans::edited;
-use fact_module::{FuseError, FusePlan};
+use crate::plans::{edited, end_in};
 use std::alloc::{AllocError, Global};
 use std::process::Abort;
 
@@ -25,37 +23,23 @@ bad signature at Adapter(0): ["i32"] => ["i64"]
 bad type at Func(0): [["x","u32"]] => [["x","u32"],["x","u32"]]
 bad type at TypeEntry(0): "types":[] => "types":[{"record":[]}]
 duplicate name at Adapter(1): "f1" => "f0" | "lower":{"ty":0,"instance":1 => "lower":{"ty":0,"instance":0
+too large at Adapter(0): "instances":2 => "instances":4294967295 | "instance":1 => "instance":2147483648
+bad options at Adapter(0): "core_type":0}} => "core_type":0,"post_return":0}}
+type mismatch at Adapter(0): "results":[]}] => "results":[]},{"params":[],"results":[]}] | "lower":{"ty":0 => "lower":{"ty":1
+bad memory at Adapter(0): "core_type":0} => "core_type":0,"realloc":0}
+import conflict at Adapter(0): "core_type":0} => "core_type":0,"post_return":0}
 "#;
 
-/// What comes of a plan.
-fn end_of(rt: &impl Abort, alloc: Global, plan: &FusePlan) -> Result<String, AllocError> {
-    match module_of(rt, alloc, plan) {
-        Ok(fused) => {
-            drop(fused);
-            String::from_str(alloc, "fused")
-        }
-        Err(FuseError::OutOfMemory) => Err(AllocError),
-        Err(error) => format!(in alloc; "{error}"),
-    }
-}
-
-/// Whether this comes of the plan in a text.
-fn ends_so(rt: &impl Abort, alloc: Global, text: &str, wanted: &str) -> Result<bool, AllocError> {
-    let plan = plan_in(rt, alloc, text)?;
-    let end = end_of(rt, alloc, &plan);
-    drop(plan);
-    let end = end?;
-    let ends = end.as_str() == wanted;
-    drop(end);
-    Ok(ends)
-}
-
+/// Whether this comes of the plan with these edits.
 fn row_holds(rt: &impl Abort, alloc: Global, row: &str) -> Result<bool, AllocError> {
     let (wanted, edits) = row.split_once(": ").unwrap_or((row, ""));
     let text = edited(alloc, PAIR, edits)?;
-    let ends = ends_so(rt, alloc, text.as_str(), wanted);
-    drop(text);
-    ends
+    let end = end_in(rt, alloc, text.as_str())?;
+    Ok(if wanted == "fused" {
+        end.as_str().starts_with("[0, 97, 115, 109, ")
+    } else {
+        end.as_str() == wanted
+    })
 }
 
 #[test]

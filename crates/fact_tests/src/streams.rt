@@ -1,6 +1,6 @@
 //! The standard streams.
 
-use fact_run::{Sink, Source, StderrSink, StdinSource, StdoutSink};
+use fact_io::{Sink, Source, StderrSink, StdinSource, StdoutSink};
 use std::test::Fail;
 
 #[test]

@@ -1,23 +1,7 @@
-//! Tests of core modules: the binary grammar both ways, and each instruction on the machine.
+//! Tests of core modules and of the machine, beside the table of the program `rows`: what no line of it can say.
 #![tactic(auto)]
 
 #[cfg(test)]
-mod by_hand;
-#[cfg(test)]
-mod ends;
-#[cfg(test)]
-mod engine_controls;
-#[cfg(test)]
-mod engine_memories;
-#[cfg(test)]
-mod engine_numbers;
-#[cfg(test)]
-mod grammar;
-#[cfg(test)]
 mod lists;
 #[cfg(test)]
-mod refused;
-#[cfg(test)]
-mod rows;
-#[cfg(test)]
-mod trees;
+mod runs;
