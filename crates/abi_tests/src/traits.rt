@@ -1,23 +1,19 @@
-//! Equality, hashes and copies of the plain types.
+//! Equality, hashes and copies of plain types. Of the types of members, cases and handles, which a builder looks up and copies, they are
+//! seen where programs add such types.
 
 use fact_entity::{
     ComponentAnyTypeId, ComponentFuncTypeId, EntityRef, FuncIndex, Interner, OutOfMemory,
     ResourceIndex, RuntimeComponentInstanceIndex, RuntimeInstanceIndex, TrampolineIndex,
-    TypeFutureIndex, TypeRecordIndex, TypeStreamIndex, TypeTupleIndex,
+    TypeRecordIndex,
 };
 use fact_types::{
     CanonicalAbiInfo, CoreDef, DiscriminantSize, EngineOrModuleTypeIndex, FixedEncoding, FlagsSize,
-    FlatType, InterfaceType, RecordField, StringEncoding, Transcode, Trap, TypeEnum,
-    TypeErrorContextTable, TypeFixedLengthList, TypeFlags, TypeFunc, TypeFuture, TypeFutureTable,
-    TypeList, TypeMap, TypeOption, TypeRecord, TypeResourceTable, TypeResult, TypeStream,
-    TypeStreamTable, TypeTuple, TypeVariant, UnsafeIntrinsic, VariantInfo,
+    FlatType, InterfaceType, RecordField, StringEncoding, Transcode, Trap, TypeResourceTable,
+    UnsafeIntrinsic, VariantInfo,
 };
 use fact_wasm::{FuncType, Seq, Text, ValType};
-use indexmap::{IndexMap, IndexSet};
 use std::alloc::Global;
 use std::hash::Hash;
-
-const ZERO: CanonicalAbiInfo = CanonicalAbiInfo::ZERO;
 
 const INFO: VariantInfo = VariantInfo {
     size: DiscriminantSize::Size1,
@@ -130,133 +126,18 @@ fn are_layouts_cloned(alloc: Global) -> bool {
         payload_offset64: 8,
         ..INFO
     };
-    is_cloned(alloc, ZERO, CanonicalAbiInfo::SCALAR1) && is_cloned(alloc, INFO, moved)
+    is_cloned(alloc, CanonicalAbiInfo::ZERO, CanonicalAbiInfo::SCALAR1)
+        && is_cloned(alloc, INFO, moved)
 }
 
-/// Whether options are cloned.
-fn are_options_cloned(alloc: Global) -> bool {
-    let option = TypeOption {
-        ty: InterfaceType::U8,
-        abi: ZERO,
-        info: INFO,
-    };
-    let other = TypeOption {
-        ty: InterfaceType::Char,
-        ..option
-    };
-    is_cloned(alloc, option, other)
-}
-
-/// Whether results are cloned.
-fn are_results_cloned(alloc: Global) -> bool {
-    let result = TypeResult {
-        ok: Some(InterfaceType::U8),
-        err: None,
-        abi: ZERO,
-        info: INFO,
-    };
-    is_cloned(alloc, result, TypeResult { ok: None, ..result })
-}
-
-/// Whether lists are cloned.
-fn are_lists_cloned(alloc: Global) -> bool {
-    let element = InterfaceType::U8;
-    let other = TypeList {
-        element: InterfaceType::Char,
-    };
-    is_cloned(alloc, TypeList { element }, other)
-}
-
-/// Whether maps are cloned.
-fn are_maps_cloned(alloc: Global) -> bool {
-    let map = TypeMap {
-        key: InterfaceType::U8,
-        value: InterfaceType::U8,
-        entry_abi: ZERO,
-        value_offset32: 1,
-        value_offset64: 1,
-    };
-    let other = TypeMap {
-        value: InterfaceType::Char,
-        ..map
-    };
-    is_cloned(alloc, map, other)
-}
-
-/// Whether lists of fixed length are cloned.
-fn are_fixed_lists_cloned(alloc: Global) -> bool {
-    let bytes = TypeFixedLengthList {
-        element: InterfaceType::U8,
-        size: 2,
-        abi: ZERO,
-    };
-    is_cloned(alloc, bytes, TypeFixedLengthList { size: 3, ..bytes })
-}
-
-/// Whether futures and streams are cloned.
-fn are_ends_cloned(alloc: Global) -> bool {
-    let payload = Some(InterfaceType::U8);
-    is_cloned(alloc, TypeFuture { payload }, TypeFuture { payload: None })
-        && is_cloned(alloc, TypeStream { payload }, TypeStream { payload: None })
-}
-
-/// Whether tables of futures in an instance are cloned.
-fn are_future_tables_cloned(alloc: Global) -> bool {
-    let table = TypeFutureTable {
-        ty: TypeFutureIndex::from_u32(0),
-        instance: RuntimeComponentInstanceIndex::from_u32(0),
-    };
-    let other = TypeFutureTable {
-        instance: RuntimeComponentInstanceIndex::from_u32(1),
-        ..table
-    };
-    is_cloned(alloc, table, other)
-}
-
-/// Whether tables of streams in an instance are cloned.
-fn are_stream_tables_cloned(alloc: Global) -> bool {
-    let table = TypeStreamTable {
-        ty: TypeStreamIndex::from_u32(0),
-        instance: RuntimeComponentInstanceIndex::from_u32(0),
-    };
-    let other = TypeStreamTable {
-        instance: RuntimeComponentInstanceIndex::from_u32(1),
-        ..table
-    };
-    is_cloned(alloc, table, other)
-}
-
-/// Whether tables of error contexts and of resources are cloned.
+/// Whether tables of resources are cloned.
 fn are_tables_cloned(alloc: Global) -> bool {
-    let instance = RuntimeComponentInstanceIndex::from_u32(0);
-    let other = TypeErrorContextTable {
-        instance: RuntimeComponentInstanceIndex::from_u32(1),
-    };
-    let errors = is_cloned(alloc, TypeErrorContextTable { instance }, other);
     let concrete = TypeResourceTable::Concrete {
         ty: ResourceIndex::from_u32(0),
-        instance,
+        instance: RuntimeComponentInstanceIndex::from_u32(0),
     };
     let general = TypeResourceTable::Abstract(EntityRef::from_u32(0));
-    errors && is_cloned(alloc, concrete, general)
-}
-
-/// Whether types of members and of cases are cloned.
-fn are_types_cloned(alloc: Global) -> bool {
-    are_layouts_cloned(alloc)
-        && are_options_cloned(alloc)
-        && are_results_cloned(alloc)
-        && are_lists_cloned(alloc)
-        && are_maps_cloned(alloc)
-        && are_fixed_lists_cloned(alloc)
-}
-
-/// Whether handles and their tables are cloned.
-fn are_handles_cloned(alloc: Global) -> bool {
-    are_ends_cloned(alloc)
-        && are_future_tables_cloned(alloc)
-        && are_stream_tables_cloned(alloc)
-        && are_tables_cloned(alloc)
+    is_cloned(alloc, concrete, general)
 }
 
 #[test]
@@ -264,85 +145,8 @@ fn plain_values_are_copied(rt: HostRuntime) {
     assert!(rt; are_keys_copied(rt.alloc()));
     assert!(rt; are_types_copied(rt.alloc()));
     assert!(rt; are_words_copied(rt.alloc()));
-    assert!(rt; are_types_cloned(rt.alloc()));
-    assert!(rt; are_handles_cloned(rt.alloc()));
-}
-
-/// Puts names into a set, in this order.
-fn put_names(alloc: Global, set: &mut IndexSet<Text>, list: &[&str]) -> Result<(), OutOfMemory> {
-    for name in list {
-        set.insert(Text::from_str(alloc, name)?)?;
-    }
-    Ok(())
-}
-
-/// Flags of these names.
-fn flags(alloc: Global, list: &[&str]) -> Result<TypeFlags, OutOfMemory> {
-    let mut names = IndexSet::new(alloc);
-    put_names(alloc, &mut names, list)?;
-    Ok(TypeFlags { names, abi: ZERO })
-}
-
-/// An enum of these names.
-fn enumeration(alloc: Global, list: &[&str]) -> Result<TypeEnum, OutOfMemory> {
-    let mut names = IndexSet::new(alloc);
-    put_names(alloc, &mut names, list)?;
-    Ok(TypeEnum {
-        names,
-        abi: ZERO,
-        info: INFO,
-    })
-}
-
-/// Puts a case into a variant.
-fn put_case(
-    alloc: Global,
-    variant: &mut TypeVariant,
-    case: (&str, InterfaceType),
-) -> Result<(), OutOfMemory> {
-    let name = Text::from_str(alloc, case.0)?;
-    variant.cases.insert(name, Some(case.1))?;
-    Ok(())
-}
-
-/// A variant of two cases.
-fn variant(
-    alloc: Global,
-    first: (&str, InterfaceType),
-    second: (&str, InterfaceType),
-) -> Result<TypeVariant, OutOfMemory> {
-    let mut variant = TypeVariant {
-        cases: IndexMap::new(alloc),
-        abi: ZERO,
-        info: INFO,
-    };
-    put_case(alloc, &mut variant, first)?;
-    put_case(alloc, &mut variant, second)?;
-    Ok(variant)
-}
-
-/// Whether variants of two cases are cloned, and told apart by the order of the cases.
-fn variants_have_order(alloc: Global) -> Result<bool, OutOfMemory> {
-    let number = ("n", InterfaceType::U32);
-    let text = ("s", InterfaceType::String);
-    let first = variant(alloc, number, text)?;
-    let copy = first.try_clone();
-    Ok(are_made_apart(alloc, first, copy, variant(alloc, text, number)))
-}
-
-/// Whether flags are cloned, and told apart by the order of the names.
-fn flags_have_order(alloc: Global) -> Result<bool, OutOfMemory> {
-    let first = flags(alloc, &["a", "b", "c"])?;
-    let copy = first.try_clone();
-    Ok(are_made_apart(alloc, first, copy, flags(alloc, &["c", "b", "a"])))
-}
-
-/// Whether enums are cloned, and told apart by the order of the names.
-fn enums_have_order(alloc: Global) -> Result<bool, OutOfMemory> {
-    let first = enumeration(alloc, &["red", "green", "blue"])?;
-    let copy = first.try_clone();
-    let other = enumeration(alloc, &["blue", "green", "red"]);
-    Ok(are_made_apart(alloc, first, copy, other))
+    assert!(rt; are_layouts_cloned(rt.alloc()));
+    assert!(rt; are_tables_cloned(rt.alloc()));
 }
 
 /// A field of a record.
@@ -350,37 +154,6 @@ fn field(alloc: Global, name: &str, ty: InterfaceType) -> Result<RecordField, Ou
     Ok(RecordField {
         name: Text::from_str(alloc, name)?,
         ty,
-    })
-}
-
-/// A record of two bytes.
-fn record(alloc: Global, names: [&str; 2]) -> Result<TypeRecord, OutOfMemory> {
-    let [first, second] = names;
-    let mut fields = Seq::new(alloc);
-    fields.push(field(alloc, first, InterfaceType::U8)?)?;
-    fields.push(field(alloc, second, InterfaceType::U8)?)?;
-    Ok(TypeRecord { fields, abi: ZERO })
-}
-
-/// A tuple of two members.
-fn tuple(alloc: Global, types: [InterfaceType; 2]) -> Result<TypeTuple, OutOfMemory> {
-    Ok(TypeTuple {
-        types: Seq::from_vec(types.to_vec(alloc)?),
-        abi: ZERO,
-    })
-}
-
-/// An async function of two parameters.
-fn func(alloc: Global, names: [&str; 2]) -> Result<TypeFunc, OutOfMemory> {
-    let [first, second] = names;
-    let mut param_names = Seq::new(alloc);
-    param_names.push(Text::from_str(alloc, first)?)?;
-    param_names.push(Text::from_str(alloc, second)?)?;
-    Ok(TypeFunc {
-        async_: true,
-        param_names,
-        params: TypeTupleIndex::from_u32(0),
-        results: TypeTupleIndex::from_u32(1),
     })
 }
 
@@ -408,28 +181,6 @@ fn fields_are_cloned(alloc: Global) -> Result<bool, OutOfMemory> {
     Ok(are_made_apart(alloc, first, copy, other))
 }
 
-/// Whether records are cloned, and told apart by the order of the fields.
-fn records_are_cloned(alloc: Global) -> Result<bool, OutOfMemory> {
-    let first = record(alloc, ["x", "y"])?;
-    let copy = first.try_clone();
-    Ok(are_made_apart(alloc, first, copy, record(alloc, ["y", "x"])))
-}
-
-/// Whether tuples are cloned, and told apart by the order of the members.
-fn tuples_are_cloned(alloc: Global) -> Result<bool, OutOfMemory> {
-    let first = tuple(alloc, [InterfaceType::U8, InterfaceType::Char])?;
-    let copy = first.try_clone();
-    let other = tuple(alloc, [InterfaceType::Char, InterfaceType::U8]);
-    Ok(are_made_apart(alloc, first, copy, other))
-}
-
-/// Whether functions are cloned, and told apart by the names of the parameters.
-fn funcs_are_cloned(alloc: Global) -> Result<bool, OutOfMemory> {
-    let first = func(alloc, ["x", "y"])?;
-    let copy = first.try_clone();
-    Ok(are_made_apart(alloc, first, copy, func(alloc, ["x", "z"])))
-}
-
 /// Whether exports of core instances are cloned, and told apart by their names.
 fn exports_are_cloned(alloc: Global) -> Result<bool, OutOfMemory> {
     let first = export(alloc, "run")?;
@@ -447,25 +198,9 @@ fn core_items_are_cloned(alloc: Global) -> bool {
     are_made_apart(alloc, flags, copy, other)
 }
 
-/// Whether types whose parts have names are cloned, and told apart by the order of the names.
-fn are_ordered(alloc: Global) -> Result<bool, OutOfMemory> {
-    Ok(variants_have_order(alloc)? && flags_have_order(alloc)? && enums_have_order(alloc)?)
-}
-
-/// Whether types that hold lists or texts are cloned.
-fn are_parts_cloned(alloc: Global) -> Result<bool, OutOfMemory> {
-    Ok(
-        fields_are_cloned(alloc)?
-            && records_are_cloned(alloc)?
-            && tuples_are_cloned(alloc)?
-            && funcs_are_cloned(alloc)?,
-    )
-}
-
 #[test]
-fn what_has_members_is_cloned(rt: HostRuntime) {
-    assert!(rt; matches!(are_ordered(rt.alloc()), Ok(true)));
-    assert!(rt; matches!(are_parts_cloned(rt.alloc()), Ok(true)));
+fn what_has_names_is_cloned(rt: HostRuntime) {
+    assert!(rt; matches!(fields_are_cloned(rt.alloc()), Ok(true)));
     assert!(rt; matches!(exports_are_cloned(rt.alloc()), Ok(true)));
     assert!(rt; core_items_are_cloned(rt.alloc()));
 }

@@ -4,13 +4,20 @@ ghost use Rattle.std.specs.Prelude.{IsTrue, All};
 ghost use Rattle.fact_types.specs.Tables.{IsLive, IsLiveMember};
 
 use fact_builder::ComponentTypesBuilder;
-use fact_types::{InterfaceType, RecordField};
+use fact_types::InterfaceType;
 
 /// Whether a type is a number, a character or a string, or names an entry that the builder holds.
 pub fn is_live(builder: &ComponentTypesBuilder, ty: &InterfaceType) -> bool
     ensures { IsTrue result → IsLive builder.now.tables ty.now }
 {
     builder.component_types().is_live(*ty)
+}
+
+/// Whether each of several types is such a type.
+pub fn are_live(builder: &ComponentTypesBuilder, types: &[InterfaceType]) -> bool
+    ensures { IsTrue result → All (IsLive builder.now.tables) types.now }
+{
+    types.iter().all(|ty| is_live(builder, ty))
 }
 
 /// Whether a payload, if there is one, has such a type.
@@ -21,18 +28,4 @@ pub fn is_live_payload(builder: &ComponentTypesBuilder, payload: &Option<Interfa
         Some(ty) => is_live(builder, ty),
         None => true,
     }
-}
-
-/// Whether each of several types is such a type.
-pub fn are_live(builder: &ComponentTypesBuilder, types: &[InterfaceType]) -> bool
-    ensures { IsTrue result → All (IsLive builder.now.tables) types.now }
-{
-    types.iter().all(|ty| is_live(builder, ty))
-}
-
-/// Whether each of several fields has such a type.
-pub fn are_live_fields(builder: &ComponentTypesBuilder, fields: &[RecordField]) -> bool
-    ensures { IsTrue result → All (λ f. IsLive builder.now.tables f.ty) fields.now }
-{
-    fields.iter().all(|field| is_live(builder, &field.ty))
 }

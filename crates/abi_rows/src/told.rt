@@ -1,0 +1,115 @@
+//! How values are told: numbers as they are, floats by their bits, texts in quotes, `[..]` a list, `<key:value ..>` a map,
+//! `{name=value ..}` a record, `(..)` a tuple, `{+name -name}` flags, `name(..)` a case, and a handle by its kind, the number of its
+//! table and its own.
+
+use fact_abi::{HandleKind, Value};
+use fact_wasm::{Seq, Text};
+use std::alloc::AllocError;
+
+fn add_text(page: &mut String, chars: &Seq<char>) -> Result<(), AllocError> {
+    page.push('"')?;
+    for char in chars.as_slice() {
+        page.push(*char)?;
+    }
+    page.push('"')
+}
+
+fn add_flags(page: &mut String, flags: &Seq<(Text, bool)>) -> Result<(), AllocError> {
+    page.push('{')?;
+    let mut between = "";
+    for (name, is_set) in flags.as_slice() {
+        page.push_str(between)?;
+        page.push(if *is_set { '+' } else { '-' })?;
+        page.push_str(name.as_str())?;
+        between = " ";
+    }
+    page.push('}')
+}
+
+fn add_handle(
+    page: &mut String,
+    kind: HandleKind,
+    table: u32,
+    number: u32,
+) -> Result<(), AllocError> {
+    let kind = match kind {
+        HandleKind::Own => "own",
+        HandleKind::Borrow => "borrow",
+        HandleKind::Future => "future",
+        HandleKind::Stream => "stream",
+        HandleKind::ErrorContext => "error-context",
+    };
+    write!(page, "{kind}:{table}:{number}")
+}
+
+/// Adds values between these two, with spaces between them.
+#[cycle(telling)]
+fn add_values(
+    page: &mut String,
+    before: char,
+    values: &Seq<Value>,
+    after: char,
+) -> Result<(), AllocError> {
+    page.push(before)?;
+    let mut between = "";
+    for value in values.as_slice() {
+        page.push_str(between)?;
+        add_value(page, value)?;
+        between = " ";
+    }
+    page.push(after)
+}
+
+#[cycle(telling)]
+fn add_entries(page: &mut String, entries: &Seq<(Value, Value)>) -> Result<(), AllocError> {
+    page.push('<')?;
+    let mut between = "";
+    for (key, value) in entries.as_slice() {
+        page.push_str(between)?;
+        add_value(page, key)?;
+        page.push(':')?;
+        add_value(page, value)?;
+        between = " ";
+    }
+    page.push('>')
+}
+
+#[cycle(telling)]
+fn add_fields(page: &mut String, fields: &Seq<(Text, Value)>) -> Result<(), AllocError> {
+    page.push('{')?;
+    let mut between = "";
+    for (name, value) in fields.as_slice() {
+        page.push_str(between)?;
+        write!(page, "{}=", name.as_str())?;
+        add_value(page, value)?;
+        between = " ";
+    }
+    page.push('}')
+}
+
+/// Adds a value. The depth of its recursion is that of the value.
+#[cycle(telling)]
+pub fn add_value(page: &mut String, value: &Value) -> Result<(), AllocError> {
+    match value {
+        Value::Bool(is_true) => write!(page, "{is_true}"),
+        Value::Int(number) => write!(page, "{number}"),
+        Value::Float32(bits) => write!(page, "f32:{bits}"),
+        Value::Float64(bits) => write!(page, "f64:{bits}"),
+        Value::Char(char) => write!(page, "'{char}'"),
+        Value::Str(chars) => add_text(page, chars),
+        Value::List(values) => add_values(page, '[', values, ']'),
+        Value::Map(entries) => add_entries(page, entries),
+        Value::Record(fields) => add_fields(page, fields),
+        Value::Tuple(values) => add_values(page, '(', values, ')'),
+        Value::Flags(flags) => add_flags(page, flags),
+        Value::Case { name, payload } => {
+            write!(page, "{}", name.as_str())?;
+            add_values(page, '(', payload, ')')
+        }
+        Value::Handle {
+            kind,
+            table,
+            number,
+        } => add_handle(page, *kind, *table, *number),
+    }
+}
