@@ -1,273 +1,191 @@
-//! Calls that the other tests leave out: conversions of core modules and of components, tables of handles, registering with closures
-//! of one's own, and the end of a builder.
+//! The other calls: conversions of values, of a core module and of a component, tables of handles, registering with closures of one's
+//! own, and the end of a builder.
 
 ghost use Rattle.std.specs.Prelude.{◌≡◌, [], IfOk};
 ghost use Rattle.fact_types.specs.Tables.{Tables, AreLiveExterns};
-ghost use Rattle.fact_convert.specs.Converters.{no_conversions};
+ghost use Rattle.fact_convert.specs.Conversion.{IsReadyFor};
 ghost use Rattle.fact_convert.specs.Finished.{IsLinkedComponent};
 
-use crate::entities::entity_of;
 use crate::live::is_live_entity;
-use crate::ready::{SOURCE, ready};
-use fact_builder::ComponentTypesBuilder;
+use crate::sources::{Entries, SOURCE, fill};
 use fact_convert::{BuildError, Component, ConvertingBuilder, Export};
 use fact_entity::{
-    AbstractResourceIndex, EntityRef, OutOfMemory, PrimaryMap, ResourceId, ResourceIndex,
+    AbstractResourceIndex, EntityRef, OutOfMemory, PrimaryMap, PushError, ResourceIndex,
+    RuntimeComponentInstanceIndex,
 };
 use fact_source::{
-    ComponentAnyTypeId, ComponentEntityType, SourceComponent, SourceEntityType, SourceItem,
-    SourceModule, SourceTypes,
+    ComponentAnyTypeId, ComponentDefinedTypeId, ComponentEntityType, ComponentInstanceTypeId,
+    ComponentTypeId, SourceItem, SourceTypes,
 };
 use fact_types::{
-    ComponentExtern, ComponentExternData, ComponentTypes, EngineOrModuleTypeIndex, EntityType,
-    InterfaceType, Lookup, ModuleTypesBuilder, TypeDef, TypeListIndex, TypeResourceTable,
+    ComponentExtern, ComponentExternData, ComponentTypes, InterfaceType, Lookup, TypeDef,
+    TypeListIndex,
 };
-use fact_wasm::{FuncType, Seq, Text, ValType};
+use fact_wasm::{Seq, Text};
 use std::alloc::Global;
 use std::process::Abort;
-use std::test::Fail;
 
-/// Imports of globals, of which the last takes the name of the first.
-fn imports_of_module(alloc: Global) -> Result<Seq<(Text, Text, SourceEntityType)>, OutOfMemory> {
-    let mut imports = Seq::new(alloc);
-    for (name, ty) in [
-        ("g", ValType::I32),
-        ("h", ValType::F32),
-        ("g", ValType::I64),
-    ] {
-        let global = SourceEntityType::Global { ty, mutable: false };
-        let module = Text::from_str(alloc, "m")?;
-        imports.push((module, Text::from_str(alloc, name)?, global))?;
-    }
-    Ok(imports)
-}
+// ---- conversions
 
-/// A function from an i32 to an i64.
-fn core_func(alloc: Global) -> Result<SourceEntityType, OutOfMemory> {
-    let FuncType { params, results } = FuncType::from_slices(
-        alloc,
-        &[ValType::I32],
-        &[ValType::I64],
-    )?;
-    Ok(SourceEntityType::Func { params, results })
-}
-
-/// A tag with an i32.
-fn core_tag(alloc: Global) -> Result<SourceEntityType, OutOfMemory> {
-    let FuncType { params, results } = FuncType::from_slices(alloc, &[ValType::I32], &[])?;
-    Ok(SourceEntityType::Tag { params, results })
-}
-
-/// Exports of each kind; the function is exported twice.
-fn exports_of_module(alloc: Global) -> Result<Seq<(Text, SourceEntityType)>, OutOfMemory> {
-    let mut exports = Seq::new(alloc);
-    exports.push((Text::from_str(alloc, "f")?, core_func(alloc)?))?;
-    let table = SourceEntityType::Table {
-        minimum: 1,
-        maximum: Some(2),
-        table64: true,
-    };
-    exports.push((Text::from_str(alloc, "t")?, table))?;
-    let memory = SourceEntityType::Memory {
-        minimum: 3,
-        maximum: None,
-        shared: false,
-        memory64: true,
-        page_size_log2: 0,
-    };
-    exports.push((Text::from_str(alloc, "m")?, memory))?;
-    let global = SourceEntityType::Global {
-        ty: ValType::F64,
-        mutable: true,
-    };
-    exports.push((Text::from_str(alloc, "g")?, global))?;
-    exports.push((Text::from_str(alloc, "e")?, core_tag(alloc)?))?;
-    exports.push((Text::from_str(alloc, "h")?, core_func(alloc)?))?;
-    Ok(exports)
-}
-
-/// Whether the import g is the last one, in the first place.
-fn are_imports(imports: &[EntityType]) -> bool {
-    matches!(
-        imports,
-        [
-            EntityType::Global {
-                ty: ValType::I64,
-                mutable: false,
-            },
-            EntityType::Global {
-                ty: ValType::F32,
-                mutable: false,
-            },
-        ]
-    )
-}
-
-/// Whether a core function type has these parameters and results.
-fn is_core_type(
-    types: &ModuleTypesBuilder,
-    index: EngineOrModuleTypeIndex,
-    params: &[ValType],
-    results: &[ValType],
-) -> bool {
-    let EngineOrModuleTypeIndex::Module(index) = index else {
-        return false;
-    };
-    types.get(index).is_some_and(|ty| ty.params.as_slice() == params
-        && ty.results.as_slice() == results)
-}
-
-/// Whether the exports are those of the source.
-fn are_exports(types: &ModuleTypesBuilder, exports: &[EntityType]) -> bool {
-    match exports {
-        [
-            EntityType::Function(func),
-            EntityType::Table {
-                minimum: 1,
-                maximum: Some(2),
-                table64: true,
-            },
-            EntityType::Memory {
-                minimum: 3,
-                maximum: None,
-                shared: false,
-                memory64: true,
-                page_size_log2: 0,
-            },
-            EntityType::Global {
-                ty: ValType::F64,
-                mutable: true,
-            },
-            EntityType::Tag { signature },
-            EntityType::Function(again),
-        ] => {
-            func == again
-                && is_core_type(types, *func, &[ValType::I32], &[ValType::I64])
-                && is_core_type(types, *signature, &[ValType::I32], &[])
-        }
-        _ => false,
-    }
-}
-
-/// Whether a module type is that of the source.
-fn is_module(types: &ComponentTypesBuilder, ty: TypeDef) -> bool {
-    let TypeDef::Module(index) = ty else {
-        return false;
-    };
-    let Some(module) = types.component_types().get(index) else {
-        return false;
-    };
-    are_imports(module.imports.values().as_slice())
-        && are_exports(
-            types.module_types_builder(),
-            module.exports.values().as_slice(),
-        )
-}
-
-/// A core module with imports and exports of each kind is converted, and what is said of it stays.
-fn module_is_converted(
-    rt: &impl Abort,
-    alloc: Global,
-    types: &mut SourceTypes,
+/// Whether the list is converted to the first one.
+fn is_list(
+    types: &SourceTypes,
     converter: &mut ConvertingBuilder,
-) -> Result<(), Fail>
-    requires { converter.old ≡ no_conversions 7 }
+    id: ComponentDefinedTypeId,
+) -> bool
+    requires ready { IsReadyFor types.now converter.old }
+    ensures ready { IsReadyFor types.now converter.new }
 {
-    let imports = imports_of_module(alloc)?;
-    let exports = exports_of_module(alloc)?;
-    let id = types.add_module(SourceModule { imports, exports })?;
-    assert!(rt; types.number() == SOURCE && types.get_module(id).is_some());
-    let item = SourceItem {
-        ty: ComponentEntityType::Module(id),
-        implements: Some(Text::from_str(alloc, "interface")?),
+    if types.get_defined(id).is_none() {
+        return false;
+    }
+    let made = converter.defined_type(types, id);
+    matches!(made, Ok(InterfaceType::List(list)) if list.number == 0)
+}
+
+/// Whether the component is converted to the first one.
+fn is_component(types: &SourceTypes, converter: &mut ConvertingBuilder, id: ComponentTypeId) -> bool
+    requires ready { IsReadyFor types.now converter.old }
+    ensures ready { IsReadyFor types.now converter.new }
+{
+    if types.get_component(id).is_none() {
+        return false;
+    }
+    let made = converter.convert_type(types, ComponentAnyTypeId::Component(id));
+    matches!(made, Ok(TypeDef::Component(component)) if component.number == 0)
+}
+
+/// Whether the core module is converted to the first one, under the name that the outside knows it by.
+fn is_module(types: &SourceTypes, converter: &mut ConvertingBuilder, item: &SourceItem) -> bool
+    requires ready { IsReadyFor types.now converter.old }
+{
+    if !is_live_entity(types, &item.ty) {
+        return false;
+    }
+    let Ok(made) = converter.convert_component_item(types, item) else {
+        return false;
+    };
+    let named = matches!(&made.extern_data.external_id, Some(name) if name.as_str() == "outside");
+    named && matches!(made.ty, TypeDef::Module(module) if module.number == 0)
+}
+
+/// The core module as an import that has a name outside.
+fn module_item(alloc: Global, entries: Entries) -> Result<SourceItem, OutOfMemory> {
+    Ok(SourceItem {
+        ty: ComponentEntityType::Module(entries.module),
+        implements: None,
         external_id: Some(Text::from_str(alloc, "outside")?),
+    })
+}
+
+// ---- registrations and tables
+
+/// Whether a closure is told the path to the resource that an instance exports, and the tables so far, where the list is there.
+fn tells_concrete(
+    types: &SourceTypes,
+    converter: &mut ConvertingBuilder,
+    id: ComponentInstanceTypeId,
+    path: &mut Seq<Text>,
+) -> bool
+    requires ready { IsReadyFor types.now converter.old }
+    ensures ready { IsReadyFor types.now converter.new }
+{
+    let mut told = false;
+    let mut register = |path: &[Text], tables: &ComponentTypes| {
+        told = path.len() == 1 && tables.get(TypeListIndex::from_u32(0)).is_some();
+        ResourceIndex::from_u32(3)
     };
-    let made = converter.convert_component_item(types, &item)?;
-    assert!(rt; matches!(&made.extern_data.implements, Some(name) if name.as_str() == "interface"));
-    assert!(rt; matches!(&made.extern_data.external_id, Some(name) if name.as_str() == "outside"));
-    assert!(rt; is_module(converter.types(), made.ty));
-    assert_eq!(rt; converter.types().module_types_builder().len(), 2);
-    Ok(())
+    let ty = ComponentEntityType::Instance(id);
+    let walked = converter.register_component_entity_type(types, ty, path, &mut register);
+    walked.is_ok() && told
 }
 
-/// A component type without imports and exports is the first one.
-fn component_is_converted(
+/// The same of abstract resources.
+fn tells_abstract(
+    types: &SourceTypes,
+    converter: &mut ConvertingBuilder,
+    id: ComponentInstanceTypeId,
+    path: &mut Seq<Text>,
+) -> bool
+    requires ready { IsReadyFor types.now converter.old }
+    ensures ready { IsReadyFor types.now converter.new }
+{
+    let mut told = false;
+    let mut register = |path: &[Text], tables: &ComponentTypes| {
+        told = path.len() == 1 && tables.get(TypeListIndex::from_u32(0)).is_some();
+        AbstractResourceIndex::from_u32(9)
+    };
+    let ty = ComponentEntityType::Instance(id);
+    let walked = converter.register_abstract_component_entity_type(types, ty, path, &mut register);
+    walked.is_ok() && told
+}
+
+/// Whether the two resources have tables, in the order in which they are asked for, and the same ones again; and so with the error
+/// contexts of the instance.
+fn have_tables(types: &SourceTypes, converter: &mut ConvertingBuilder, entries: Entries) -> bool
+    requires ready { IsReadyFor types.now converter.old }
+{
+    let concrete = converter.resource_id(entries.resource);
+    let again = converter.resource_id(entries.resource);
+    let general = converter.resource_id(entries.other);
+    let context = converter.error_context_type();
+    let same = converter.error_context_table_type();
+    let (Ok(concrete), Ok(again), Ok(general)) = (concrete, again, general) else {
+        return false;
+    };
+    let (Ok(context), Ok(same)) = (context, same) else {
+        return false;
+    };
+    concrete == again && concrete.number == 0 && general.number == 1 && context == same
+}
+
+/// A builder in which an instance is set.
+fn builder_in_instance(alloc: Global) -> ConvertingBuilder
+    ensures source { result.builder.source ≡ 7 }
+    ensures none_kept { result.resources.tables ≡ [] }
+{
+    let mut converter = ConvertingBuilder::new(alloc, SOURCE);
+    let resources = converter.resources_mut();
+    resources.set_current_instance(RuntimeComponentInstanceIndex::from_u32(2));
+    converter
+}
+
+/// Whether each of these calls answers as it should.
+fn are_answered(
     rt: &impl Abort,
     alloc: Global,
     types: &mut SourceTypes,
     converter: &mut ConvertingBuilder,
-) -> Result<(), Fail>
-    requires { converter.old ≡ no_conversions 7 }
-{
-    let imports = Seq::new(alloc);
-    let exports = Seq::new(alloc);
-    let id = types.add_component(SourceComponent { imports, exports })?;
-    assert!(rt; types.number() == SOURCE && types.get_component(id).is_some());
-    let made = converter.convert_type(types, ComponentAnyTypeId::Component(id))?;
-    assert!(rt; matches!(made, TypeDef::Component(index) if index.as_u32() == 0));
-    Ok(())
-}
-
-/// A resource has one table, and so have the error contexts of an instance, of which none comes without an instance.
-fn tables_are_kept(
-    rt: &impl Abort,
-    converter: &mut ConvertingBuilder,
-    resource: ResourceId,
-) -> Result<(), Fail>
-    requires { converter.old.resources.tables ≡ [] }
-{
-    let table = converter.resource_id(resource)?;
-    assert!(rt; converter.resource_id(resource)? == table);
-    let context = converter.error_context_type()?;
-    assert!(rt; converter.error_context_table_type()? == context);
-    Ok(())
-}
-
-/// Closures that register are told the path to each resource that has no registration, and the tables so far: the list is there.
-fn closures_are_told(
-    rt: &impl Abort,
-    alloc: Global,
-    types: &mut SourceTypes,
-    converter: &mut ConvertingBuilder,
-) -> Result<(), Fail>
+    path: &mut Seq<Text>,
+) -> Result<bool, PushError>
     requires source { converter.old.builder.source ≡ 7 }
     requires none_kept { converter.old.resources.tables ≡ [] }
 {
-    let (concrete, general) = (types.add_resource()?, types.add_resource()?);
-    let list = entity_of(rt, alloc, types, "u8 list value made")?;
-    let ty = entity_of(rt, alloc, types, "resource:0 instance:r instance:i")?;
-    let more = entity_of(rt, alloc, types, "resource:0 resource:1 instance:r,s")?;
-    assert!(rt; types.number() == SOURCE && is_live_entity(types, &list));
-    let _list = converter.convert_component_entity_type(types, list)?;
-    let mut path = Seq::new(alloc);
-    let mut told = 0_u32;
-    let mut register = |path: &[Text], tables: &ComponentTypes| {
-        let is_there = tables.get(TypeListIndex::from_u32(0)).is_some();
-        told = told.wrapping_add(u32::from(is_there && path.len() == 2));
-        ResourceIndex::from_u32(3)
-    };
-    converter.register_component_entity_type(types, ty, &mut path, &mut register)?;
-    assert_eq!(rt; told, 1);
-    let mut register = |path: &[Text], tables: &ComponentTypes| {
-        let is_there = tables.get(TypeListIndex::from_u32(0)).is_some();
-        told = told.wrapping_add(u32::from(is_there && path.len() == 1));
-        AbstractResourceIndex::from_u32(9)
-    };
-    converter.register_abstract_component_entity_type(types, more, &mut path, &mut register)?;
-    assert_eq!(rt; told, 2);
-    let made = (
-        converter.resource_id(concrete)?,
-        converter.resource_id(general)?,
-    );
-    let tables = converter.types().component_types();
-    assert!(rt;
-        matches!(tables.get(made.0), Some(TypeResourceTable::Concrete { ty, .. }) if ty.as_u32() == 3)
-    );
-    assert!(rt;
-        matches!(tables.get(made.1), Some(TypeResourceTable::Abstract(ty)) if ty.as_u32() == 9)
-    );
-    Ok(())
+    let entries = fill(rt, alloc, types)?;
+    let item = module_item(alloc, entries)?;
+    assert!(rt; types.number() == SOURCE);
+    let list = is_list(types, converter, entries.list);
+    let component = is_component(types, converter, entries.component);
+    let module = is_module(types, converter, &item);
+    let concrete = tells_concrete(types, converter, entries.alone, path);
+    let general = tells_abstract(types, converter, entries.another, path);
+    let tables = have_tables(types, converter, entries);
+    Ok(list && component && module && concrete && general && tables)
 }
+
+#[test]
+fn each_call_answers(rt: HostRuntime) {
+    let mut types = SourceTypes::new(rt.alloc(), SOURCE);
+    let mut converter = builder_in_instance(rt.alloc());
+    let mut path = Seq::new(rt.alloc());
+    let answered = are_answered(&rt, rt.alloc(), &mut types, &mut converter, &mut path);
+    drop(path);
+    drop(converter);
+    drop(types);
+    assert!(&rt; matches!(answered, Ok(true)));
+}
+
+// ---- the end of a builder
 
 /// What is said of an import or export without names beside its type.
 fn untold() -> ComponentExternData {
@@ -315,14 +233,23 @@ fn component_of(alloc: Global) -> Result<Component, BuildError>
     })
 }
 
-/// The end of a builder without components gives the first one, which has one import, of the last type, and one export.
-pub fn ends_with_component(
-    rt: &impl Abort,
-    alloc: Global,
-    converter: ConvertingBuilder,
-) -> Result<(), Fail> {
-    let component = component_of(alloc)?;
-    let (types, index) = converter.finish(&component)?;
+/// Whether a type is that of a u16.
+fn is_u16(ty: &TypeDef) -> bool {
+    matches!(ty, TypeDef::Interface(InterfaceType::U16))
+}
+
+/// Whether the end of a builder without components gives the first one, which has one import, of the last type under its name, and one
+/// export, with the core types.
+pub fn ends_with_component(alloc: Global, converter: ConvertingBuilder) -> bool {
+    let Ok(component) = component_of(alloc) else {
+        drop(converter);
+        return false;
+    };
+    let finished = converter.finish(&component);
+    drop(component);
+    let Ok((types, index)) = finished else {
+        return false;
+    };
     let told = types.get(index).is_some_and(|it| {
         it.imports.len() == 1
             && matches!(it.imports.values().next(), Some(import) if is_u16(&import.ty))
@@ -330,43 +257,5 @@ pub fn ends_with_component(
     });
     let core_types = types.module_types_opt().is_some();
     drop(types);
-    assert!(rt; index.as_u32() == 0 && told && core_types);
-    Ok(())
-}
-
-fn is_u16(ty: &TypeDef) -> bool {
-    matches!(ty, TypeDef::Interface(InterfaceType::U16))
-}
-
-/// Each of the three in a builder of its own.
-fn are_converted(rt: &impl Abort, alloc: Global, types: &mut SourceTypes) -> Result<(), Fail> {
-    let mut converter = ConvertingBuilder::new(alloc, SOURCE);
-    let module = module_is_converted(rt, alloc, types, &mut converter);
-    drop(converter);
-    module?;
-    let mut converter = ConvertingBuilder::new(alloc, SOURCE);
-    let component = component_is_converted(rt, alloc, types, &mut converter);
-    drop(converter);
-    component?;
-    let mut converter = ready(alloc, ResourceId::from_u32(7))?;
-    let told = closures_are_told(rt, alloc, types, &mut converter);
-    drop(converter);
-    told
-}
-
-#[test]
-fn modules_and_components_are_converted(rt: HostRuntime) -> Result<(), Fail> {
-    let mut types = SourceTypes::new(rt.alloc(), SOURCE);
-    let converted = are_converted(&rt, rt.alloc(), &mut types);
-    drop(types);
-    converted
-}
-
-#[test]
-fn handles_have_tables(rt: HostRuntime) -> Result<(), Fail> {
-    let resource = ResourceId::from_u32(0);
-    let mut converter = ready(rt.alloc(), resource)?;
-    let kept = tables_are_kept(&rt, &mut converter, resource);
-    drop(converter);
-    kept
+    index.number == 0 && told && core_types
 }

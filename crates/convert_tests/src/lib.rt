@@ -1,28 +1,18 @@
-//! Tests of conversions: what types of a source in words become, what imports and exports become, and why some are refused; what
-//! is known of resources; traces; and each call that takes memory once.
+//! Tests of conversions: each call that takes memory once, with the rows that tell which tables and which refusals come; of the tables of
+//! a source and of what is known of its resources, each call once; and of traces.
 #![tactic(auto)]
 
 #[cfg(test)]
 mod calls;
 #[cfg(test)]
-mod entities;
-#[cfg(test)]
-mod items;
-#[cfg(test)]
 mod live;
-#[cfg(test)]
-mod many;
-#[cfg(test)]
-mod ready;
 #[cfg(test)]
 mod resources;
 #[cfg(test)]
-mod told;
+mod sources;
+#[cfg(test)]
+mod tables;
 #[cfg(test)]
 mod traces;
 #[cfg(test)]
-mod values;
-#[cfg(test)]
 mod whole;
-#[cfg(test)]
-mod words;

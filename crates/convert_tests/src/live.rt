@@ -1,16 +1,15 @@
 //! Whether types of a source name entries that it holds.
 
 ghost use Rattle.std.specs.Prelude.{IsTrue, length};
-ghost use Rattle.fact_source.specs.Live.{IsValueBelow, IsPayloadBelow, IsLiveDefined, IsLiveSourceFunc, IsLiveAny, IsLiveEntity, AreLiveItems};
+ghost use Rattle.fact_source.specs.Live.{IsValueBelow, IsPayloadBelow, IsLiveSourceFunc, IsLiveAny, IsLiveEntity, AreLiveItems};
 
 use fact_source::{
-    ComponentAnyTypeId, ComponentDefinedType, ComponentEntityType, ComponentValType, SourceFunc,
-    SourceItem, SourceTypes,
+    ComponentAnyTypeId, ComponentEntityType, ComponentValType, SourceFunc, SourceItem, SourceTypes,
 };
 use fact_wasm::{Seq, Text};
 
 /// Whether a type of values is a primitive one, or names an entry that the source holds.
-pub fn is_live(types: &SourceTypes, ty: &ComponentValType) -> bool
+fn is_live(types: &SourceTypes, ty: &ComponentValType) -> bool
     ensures { IsTrue result → IsValueBelow (length types.now.defined) ty.now }
 {
     match *ty {
@@ -20,47 +19,12 @@ pub fn is_live(types: &SourceTypes, ty: &ComponentValType) -> bool
 }
 
 /// Whether a payload, if there is one, has such a type.
-pub fn is_live_payload(types: &SourceTypes, payload: &Option<ComponentValType>) -> bool
+fn is_live_payload(types: &SourceTypes, payload: &Option<ComponentValType>) -> bool
     ensures { IsTrue result → IsPayloadBelow (length types.now.defined) payload.now }
 {
     match payload {
         Some(ty) => is_live(types, ty),
         None => true,
-    }
-}
-
-/// Whether each type that an entry names is such a type, and each resource is there.
-pub fn is_live_entry(types: &SourceTypes, entry: &ComponentDefinedType) -> bool
-    ensures { IsTrue result → IsLiveDefined types.now entry.now }
-{
-    match entry {
-        ComponentDefinedType::Record(fields) => {
-            fields
-                .as_slice()
-                .iter()
-                .all(|field| is_live(types, &field.1))
-        }
-        ComponentDefinedType::Variant(cases) => cases
-            .as_slice()
-            .iter()
-            .all(|case| is_live_payload(types, &case.1)),
-        ComponentDefinedType::Tuple(members) => {
-            members.as_slice().iter().all(|ty| is_live(types, ty))
-        }
-        ComponentDefinedType::Map(key, value) => is_live(types, key) && is_live(types, value),
-        ComponentDefinedType::List(ty) => is_live(types, ty),
-        ComponentDefinedType::Option(ty) => is_live(types, ty),
-        ComponentDefinedType::FixedLengthList(ty, _) => is_live(types, ty),
-        ComponentDefinedType::Result { ok, err } => {
-            is_live_payload(types, ok) && is_live_payload(types, err)
-        }
-        ComponentDefinedType::Own(id) => types.has_resource(*id),
-        ComponentDefinedType::Borrow(id) => types.has_resource(*id),
-        ComponentDefinedType::Future(payload) => is_live_payload(types, payload),
-        ComponentDefinedType::Stream(payload) => is_live_payload(types, payload),
-        ComponentDefinedType::Primitive(_) => true,
-        ComponentDefinedType::Flags(_) => true,
-        ComponentDefinedType::Enum(_) => true,
     }
 }
 

@@ -1,251 +1,137 @@
-//! What is known of the resources of a source: registrations, the tables that are kept, copies, and walks.
+//! The resources of the source: each call once.
 
-ghost use Rattle.std.specs.Prelude.{◌≡◌, []};
-ghost use Rattle.fact_resources.specs.Known.{no_resources, AreKeptLive};
-ghost use Rattle.fact_types.specs.Tables.{no_tables};
+ghost use Rattle.std.specs.Prelude.{◌≡◌};
+ghost use Rattle.fact_resources.specs.Known.{no_resources};
 
-use crate::entities::entity_of;
-use crate::ready::SOURCE;
+use crate::tables::resource_export;
 use fact_entity::{
-    AbstractResourceIndex, EntityRef, ResourceId, ResourceIndex, RuntimeComponentInstanceIndex,
-    TypeResourceTableIndex,
+    AbstractResourceIndex, EntityRef, OutOfMemory, PushError, ResourceId, ResourceIndex,
+    RuntimeComponentInstanceIndex,
 };
 use fact_resources::{BuildError, ResourcesBuilder};
-use fact_source::{ComponentEntityType, SourceTypes};
-use fact_types::{ComponentTypes, Lookup, TypeResourceTable};
+use fact_source::{ComponentEntityType, ComponentInstanceTypeId, SourceInstance, SourceTypes};
+use fact_types::{ComponentTypes, Lookup, TypeResourceTable, TypeResourceTableIndex};
 use fact_wasm::{Seq, Text};
-use std::alloc::{AllocError, Global};
-use std::process::Abort;
-use std::test::Fail;
+use std::alloc::Global;
 
-/// Whether a table of resources is that of a concrete one, of this number, in the instance 3.
-fn is_concrete(types: &ComponentTypes, table: u32, number: u32) -> bool {
-    match types.get(TypeResourceTableIndex::from_u32(table)) {
-        Some(TypeResourceTable::Concrete { ty, instance }) => {
-            ty.as_u32() == number && instance.as_u32() == 3
-        }
-        _ => false,
-    }
+/// A new instance that exports a new resource.
+fn exporting(
+    alloc: Global,
+    types: &mut SourceTypes,
+) -> Result<(ResourceId, ComponentInstanceTypeId), PushError> {
+    let resource = types.add_resource()?;
+    let exports = resource_export(alloc, resource)?;
+    let instance = types.add_instance(SourceInstance { exports })?;
+    Ok((resource, instance))
 }
 
-/// Whether a table of resources is that of an abstract one of this number.
-fn is_abstract(types: &ComponentTypes, table: u32, number: u32) -> bool {
-    match types.get(TypeResourceTableIndex::from_u32(table)) {
-        Some(TypeResourceTable::Abstract(ty)) => ty.as_u32() == number,
-        _ => false,
-    }
-}
-
-/// Without an instance a concrete resource has no table, and a resource that is not registered has none at all. With one it has
-/// the same table each time, and a copy knows the same, and learns nothing of what comes later.
-fn keeps_tables(
-    rt: &impl Abort,
+/// Whether the resource that an instance exports as r is told by its path, and then has a registration.
+fn tells_concrete(
+    types: &SourceTypes,
     resources: &mut ResourcesBuilder,
-    types: &mut ComponentTypes,
-) -> Result<(), Fail>
-    requires nothing_known { resources.old ≡ no_resources }
-    requires no_types { types.old ≡ no_tables }
+    path: &mut Seq<Text>,
+    resource: ResourceId,
+    instance: ComponentInstanceTypeId,
+) -> Result<bool, OutOfMemory> {
+    let mut told = false;
+    let mut register = |names: &[Text]| {
+        told = is_r(names);
+        ResourceIndex::from_u32(5)
+    };
+    let ty = ComponentEntityType::Instance(instance);
+    resources.register_component_entity_type(types, ty, path, &mut register)?;
+    Ok(told && resources.is_registered(resource) && path.len() == 0)
+}
+
+/// The same over abstract resources.
+fn tells_abstract(
+    types: &SourceTypes,
+    resources: &mut ResourcesBuilder,
+    path: &mut Seq<Text>,
+    resource: ResourceId,
+    instance: ComponentInstanceTypeId,
+) -> Result<bool, OutOfMemory> {
+    let mut told = false;
+    let mut register = |names: &[Text]| {
+        told = is_r(names);
+        AbstractResourceIndex::from_u32(1)
+    };
+    let ty = ComponentEntityType::Instance(instance);
+    resources.register_abstract_component_entity_type(types, ty, path, &mut register)?;
+    Ok(told && resources.is_registered(resource) && path.len() == 0)
+}
+
+/// Whether the resources that two new instances export are told, one as a concrete one and one as an abstract one.
+fn are_told(
+    alloc: Global,
+    types: &mut SourceTypes,
+    resources: &mut ResourcesBuilder,
+    path: &mut Seq<Text>,
+) -> Result<bool, PushError> {
+    let (concrete, its) = exporting(alloc, types)?;
+    let (general, instance) = exporting(alloc, types)?;
+    Ok(
+        tells_concrete(types, resources, path, concrete, its)?
+            && tells_abstract(types, resources, path, general, instance)?,
+    )
+}
+
+/// Whether a path is the one name r.
+fn is_r(names: &[Text]) -> bool {
+    matches!(names, [name] if name.as_str() == "r")
+}
+
+/// Whether a table is that of a concrete resource.
+fn is_concrete(tables: &ComponentTypes, index: TypeResourceTableIndex) -> bool {
+    matches!(tables.get(index), Some(TypeResourceTable::Concrete { .. }))
+}
+
+/// Whether a resource of which nothing is known has a table of its own where an instance is set, and is refused one where none is.
+fn gets_a_table(
+    resources: &mut ResourcesBuilder,
+    tables: &mut ComponentTypes,
+    resource: ResourceId,
+) -> Result<bool, BuildError>
+    requires { resources.old ≡ no_resources }
 {
-    let (first, second) = (ResourceId::from_u32(0), ResourceId::from_u32(1));
-    resources.register_resource(first, ResourceIndex::from_u32(7))?;
-    assert!(rt; resources.is_registered(first) && !resources.is_registered(second));
-    assert_eq!(rt;
-        resources.convert(first, types).err(),
-        Some(BuildError::NoInstance)
-    );
-    assert_eq!(rt;
-        resources.convert(second, types).err(),
-        Some(BuildError::UnknownResource)
-    );
-    assert!(rt; types.get(TypeResourceTableIndex::from_u32(0)).is_none());
-    resources.set_current_instance(RuntimeComponentInstanceIndex::from_u32(3));
-    let table = resources.convert(first, types)?;
-    assert!(rt; table.as_u32() == 0 && is_concrete(types, 0, 7));
-    assert_eq!(rt; resources.convert(first, types), Ok(table));
-    let mut copy = resources.try_clone()?;
-    let kept = copy.convert(first, types);
-    let told = copy.is_registered(first) && !copy.is_registered(second);
-    let instance = copy.get_current_instance();
+    resources.register_resource(resource, ResourceIndex::from_u32(5))?;
+    let refused = resources.convert(resource, tables);
+    resources.set_current_instance(RuntimeComponentInstanceIndex::from_u32(2));
+    let first = resources.convert(resource, tables);
+    let again = resources.convert(resource, tables);
+    let concrete = matches!(first, Ok(i) if is_concrete(tables, i));
+    Ok(refused == Err(BuildError::NoInstance) && first == again && concrete)
+}
+
+/// Whether an instance is set, and a copy has the registration of a resource.
+fn is_kept(resources: &ResourcesBuilder, resource: ResourceId) -> Result<bool, OutOfMemory> {
+    let copy = resources.try_clone()?;
+    let kept = copy.is_registered(resource);
     drop(copy);
-    assert!(rt; kept == Ok(table) && told);
-    assert!(rt; instance == Some(RuntimeComponentInstanceIndex::from_u32(3)));
-    assert!(rt; types.get(TypeResourceTableIndex::from_u32(1)).is_none());
-    Ok(())
+    Ok(kept && resources.get_current_instance().is_some())
 }
 
-/// Tells the names of a path.
-fn tell_path(text: &mut String, path: &[Text]) -> Result<(), AllocError> {
-    text.push_str(" ")?;
-    for name in path {
-        write!(text, "/{}", name.as_str())?;
-    }
-    Ok(())
-}
-
-/// An instance that exports a resource, an instance that exports another one and the first again, a function, and a third one.
-const WALKED: &str =
-    "resource:0 resource:1 resource:0 instance:r,again - func: resource:2 instance:a,i,f,s";
-
-/// A walk tells the path to each resource that has no registration, in order, and keeps what it was answered. The path ends as
-/// it was.
-fn walks(
-    rt: &impl Abort,
-    alloc: Global,
-    source: &SourceTypes,
-    ty: ComponentEntityType,
-    resources: &mut ResourcesBuilder,
-) -> Result<(), Fail>
-    ensures { resources.new.tables ≡ resources.old.tables }
-{
-    let mut path = Seq::new(alloc);
-    path.push(Text::from_str(alloc, "p")?)?;
-    let mut paths = String::new(alloc);
-    let mut failed = false;
-    let mut next = 10_u32;
-    let mut register = |path: &[Text]| {
-        failed |= tell_path(&mut paths, path).is_err();
-        next = next.wrapping_add(1);
-        ResourceIndex::from_u32(next)
-    };
-    resources.register_component_entity_type(source, ty, &mut path, &mut register)?;
-    assert!(rt; !failed);
-    assert_eq!(rt; paths.as_str(), " /p/a /p/i/r /p/s");
-    assert_eq!(rt; path.len(), 1);
-    Ok(())
-}
-
-/// The same over abstract resources, where the first one is registered before.
-fn walks_abstract(
-    rt: &impl Abort,
-    alloc: Global,
-    source: &SourceTypes,
-    ty: ComponentEntityType,
-    resources: &mut ResourcesBuilder,
-) -> Result<(), Fail>
-    requires { resources.old ≡ no_resources }
-    ensures { resources.new.tables ≡ resources.old.tables }
-{
-    let first = AbstractResourceIndex::from_u32(4);
-    resources.register_abstract_resource(ResourceId::from_u32(0), first)?;
-    let mut path = Seq::new(alloc);
-    let mut paths = String::new(alloc);
-    let mut failed = false;
-    let mut next = 20_u32;
-    let mut register = |path: &[Text]| {
-        failed |= tell_path(&mut paths, path).is_err();
-        next = next.wrapping_add(1);
-        AbstractResourceIndex::from_u32(next)
-    };
-    resources.register_abstract_component_entity_type(source, ty, &mut path, &mut register)?;
-    assert!(rt; !failed && path.len() == 0);
-    assert_eq!(rt; paths.as_str(), " /i/r /s");
-    Ok(())
-}
-
-/// One walk or the other.
-fn walked(
-    rt: &impl Abort,
-    alloc: Global,
-    source: &mut SourceTypes,
-    resources: &mut ResourcesBuilder,
-    is_abstract_walk: bool,
-) -> Result<(), Fail>
-    requires { resources.old ≡ no_resources }
-    ensures { resources.new.tables ≡ [] }
-{
-    for _ in 0..3 {
-        let _id = source.add_resource()?;
-    }
-    let ty = entity_of(rt, alloc, source, WALKED)?;
-    if is_abstract_walk {
-        return walks_abstract(rt, alloc, source, ty, resources);
-    }
-    walks(rt, alloc, source, ty, resources)
-}
-
-/// The resource of a number gets the table of that number.
-fn has_table(
-    rt: &impl Abort,
-    resources: &mut ResourcesBuilder,
-    types: &mut ComponentTypes,
-    number: u32,
-) -> Result<(), Fail>
-    requires { AreKeptLive resources.old types.old }
-    ensures { AreKeptLive resources.new types.new }
-{
-    let table = resources.convert(ResourceId::from_u32(number), types)?;
-    assert_eq!(rt; table.as_u32(), number);
-    Ok(())
-}
-
-/// What a walk was answered was kept, as the tables of the three resources tell.
-fn keeps_answers(
-    rt: &impl Abort,
-    resources: &mut ResourcesBuilder,
-    is_abstract_walk: bool,
-    types: &mut ComponentTypes,
-) -> Result<(), Fail>
-    requires { resources.old.tables ≡ [] }
-{
-    resources.set_current_instance(RuntimeComponentInstanceIndex::from_u32(3));
-    has_table(rt, resources, types, 0)?;
-    has_table(rt, resources, types, 1)?;
-    has_table(rt, resources, types, 2)?;
-    let kept = if is_abstract_walk {
-        is_abstract(types, 0, 4) && is_abstract(types, 1, 21) && is_abstract(types, 2, 22)
-    } else {
-        is_concrete(types, 0, 11) && is_concrete(types, 1, 12) && is_concrete(types, 2, 13)
-    };
-    assert!(rt; kept);
-    Ok(())
-}
-
-/// A walk, and then the tables.
-fn walks_and_keeps(
-    rt: &impl Abort,
-    alloc: Global,
-    source: &mut SourceTypes,
-    resources: &mut ResourcesBuilder,
-    is_abstract_walk: bool,
-    types: &mut ComponentTypes,
-) -> Result<(), Fail>
-    requires { resources.old ≡ no_resources }
-{
-    walked(rt, alloc, source, resources, is_abstract_walk)?;
-    keeps_answers(rt, resources, is_abstract_walk, types)
-}
-
-/// A walk in a new source.
-fn walks_anew(rt: &impl Abort, alloc: Global, is_abstract_walk: bool) -> Result<(), Fail> {
-    let mut source = SourceTypes::new(alloc, SOURCE);
-    let mut types = ComponentTypes::new(alloc);
+/// Whether a concrete resource gets a table, and is known by a copy then.
+fn is_converted(alloc: Global, resource: ResourceId) -> Result<bool, BuildError> {
     let mut resources = ResourcesBuilder::new(alloc);
-    let kept = walks_and_keeps(
-        rt,
-        alloc,
-        &mut source,
-        &mut resources,
-        is_abstract_walk,
-        &mut types,
-    );
+    let mut tables = ComponentTypes::new(alloc);
+    let got = gets_a_table(&mut resources, &mut tables, resource);
+    drop(tables);
+    let kept = is_kept(&resources, resource);
     drop(resources);
-    drop(types);
-    drop(source);
-    kept
+    Ok(got? && kept?)
 }
 
 #[test]
-fn tables_of_resources_are_kept(rt: HostRuntime) -> Result<(), Fail> {
-    let mut types = ComponentTypes::new(rt.alloc());
+fn resources_are_told_and_converted(rt: HostRuntime) {
+    let mut types = SourceTypes::new(rt.alloc(), 7);
     let mut resources = ResourcesBuilder::new(rt.alloc());
-    let kept = keeps_tables(&rt, &mut resources, &mut types);
+    let mut path = Seq::new(rt.alloc());
+    let told = are_told(rt.alloc(), &mut types, &mut resources, &mut path);
+    drop(path);
     drop(resources);
     drop(types);
-    kept
-}
-
-#[test]
-fn walks_register_in_order(rt: HostRuntime) -> Result<(), Fail> {
-    walks_anew(&rt, rt.alloc(), false)?;
-    walks_anew(&rt, rt.alloc(), true)
+    let converted = is_converted(rt.alloc(), ResourceId::from_u32(0));
+    assert!(rt; matches!(told, Ok(true)));
+    assert!(rt; matches!(converted, Ok(true)));
 }
