@@ -1,8 +1,8 @@
 """Judges the schema of plans that is named by the examples and by the texts of the tests.
 
-The texts stand in the sources of crates/fact_tests: tables, each row of which is what comes of a plan and the edits that make the
-plan of another one; a table of inputs that are no plans; and plans that begin a line. Ends with status 1 where a text is not judged
-as it should be, where the schema is none or does not tell what a key is, and where the texts cannot be read or have become fewer.
+The texts stand in the table of crates/rows: what is asked in its stdin, what comes of it in its stdout. A block is a plan, and lines that
+ask how the command ends for it, or for the plan with some edits. Ends with status 1 where a text is not judged as it should be, where the
+schema is none or does not tell what a key is, and where the texts cannot be read or have become fewer.
 """
 
 import json
@@ -12,14 +12,13 @@ from pathlib import Path
 
 from jsonschema import Draft202012Validator
 
-TESTS = Path("crates/fact_tests/src")
+ROWS = Path("crates/rows")
 
-# Where tables are handed on, each with the plan that its rows edit, and where the texts of other modules stand.
-TABLES = ["faults.rt", "near.rt", "refusals.rt"]
-SHARED = ["entry_faults.rt", "plans.rt"]
+# The block whose plan has all entries.
+RICH = "faults.of_types"
 
 # At least so many texts of each kind are there.
-FEWEST = {"examples": 50, "rows of plans": 400, "rows of no plans": 210, "inputs of no plans": 5, "lines of plans": 320}
+FEWEST = {"examples": 50, "rows of plans": 520, "rows of no plans": 210, "inputs of no plans": 5, "lines of plans": 420}
 
 # The rows of no plans that a schema accepts. It looks at a number's value, and the reader at how it is written: with a sign, a
 # fraction or an exponent it is none of a plan.
@@ -66,42 +65,40 @@ Missing at plan.adapters.0.lift: "adapters":[{ => "adapters":[{"name":"g","func"
 WrongKind at plan.adapters.0.lower: "lower":{"ty":0,"instance":0,"core_type":0} => "lower":[]
 UnknownIndex at type 0: ["a","u8"] => ["a",4294967295]
 UnknownIndex at adapter 0: "realloc":1 => "realloc":4294967295
+WrongKind at plan.adapters.0.lower.instance: "lower":{"ty":0,"instance":0 => "lower":{"ty":0,"instance":-1
 """
 
-FAULT = re.compile(r"(Missing|UnknownKey|WrongKind|OutOfRange) at plan\S*")
-DECLARED = re.compile(r"^(?:pub )?const [A-Z_]+: &str\b", re.M)
-CONSTANT = re.compile(r'^(?:pub )?const ([A-Z_]+): &str =\s*(r#".*?"#|"(?:[^"\\]|\\.)*");$', re.M | re.S)
-TABLE = re.compile(r'\brows_hold\(&rt, rt\.alloc\(\), "(bad plan|refused)", ([A-Z_]+), ([A-Z_]+)\)')
-INPUTS = re.compile(r'\binputs_end\(&rt, rt\.alloc\(\), ([A-Z_]+), 7, "bad plan: WrongKind at plan"\)')
+# The most characters of a row's plan that is judged. The validator takes 20 seconds for one whose variant has 4,096 cases.
+LONGEST = 50_000
 
+FAULT = re.compile(r"(Missing|UnknownKey|WrongKind|OutOfRange) at plan\S*")
+CAME = re.compile(r"(?P<name>\S+) (?P<number>\d+): (?P<came>.*)")
 
 class Unreadable(Exception):
     """Something does not stand in the tests as it should."""
 
 
-def source(name):
-    return (TESTS / name).read_text(encoding="utf-8")
+def lines_of(name):
+    return (ROWS / name).read_text(encoding="utf-8").splitlines()
 
 
-def literals(name):
-    """The texts that a file names, as they are written."""
-    text = source(name)
-    found = dict(CONSTANT.findall(text))
-    if len(found) != len(DECLARED.findall(text)):
-        raise Unreadable(f"{name}: a text is not written as the others are")
+def blocks():
+    """The name and the plan of each block, and what is asked of it, each with what comes of it."""
+    came = {(it["name"], int(it["number"])): it["came"] for it in map(CAME.fullmatch, lines_of("stdout")) if it}
+    found = []
+    for line in lines_of("stdin"):
+        if not found and not line.startswith("plan "):
+            continue
+        if line.startswith("plan "):
+            _, name, plan = line.split(" ", 2)
+            found.append((name, plan, []))
+            continue
+        name, _, asked = found[-1]
+        number = len(asked)
+        if not line.startswith("#") and (name, number) not in came:
+            raise Unreadable(f"{name} {number}: nothing comes of it")
+        asked.append((line, came.get((name, number), "")))
     return found
-
-
-def text_of(names, name):
-    """The text of a name. Of escapes there are those of quotes and backslashes."""
-    if name not in names:
-        raise Unreadable(f"{name}: no such text")
-    literal = names[name]
-    if literal.startswith("r"):
-        return literal[3:-2]
-    if re.search(r'\\[^"\\]', literal.replace(r"\\", "")):
-        raise Unreadable(f"{name}: another escape")
-    return re.sub(r'\\(["\\])', r"\1", literal[1:-1])
 
 
 def no_number(word):
@@ -126,44 +123,39 @@ def edited(plan, edits, row):
     return plan
 
 
-def row_of(table, plan, row):
-    """A row of a table, whether it is one of a plan, and its value."""
-    end, colon, edits = row.partition(": ")
-    is_plan = FAULT.fullmatch(end) is None
-    if not colon or (table == "refused" and not is_plan):
-        raise Unreadable(f"{row}: no row")
-    return row, is_plan, value_of(edited(plan, edits, row), row)
+def row_of(name, plan, end, edits):
+    """A row of a table, whether it is one of a plan, and its value. Its name is the end and the edits."""
+    row = f"{end}: {edits}"
+    return row, FAULT.fullmatch(end) is None, value_of(edited(plan, edits, f"{name}: {row}"), row)
 
 
 def rows():
-    """The rows of the tests' tables, and the further ones."""
-    shared = {name: text for file in SHARED for name, text in literals(file).items()}
-    for file in TABLES:
-        names = {**shared, **literals(file)}
-        for table, plan, name in TABLE.findall(source(file)):
-            for row in text_of(names, name).strip().splitlines():
-                if not row.startswith("#"):
-                    yield row_of(table, text_of(names, plan), row)
-    rich = text_of(literals("faults.rt"), "RICH")
+    """How the command ends for plans with edits, and the further rows."""
+    rich = None
+    for name, plan, asked in blocks():
+        rich = plan if name == RICH else rich
+        for line, came in asked:
+            kind, _, edits = line.partition(" ")
+            if kind in ("end", "page") and "=>" in edits and len(plan) + len(edits) <= LONGEST:
+                end = came.removeprefix("7 bad plan: ").removesuffix("$") if came.startswith("7 ") else "a refused plan" if came.startswith("8 ") else "a plan"
+                yield row_of(name, plan, end, edits)
     for row in FURTHER.strip().splitlines():
-        yield row_of("bad plan", rich, row)
+        end, _, edits = row.partition(": ")
+        yield row_of(RICH, rich, end, edits)
 
 
 def inputs():
     """The JSON texts that are no object."""
-    names = literals("runs.rt")
-    for name in INPUTS.findall(source("runs.rt")):
-        for line in text_of(names, name).strip().splitlines():
-            yield line, False, value_of(line, line)
+    for name, plan, asked in blocks():
+        if asked == [("end ", "7 bad plan: WrongKind at plan$")]:
+            yield plan, False, value_of(plan, name)
 
 
 def lines():
-    """The plans that begin a line, behind which may stand what is wanted of them."""
-    for file in sorted(TESTS.glob("*.rt")):
-        for line in file.read_text(encoding="utf-8").splitlines():
-            if line.startswith('{"instances":'):
-                plan = line.split(" | ")[0]
-                yield f"{file.name}: {plan}", True, value_of(plan, plan)
+    """The plans of the blocks that are run, whose imports are asked for, or whose module is looked at."""
+    for name, plan, asked in blocks():
+        if any(line.startswith(("run ", "imports ", "shows ")) for line, _ in asked):
+            yield f"{name}: {plan}", True, value_of(plan, name)
 
 
 def examples():
@@ -173,7 +165,7 @@ def examples():
 
 def texts():
     """All texts by their kinds."""
-    found = list(rows())
+    found = [*rows(), *bounds()]
     return {
         "examples": list(examples()),
         "rows of plans": [text for text in found if text[1]],
@@ -206,9 +198,9 @@ def faults(schema, found):
     for name, is_plan, value in (text for kind in found.values() for text in kind):
         names.add(name)
         is_accepted = validator.is_valid(value)
-        if is_accepted != (is_plan or name in ACCEPTED):
+        if is_accepted != ((is_plan and name not in ALONE) or name in ACCEPTED):
             yield f"{name}: {'accepted' if is_accepted else 'refused'}"
-    for name in ACCEPTED.keys() - names:
+    for name in (ACCEPTED.keys() | ALONE) - names:
         yield f"{name}: no such row"
 
 
@@ -221,6 +213,70 @@ def judged(path):
         return list(faults(schema, found)), ", ".join(f"{len(texts)} {kind}" for kind, texts in found.items())
     except Exception as error:
         return [f"{type(error).__name__}: {error}"], ""
+
+
+# The rows of plans that are read and then refused of which a schema tells it too: one entry alone breaks a rule.
+ALONE = {
+    f"a refused plan: {edits}"
+    for edits in """
+[] => [{"record":[]}]
+[] => [{"variant":[]}]
+[] => [{"tuple":[]}]
+[] => [{"flags":[]}]
+[] => [{"enum":[]}]
+[] => [{"flags":["a","b","a"]}]
+[] => [{"enum":["m","\\u006d"]}]
+[] => [{"enum":["","m",""]}]
+[] => [{"fixed-list":["u8",0]}]
+[] => [{"fixed-list":[0,0]}]
+[] => [{"enum":[]},{"list":1}]
+[] => [{"fixed-list":["u64",536870912]},{"list":2},{"flags":[]}]
+[] => [{"list":"u8"},{"flags":[]},{"option":1}]
+"types":[] => "types":[{"record":[]}]
+["r","s"] => []
+a variant of 4,097 cases
+33 flags
+"realloc":5 => "realloc":5,"post_return":10
+"realloc":5 => "realloc":5,"post_return":9
+"realloc":5 => "realloc":5,"post_return":9 | "def":6 => "def":10
+"realloc":5 => "realloc":5,"post_return":9 | "ty":2,"instance":1 => "ty":5,"instance":1
+{"export":[0,"run"]} => {"export":[0,"run"]},{"trampoline":0} | "instance":0 => "instance":0,"post_return":1 | "instance":1 => "instance":0
+{"def":6} => null
+{"def":4} => null
+{"def":0,"memory64":true,"shared":false,"page_size_log2":16} => null
+"ty":1,"instance":1 => "ty":1,"instance":1,"realloc":7
+"ty":0,"instance":0 => "ty":0,"instance":0,"realloc":5
+"core_type":0} => "core_type":0,"realloc":0}
+{"export":[0,"run"]} => {"export":[0,"run"]},{"trampoline":0} | "instance":1 => "instance":0,"realloc":1
+{"def":6} => {"def":6,"shared":true}
+{"def":4} => {"def":4,"shared":true}
+"ty":1,"instance":1 => "ty":1,"instance":1,"memory":{"def":6,"shared":true}
+{"def":6} => {"def":6,"shared":true} | "core_type":2 => "core_type":0
+{"export":[0,"run"]} => {"export":[0,"run"]},{"export":[1,"memory"]} | "instance":1 => "instance":1,"memory":{"def":1,"shared":true}
+{"def":6} => {"def":6,"page_size_log2":1}
+{"def":4} => {"def":4,"page_size_log2":15}
+{"def":6} => {"def":6,"page_size_log2":17}
+{"def":4} => {"def":4,"page_size_log2":255}
+{"def":6} => {"def":6,"page_size_log2":1} | "func":1 => "func":6
+_log2":16 => _log2":255
+"instances":2 => "instances":2147483649 | "instance":1 => "instance":2147483648
+"instances":2 => "instances":4294967295 | "instance":0 => "instance":4294967294
+"instances":2 => "instances":2147483648 | "instance":1 => "instance":2147483648
+"instances":2 => "instances":4294967295 | "instance":0 => "instance":2147483648,"post_return":0
+"instances":2 => "instances":4294967295 | "instance":1 => "instance":2147483648 | "instance":0 => "instance":2147483648
+"instances":2 => "instances":4294967295 | "instance":1 => "instance":2147483648
+""".strip().splitlines()
+}
+
+
+def bounds():
+    """Types with as many members as they may have, and with one more."""
+    for kind, most, named in ("variant", 4096, "a variant of {:,} cases"), ("flags", 32, "{} flags"):
+        for count in most, most + 1:
+            names = [f"n{number}" for number in range(count)]
+            entry = {kind: [[name, None] for name in names] if kind == "variant" else names}
+            plan = {"instances": 0, "types": [entry], "tables": [], "funcs": [], "core_types": [], "core_defs": [], "adapters": []}
+            yield f"{'a plan' if count == most else 'a refused plan'}: {named.format(count)}", True, plan
 
 
 def main(path):
