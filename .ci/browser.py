@@ -1,0 +1,92 @@
+"""Serves web/ with the modules of the examples and of drawn plans, lets a browser or a node run them, and tells what it reports.
+
+Ends with status 1 where a run is not as it should be, where the browser does not take a module, or where no report comes in time.
+"""
+
+import http.server
+import json
+import os
+import shutil
+import signal
+import subprocess
+import sys
+import tempfile
+import threading
+from pathlib import Path
+
+WEB = Path(__file__).resolve().parent.parent / "web"
+SECONDS = int(os.environ.get("BROWSER_SECONDS", "100"))
+MOST_FAULTS = 20
+
+sys.dont_write_bytecode = True
+sys.path.insert(0, str(WEB))
+import modules  # noqa: E402
+
+
+def server(room):
+    """A server of web/, in which `out/` is the room, and a place for the report that is posted to it."""
+    posted = {"came": threading.Event()}
+
+    class Handler(http.server.SimpleHTTPRequestHandler):
+        def translate_path(self, path):
+            plain = path.partition("?")[0]
+            return str(Path(room) / plain[5:]) if plain.startswith("/out/") else super().translate_path(path)
+
+        def do_POST(self):
+            posted["report"] = json.loads(self.rfile.read(int(self.headers["Content-Length"])))
+            self.send_response(204)
+            self.end_headers()
+            posted["came"].set()
+
+        def log_message(self, *_):
+            pass
+
+    handler = lambda *words: Handler(*words, directory=str(WEB))
+    serving = http.server.ThreadingHTTPServer(("127.0.0.1", 0), handler)
+    threading.Thread(target=serving.serve_forever, daemon=True).start()
+    return serving, posted
+
+
+def by_browser(browser, room, seed):
+    """The report of the page check.html, or none."""
+    serving, posted = server(room)
+    url = f"http://127.0.0.1:{serving.server_address[1]}/check.html?report&seed={seed}"
+    flags = ["--headless", "--no-sandbox", "--disable-gpu", "--no-first-run", "--remote-debugging-port=0"]
+    words = [browser, *flags, f"--user-data-dir={room}/profile", url]
+    running = subprocess.Popen(words, stdout=subprocess.DEVNULL, stderr=subprocess.DEVNULL, start_new_session=True)
+    try:
+        posted["came"].wait(SECONDS)
+    finally:
+        os.killpg(running.pid, signal.SIGTERM)
+        running.wait()
+        serving.shutdown()
+    return posted.get("report")
+
+
+def by_node(node, room, seed):
+    done = subprocess.run([node, WEB / "check-node.js", room, seed], capture_output=True, text=True, timeout=SECONDS)
+    if done.returncode != 0:
+        print(f"browser: {done.stderr[:2000]}", file=sys.stderr)
+        return None
+    return json.loads(done.stdout)
+
+
+def main(program, engine, seed, count):
+    is_node = Path(engine).name == "node"
+    room = tempfile.mkdtemp()
+    try:
+        modules.write(program, f"{room}/modules.json")
+        modules.write(program, f"{room}/drawn.json", seed, count)
+        report = (by_node if is_node else by_browser)(engine, room, seed)
+    finally:
+        shutil.rmtree(room, ignore_errors=True)
+    if report is None:
+        print(f"browser: {engine} gave no report", file=sys.stderr)
+        return 1
+    faults = report["faults"]
+    for line in [*report["lines"], *faults[:MOST_FAULTS]]:
+        print(f"browser: {line}", file=sys.stderr)
+    return 1 if faults or report["runs"] == 0 or (report["untaken"] and not is_node) else 0
+
+
+sys.exit(main(*sys.argv[1:]))

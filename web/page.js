@@ -1,0 +1,174 @@
+// The page: picks a module and values, runs the adapter, and shows what crosses.
+import { paramTypes, typeText } from './abi/types.js';
+import { allFromJson, allToJson } from './abi/values.js';
+import { runAdapter } from './host/adapter.js';
+import { judge, sampleFor } from './host/checks.js';
+import { judgeCase, loadCases, placeOf, prepare } from './host/conformance.js';
+import { frameOf } from './host/expectation.js';
+import { TRAPS } from './host/traps.js';
+
+const element = id => document.getElementById(id);
+const json = value => JSON.stringify(value);
+
+function made(tag, text, className = '') {
+  const node = document.createElement(tag);
+  node.textContent = text;
+  node.className = className;
+  return node;
+}
+
+// What can be run: a name, a module, and perhaps the values of a conformance case.
+const runs = new Map();
+
+async function fetchJson(path) {
+  const answer = await fetch(path);
+  return answer.ok ? answer.json() : null;
+}
+
+async function fill() {
+  const group = (label, entries) => {
+    const options = document.createElement('optgroup');
+    options.label = label;
+    for (const entry of entries) {
+      runs.set(entry.key, entry);
+      options.append(new Option(entry.entry.name, entry.key));
+    }
+    if (entries.length) element('pick').append(options);
+  };
+  const examples = await fetchJson('out/modules.json') ?? [];
+  const cases = await loadCases(fetchJson);
+  group('Examples', examples.filter(entry => entry.plan.adapters.length).map(entry => ({ key: entry.name, entry })));
+  group('Conformance cases', cases.map(entry => ({ key: `case ${entry.name}`, entry, given: prepare(entry) })));
+}
+
+function sideText(side, func) {
+  const memory = side.memory ? `a memory of ${side.memory.memory64 ? 64 : 32} bits` : 'no memory';
+  const marks = `${side.async ? ', async' : ''}${func.isAsync ? ', an async function type' : ''}`;
+  return `Instance ${side.instance}, strings in ${side.encoding ?? 'utf8'}, ${memory}${marks}`;
+}
+
+function signature(adapter, func) {
+  const params = func.params.map(param => `${param.name}: ${typeText(param.type)}`).join(', ');
+  const results = func.results.map(typeText).join(', ');
+  return `${adapter.name}: func(${params})${results ? ` -> ${func.results.length > 1 ? `(${results})` : results}` : ''}`;
+}
+
+function showEvents(events) {
+  const rows = events.map((event, place) => {
+    const row = made('tr', '', event.kind);
+    const lane = event.who === 'caller' || event.who === 'callee' ? event.who : 'adapter';
+    row.append(made('td', place + 1));
+    for (const column of ['caller', 'adapter', 'callee']) {
+      const cell = made('td', '', event.who);
+      if (column === lane) {
+        cell.append(made('b', event.kind), made('span', event.text));
+        if (event.values) cell.append(made('div', event.values, 'values'));
+        if (event.answer !== '') cell.append(made('div', event.answer, 'answer'));
+      }
+      row.append(cell);
+    }
+    const flags = made('td', '');
+    for (const [instance, value] of Object.entries(event.flags)) {
+      flags.append(made('div', `instance ${instance}: ${value}`, value === 0 ? 'zero' : ''));
+    }
+    row.append(flags);
+    return row;
+  });
+  element('events').tBodies[0].replaceChildren(...rows);
+}
+
+function showImports(run, { module, imports }) {
+  element('size').textContent = `(${module.length / 2} bytes)`;
+  element('imports').tBodies[0].replaceChildren(...run.entries.map((entry, place) => {
+    const row = document.createElement('tr');
+    row.append(...[entry.module, entry.name, entry.kind, imports[place]].map(text => made('td', text)));
+    return row;
+  }));
+}
+
+function showVerdict(run, entry) {
+  const faults = [...judge(run), ...(entry.run ? judgeCase(entry, run) : [])];
+  const verdict = element('verdict');
+  const told = run.trap === null ? 'the values arrived unchanged' : `trap ${run.trap}, as it should`;
+  verdict.className = faults.length ? 'bad' : 'good';
+  verdict.textContent = faults.length ? 'not as it should be' : run.thrown && run.trap === null ? 'thrown on, as it should' : told;
+  element('note').textContent = faults.join('\n');
+}
+
+function show(entry, place, given) {
+  const run = runAdapter(entry, place, given);
+  const ended = run.trap === null ? String(run.thrown) : `trap ${run.trap}: ${TRAPS[run.trap]}`;
+  element('caller').querySelector('output').textContent = run.thrown ? ended : json(allToJson(run.lower.results, run.callerResults));
+  const seen = run.calleeArguments ? json(allToJson(paramTypes(run.lift), run.calleeArguments)) : 'it was not called';
+  element('callee').querySelector('output').textContent = seen;
+  showEvents(run.events);
+  showImports(run, entry);
+  showVerdict(run, entry);
+}
+
+// What a conformance case gives, or the values of the two forms.
+function givenNow(chosen, place) {
+  if (chosen.given) return chosen.given;
+  const { plan } = chosen.entry;
+  const { lower, lift } = frameOf(plan, plan.adapters[place]);
+  const [first, second] = ['caller', 'callee'].map(id => JSON.parse(element(id).querySelector('textarea').value));
+  return { arguments: allFromJson(paramTypes(lower), first), results: allFromJson(lift.results, second) };
+}
+
+function runNow() {
+  const chosen = runs.get(element('pick').value);
+  const place = Number(element('adapter').value);
+  try {
+    show(chosen.entry, place, givenNow(chosen, place));
+  } catch (error) {
+    element('verdict').className = 'bad';
+    element('verdict').textContent = 'it did not run';
+    element('note').textContent = String(error);
+  }
+}
+
+// The values of a side as JSON, or the core values of a conformance case where these stand for none.
+function valuesText(types, values, cores) {
+  return values ? json(allToJson(types, values)) : `core values ${(cores ?? []).join(', ')}`;
+}
+
+function chooseAdapter() {
+  const { entry: { plan }, given } = runs.get(element('pick').value);
+  const adapter = plan.adapters[Number(element('adapter').value)];
+  const { lower, lift } = frameOf(plan, adapter);
+  const values = given ?? sampleFor(plan, adapter);
+  element('signature').textContent = signature(adapter, lower);
+  showForm('caller', sideText(adapter.lower, lower), valuesText(paramTypes(lower), values.arguments, values.cores));
+  showForm('callee', sideText(adapter.lift, lift), valuesText(lift.results, values.results, values.calleeCores));
+  element('run').hidden = !!given;
+  runNow();
+}
+
+function showForm(id, about, text) {
+  element(id).querySelector('.about').textContent = about;
+  const field = element(id).querySelector('textarea');
+  field.value = text;
+  field.readOnly = element('pick').value.startsWith('case ');
+}
+
+function choose() {
+  const name = decodeURIComponent(location.hash.slice(1));
+  const key = runs.has(name) ? name : runs.keys().next().value;
+  element('pick').value = key;
+  const { entry, given } = runs.get(key);
+  element('adapter').replaceChildren(...entry.plan.adapters.map((adapter, place) => new Option(adapter.name, place)));
+  element('adapter').value = given ? placeOf(entry) : 0;
+  element('adapters').hidden = !!given || entry.plan.adapters.length < 2;
+  chooseAdapter();
+}
+
+await fill();
+if (runs.size) {
+  element('pick').onchange = () => { location.hash = encodeURIComponent(element('pick').value); };
+  element('adapter').onchange = chooseAdapter;
+  element('run').onclick = runNow;
+  window.onhashchange = choose;
+  choose();
+} else {
+  element('note').textContent = 'There is no module: web/build makes those of the examples.';
+}
