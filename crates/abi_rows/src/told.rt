@@ -14,14 +14,19 @@ fn add_text(page: &mut String, chars: &Seq<char>) -> Result<(), AllocError> {
     page.push('"')
 }
 
+/// Adds a space before each element but the first.
+fn add_space(page: &mut String, is_first: bool) -> Result<(), AllocError> {
+    page.push_str(if is_first { "" } else { " " })
+}
+
 fn add_flags(page: &mut String, flags: &Seq<(Text, bool)>) -> Result<(), AllocError> {
     page.push('{')?;
-    let mut between = "";
+    let mut is_first = true;
     for (name, is_set) in flags.as_slice() {
-        page.push_str(between)?;
+        add_space(page, is_first)?;
         page.push(if *is_set { '+' } else { '-' })?;
         page.push_str(name.as_str())?;
-        between = " ";
+        is_first = false;
     }
     page.push('}')
 }
@@ -51,11 +56,11 @@ fn add_values(
     after: char,
 ) -> Result<(), AllocError> {
     page.push(before)?;
-    let mut between = "";
+    let mut is_first = true;
     for value in values.as_slice() {
-        page.push_str(between)?;
+        add_space(page, is_first)?;
         add_value(page, value)?;
-        between = " ";
+        is_first = false;
     }
     page.push(after)
 }
@@ -63,13 +68,13 @@ fn add_values(
 #[cycle(telling)]
 fn add_entries(page: &mut String, entries: &Seq<(Value, Value)>) -> Result<(), AllocError> {
     page.push('<')?;
-    let mut between = "";
+    let mut is_first = true;
     for (key, value) in entries.as_slice() {
-        page.push_str(between)?;
+        add_space(page, is_first)?;
         add_value(page, key)?;
         page.push(':')?;
         add_value(page, value)?;
-        between = " ";
+        is_first = false;
     }
     page.push('>')
 }
@@ -77,12 +82,12 @@ fn add_entries(page: &mut String, entries: &Seq<(Value, Value)>) -> Result<(), A
 #[cycle(telling)]
 fn add_fields(page: &mut String, fields: &Seq<(Text, Value)>) -> Result<(), AllocError> {
     page.push('{')?;
-    let mut between = "";
+    let mut is_first = true;
     for (name, value) in fields.as_slice() {
-        page.push_str(between)?;
+        add_space(page, is_first)?;
         write!(page, "{}=", name.as_str())?;
         add_value(page, value)?;
-        between = " ";
+        is_first = false;
     }
     page.push('}')
 }
