@@ -18,7 +18,7 @@ ROWS = Path("crates/rows")
 RICH = "faults.of_types"
 
 # At least so many texts of each kind are there.
-FEWEST = {"examples": 50, "rows of plans": 520, "rows of no plans": 210, "inputs of no plans": 5, "lines of plans": 420}
+FEWEST = {"examples": 50, "rows of plans": 450, "rows of one entry": 80, "rows of no plans": 210, "inputs of no plans": 5, "lines of plans": 420}
 
 # The rows of no plans that a schema accepts. It looks at a number's value, and the reader at how it is written: with a sign, a
 # fraction or an exponent it is none of a plan.
@@ -70,6 +70,9 @@ WrongKind at plan.adapters.0.lower.instance: "lower":{"ty":0,"instance":0 => "lo
 
 # The most characters of a row's plan that is judged. The validator takes 20 seconds for one whose variant has 4,096 cases.
 LONGEST = 50_000
+
+# How the name of a row begins whose plan is read and then refused.
+REFUSED = "a refused plan"
 
 FAULT = re.compile(r"(Missing|UnknownKey|WrongKind|OutOfRange) at plan\S*")
 CAME = re.compile(r"(?P<name>\S+) (?P<number>\d+): (?P<came>.*)")
@@ -137,7 +140,7 @@ def rows():
         for line, came in asked:
             kind, _, edits = line.partition(" ")
             if kind in ("end", "page") and "=>" in edits and len(plan) + len(edits) <= LONGEST:
-                end = came.removeprefix("7 bad plan: ").removesuffix("$") if came.startswith("7 ") else "a refused plan" if came.startswith("8 ") else "a plan"
+                end = came.removeprefix("7 bad plan: ").removesuffix("$") if came.startswith("7 ") else REFUSED if came.startswith("8 ") else "a plan"
                 yield row_of(name, plan, end, edits)
     for row in FURTHER.strip().splitlines():
         end, _, edits = row.partition(": ")
@@ -168,7 +171,8 @@ def texts():
     found = [*rows(), *bounds()]
     return {
         "examples": list(examples()),
-        "rows of plans": [text for text in found if text[1]],
+        "rows of plans": [text for text in found if text[1] and not is_of_one(text)],
+        "rows of one entry": [text for text in found if is_of_one(text)],
         "rows of no plans": [text for text in found if not text[1]],
         "inputs of no plans": list(inputs()),
         "lines of plans": list(lines()),
@@ -198,9 +202,9 @@ def faults(schema, found):
     for name, is_plan, value in (text for kind in found.values() for text in kind):
         names.add(name)
         is_accepted = validator.is_valid(value)
-        if is_accepted != ((is_plan and name not in ALONE) or name in ACCEPTED):
+        if is_accepted != (is_plan and not is_of_one((name, is_plan, value)) or name in ACCEPTED):
             yield f"{name}: {'accepted' if is_accepted else 'refused'}"
-    for name in (ACCEPTED.keys() | ALONE) - names:
+    for name in ACCEPTED.keys() - names:
         yield f"{name}: no such row"
 
 
@@ -215,58 +219,34 @@ def judged(path):
         return [f"{type(error).__name__}: {error}"], ""
 
 
-# The rows of plans that are read and then refused of which a schema tells it too: one entry alone breaks a rule.
-ALONE = {
-    f"a refused plan: {edits}"
-    for edits in """
-[] => [{"record":[]}]
-[] => [{"variant":[]}]
-[] => [{"tuple":[]}]
-[] => [{"flags":[]}]
-[] => [{"enum":[]}]
-[] => [{"flags":["a","b","a"]}]
-[] => [{"enum":["m","\\u006d"]}]
-[] => [{"enum":["","m",""]}]
-[] => [{"fixed-list":["u8",0]}]
-[] => [{"fixed-list":[0,0]}]
-[] => [{"enum":[]},{"list":1}]
-[] => [{"fixed-list":["u64",536870912]},{"list":2},{"flags":[]}]
-[] => [{"list":"u8"},{"flags":[]},{"option":1}]
-"types":[] => "types":[{"record":[]}]
-["r","s"] => []
-a variant of 4,097 cases
-33 flags
-"realloc":5 => "realloc":5,"post_return":10
-"realloc":5 => "realloc":5,"post_return":9
-"realloc":5 => "realloc":5,"post_return":9 | "def":6 => "def":10
-"realloc":5 => "realloc":5,"post_return":9 | "ty":2,"instance":1 => "ty":5,"instance":1
-{"export":[0,"run"]} => {"export":[0,"run"]},{"trampoline":0} | "instance":0 => "instance":0,"post_return":1 | "instance":1 => "instance":0
-{"def":6} => null
-{"def":4} => null
-{"def":0,"memory64":true,"shared":false,"page_size_log2":16} => null
-"ty":1,"instance":1 => "ty":1,"instance":1,"realloc":7
-"ty":0,"instance":0 => "ty":0,"instance":0,"realloc":5
-"core_type":0} => "core_type":0,"realloc":0}
-{"export":[0,"run"]} => {"export":[0,"run"]},{"trampoline":0} | "instance":1 => "instance":0,"realloc":1
-{"def":6} => {"def":6,"shared":true}
-{"def":4} => {"def":4,"shared":true}
-"ty":1,"instance":1 => "ty":1,"instance":1,"memory":{"def":6,"shared":true}
-{"def":6} => {"def":6,"shared":true} | "core_type":2 => "core_type":0
-{"export":[0,"run"]} => {"export":[0,"run"]},{"export":[1,"memory"]} | "instance":1 => "instance":1,"memory":{"def":1,"shared":true}
-{"def":6} => {"def":6,"page_size_log2":1}
-{"def":4} => {"def":4,"page_size_log2":15}
-{"def":6} => {"def":6,"page_size_log2":17}
-{"def":4} => {"def":4,"page_size_log2":255}
-{"def":6} => {"def":6,"page_size_log2":1} | "func":1 => "func":6
-_log2":16 => _log2":255
-"instances":2 => "instances":2147483649 | "instance":1 => "instance":2147483648
-"instances":2 => "instances":4294967295 | "instance":0 => "instance":4294967294
-"instances":2 => "instances":2147483648 | "instance":1 => "instance":2147483648
-"instances":2 => "instances":4294967295 | "instance":0 => "instance":2147483648,"post_return":0
-"instances":2 => "instances":4294967295 | "instance":1 => "instance":2147483648 | "instance":0 => "instance":2147483648
-"instances":2 => "instances":4294967295 | "instance":1 => "instance":2147483648
-""".strip().splitlines()
-}
+def breaks_a_rule(entry):
+    """Whether an entry of `types` breaks a rule by what it says itself, but for the names of fields and cases that are repeated."""
+    ((kind, inner),) = entry.items()
+    if kind == "fixed-list":
+        return inner[1] == 0
+    names = inner if kind in ("flags", "enum") else []
+    most = {"variant": 4096, "flags": 32}.get(kind)
+    is_empty = kind in ("record", "variant", "tuple", "flags", "enum") and not inner
+    return is_empty or len(set(names)) < len(names) or most is not None and len(inner) > most
+
+
+def is_odd(side):
+    """Whether a side breaks a rule by what it says itself."""
+    memory = side.get("memory")
+    if memory is None:
+        return side["instance"] > 2147483647 or side.get("realloc") is not None
+    is_odd_memory = memory.get("shared", False) or memory.get("page_size_log2", 16) not in (0, 16)
+    return side["instance"] > 2147483647 or is_odd_memory
+
+
+def is_of_one(text):
+    """Whether a plan that is read is refused for what one entry says by itself, which a schema tells too."""
+    name, is_plan, plan = text
+    if not is_plan or not name.startswith(REFUSED):
+        return False
+    sides = [adapter[side] for adapter in plan["adapters"] for side in ("lift", "lower")]
+    has_post_return = any(adapter["lower"].get("post_return") is not None for adapter in plan["adapters"])
+    return has_post_return or any(map(breaks_a_rule, plan["types"])) or any(map(is_odd, sides))
 
 
 def bounds():
@@ -276,7 +256,7 @@ def bounds():
             names = [f"n{number}" for number in range(count)]
             entry = {kind: [[name, None] for name in names] if kind == "variant" else names}
             plan = {"instances": 0, "types": [entry], "tables": [], "funcs": [], "core_types": [], "core_defs": [], "adapters": []}
-            yield f"{'a plan' if count == most else 'a refused plan'}: {named.format(count)}", True, plan
+            yield f"{'a plan' if count == most else REFUSED}: {named.format(count)}", True, plan
 
 
 def main(path):
