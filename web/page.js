@@ -41,10 +41,12 @@ async function fill() {
   group('Conformance cases', cases.map(entry => ({ key: `case ${entry.name}`, entry, given: prepare(entry) })));
 }
 
+const ENCODINGS = { utf8: 'UTF-8', utf16: 'UTF-16', compact: 'Latin-1 or UTF-16' };
+
 function sideText(side, func) {
   const memory = side.memory ? `a memory of ${side.memory.memory64 ? 64 : 32} bits` : 'no memory';
   const marks = `${side.async ? ', async' : ''}${func.isAsync ? ', an async function type' : ''}`;
-  return `Instance ${side.instance}, strings in ${side.encoding ?? 'utf8'}, ${memory}${marks}`;
+  return `Instance ${side.instance}, strings in ${ENCODINGS[side.encoding ?? 'utf8']}, ${memory}${marks}`;
 }
 
 function signature(adapter, func) {
@@ -129,7 +131,8 @@ function runNow() {
 
 // The values of a side as JSON, or the core values of a conformance case where these stand for none.
 function valuesText(types, values, cores) {
-  return values ? json(allToJson(types, values)) : `core values ${(cores ?? []).join(', ')}`;
+  if (values) return json(allToJson(types, values));
+  return cores ? `core values ${cores.join(', ')}` : '';
 }
 
 function chooseAdapter() {

@@ -47,12 +47,14 @@ export function startImport(run) {
     const isLowerAsync = (bits & 2) !== 0;
     const isBehind = isLowerAsync ? number === BY_POINTER : number > 1;
     const own = isBehind ? cores.slice(0, -1) : cores;
+    const started = run.record('async-start', 'adapter', `with core values ${run.text(own)}`);
     const given = listed(start(...own));
-    run.record('async-start', 'adapter', `with core values ${run.text(own)}`, run.text(given));
+    started.answer = run.text(given);
     const answered = callee(...given);
-    const values = (bits & 1) !== 0 ? run.taskResults : listed(answered);
-    const got = giveBack(...values, ...(isBehind ? cores.slice(-1) : []));
-    run.record('async-return', 'adapter', `with core values ${run.text(values)}`, run.text(listed(got)));
+    const values = [...((bits & 1) !== 0 ? run.taskResults : listed(answered)), ...(isBehind ? cores.slice(-1) : [])];
+    const returned = run.record('async-return', 'adapter', `with core values ${run.text(values)}`);
+    const got = giveBack(...values);
+    returned.answer = run.text(listed(got));
     return isLowerAsync ? RETURNED : got;
   };
 }
