@@ -6,6 +6,7 @@ import { area, flatCount, flatTypes, MOST_FLAT_ASYNC_PARAMS, MOST_FLAT_PARAMS, M
 import { holds, paramTypes } from '../abi/types.js';
 import { allFromJson, allToJson, drawFrom, drawValue, sampleValue } from '../abi/values.js';
 import { hasReturnArea } from '../host/adapter.js';
+import { isLarge } from '../host/checks.js';
 import { coreToJson } from '../host/conformance.js';
 import { arrive, callsInOrder, frameOf, handOver, isAsync, isWithin } from '../host/expectation.js';
 import { Side } from '../host/side.js';
@@ -152,6 +153,7 @@ function main(seed, examples, drawn) {
   let count = 0;
   for (const [entries, isDrawn] of [[read(examples), false], [read(drawn), true]]) {
     for (const entry of entries) {
+      if (entry.plan.adapters.some(adapter => isLarge(entry.plan, adapter))) continue;
       const runs = runsOf(entry, draw, isDrawn);
       const text = fileText(entry, runs);
       if (runs.length === 0 || entry.module.length > LONGEST_MODULE || written + text.length > MOST) continue;

@@ -69,10 +69,10 @@ export function checkExamples(modules) {
   return counts;
 }
 
-// Values of a million parts are made once and not again and again.
-const LARGE = 100000;
+const LARGE = 100000; // bytes
 
-function isLarge(plan, adapter) {
+/** Whether values of the adapter may have a million parts, so that they are not made again and again. */
+export function isLarge(plan, adapter) {
   const lower = functionsOf(plan)[adapter.lower.ty];
   return area([...paramTypes(lower), ...lower.results], 4).size > LARGE;
 }
