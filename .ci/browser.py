@@ -1,11 +1,12 @@
 """Serves web/ with the modules of the examples and of drawn plans, lets a browser or a node run them, and tells what it reports.
 
-Ends with status 1 where a run is not as it should be, where the browser does not take a module, or where no report comes in time.
+Ends with status 1 where a run is not as it should be, where the browser does not take a module, or where nothing is heard of it for a minute.
 """
 
 import http.server
 import json
 import os
+import queue
 import shutil
 import signal
 import subprocess
@@ -15,7 +16,7 @@ import threading
 from pathlib import Path
 
 WEB = Path(__file__).resolve().parent.parent / "web"
-SECONDS = int(os.environ.get("BROWSER_SECONDS", "100"))
+SILENCE = 60  # seconds without a word from the browser, behind which it is given up
 MOST_FAULTS = 20
 
 sys.dont_write_bytecode = True
@@ -24,8 +25,8 @@ import modules  # noqa: E402
 
 
 def server(room):
-    """A server of web/, in which `out/` is the room, and a place for the report that is posted to it."""
-    posted = {"came": threading.Event()}
+    """A server of web/, in which `out/` is the room, and a queue of what is posted to it: None for progress, and at last the report."""
+    posted = queue.Queue()
 
     class Handler(http.server.SimpleHTTPRequestHandler):
         def translate_path(self, path):
@@ -33,10 +34,10 @@ def server(room):
             return str(Path(room) / plain[5:]) if plain.startswith("/out/") else super().translate_path(path)
 
         def do_POST(self):
-            posted["report"] = json.loads(self.rfile.read(int(self.headers["Content-Length"])))
+            body = self.rfile.read(int(self.headers["Content-Length"]))
             self.send_response(204)
             self.end_headers()
-            posted["came"].set()
+            posted.put(json.loads(body) if self.path == "/report" else None)
 
         def log_message(self, *_):
             pass
@@ -55,16 +56,30 @@ def by_browser(browser, room, seed):
     words = [browser, *flags, f"--user-data-dir={room}/profile", url]
     running = subprocess.Popen(words, stdout=subprocess.DEVNULL, stderr=subprocess.DEVNULL, start_new_session=True)
     try:
-        posted["came"].wait(SECONDS)
+        while (report := posted.get(timeout=SILENCE)) is None:
+            pass
+        return report
+    except queue.Empty:
+        return None
     finally:
-        os.killpg(running.pid, signal.SIGTERM)
-        running.wait()
+        stop(running)
         serving.shutdown()
-    return posted.get("report")
+
+
+def stop(running):
+    """Ends the browser and all processes that it began."""
+    for how in (signal.SIGTERM, signal.SIGKILL):
+        try:
+            os.killpg(running.pid, how)
+            running.wait(10)
+        except ProcessLookupError:
+            return
+        except subprocess.TimeoutExpired:
+            pass
 
 
 def by_node(node, room, seed):
-    done = subprocess.run([node, WEB / "check-node.js", room, seed], capture_output=True, text=True, timeout=SECONDS)
+    done = subprocess.run([node, WEB / "check-node.js", room, seed], capture_output=True, text=True, timeout=600)
     if done.returncode != 0:
         print(f"browser: {done.stderr[:2000]}", file=sys.stderr)
         return None

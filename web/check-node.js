@@ -15,4 +15,4 @@ async function read(path) {
   }
 }
 
-console.log(JSON.stringify(await checkAll(read, Number(seed ?? 1))));
+console.log(JSON.stringify(await checkAll(read, Number(seed ?? 1), async () => {})));
