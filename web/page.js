@@ -156,7 +156,7 @@ function showForm(id, about, text) {
 
 function choose() {
   const name = decodeURIComponent(location.hash.slice(1));
-  const key = runs.has(name) ? name : runs.keys().next().value;
+  const key = [name, 'greet'].find(one => runs.has(one)) ?? runs.keys().next().value;
   element('pick').value = key;
   const { entry, given } = runs.get(key);
   element('adapter').replaceChildren(...entry.plan.adapters.map((adapter, place) => new Option(adapter.name, place)));

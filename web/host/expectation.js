@@ -96,6 +96,7 @@ function judgeHandOver(run) {
   return [
     ...differs('the numbers of prepare-call', prepared, run.preparedWith),
     ...differs('the numbers of start-call', started, run.startedWith),
+    ...differs('what the adapter returns', run.startAnswer.map(String), run.answer.map(String)),
   ];
 }
 

@@ -55,7 +55,9 @@ export function startImport(run) {
     const returned = run.record('async-return', 'adapter', `with core values ${run.text(values)}`);
     const got = giveBack(...values);
     returned.answer = run.text(listed(got));
-    return isLowerAsync ? RETURNED : got;
+    const answer = isLowerAsync ? RETURNED : got;
+    run.startAnswer = listed(answer);
+    return answer;
   };
 }
 
