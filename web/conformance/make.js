@@ -137,9 +137,20 @@ function runsOf(entry, draw, isDrawn) {
   return runs.filter(run => JSON.stringify(run).length <= LONGEST_RUN);
 }
 
+// What the module needs of an engine beyond version 2.0 of the WebAssembly specification.
+function needsOf(plan) {
+  const memories = plan.adapters.flatMap(({ lift, lower }) => [lift.memory, lower.memory]).filter(memory => memory);
+  const isCaught = adapter => !isWithin(adapter) && !isAsync(frameOf(plan, adapter));
+  return [
+    ...(new Set(memories.map(memory => JSON.stringify(plan.core_defs[memory.def]))).size > 1 ? ['multi-memory'] : []),
+    ...(memories.some(memory => memory.memory64) ? ['memory64'] : []),
+    ...(plan.tunables?.exceptions && plan.adapters.some(isCaught) ? ['exception-handling'] : []),
+  ];
+}
+
 // One line for each part and each run.
 function fileText({ name, plan, module, imports }, runs) {
-  const parts = Object.entries({ name, plan, module, imports }).map(([key, value]) => `"${key}": ${JSON.stringify(value)}`);
+  const parts = Object.entries({ name, needs: needsOf(plan), plan, module, imports }).map(([key, value]) => `"${key}": ${JSON.stringify(value)}`);
   return `{\n${parts.join(',\n')},\n"runs": [\n${runs.map(run => JSON.stringify(run)).join(',\n')}\n]\n}\n`;
 }
 
