@@ -58,6 +58,7 @@ fn is_component(types: &SourceTypes, converter: &mut ConvertingBuilder, id: Comp
 /// Whether the core module is converted to the first one, under the name that the outside knows it by.
 fn is_module(types: &SourceTypes, converter: &mut ConvertingBuilder, item: &SourceItem) -> bool
     requires ready { IsReadyFor types.now converter.old }
+    ensures ready { IsReadyFor types.now converter.new }
 {
     if !is_live_entity(types, &item.ty) {
         return false;
