@@ -13,5 +13,6 @@ pub mod Own
 pub mod Places
 pub mod Texts
 pub mod Tuples
+pub mod UpperHalves
 pub mod ValueLaws
 pub mod Weight
