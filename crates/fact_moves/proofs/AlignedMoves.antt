@@ -52,15 +52,15 @@ abbrev pub TargetOn : ℕ → Target → Type 0
 TargetOn n (Slots ts) = Unit {0}
 TargetOn n (Into a) = n ∣ a
 
-source_less : (m n : ℕ) (s : Source) → m ∣ n → SourceOn n s → SourceOn m s
+pub source_less : (m n : ℕ) (s : Source) → m ∣ n → SourceOn n s → SourceOn m s
 source_less m n (Values vs) d h = tt
 source_less m n (AtAddress a) d h = dvd_trans m d h
 
-target_less : (m n : ℕ) (d : Target) → m ∣ n → TargetOn n d → TargetOn m d
+pub target_less : (m n : ℕ) (d : Target) → m ∣ n → TargetOn n d → TargetOn m d
 target_less m n (Slots ts) k h = tt
 target_less m n (Into a) k h = dvd_trans m k h
 
-times_divides : (m i n : ℕ) → m ∣ n → m ∣ i * n
+pub times_divides : (m i n : ℕ) → m ∣ n → m ∣ i * n
 times_divides m i n d = dvd_trans m d (dvd-mul_left n i)
 
 -- ---- texts
@@ -169,15 +169,15 @@ module _ (tr : Transfer) where
 
   -- ---- records and sums
 
-  part_on : (n : ℕ) (f : Field) (s : Source) → FieldFits wf n f → SourceOn n s → SourceOn (align_in wf f.shape) (part tr.from f s)
+  pub part_on : (n : ℕ) (f : Field) (s : Source) → FieldFits wf n f → SourceOn n s → SourceOn (align_in wf f.shape) (part tr.from f s)
   part_on n f (Values vs) fits on = tt
   part_on n f (AtAddress a) fits on = dvd-add _ (dvd_trans _ fits.covered on) fits.place
 
-  spot_on : (n : ℕ) (u : Shape) (end : ℕ) (d : Target) → align_in wt u ∣ n → TargetOn n d → TargetOn (align_in wt u) (spot tr.to u end d)
+  pub spot_on : (n : ℕ) (u : Shape) (end : ℕ) (d : Target) → align_in wt u ∣ n → TargetOn n d → TargetOn (align_in wt u) (spot tr.to u end d)
   spot_on n u end (Slots ts) k on = tt
   spot_on n u end (Into a) k on = dvd-add _ (dvd_trans _ k on) (place_divides wt u end)
 
-  past_on : (n : ℕ) (u : Shape) (d : Target) → TargetOn n d → TargetOn n (past tr.to u d)
+  pub past_on : (n : ℕ) (u : Shape) (d : Target) → TargetOn n d → TargetOn n (past tr.to u d)
   past_on n u (Slots ts) on = tt
   past_on n u (Into a) on = on
 
@@ -186,11 +186,11 @@ module _ (tr : Transfer) where
   avoids_field n None fits h = avoids_stop
   avoids_field n (Some f) fits h = h f fits
 
-  payload_on : (ms : Members) (p : Shape) (s : Source) → align_in wf p ∣ record_align wf ms → SourceOn (record_align wf ms) s → SourceOn (align_in wf p) (payload_part tr.from p (payload_place (side_abi tr.from) ms) s)
+  pub payload_on : (ms : Members) (p : Shape) (s : Source) → align_in wf p ∣ record_align wf ms → SourceOn (record_align wf ms) s → SourceOn (align_in wf p) (payload_part tr.from p (payload_place (side_abi tr.from) ms) s)
   payload_on ms p (Values vs) k on = tt
   payload_on ms p (AtAddress a) k on = dvd_trans _ k (dvd-add _ on (offset_divides wf (case_bytes ms) ms))
 
-  payload_to : (ns : Members) (u : Shape) (d : Target) → align_in wt u ∣ record_align wt ns → TargetOn (record_align wt ns) d → TargetOn (align_in wt u) (payload_spot tr.to u (payload_place (side_abi tr.to) ns) d)
+  pub payload_to : (ns : Members) (u : Shape) (d : Target) → align_in wt u ∣ record_align wt ns → TargetOn (record_align wt ns) d → TargetOn (align_in wt u) (payload_spot tr.to u (payload_place (side_abi tr.to) ns) d)
   payload_to ns u (Slots ts) k on = tt
   payload_to ns u (Into a) k on = dvd_trans _ k (dvd-add _ on (offset_divides wt (case_bytes ns) ns))
 
@@ -261,11 +261,11 @@ module _ (tr : Transfer) where
       moves.fields ms (AtAddress (p + i * e.size)) (Into (q + i * f.size)) counted (dvd-add _ at (times_divides _ i _ (size_divides wf ms))) (dvd-add _ into (times_divides _ i _ (size_divides wt ns)))))
       (λ vs. avoids_pair_written tr.to d q n))))))
 
-  nth_on : (n flats bytes i : ℕ) (s : Source) → n ∣ bytes → SourceOn n s → SourceOn n (nth_part flats bytes i s)
+  pub nth_on : (n flats bytes i : ℕ) (s : Source) → n ∣ bytes → SourceOn n s → SourceOn n (nth_part flats bytes i s)
   nth_on n flats bytes i (Values vs) k on = tt
   nth_on n flats bytes i (AtAddress a) k on = dvd-add _ on (times_divides n i bytes k)
 
-  nth_to : (n flats bytes i : ℕ) (d : Target) → n ∣ bytes → TargetOn n d → TargetOn n (nth_spot flats bytes i d)
+  pub nth_to : (n flats bytes i : ℕ) (d : Target) → n ∣ bytes → TargetOn n d → TargetOn n (nth_spot flats bytes i d)
   nth_to n flats bytes i (Slots ts) k on = tt
   nth_to n flats bytes i (Into a) k on = dvd-add _ on (times_divides n i bytes k)
 

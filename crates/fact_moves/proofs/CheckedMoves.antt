@@ -246,7 +246,7 @@ module _ (u : AdapterTunables) (a : LinkedAdapter) where
   checks_cleared : {A : Type 0} (i saved : ℕ) {q r : Action A} → Checks q r → Checks (cleared i saved q) (cleared i saved r)
   checks_cleared i saved h = sets i 0 (checks_bind h (λ x. same _))
 
-  checks_sync : (args : List CoreValue) → Checks (sync u a args) (sync unchecked a args)
+  pub checks_sync : (args : List CoreValue) → Checks (sync u a args) (sync unchecked a args)
   checks_sync args =
       gets a.lower.instance (λ saved.
       checks_bind (same _) (λ x.
@@ -258,10 +258,10 @@ module _ (u : AdapterTunables) (a : LinkedAdapter) where
       checks_bind (same (exit_call u a)) (λ z.
       checks_bind (checks_cleared a.lower.instance saved (checks_results given (last_bits args))) (λ results. same _)))))))))
 
-  checks_start : (args : List CoreValue) → Checks (async_start u a args) (async_start unchecked a args)
+  pub checks_start : (args : List CoreValue) → Checks (async_start u a args) (async_start unchecked a args)
   checks_start args = gets a.lift.instance (λ saved. checks_cleared a.lift.instance saved (checks_params args))
 
-  checks_return : (args : List CoreValue) → Checks (async_return u a args) (async_return unchecked a args)
+  pub checks_return : (args : List CoreValue) → Checks (async_return u a args) (async_return unchecked a args)
   checks_return args = gets a.lower.instance (λ saved. checks_cleared a.lower.instance saved (checks_results args (last_bits args)))
 
 pub sync_checked : EachChecked sync
