@@ -23,7 +23,7 @@ use Rattle.fact_machine.proofs.Plans.{IsPlain, Leap, To, Stops, leaps, Plan, Lea
 -- ---- the answers in the log and those that are left are always the answers given
 
 -- the world still has these answers, at most so many of them left
-pub record Keeps (all : List Answer) (n : ℕ) (w : World) : Type 0 where
+record Keeps (all : List Answer) (n : ℕ) (w : World) : Type 0 where
   pub told : answers_of (log_of w) ++ w.answers ≡ all
   pub fewer : length w.answers ≤ n
 
@@ -33,7 +33,7 @@ EndFits Going w = ⊥
 EndFits Lacks w = w.answers ≡ []
 EndFits _ w = Unit {0}
 
-abbrev pub Kept : List Answer → ℕ → Did → Type 0
+abbrev Kept : List Answer → ℕ → Did → Type 0
 Kept all n (Goes (At w vs ls code k)) = Keeps all n w
 Kept all n (Ends e w) = Keeps all n w × EndFits e w
 
@@ -57,7 +57,7 @@ throw_kept : (w : World) (ls : List (Option CoreValue)) (k : Around) (all : List
 throw_kept w ls k all n h = let p = throw_leaping ls k in subst (Kept all n) (sym (p.is w)) (leaps_kept p.leap w all n h)
 
 -- an answer, with what is left after it
-pub answered_kept : (f : ℕ) (args : List CoreValue) (w : World) (a : Answer) (more all : List Answer) (n : ℕ) (vs : List CoreValue) (ls : List (Option CoreValue)) (code : List Instr) (k : Around)
+answered_kept : (f : ℕ) (args : List CoreValue) (w : World) (a : Answer) (more all : List Answer) (n : ℕ) (vs : List CoreValue) (ls : List (Option CoreValue)) (code : List Instr) (k : Around)
     → answers_of (log_of w) ++ (a ∷ more) ≡ all → length more ≤ n
     → Kept all n (on_res (answered (record { func = f; args = args; before = w.state; answer = a }) w more a) ls k (λ results w'. Goes (At w' (reverse results ++ vs) ls code k)))
 answered_kept f args w (Returns results state) more all n vs ls code k h g = record { told = told_called w.trace _ more ∙ h; fewer = g }
@@ -81,7 +81,7 @@ does_kept (Asks f args vs ls code k) w all n h = asked_kept f args w w.answers a
 planned_kept : (w : World) (go : List Answer → List TraceEntry → Did) (all : List Answer) (n : ℕ) → Planned w.state go → Keeps all n w → Kept all n (go w.answers w.trace)
 planned_kept w go all n p h = subst (Kept all n) (sym (p.is w.answers w.trace)) (does_kept p.plan w all n h)
 
-pub begin_kept : (M : WasmModule) (x : Next) (all : List Answer) (n : ℕ) → Keeps all n (next_world x) → Kept all n (begin M x)
+begin_kept : (M : WasmModule) (x : Next) (all : List Answer) (n : ℕ) → Keeps all n (next_world x) → Kept all n (begin M x)
 begin_kept M (Begins w vs ls i rest k) all n h = planned_kept w (λ a t. act M (out-Instr i) (world w.state a t) vs ls rest k) all n (act_planned M (out-Instr i) w.state vs ls rest k) h
 begin_kept M (Finished w vs) all n h = (h, tt)
 begin_kept M (Breaks w) all n h = (h, tt)
@@ -100,28 +100,32 @@ rest_told (Begins w vs ls i rest k) all n h = record { left = w.answers; is = h.
 rest_told (Finished w vs) all n h = record { left = w.answers; is = h.told; fewer = h.fewer; lacks = λ e. cc }
 rest_told (Breaks w) all n h = record { left = w.answers; is = h.told; fewer = h.fewer; lacks = λ e. cc }
 
-pub after_told : (M : WasmModule) (n : ℕ) (d : Did) (all : List Answer) (m : ℕ) → ((c : Config) → Keeps all m (config_world c) → Told all m (exec M n c)) → Kept all m d → Told all m (after (exec M n) d)
+after_told : (M : WasmModule) (n : ℕ) (d : Did) (all : List Answer) (m : ℕ) → ((c : Config) → Keeps all m (config_world c) → Told all m (exec M n c)) → Kept all m d → Told all m (after (exec M n) d)
 after_told M n (Goes (At w vs ls code k)) all m ih h = ih (At w vs ls code k) h
 after_told M n (Ends e w) all m ih h = record { left = w.answers; is = h.0.told; fewer = h.0.fewer; lacks = λ q. subst (λ x. EndFits x w) q h.1 }
 
-pub step_keeps : (c : Config) (all : List Answer) (m : ℕ) → Keeps all m (config_world c) → Keeps all m (next_world (next c))
+step_keeps : (c : Config) (all : List Answer) (m : ℕ) → Keeps all m (config_world c) → Keeps all m (next_world (next c))
 step_keeps (At w vs ls code k) all m h = subst (Keeps all m) (sym (next_keeps w vs ls code k)) h
 
-pub exec_told : (M : WasmModule) (n : ℕ) (all : List Answer) (m : ℕ) (c : Config) → Keeps all m (config_world c) → Told all m (exec M n c)
+exec_told : (M : WasmModule) (n : ℕ) (all : List Answer) (m : ℕ) (c : Config) → Keeps all m (config_world c) → Told all m (exec M n c)
 exec_told M zero all m c h = rest_told (next c) all m (step_keeps c all m h)
 exec_told M (suc n) all m c h = after_told M n (begin M (next c)) all m (exec_told M n all m) (begin_kept M (next c) all m (step_keeps c all m h))
 
-pub fresh : (s : MachineState) (answers : List Answer) → Keeps answers (length answers) (world s answers [])
+fresh : (s : MachineState) (answers : List Answer) → Keeps answers (length answers) (world s answers [])
 fresh s answers = record { told = refl; fewer = omega arith }
 
-pub start_kept : (M : WasmModule) (f : ℕ) (args : List CoreValue) (s : MachineState) (answers : List Answer) → Kept answers (length answers) (start M f args s answers)
+start_kept : (M : WasmModule) (f : ℕ) (args : List CoreValue) (s : MachineState) (answers : List Answer) → Kept answers (length answers) (start M f args s answers)
 start_kept M f args s answers = planned_kept (world s answers []) _ answers (length answers) (start_planned M f args s) (fresh s answers)
+
+-- the answers in a run's log are the first that it was given
+pub run_tells : (M : WasmModule) (f : ℕ) (args : List CoreValue) (s : MachineState) (answers : List Answer) (n : ℕ) → Told answers (length answers) (run_of M f args s answers n)
+run_tells M f args s answers n = after_told M n (start M f args s answers) answers (length answers) (exec_told M n answers (length answers)) (start_kept M f args s answers)
 
 -- a run that lacks an answer took all
 pub run_lacks : (M : WasmModule) (f : ℕ) (args : List CoreValue) (s : MachineState) (answers : List Answer) (n : ℕ)
     → (run_of M f args s answers n).end ≡ Lacks → answers_of (run_of M f args s answers n).log ≡ answers
 run_lacks M f args s answers n h =
-    let t : Told answers (length answers) (run_of M f args s answers n) = after_told M n (start M f args s answers) answers (length answers) (exec_told M n answers (length answers)) (start_kept M f args s answers) in
+    let t = run_tells M f args s answers n in
     sym (append-nil _) ∙ ap (λ l. answers_of (run_of M f args s answers n).log ++ l) (sym (t.lacks h)) ∙ t.is
 
 -- ---- a run that is going took all its steps

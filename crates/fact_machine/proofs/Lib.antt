@@ -1,3 +1,4 @@
+pub mod Answered
 pub mod Bytes
 pub mod Causes
 pub mod Cuts
@@ -7,7 +8,6 @@ pub mod Grows
 pub mod Laws
 pub mod MemoryRows
 pub mod NumericLaws
-pub mod OneMore
 pub mod OutsideCalls
 pub mod Places
 pub mod Plans

@@ -1,11 +1,14 @@
 -- Laws of runs: what ends, numbers of steps and traces are to one another. Each holds whatever instructions are run.
-use Rattle.std.specs.Prelude.{◌≡◌, ◌≢◌, ℕ, ◌+◌, ◌≤◌, false, List, [], Option}
+use Rattle.std.specs.Prelude.{◌≡◌, ◌≢◌, ◌⊎◌, ℕ, ◌+◌, ◌≤◌, false, List, [], ◌∷◌, ◌++◌, Option}
 use Rattle.fact_wasm.specs.declared.instr.Instr.{Instr}
 use Rattle.fact_wasm.specs.declared.module.WasmModule.{WasmModule}
 use Rattle.fact_machine.specs.declared.types.CoreValue.{CoreValue}
 use Rattle.fact_machine.specs.declared.types.MachineState.{MachineState}
 use Rattle.fact_machine.specs.declared.types.Answer.{Answer}
-use Rattle.fact_machine.specs.declared.types.End.TheVariants.{Going, Stuck}
+use Rattle.fact_machine.specs.declared.types.End.TheVariants.{Lacks, Going, Stuck}
+use Rattle.fact_machine.specs.declared.types.Event.{Event}
+use Rattle.fact_machine.specs.declared.types.Outcome.{Outcome}
+use Rattle.fact_machine.specs.Causes.{answers_of}
 use Rattle.fact_machine.specs.World.{World, calls}
 use Rattle.fact_machine.specs.Machine.{Around, Config, At, Goes, next, begin, exec, takes, run_of}
 use Rattle.fact_machine.specs.Trace.{outcome_of, reach, world_at, run_reach, trace_of, Grows}
@@ -90,3 +93,36 @@ abbrev pub TraceKeeps : Type 0
 TraceKeeps =
     (M : WasmModule) (n : ℕ) (w : World) (vs : List CoreValue) (ls : List (Option CoreValue)) (code : List Instr) (k : Around)
     → Grows w.trace (world_at M n (At w vs ls code k)).trace
+
+-- ---- answers
+
+-- The answers in the log of a run are the first of those that it was given.
+abbrev pub LogTakesAnswers : Type 0
+LogTakesAnswers =
+    (M : WasmModule) (f : ℕ) (args : List CoreValue) (state : MachineState) (answers : List Answer) (n : ℕ)
+    → Grows (answers_of (run_of M f args state answers n).log) answers
+
+-- A run that has taken all of them makes no outside call at more steps.
+abbrev pub NoMoreCalls : Type 0
+NoMoreCalls =
+    (M : WasmModule) (f : ℕ) (args : List CoreValue) (state : MachineState) (answers : List Answer) (n m : ℕ)
+    → n ≤ m → answers_of (run_of M f args state answers n).log ≡ answers → (run_of M f args state answers m).log ≡ (run_of M f args state answers n).log
+
+-- Of two outcomes the first lacks an answer where the second has one, and whatever came behind it.
+pub record LacksOne (shorter longer : Outcome) : Type 0 where
+  pub lacks : shorter.end ≡ Lacks
+  pub event : Event
+  pub more : List Event
+  pub log : longer.log ≡ shorter.log ++ event ∷ more
+
+-- With more answers a run of as many steps is the same, or it lacked one of them.
+abbrev pub MoreAnswers : Type 0
+MoreAnswers =
+    (M : WasmModule) (f : ℕ) (args : List CoreValue) (state : MachineState) (answers more : List Answer) (n : ℕ)
+    → (run_of M f args state answers n ≡ run_of M f args state (answers ++ more) n) ⊎ LacksOne (run_of M f args state answers n) (run_of M f args state (answers ++ more) n)
+
+-- On just the answers in its log a run of as many steps is the same, also where it goes on.
+abbrev pub RunsOnItsAnswers : Type 0
+RunsOnItsAnswers =
+    (M : WasmModule) (f : ℕ) (args : List CoreValue) (state : MachineState) (answers : List Answer) (n : ℕ)
+    → run_of M f args state (answers_of (run_of M f args state answers n).log) n ≡ run_of M f args state answers n

@@ -1,9 +1,9 @@
 //! Laws of runs.
 
-ghost use Rattle.fact_machine.specs.RunLaws.{ExecIsReached, RunIsReached, LogIsOfTrace, UntypedIsStuck, EndStays, ReachedStays, OneEnd, NoStep, OneStep, StepsAdd, TraceGrows, LogGrows, TraceKeeps};
+ghost use Rattle.fact_machine.specs.RunLaws.{ExecIsReached, RunIsReached, LogIsOfTrace, UntypedIsStuck, EndStays, ReachedStays, OneEnd, NoStep, OneStep, StepsAdd, TraceGrows, LogGrows, TraceKeeps, LogTakesAnswers, NoMoreCalls, MoreAnswers, RunsOnItsAnswers};
 
-/// What holds of runs, whatever their instructions: how outcomes, steps, ends and traces go together. The call does nothing:
-/// its contract is the laws.
+/// What holds of runs, whatever their instructions: how outcomes, steps, ends, traces and answers go together. The call does
+/// nothing: its contract is the laws.
 pub fn laws_of_runs()
     ensures exec_is_reached { ExecIsReached }
     ensures run_is_reached { RunIsReached }
@@ -18,4 +18,8 @@ pub fn laws_of_runs()
     ensures trace_grows { TraceGrows }
     ensures log_grows { LogGrows }
     ensures trace_keeps { TraceKeeps }
+    ensures log_takes_answers { LogTakesAnswers }
+    ensures no_more_calls { NoMoreCalls }
+    ensures more_answers { MoreAnswers }
+    ensures runs_on_its_answers { RunsOnItsAnswers }
 {}

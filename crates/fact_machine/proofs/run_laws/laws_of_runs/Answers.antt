@@ -1,4 +1,5 @@
 use Rattle.fact_machine.specs.Machine.{At}
+use Rattle.fact_machine.proofs.Answered.{log_takes, no_more_calls, more_answers, runs_on_its_answers}
 use Rattle.fact_machine.proofs.Laws.{exec_is, run_is, reach_stays, comes_silent, comes_one, comes_on}
 use Rattle.fact_machine.proofs.WholeRuns.{run_untyped, run_stays, run_one_end}
 use Rattle.fact_machine.proofs.Grows.{run_log, run_trace_more, run_log_more, trace_grows}
@@ -19,4 +20,8 @@ returns c = record {
   trace_grows = run_trace_more;
   log_grows = run_log_more;
   trace_keeps = λ M n w vs ls code k. trace_grows M n (At w vs ls code k);
+  log_takes_answers = log_takes;
+  no_more_calls = no_more_calls;
+  more_answers = more_answers;
+  runs_on_its_answers = runs_on_its_answers;
 }

@@ -4,8 +4,8 @@ use Rattle.fact_machine.specs.declared.types.CoreValue.{CoreValue}
 use Rattle.fact_machine.specs.declared.types.Outcome.{Outcome}
 use Rattle.fact_machine.specs.Machine.{Config, At, run_of, after, exec, check, takes, call_inside}
 use Rattle.fact_machine.specs.Causes.{answers_of}
+use Rattle.fact_machine.proofs.Answered.{run_asks}
 use Rattle.fact_machine.proofs.Causes.{run_going, run_lacks}
-use Rattle.fact_machine.proofs.OneMore.{run_asks}
 use Rattle.fact_machine.proofs.run.Machine.run.Goals as goal
 
 -- a call of a function where a machine stands so
