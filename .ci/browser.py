@@ -1,6 +1,7 @@
 """Serves web/ with the modules of the examples and of drawn plans, lets a browser or a node run them, and tells what it reports.
 
-Ends with status 1 where a run is not as it should be, where the browser does not take a module, or where nothing is heard of it for a minute.
+Ends with status 1 where a run is not as it should be, where the browser does not take a module, or where no engine reports. A browser of which
+nothing is heard for two minutes is given up, and the next engine takes its place.
 """
 
 import http.server
@@ -16,7 +17,7 @@ import threading
 from pathlib import Path
 
 WEB = Path(__file__).resolve().parent.parent / "web"
-SILENCE = 60  # seconds without a word from the browser, behind which it is given up
+SILENCE = 120  # seconds without a word from the browser, behind which it is given up
 MOST_FAULTS = 20
 
 sys.dont_write_bytecode = True
@@ -86,18 +87,23 @@ def by_node(node, room, seed):
     return json.loads(done.stdout)
 
 
-def main(program, engine, seed, count):
-    is_node = Path(engine).name == "node"
+def main(program, seed, count, *engines):
     room = tempfile.mkdtemp()
+    report = None
     try:
         modules.write(program, f"{room}/modules.json")
         modules.write(program, f"{room}/drawn.json", seed, count)
-        report = (by_node if is_node else by_browser)(engine, room, seed)
+        for engine in engines:
+            is_node = Path(engine).name == "node"
+            report = (by_node if is_node else by_browser)(engine, room, seed)
+            if report is not None:
+                break
+            print(f"browser: {engine} gave no report", file=sys.stderr)
     finally:
         shutil.rmtree(room, ignore_errors=True)
     if report is None:
-        print(f"browser: {engine} gave no report", file=sys.stderr)
         return 1
+    print(f"browser: {engine} ran them", file=sys.stderr)
     faults = report["faults"]
     for line in [*report["lines"], *faults[:MOST_FAULTS]]:
         print(f"browser: {line}", file=sys.stderr)
