@@ -108,6 +108,16 @@ pub record IsImported (old new : ModuleSoFar) (w : WasmImport) (i : Import) (pla
       ((new ≡ old) × Contains (imports_of (sort_of w.ty) old.section old.imports) i)
       ⊎ ((new ≡ with_import old w i) × (Contains (imports_of (sort_of w.ty) old.section old.imports) i → ⊥))
 
+-- An index of a function type is that of one of the types.
+abbrev pub IsTypeThere : ModuleSoFar → ImportType → Type 0
+IsTypeThere s (import.Func ty) = ty < length s.types
+IsTypeThere s (import.Memory least wide page) = Unit {0}
+IsTypeThere s (import.Global t mutable) = Unit {0}
+
+-- Where a core definition is imported already, its import has this type.
+pub record HasNoOtherType (s : ModuleSoFar) (d : CoreDef) (ty : ImportType) : Type 0 where
+  pub same : (n : ℕ) (w : WasmImport) → slice_get s.section n ≡ Some w → slice_get s.imports n ≡ Some (known.CoreDef d) → w.ty ≡ ty
+
 -- A type is among the types, as it was before, or anew behind the others.
 abbrev pub HasType : (old new : ModuleSoFar) → FuncType → Type 0
 HasType old new ty = (new ≡ old) ⊎ ((Contains old.types ty → ⊥) × (new ≡ record old { types = old.types ++ ty ∷ [] }))

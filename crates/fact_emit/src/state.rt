@@ -9,7 +9,7 @@ ghost use Rattle.fact_emit.specs.ImportSection.{a_function, a_memory, imported_t
 ghost use Rattle.fact_emit.specs.Imports.{AreOnce, Extended, HasImport};
 ghost use Rattle.fact_emit.specs.Settings.{OnlySectionsChanged};
 ghost use Rattle.fact_emit.specs.State.{IsAdded, IsKept};
-ghost use Rattle.fact_emit.specs.States.{HasType, IsImported, MayImport, export_as, functions_of, import_as, known_as, memories_of, module_of, nothing_so_far, type_of_item, type_of_transcoder};
+ghost use Rattle.fact_emit.specs.States.{HasNoOtherType, HasType, IsImported, IsTypeThere, MayImport, export_as, functions_of, import_as, known_as, memories_of, module_of, nothing_so_far, type_of_item, type_of_transcoder};
 ghost use Rattle.fact_emit.specs.TaskCalls.{IsItemImported};
 
 use crate::imported::ImportedItem;
@@ -313,7 +313,7 @@ impl ModuleSections {
     }
 
     /// The place of a core definition among the imports of its kind. A new one is imported last, under these names, with this
-    /// type.
+    /// type, whose index, if it has one, is that of a type that is there.
     pub fn core_def(
         &mut self,
         def: &CoreDef,
@@ -321,6 +321,7 @@ impl ModuleSections {
         name: &str,
         ty: ImportType,
     ) -> Result<u32, OutOfMemory>
+        requires { IsTypeThere self.old ty }
         ensures imported { IfOk result (λ place. IsImported self.old self.new (import_as «module».now name.now ty) (known.CoreDef def.now) place) }
         ensures keeps { Extended self.old self.new }
         ensures once { AreOnce self.old → AreOnce self.new }
@@ -566,7 +567,7 @@ impl<'a> ModuleState<'a> {
     }
 
     /// The place of a core definition among the imports of its kind. A new one is imported last, under these names, with this
-    /// type.
+    /// type, whose index, if it has one, is that of a type that is there. One that was imported before has this type too.
     pub fn core_def(
         &mut self,
         def: &CoreDef,
@@ -574,6 +575,8 @@ impl<'a> ModuleState<'a> {
         name: &str,
         ty: ImportType,
     ) -> Result<u32, OutOfMemory>
+        requires same { HasNoOtherType self.old.sections def.now ty }
+        requires live { IsTypeThere self.old.sections ty }
         ensures imported { IfOk result (λ place. IsImported self.old.sections self.new.sections (import_as «module».now name.now ty) (known.CoreDef def.now) place) }
         ensures extended { Extended self.old.sections self.new.sections }
         ensures keeps { OnlySectionsChanged self.old self.new }

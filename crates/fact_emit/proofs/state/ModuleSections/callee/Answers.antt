@@ -1,8 +1,12 @@
 use Rattle.std.proofs.Common.{refl, codes}
+use Rattle.std.proofs.lemmas.Option.{slice_get_within}
 use Rattle.fact_wasm.specs.declared.module.ImportType.TheVariants as import_type
 use Rattle.fact_emit.specs.States.{import_as}
 use Rattle.fact_emit.proofs.ImportLaws.{extended_on}
 use Rattle.fact_emit.proofs.state.ModuleSections.callee.Goals as goal
+
+pub core_def-requires : goal.core_def-requires
+core_def-requires c = slice_get_within _ _ _ c.in_ok-ty.ensures.place
 
 pub returns-clause-keeps : goal.returns-clause-keeps
 returns-clause-keeps c = extended_on c.function.ensures.keeps c.core_def.ensures.keeps

@@ -1,11 +1,15 @@
 use Rattle.std.proofs.Common.{[], ◌∷◌, ◌++◌, Some, refl, ap, ◌∙◌, codes, subst}
 use Rattle.std.specs.Fmt.{decimal}
+use Rattle.std.proofs.lemmas.Option.{slice_get_within}
 use Rattle.fact_wasm.specs.CoreTypes.{signature}
 use Rattle.fact_wasm.specs.declared.types.ValType.{ValType}
 use Rattle.fact_wasm.specs.declared.module.ImportType.TheVariants as import_type
 use Rattle.fact_emit.specs.States.{HasType, import_as}
 use Rattle.fact_emit.proofs.ImportLaws.{extended_on}
 use Rattle.fact_emit.proofs.state.ModuleSections.realloc.Goals as goal
+
+pub core_def-requires : goal.core_def-requires
+core_def-requires c = slice_get_within _ _ _ c.in_ok-ty.ensures.place
 
 pub returns-clause-imported : goal.returns-clause-imported
 returns-clause-imported c = record {
