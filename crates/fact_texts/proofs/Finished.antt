@@ -1,8 +1,7 @@
 -- Adapters move texts, and so whole runs of theirs are faithful.
 use Rattle.fact_carry.specs.FaithfulLaws.{setting_of_params, setting_of_results, quiet}
 use Rattle.fact_carry.proofs.FaithfulRuns.{runs_are_faithful, runs_weigh}
-use Rattle.fact_carry.proofs.Ending.{runs_come_to_end}
-use Rattle.fact_texts.specs.Laws.{TextsAreMoved, TextsMoveInAdapters, AdaptersAreFaithful, AdaptersWeigh, AdaptersComeToEnd}
+use Rattle.fact_texts.specs.Laws.{TextsAreMoved, TextsMoveInAdapters, AdaptersAreFaithful, AdaptersWeigh}
 use Rattle.fact_texts.proofs.ForTypes.{texts}
 
 pub texts_are_moved : TextsAreMoved
@@ -19,6 +18,3 @@ adapters_are_faithful p u a args w k sync honest = runs_are_faithful p u a args 
 
 pub adapters_weigh : AdaptersWeigh
 adapters_weigh p u a args w k sync honest = runs_weigh p u a args w k sync (texts_move p u a k) honest
-
-pub adapters_come_to_end : AdaptersComeToEnd
-adapters_come_to_end p u a args w off k sync honest limits = runs_come_to_end p u a args w off k sync (texts_move p u a k) honest limits

@@ -8,6 +8,8 @@ mod Answered
 mod Asking
 mod Beginning
 mod Bounds
+mod CheckedRows
+pub mod ChecksPass
 mod Copies
 mod Decoded
 mod Encoded
@@ -17,6 +19,7 @@ pub mod Finished
 mod FirstRequest
 pub mod FlaggedRequests
 mod ForTypes
+mod GoodAnswers
 mod Halting
 mod IntoCompact
 mod IntoUtf8
@@ -32,6 +35,9 @@ mod Reading
 mod Reallocs
 mod RequestCases
 pub mod Requests
+mod SparedMoves
+mod SparedTexts
+mod Spares
 mod Spelled
 mod Stages
 mod States

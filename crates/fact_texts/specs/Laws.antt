@@ -18,17 +18,18 @@ use Rattle.fact_moves.specs.Actions.{trap}
 use Rattle.fact_moves.specs.Adapters.{AdapterTunables, params_transfer, results_transfer, move_params, move_results, async_start, async_return}
 use Rattle.fact_moves.specs.Calls.{HasOwnCallee}
 use Rattle.fact_moves.specs.Confined.{HaveHonestTranscoders, AreRangedSync, AreRangedStart, AreRangedReturn}
-use Rattle.fact_moves.specs.Honest.{AreHonest, IsStraight, IsHonestRun}
+use Rattle.fact_moves.specs.Honest.{AreHonest, IsStraight, IsHonestRun, IsHonestStart, IsHonestReturn}
 use Rattle.fact_moves.specs.Order.{flag_in}
 use Rattle.fact_moves.specs.Paths.{TextForm, path}
 use Rattle.fact_moves.specs.Plain.{ended_sync}
-use Rattle.fact_moves.specs.Regions.{Region, Position, Landing, params_landing, results_landing}
+use Rattle.fact_moves.specs.Regions.{Region, Position, Landing, IsAreaSound, params_landing, results_landing}
 use Rattle.fact_moves.specs.Requests.{request_of, parts_requests, is_transcode, answers_in}
 use Rattle.fact_moves.specs.Running.{ImportPlaces, Call, Ended, Halted, calls_in, is_state, moved_weight, run}
 use Rattle.fact_moves.specs.Sides.{Source, Target, Transfer, options_of}
 use Rattle.fact_moves.specs.Strings.{PathPoint, form_in, most_string_bytes, move_string, walk}
-use Rattle.fact_carry.specs.Faithful.{IsFaithful, WhereGiven, IsInLimits, ComesToEnd, whole_weight}
-use Rattle.fact_carry.specs.FaithfulLaws.{IsCheckedAdapter, HasSyncSides, TextsMove}
+use Rattle.fact_carry.specs.Faithful.{IsFaithful, WhereGiven, IsInLimits, ComesToEnd, ParamsAreThere, params_given, weight_of_values, whole_weight}
+use Rattle.fact_carry.specs.FaithfulLaws.{quiet, IsCheckedAdapter, HasSyncSides, TextsMove}
+use Rattle.fact_carry.specs.TransferLaws.{results_handed, HandedAreThere, EndsInFew}
 use Rattle.fact_carry.specs.Law.{HasPointers}
 use Rattle.fact_carry.specs.Lawful.{Texts}
 use Rattle.fact_carry.specs.Places.{HoldsMemories, IsGrounded, HasKnownMemory, IsSource}
@@ -38,6 +39,7 @@ use Rattle.fact_texts.specs.PastLimits.{first_factor, greatest_factor, OutgrowsF
 use Rattle.fact_texts.specs.Premises.{KnowsMemories, HasMeans}
 use Rattle.fact_texts.specs.Requested.{AsksFor, params_parts, results_parts, AreRequested}
 use Rattle.fact_texts.specs.Trapped.{LastTraps, answers_so_far, IsHonestUntilTrap, IsHonestStartUntilTrap, IsHonestReturnUntilTrap}
+use Rattle.fact_texts.specs.PassingChecks.{PassChecks, ParamsPassChecks, ResultsPassChecks}
 
 -- ---- ranges of transcoders
 
@@ -99,13 +101,48 @@ AdaptersWeigh =
     → IsCheckedAdapter p a → HasSyncSides a → IsHonestRun p a args w.state (ended_sync p u a args w)
     → WhereGiven (ended_sync p u a args w) (λ cs vs w'. moved_weight (ended_sync p u a args w) ≡ whole_weight p a args w.state cs)
 
--- Within limits, and without debug checks, it gives something or lacks an answer, and makes few calls.
+-- Within limits, and where debug checks pass if they are on, it gives something or lacks an answer, and makes few calls.
 abbrev pub AdaptersComeToEnd : Type 0
 AdaptersComeToEnd =
     (p : ImportPlaces) (u : AdapterTunables) (a : LinkedAdapter) (args : List CoreValue) (w : World)
-    → u.debug ≡ false → IsCheckedAdapter p a → HasSyncSides a → IsHonestRun p a args w.state (ended_sync p u a args w)
+    → PassChecks u a args (calls_in (ended_sync p u a args w)) → IsCheckedAdapter p a → HasSyncSides a → IsHonestRun p a args w.state (ended_sync p u a args w)
     → IsInLimits p a args w.state (calls_in (ended_sync p u a args w))
     → ComesToEnd p a args w.state (ended_sync p u a args w)
+
+-- So do the functions of an async adapter that move parameters and results.
+abbrev pub CheckedStartsComeToEnd : Type 0
+CheckedStartsComeToEnd =
+    (p : ImportPlaces) (u : AdapterTunables) (a : LinkedAdapter) (args : List CoreValue) (w : World)
+    → ParamsPassChecks u a args → IsCheckedAdapter p a → IsHonestStart p a args w.state (run p (async_start u a args) w)
+    → ParamsAreThere p a args w.state → EndsInFew (weight_of_values a.lower.params (params_given p a args w.state)) (run p (async_start u a args) w)
+
+abbrev pub CheckedReturnsComeToEnd : Type 0
+CheckedReturnsComeToEnd =
+    (p : ImportPlaces) (u : AdapterTunables) (a : LinkedAdapter) (args : List CoreValue) (w : World)
+    → ResultsPassChecks u a args → IsCheckedAdapter p a → IsHonestReturn p a args w.state (run p (async_return u a args) w)
+    → HandedAreThere p a args w.state → IsAreaSound p a args w.state → EndsInFew (weight_of_values a.lift.results (results_handed p a args w.state)) (run p (async_return u a args) w)
+
+-- ---- debug checks
+
+-- Where upper halves are 0 an honest run comes with debug checks to what it comes to without them, call by call: no check fails.
+-- Places are aligned, and honest transcoders answer as they are to.
+abbrev pub ChecksPass : Type 0
+ChecksPass =
+    (p : ImportPlaces) (u : AdapterTunables) (a : LinkedAdapter) (args : List CoreValue) (w : World)
+    → IsCheckedAdapter p a → IsHonestRun p a args w.state (ended_sync p u a args w) → PassChecks u a args (calls_in (ended_sync p u a args w))
+    → ended_sync p u a args w ≡ ended_sync p (quiet u) a args w
+
+abbrev pub StartChecksPass : Type 0
+StartChecksPass =
+    (p : ImportPlaces) (u : AdapterTunables) (a : LinkedAdapter) (args : List CoreValue) (w : World)
+    → IsCheckedAdapter p a → IsHonestStart p a args w.state (run p (async_start u a args) w) → ParamsPassChecks u a args
+    → run p (async_start u a args) w ≡ run p (async_start (quiet u) a args) w
+
+abbrev pub ReturnChecksPass : Type 0
+ReturnChecksPass =
+    (p : ImportPlaces) (u : AdapterTunables) (a : LinkedAdapter) (args : List CoreValue) (w : World)
+    → IsCheckedAdapter p a → IsHonestReturn p a args w.state (run p (async_return u a args) w) → ResultsPassChecks u a args
+    → run p (async_return u a args) w ≡ run p (async_return (quiet u) a args) w
 
 -- ---- limits
 

@@ -1,10 +1,10 @@
 //! Laws of the moves of texts.
 
-ghost use Rattle.fact_texts.specs.Laws.{TranscodersAreRanged, StartTranscodersAreRanged, ReturnTranscodersAreRanged, TranscodersNeedMeans, TextsAreMoved, TextsMoveInAdapters, AdaptersAreFaithful, AdaptersWeigh, AdaptersComeToEnd, RequestsAreCalledFor, StartRequestsAreCalledFor, ReturnRequestsAreCalledFor, FirstRequestIsCalledFor, AnswersAreSoFar, LimitsAreThoseOfPaths, LongWalksTrap, TextsPastLimitsTrap, SomeTextsOutgrow};
+ghost use Rattle.fact_texts.specs.Laws.{TranscodersAreRanged, StartTranscodersAreRanged, ReturnTranscodersAreRanged, TranscodersNeedMeans, TextsAreMoved, TextsMoveInAdapters, AdaptersAreFaithful, AdaptersWeigh, AdaptersComeToEnd, CheckedStartsComeToEnd, CheckedReturnsComeToEnd, ChecksPass, StartChecksPass, ReturnChecksPass, RequestsAreCalledFor, StartRequestsAreCalledFor, ReturnRequestsAreCalledFor, FirstRequestIsCalledFor, AnswersAreSoFar, LimitsAreThoseOfPaths, LongWalksTrap, TextsPastLimitsTrap, SomeTextsOutgrow};
 
 /// What holds of the moves of texts: of the ranges of their transcoders, whatever all others answer; in honest runs of what is
-/// moved; of texts past the limits, which end in a trap; and of what is asked of realloc, in runs that are honest but for a last call
-/// that may trap. The call does nothing: its contract is the laws.
+/// moved, and that no debug check fails where upper halves are 0; of texts past the limits, which end in a trap; and of what is
+/// asked of realloc, in runs that are honest but for a last call that may trap. The call does nothing: its contract is the laws.
 pub fn laws_of_texts()
     ensures transcoders_are_ranged { TranscodersAreRanged }
     ensures start_transcoders_are_ranged { StartTranscodersAreRanged }
@@ -15,6 +15,11 @@ pub fn laws_of_texts()
     ensures adapters_are_faithful { AdaptersAreFaithful }
     ensures adapters_weigh { AdaptersWeigh }
     ensures adapters_come_to_end { AdaptersComeToEnd }
+    ensures starts_come_to_end { CheckedStartsComeToEnd }
+    ensures returns_come_to_end { CheckedReturnsComeToEnd }
+    ensures checks_pass { ChecksPass }
+    ensures start_checks_pass { StartChecksPass }
+    ensures return_checks_pass { ReturnChecksPass }
     ensures limits_are_those_of_paths { LimitsAreThoseOfPaths }
     ensures long_walks_trap { LongWalksTrap }
     ensures texts_past_limits_trap { TextsPastLimitsTrap }

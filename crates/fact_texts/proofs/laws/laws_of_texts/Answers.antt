@@ -1,5 +1,6 @@
 use Rattle.fact_texts.proofs.AdapterRanges.{transcoders_are_ranged, start_transcoders_are_ranged, return_transcoders_are_ranged}
-use Rattle.fact_texts.proofs.Finished.{texts_are_moved, texts_move, adapters_are_faithful, adapters_weigh, adapters_come_to_end}
+use Rattle.fact_texts.proofs.Finished.{texts_are_moved, texts_move, adapters_are_faithful, adapters_weigh}
+use Rattle.fact_texts.proofs.ChecksPass.{adapters_come_to_end, starts_come_to_end, returns_come_to_end, checks_pass, start_checks_pass, return_checks_pass}
 use Rattle.fact_texts.proofs.Means.{transcoders_need_means}
 use Rattle.fact_texts.proofs.PastLimits.{limits_are_those_of_paths, long_walks_trap, texts_past_limits_trap, some_texts_outgrow}
 use Rattle.fact_texts.proofs.Requests.{requests_are_called_for}
@@ -19,6 +20,11 @@ returns c = record {
   adapters_are_faithful = adapters_are_faithful;
   adapters_weigh = adapters_weigh;
   adapters_come_to_end = adapters_come_to_end;
+  starts_come_to_end = starts_come_to_end;
+  returns_come_to_end = returns_come_to_end;
+  checks_pass = checks_pass;
+  start_checks_pass = start_checks_pass;
+  return_checks_pass = return_checks_pass;
   limits_are_those_of_paths = limits_are_those_of_paths;
   long_walks_trap = long_walks_trap;
   texts_past_limits_trap = texts_past_limits_trap;
