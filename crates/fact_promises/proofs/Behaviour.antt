@@ -1,6 +1,6 @@
 -- A function that does its adapter's action behaves. Where a run has ended, and is typed there, it is what the action comes to; so
 -- each law of the actions of adapters is one of its runs.
-use Rattle.std.proofs.Common.{◌≡◌, ◌≢◌, ℕ, ◌+◌, ◌*◌, ◌≤◌, true, false, List, [], Some, sym, ap, ◌∙◌, subst, arith, inl, inr, length, map, reverse, ◌++◌}
+use Rattle.std.proofs.Common.{◌≡◌, ◌≢◌, ℕ, ◌+◌, ◌*◌, ◌≤◌, true, List, [], Some, sym, ap, ◌∙◌, subst, arith, inl, inr, length, map, reverse, ◌++◌}
 use Rattle.fact_wasm.specs.declared.module.WasmModule.{WasmModule}
 use Rattle.fact_machine.specs.declared.types.Answer.{Answer}
 use Rattle.fact_machine.specs.declared.types.CoreValue.{CoreValue}
@@ -36,7 +36,9 @@ use Rattle.fact_carry.proofs.Stopping.{AreReturned}
 use Rattle.fact_texts.specs.Premises.{KnowsMemories}
 use Rattle.fact_texts.specs.Requested.{AreRequested}
 use Rattle.fact_texts.proofs.AdapterRanges.{transcoders_are_ranged}
-use Rattle.fact_texts.proofs.Finished.{adapters_are_faithful, adapters_come_to_end, adapters_weigh}
+use Rattle.fact_texts.specs.PassingChecks.{PassChecks}
+use Rattle.fact_texts.proofs.ChecksPass.{adapters_come_to_end}
+use Rattle.fact_texts.proofs.Finished.{adapters_are_faithful, adapters_weigh}
 use Rattle.fact_texts.proofs.Requests.{requests_are_called_for}
 use Rattle.fact_promises.specs.Functions.{IsAdapterFunction, core_results, start_results}
 use Rattle.fact_promises.specs.Laws.{FunctionsBehave}
@@ -227,7 +229,7 @@ module _ (m : WasmModule) (is : List Import) (u : AdapterTunables) (a : LinkedAd
 
   -- ---- runs that come to their end
 
-  module _ (quiet : u.debug ≡ false) (honest : (steps : ℕ) → IsHonestSoFar m is a args before (at steps).log) (limits : (steps : ℕ) → IsInLimits (places_in m is) a args before (honest steps).calls) where
+  module _ (honest : (steps : ℕ) → IsHonestSoFar m is a args before (at steps).log) (pass : (steps : ℕ) → PassChecks u a args (honest steps).calls) (limits : (steps : ℕ) → IsInLimits (places_in m is) a args before (honest steps).calls) where
     always : (steps : ℕ) → IsTypedRun m a args before (at steps).log
     always steps = (honest steps).typed
 
@@ -238,7 +240,7 @@ module _ (m : WasmModule) (is : List Import) (u : AdapterTunables) (a : LinkedAd
         let e = comes_to_end m is (places_in m is) _ adapters f a.lower.core_type 1000 _ ends_in args before answers always last (settles.is last (omega arith)) in
         let same : (honest last).calls ≡ calls_in end = e.its_calls (honest last).calls (honest last).are_calls in
         let honest_end = honest_run last (always last) e (honest last).calls (honest last).are_calls (honest last).honest in
-        let comes = adapters_come_to_end (places_in m is) u a args (first_world before answers) quiet h.checked h.sync_sides honest_end (subst (IsInLimits (places_in m is) a args before) same (limits last)) in
+        let comes = adapters_come_to_end (places_in m is) u a args (first_world before answers) (subst (PassChecks u a args) same (pass last)) h.checked h.sync_sides honest_end (subst (IsInLimits (places_in m is) a args before) same (limits last)) in
         let long : length (at last).log ≡ length (honest last).calls = as_many m is (at last).log (honest last).calls (honest last).are_calls in (
           last,
           record {
@@ -260,5 +262,5 @@ functions_behave m is u a adapters f h = record {
   calls_no_trap = λ args before answers steps honest over. calls_no_trap m is u a adapters f h args before answers steps honest over;
   is_confined = λ args before answers steps cs typed are. is_confined m is u a adapters f h args before answers steps typed cs are;
   is_ranged = λ args before answers steps cs typed are over honest. is_ranged m is u a adapters f h args before answers steps cs typed are over honest;
-  ends = λ args before answers quiet honest limits. ends m is u a adapters f h args before answers quiet honest limits;
+  ends = λ args before answers honest pass limits. ends m is u a adapters f h args before answers honest pass limits;
 }

@@ -1,6 +1,6 @@
 -- A function that moves the values of one part of an async adapter: where a run has ended, and is typed there, it is what that part's action
 -- comes to; so each law of these actions is one of its runs.
-use Rattle.std.proofs.Common.{◌≡◌, ◌≢◌, ℕ, ◌+◌, ◌*◌, ◌≤◌, true, false, List, Option, sym, ap, ◌∙◌, subst, arith, inl, inr, length, map, ◌++◌}
+use Rattle.std.proofs.Common.{◌≡◌, ◌≢◌, ℕ, ◌+◌, ◌*◌, ◌≤◌, true, List, Option, sym, ap, ◌∙◌, subst, arith, inl, inr, length, map, ◌++◌}
 use Rattle.fact_wasm.specs.declared.module.WasmModule.{WasmModule}
 use Rattle.fact_machine.specs.declared.types.Answer.{Answer}
 use Rattle.fact_machine.specs.declared.types.CoreValue.{CoreValue}
@@ -39,7 +39,7 @@ use Rattle.fact_carry.specs.FaithfulLaws.{IsCheckedAdapter}
 use Rattle.fact_carry.specs.TransferLaws.{EndsInFew}
 use Rattle.fact_carry.proofs.Returns.{returns_faithful, returns_weigh}
 use Rattle.fact_carry.proofs.Starts.{starts_faithful, starts_weigh}
-use Rattle.fact_carry.proofs.TransferEnds.{returns_come_to_end, starts_come_to_end}
+use Rattle.fact_texts.proofs.ChecksPass.{returns_come_to_end, starts_come_to_end}
 use Rattle.fact_texts.specs.Premises.{KnowsMemories}
 use Rattle.fact_texts.specs.Requested.{AsksFor}
 use Rattle.fact_texts.specs.Trapped.{AreHonestUntilTrap}
@@ -50,7 +50,7 @@ use Rattle.fact_emit.specs.ImportSection.{mentions}
 use Rattle.fact_compound.specs.AsyncParts.{part_action, part_type}
 use Rattle.fact_compound.specs.declared.asyncs.AsyncPart.{AsyncPart}
 use Rattle.fact_compound.specs.declared.asyncs.AsyncPart.TheVariants as part
-use Rattle.fact_promises.specs.AsyncRuns.{AreHonestIn, AreRangedIn, AreThereIn, HasAskedFor, HasMoved, IsClearedTransfer, IsHonestIn, IsHonestToTrapIn, IsOverIn, IsTypedIn, part_landing, part_transfer, part_weight, request_parts}
+use Rattle.fact_promises.specs.AsyncRuns.{AreHonestIn, AreRangedIn, AreThereIn, HasAskedFor, HasMoved, IsClearedTransfer, IsHonestIn, IsHonestToTrapIn, IsOverIn, IsTypedIn, part_landing, part_transfer, part_weight, request_parts, PassesChecksIn}
 use Rattle.fact_promises.specs.Functions.{IsPartFunctionOf, core_results, start_results}
 use Rattle.fact_promises.specs.Laws.{PartFunctionsTransfer}
 use Rattle.fact_promises.specs.Names.{places_in, AreCalls}
@@ -103,9 +103,9 @@ module _ (p : ImportPlaces) (u : AdapterTunables) (a : LinkedAdapter) where
     part_asked part.Start memories h = start_requests_are_called_for p u a args (first_world before answers) memories h
     part_asked part.Return memories h = return_requests_are_called_for p u a args (first_world before answers) memories h
 
-    part_few : (x : AsyncPart) → IsCheckedAdapter p a → u.debug ≡ false → AreThereIn x p a args before → AreHonestFrom x (AreHonestIn x p a args) → EndsInFew (part_weight x p a args before) (come_to x)
-    part_few part.Start checked quiet there h = starts_come_to_end p u a args (first_world before answers) checked (texts_move p u a checked) h quiet there
-    part_few part.Return checked quiet there h = returns_come_to_end p u a args (first_world before answers) checked (texts_move p u a checked) h quiet there.0 there.1
+    part_few : (x : AsyncPart) → IsCheckedAdapter p a → PassesChecksIn x u a args → AreThereIn x p a args before → AreHonestFrom x (AreHonestIn x p a args) → EndsInFew (part_weight x p a args before) (come_to x)
+    part_few part.Start checked pass there h = starts_come_to_end p u a args (first_world before answers) pass checked h there
+    part_few part.Return checked pass there h = returns_come_to_end p u a args (first_world before answers) pass checked h there.0 there.1
 
 -- ---- functions
 
@@ -264,14 +264,14 @@ module _ (x : AsyncPart) (m : WasmModule) (is : List Import) (u : AdapterTunable
 
     -- ---- runs that come to their end
 
-    module _ (quiet : u.debug ≡ false) (honest : (steps : ℕ) → IsHonestIn x m is a args before (at steps).log) (there : AreThereIn x p a args before) where
+    module _ (pass : PassesChecksIn x u a args) (honest : (steps : ℕ) → IsHonestIn x m is a args before (at steps).log) (there : AreThereIn x p a args before) where
       ends : (steps : ℕ) × IsOverIn (part_weight x p a args before) (at steps)
       ends =
           let settles = (plain (λ steps. (honest steps).typed)).plain in
           let last = settles.steps in
           let e = comes_to_end m is p _ adapters f (part_type x a) 1000 _ ends_in args before answers (λ steps. (honest steps).typed) last (settles.is last (omega arith)) in
           let same : (honest last).calls ≡ calls_in end = e.its_calls (honest last).calls (honest last).are_calls in
-          let comes = part_few p u a args before answers x h.checked quiet there (honest_run last (honest last).typed e (honest last).calls (honest last).are_calls (honest last).honest) in
+          let comes = part_few p u a args before answers x h.checked pass there (honest_run last (honest last).typed e (honest last).calls (honest last).are_calls (honest last).honest) in
           let long : length (at last).log ≡ length (honest last).calls = as_many m is (at last).log (honest last).calls (honest last).are_calls in
           (last, record { over = subst IsOver (sym (ends_so last e)) (over_of end comes.ends); few = omega (arith, long, ap length same, comes.few) })
 
@@ -286,5 +286,5 @@ part_functions_transfer x m is u a adapters f h = record {
   calls_no_trap = λ args before answers steps honest over. calls_no_trap x m is u a adapters f h args before answers steps honest over;
   is_confined = λ args before answers steps cs typed are. is_confined x m is u a adapters f h args before answers steps cs typed are;
   is_ranged = λ args before answers steps cs typed are over honest. is_ranged x m is u a adapters f h args before answers steps cs typed are over honest;
-  ends = λ args before answers quiet honest there. ends x m is u a adapters f h args before answers quiet honest there;
+  ends = λ args before answers pass honest there. ends x m is u a adapters f h args before answers pass honest there;
 }

@@ -1,6 +1,6 @@
 -- What is promised of the runs of the three functions of an async adapter between two instances: two move values when the runtime calls them,
 -- and the one that has the adapter's name hands its call to the runtime.
-use Rattle.std.specs.Prelude.{◌≡◌, ◌≢◌, ℕ, ◌+◌, ◌*◌, ◌≤◌, Bool, false, List, [], Option, Some, codes, filter, length, slice_get}
+use Rattle.std.specs.Prelude.{◌≡◌, ◌≢◌, ℕ, ◌+◌, ◌*◌, ◌≤◌, Bool, List, [], Option, Some, codes, filter, length, slice_get}
 use Rattle.fact_wasm.specs.declared.instr.FuncName.TheVariants as func
 use Rattle.fact_wasm.specs.declared.module.WasmImport.{WasmImport}
 use Rattle.fact_wasm.specs.declared.module.WasmModule.{WasmModule}
@@ -32,6 +32,7 @@ use Rattle.fact_moves.specs.Sides.{Transfer, options_of}
 use Rattle.fact_carry.specs.Faithful.{ParamsAreThere, params_given, weight_of_values}
 use Rattle.fact_carry.specs.TransferLaws.{HandedAreThere, HasHandedResults, HasStarted, results_handed}
 use Rattle.fact_texts.specs.Requested.{params_parts, results_parts}
+use Rattle.fact_texts.specs.PassingChecks.{ParamsPassChecks, ResultsPassChecks}
 use Rattle.fact_texts.specs.Trapped.{AreHonestUntilTrap, BeginRequestsSoFar}
 use Rattle.fact_emit.specs.ImportSection.{IsImportedFunction, a_function, imported_function, is_of}
 use Rattle.fact_emit.specs.TaskTypes.{prepare_call_name, prepare_call_type, start_call_type}
@@ -77,6 +78,11 @@ part_weight x p a args first = weight_of_values (source_types x a) (part_values 
 abbrev pub AreThereIn : AsyncPart → ImportPlaces → LinkedAdapter → (args : List CoreValue) → MachineState → Type 0
 AreThereIn part.Start p a args first = ParamsAreThere p a args first
 AreThereIn part.Return p a args first = HandedAreThere p a args first × IsAreaSound p a args first
+
+-- and with debug checks on, what these ask of core values holds of its own
+abbrev pub PassesChecksIn : AsyncPart → AdapterTunables → LinkedAdapter → (args : List CoreValue) → Type 0
+PassesChecksIn part.Start u a args = ParamsPassChecks u a args
+PassesChecksIn part.Return u a args = ResultsPassChecks u a args
 
 -- what they ask of realloc
 abbrev pub request_parts : AsyncPart → ImportPlaces → AdapterTunables → LinkedAdapter → (args : List CoreValue) → MachineState → List RequestPart
@@ -168,9 +174,10 @@ pub record Transfers (x : AsyncPart) (m : WasmModule) (is : List Import) (u : Ad
       → (run_of m f args before answers steps).end ≢ Going
       → HaveHonestTranscoders (places_in m is) calls
       → AreRangedIn x (places_in m is) a args calls
-  -- Without debug checks, where all answers are honest and the values exist within limits, the run ends.
+  -- Where all answers are honest and the values exist within limits, the run ends; with debug checks on, where besides at each node of
+  -- the values every i64 in the place of 32 bits has an upper half of 0.
   pub ends : (args : List CoreValue) (before : MachineState) (answers : List Answer)
-      → u.debug ≡ false
+      → PassesChecksIn x u a args
       → ((steps : ℕ) → IsHonestIn x m is a args before (run_of m f args before answers steps).log)
       → AreThereIn x (places_in m is) a args before
       → (steps : ℕ) × IsOverIn (part_weight x (places_in m is) a args before) (run_of m f args before answers steps)

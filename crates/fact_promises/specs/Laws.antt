@@ -1,5 +1,5 @@
 -- Laws of the runs of adapters.
-use Rattle.std.specs.Prelude.{◌≡◌, ℕ, ◌+◌, ◌*◌, ◌≤◌, false, List, None, filter, length, slice_get}
+use Rattle.std.specs.Prelude.{◌≡◌, ℕ, ◌+◌, ◌*◌, ◌≤◌, List, None, filter, length, slice_get}
 use Rattle.fact_wasm.specs.declared.module.WasmModule.{WasmModule}
 use Rattle.fact_machine.specs.declared.types.Answer.{Answer}
 use Rattle.fact_machine.specs.declared.types.CoreValue.{CoreValue}
@@ -11,6 +11,7 @@ use Rattle.fact_moves.specs.Adapters.{AdapterTunables, References}
 use Rattle.fact_moves.specs.Calls.{is_call_of}
 use Rattle.fact_moves.specs.Running.{ImportPlaces, Call}
 use Rattle.fact_carry.specs.Faithful.{IsFaithful, IsInLimits, whole_weight}
+use Rattle.fact_texts.specs.PassingChecks.{PassChecks}
 use Rattle.fact_emit.specs.ImportSection.{NamesImports}
 use Rattle.fact_compound.specs.declared.asyncs.AsyncPart.{AsyncPart}
 use Rattle.fact_promises.specs.AsyncRuns.{HandsOver, Transfers}
@@ -53,9 +54,11 @@ NoSecondCall =
     (p : ImportPlaces) (a : LinkedAdapter) (args : List CoreValue) (first : MachineState) (calls : List Call) (given : List CoreValue) (last : MachineState)
     → IsFaithful p a args first calls given last → slice_get (filter (is_call_of a.callee) calls) 1 ≡ None
 
--- A run of an adapter's function whose answers are all honest, where the caller may be left and the values exist within limits.
-pub record IsAnswered (m : WasmModule) (is : List Import) (a : LinkedAdapter) (f : ℕ) (args : List CoreValue) (before : MachineState) (answers : List Answer) : Type 0 where
+-- A run of an adapter's function whose answers are all honest, where the caller may be left and the values exist within limits, and
+-- with debug checks on are as these ask.
+pub record IsAnswered (m : WasmModule) (is : List Import) (u : AdapterTunables) (a : LinkedAdapter) (f : ℕ) (args : List CoreValue) (before : MachineState) (answers : List Answer) : Type 0 where
   pub honest : (steps : ℕ) → IsHonestSoFar m is a args before (run_of m f args before answers steps).log
+  pub checks : (steps : ℕ) → PassChecks u a args (honest steps).calls
   pub limits : (steps : ℕ) → IsInLimits (places_in m is) a args before (honest steps).calls
 
 -- After some number of steps the run is over and stays so. However many steps it takes, it makes no more outside calls than its
@@ -73,4 +76,4 @@ pub record StaysShort (m : WasmModule) (is : List Import) (a : LinkedAdapter) (f
 abbrev pub RunsStayShort : Type 0
 RunsStayShort =
     (m : WasmModule) (is : List Import) (u : AdapterTunables) (a : LinkedAdapter) (f : ℕ) (args : List CoreValue) (before : MachineState) (answers : List Answer)
-    → Behaves m is u a f → u.debug ≡ false → IsAnswered m is a f args before answers → StaysShort m is a f args before answers
+    → Behaves m is u a f → IsAnswered m is u a f args before answers → StaysShort m is a f args before answers

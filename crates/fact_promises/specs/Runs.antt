@@ -30,6 +30,7 @@ use Rattle.fact_pieces.specs.Runs.{IsPlainRun, numbered_outcome}
 use Rattle.fact_carry.specs.Faithful.{IsFaithful, IsInLimits, whole_weight}
 use Rattle.fact_texts.specs.Requested.{AreFinished, AreSoFar}
 use Rattle.fact_texts.specs.Trapped.{AreHonestUntilTrap}
+use Rattle.fact_texts.specs.PassingChecks.{PassChecks}
 use Rattle.fact_promises.specs.Names.{places_in, AreCalls}
 
 -- ---- typed and honest runs
@@ -156,10 +157,11 @@ pub record Behaves (m : WasmModule) (is : List Import) (u : AdapterTunables) (a 
       → (run_of m f args before answers steps).end ≢ Going
       → HaveHonestTranscoders (places_in m is) calls
       → AreRangedSync (places_in m is) a args calls
-  -- Without debug checks, where all answers are honest, the caller may be left, and the values exist within limits, the run ends.
+  -- Where all answers are honest, the caller may be left, and the values exist within limits, the run ends; with debug checks on,
+  -- where besides at each node of the values every i64 in the place of 32 bits has an upper half of 0.
   pub ends : (args : List CoreValue) (before : MachineState) (answers : List Answer)
-      → u.debug ≡ false
       → (h : (steps : ℕ) → IsHonestSoFar m is a args before (run_of m f args before answers steps).log)
+      → ((steps : ℕ) → PassChecks u a args (h steps).calls)
       → ((steps : ℕ) → IsInLimits (places_in m is) a args before (h steps).calls)
       → (steps : ℕ) × EndsSoon m is a args before (run_of m f args before answers steps)
 
