@@ -34,7 +34,7 @@ use Rattle.fact_carry.specs.Faithful.{IsFaithful, IsInLimits, WhereGiven, whole_
 use Rattle.fact_carry.proofs.Ending.{honest_returned}
 use Rattle.fact_carry.proofs.Stopping.{AreReturned}
 use Rattle.fact_texts.specs.Premises.{KnowsMemories}
-use Rattle.fact_texts.specs.Requested.{AreRequested}
+use Rattle.fact_texts.specs.Requested.{AreRequested, StopsFinishing}
 use Rattle.fact_texts.proofs.AdapterRanges.{transcoders_are_ranged}
 use Rattle.fact_texts.specs.PassingChecks.{PassChecks}
 use Rattle.fact_texts.proofs.ChecksPass.{adapters_come_to_end}
@@ -50,6 +50,7 @@ use Rattle.fact_promises.proofs.TypedCalls.{are_places, named_types}
 use Rattle.fact_promises.proofs.FunctionRuns.{EndsIn, HasEndedIn, args_typed, comes_to_end, has_ended, is_named_plain, not_stuck, runs_as, state_typed, trace_front}
 use Rattle.fact_promises.proofs.ImportNumbers.{as_many}
 use Rattle.fact_promises.proofs.Outcomes.{GaveResults, gave_results, gives_or_lacks, over_not_going, over_of, returned_not_going}
+use Rattle.fact_promises.proofs.OwnAnswers.{HasCalled, has_called, its_answers}
 use Rattle.fact_promises.proofs.OwnWrites.{own_front}
 use Rattle.fact_promises.proofs.Rooms.{has_room}
 use Rattle.fact_promises.proofs.TrapsLast.{no_trap_called}
@@ -125,13 +126,20 @@ module _ (m : WasmModule) (is : List Import) (u : AdapterTunables) (a : LinkedAd
         (subst (λ es. AreOwnWrites (places_in m is) (sync_moved_on a args) (landed (params_landing a)) (room_in (places_in m is) (landed (params_landing a)) before) es (calls_in end)) front.is whole) cs
         (subst (λ l. AreCalls m is l cs) (run_log m f args before answers steps) are)
 
-  is_ranged : (steps : ℕ) (cs : List Call) → IsTypedRun m a args before (at steps).log → AreCalls m is (at steps).log cs → (at steps).end ≢ Going → HaveHonestTranscoders (places_in m is) cs → AreRangedSync (places_in m is) a args cs
-  is_ranged steps cs typed are over honest =
-      let e = ended steps typed over in
+  -- what the action comes to with the answers in the log so far alone
+  abbrev so_far : ℕ → Ended (List CoreValue)
+  so_far steps = ended_sync (places_in m is) u a args (first_world before (its_answers m f args before answers steps))
+
+  called_so_far : (steps : ℕ) → IsTypedRun m a args before (at steps).log → HasCalled m is (at steps).log (so_far steps)
+  called_so_far steps typed = has_called m is (places_in m is) _ adapters f a.lower.core_type 1000 _ ends_in args before answers steps typed
+
+  is_ranged : (steps : ℕ) (cs : List Call) → IsTypedRun m a args before (at steps).log → AreCalls m is (at steps).log cs → HaveHonestTranscoders (places_in m is) cs → AreRangedSync (places_in m is) a args cs
+  is_ranged steps cs typed are honest =
+      let e = called_so_far steps typed in
       let same = e.its_calls cs are in
       let memories : KnowsMemories (places_in m is) a = record { lower = h.checked.lower_memory; lift = h.checked.lift_memory; two = h.checked.memories } in
       subst (AreRangedSync (places_in m is) a args) (sym same)
-      (transcoders_are_ranged (places_in m is) u a args (first_world before answers) h.checked.own_callee memories (is_typed_state (at steps).log typed) e.goes_straight (subst (HaveHonestTranscoders (places_in m is)) same honest))
+      (transcoders_are_ranged (places_in m is) u a args (first_world before (its_answers m f args before answers steps)) h.checked.own_callee memories (is_typed_state (at steps).log typed) e.goes_straight (subst (HaveHonestTranscoders (places_in m is)) same honest))
 
   -- ---- runs that returned
 
@@ -165,14 +173,19 @@ module _ (m : WasmModule) (is : List Import) (u : AdapterTunables) (a : LinkedAd
 
   -- ---- honest runs
 
-  honest_run : {Honest : List Call → Type 0} (steps : ℕ) → IsTypedRun m a args before (at steps).log → HasEndedIn m is (places_in m is) (at steps) end → (calls : List Call) → AreCalls m is (at steps).log calls → Honest calls
-      → IsHonestFrom (places_in m is) (lower_signature_of a).params Honest args before end
-  honest_run {Honest} steps typed e calls are honest = record {
+  -- at an end whose calls are those so far
+  honest_at : {Honest : List Call → Type 0} (e : Ended (List CoreValue)) (steps : ℕ) → IsTypedRun m a args before (at steps).log → IsStraight e → (calls : List Call) → calls ≡ calls_in e → Honest calls
+      → IsHonestFrom (places_in m is) (lower_signature_of a).params Honest args before e
+  honest_at {Honest} e steps typed straight calls same honest = record {
     state_typed = is_typed_state (at steps).log typed;
     args_typed = subst (λ (t : FuncType). are_values args t.params ≡ true) h.core_type (args_typed m is (places_in m is) _ adapters f a.lower.core_type 1000 _ ends_in args before answers (at steps).log typed);
-    typed = e.goes_straight;
-    honest = subst Honest (e.its_calls calls are) honest;
+    typed = straight;
+    honest = subst Honest same honest;
   }
+
+  honest_run : {Honest : List Call → Type 0} (steps : ℕ) → IsTypedRun m a args before (at steps).log → HasEndedIn m is (places_in m is) (at steps) end → (calls : List Call) → AreCalls m is (at steps).log calls → Honest calls
+      → IsHonestFrom (places_in m is) (lower_signature_of a).params Honest args before end
+  honest_run {Honest} steps typed e calls are honest = honest_at {Honest = Honest} end steps typed e.goes_straight calls (e.its_calls calls are) honest
 
   module _ (steps : ℕ) (results : List CoreValue) (honest : IsHonestSoFar m is a args before (at steps).log) (returns : (at steps).end ≡ Returned results) where
     run_is_honest : IsHonestRun (places_in m is) a args before end
@@ -206,8 +219,13 @@ module _ (m : WasmModule) (is : List Import) (u : AdapterTunables) (a : LinkedAd
   asked_by (Halted n cs Lack w) s r = r
   asked_by (Strayed n cs w) s r = absurd s
 
+  asked_so_far : (e : Ended (List CoreValue)) → IsStraight e → AreRequested (places_in m is) u a args before e → HasAsked (places_in m is) u a args before Going (calls_in e)
+  asked_so_far (Gave n cs vs w) s r = λ may. StopsFinishing r
+  asked_so_far (Halted n cs t w) s r = r
+  asked_so_far (Strayed n cs w) s r = absurd s
+
   asks : (steps : ℕ) (honest : IsHonestToTrapSoFar m is a args before (at steps).log) → HasAsked (places_in m is) u a args before (at steps).end honest.calls
-  asks steps honest = elim (over_or_going (at steps).end) [ inl ended ↦ asked (ended_is_over ended) | inr going ↦ subst (λ e. HasAsked (places_in m is) u a args before e honest.calls) (sym going) tt ]
+  asks steps honest = elim (over_or_going (at steps).end) [ inl ended ↦ asked (ended_is_over ended) | inr going ↦ subst (λ e. HasAsked (places_in m is) u a args before e honest.calls) (sym going) asked_going ]
     where
       asked : (at steps).end ≢ Going → HasAsked (places_in m is) u a args before (at steps).end honest.calls
       asked over =
@@ -216,6 +234,14 @@ module _ (m : WasmModule) (is : List Import) (u : AdapterTunables) (a : LinkedAd
           let requested = requests_are_called_for (places_in m is) u a args (first_world before answers) h.checked honest_end in
           subst (λ e. HasAsked (places_in m is) u a args before e honest.calls) (sym (ends_so steps e))
           (subst (HasAsked (places_in m is) u a args before (named_outcome end).end) (sym (e.its_calls honest.calls honest.are_calls)) (asked_by end e.goes_straight requested))
+
+      asked_going : HasAsked (places_in m is) u a args before Going honest.calls
+      asked_going =
+          let e = called_so_far steps honest.typed in
+          let same = e.its_calls honest.calls honest.are_calls in
+          let honest_end = honest_at (so_far steps) steps honest.typed e.goes_straight honest.calls same honest.honest in
+          let requested = requests_are_called_for (places_in m is) u a args (first_world before (its_answers m f args before answers steps)) h.checked honest_end in
+          subst (HasAsked (places_in m is) u a args before Going) (sym same) (asked_so_far (so_far steps) e.goes_straight requested)
 
   -- ---- traps
 
@@ -261,6 +287,6 @@ functions_behave m is u a adapters f h = record {
   asks = λ args before answers steps honest. asks m is u a adapters f h args before answers steps honest;
   calls_no_trap = λ args before answers steps honest over. calls_no_trap m is u a adapters f h args before answers steps honest over;
   is_confined = λ args before answers steps cs typed are. is_confined m is u a adapters f h args before answers steps typed cs are;
-  is_ranged = λ args before answers steps cs typed are over honest. is_ranged m is u a adapters f h args before answers steps cs typed are over honest;
+  is_ranged = λ args before answers steps cs typed are honest. is_ranged m is u a adapters f h args before answers steps cs typed are honest;
   ends = λ args before answers honest pass limits. ends m is u a adapters f h args before answers honest pass limits;
 }

@@ -1,4 +1,4 @@
--- The logs of a run at other numbers of steps than one at which it has ended.
+-- The logs of a run at other numbers of steps than one at which it has ended, or has taken all its answers.
 use Rattle.std.proofs.Common.{◌≡◌, ◌≢◌, ℕ, ◌≤◌, List, [], ◌∷◌, ◌++◌, All, sym, ap, ◌∙◌, subst, arith, inl, inr, length, length-append}
 use Rattle.std.proofs.lemmas.Bool.{cases_lt}
 use Rattle.std.proofs.lemmas.List.Elements.{All-nil, All-cons, All-head, All-tail}
@@ -8,9 +8,11 @@ use Rattle.fact_machine.specs.declared.types.CoreValue.{CoreValue}
 use Rattle.fact_machine.specs.declared.types.End.TheVariants.{Going}
 use Rattle.fact_machine.specs.declared.types.MachineState.{MachineState}
 use Rattle.fact_machine.specs.declared.types.Outcome.{Outcome}
+use Rattle.fact_machine.specs.Causes.{answers_of}
 use Rattle.fact_machine.specs.Machine.{run_of}
 use Rattle.fact_machine.specs.Trace.{Grows, outcome_of}
-use Rattle.fact_machine.proofs.Grows.{grows_none, run_log_more}
+use Rattle.fact_machine.proofs.Answered.{no_more_calls}
+use Rattle.fact_machine.proofs.Grows.{grows_from, grows_none, run_log_more}
 use Rattle.fact_machine.proofs.Laws.{run_is}
 use Rattle.fact_machine.proofs.WholeRuns.{run_stays}
 
@@ -37,3 +39,11 @@ module _ (m : WasmModule) (f : ℕ) (args : List CoreValue) (before : MachineSta
     | inl less ↦ run_log_more m f args before answers steps last (omega (arith, less))
     | inr more ↦ subst (λ (o : Outcome). Grows o.log (run_of m f args before answers last).log) (sym (stays steps more)) (grows_none (run_of m f args before answers last).log)
   ]
+
+-- so it is where a run has taken all its answers, since it then makes no more calls
+pub taken_fronts : (m : WasmModule) (f : ℕ) (args : List CoreValue) (before : MachineState) (answers : List Answer) (last : ℕ) → answers_of (run_of m f args before answers last).log ≡ answers
+    → (steps : ℕ) → Grows (run_of m f args before answers steps).log (run_of m f args before answers last).log
+taken_fronts m f args before answers last all steps = elim (cases_lt steps last) [
+  | inl less ↦ run_log_more m f args before answers steps last (omega (arith, less))
+  | inr more ↦ grows_from (no_more_calls m f args before answers last steps (omega (arith, more)) all) (grows_none (run_of m f args before answers last).log)
+]

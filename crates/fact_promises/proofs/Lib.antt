@@ -6,6 +6,7 @@ pub mod FunctionRuns
 pub mod ImportNumbers
 pub mod LoggedImports
 pub mod Outcomes
+pub mod OwnAnswers
 pub mod OwnWrites
 pub mod PartFunctions
 pub mod Rooms

@@ -45,7 +45,7 @@ use Rattle.fact_texts.specs.Requested.{AsksFor}
 use Rattle.fact_texts.specs.Trapped.{AreHonestUntilTrap}
 use Rattle.fact_texts.proofs.AdapterRanges.{return_transcoders_are_ranged, start_transcoders_are_ranged}
 use Rattle.fact_texts.proofs.Finished.{texts_move}
-use Rattle.fact_texts.proofs.FlaggedRequests.{return_requests_are_called_for, start_requests_are_called_for}
+use Rattle.fact_texts.proofs.FlaggedRequests.{asks_so_far, return_requests_are_called_for, start_requests_are_called_for}
 use Rattle.fact_emit.specs.ImportSection.{mentions}
 use Rattle.fact_compound.specs.AsyncParts.{part_action, part_type}
 use Rattle.fact_compound.specs.declared.asyncs.AsyncPart.{AsyncPart}
@@ -59,6 +59,7 @@ use Rattle.fact_promises.proofs.Fronts.{stays}
 use Rattle.fact_promises.proofs.FunctionRuns.{EndsIn, HasEndedIn, args_typed, comes_to_end, has_ended, is_named_plain, not_stuck, runs_as, state_typed, trace_front}
 use Rattle.fact_promises.proofs.ImportNumbers.{as_many, places_name}
 use Rattle.fact_promises.proofs.Outcomes.{GaveResults, gave_results, gives_or_lacks, over_not_going, over_of, returned_not_going}
+use Rattle.fact_promises.proofs.OwnAnswers.{HasCalled, has_called, its_answers}
 use Rattle.fact_promises.proofs.OwnWrites.{own_front}
 use Rattle.fact_promises.proofs.Rooms.{has_room}
 use Rattle.fact_promises.proofs.TrapsLast.{part_no_trap}
@@ -168,11 +169,19 @@ module _ (x : AsyncPart) (m : WasmModule) (is : List Import) (u : AdapterTunable
         (subst (λ es. AreOwnWrites p moved_on (landed (part_landing x a args)) (room_in p (landed (part_landing x a args)) before) es (calls_in end)) front.is confined) cs
         (subst (λ l. AreCalls m is l cs) (run_log m f args before answers steps) are)
 
-    is_ranged : (steps : ℕ) (cs : List Call) → IsTypedIn x m a args before (at steps).log → AreCalls m is (at steps).log cs → (at steps).end ≢ Going → HaveHonestTranscoders p cs → AreRangedIn x p a args cs
-    is_ranged steps cs typed are over honest =
-        let e = ended steps typed over in
+    -- what the action comes to with the answers in the log so far alone
+    abbrev so_far : ℕ → Ended (List CoreValue)
+    so_far steps = comes_to args (first_world before (its_answers m f args before answers steps))
+
+    called_so_far : (steps : ℕ) → IsTypedIn x m a args before (at steps).log → HasCalled m is (at steps).log (so_far steps)
+    called_so_far steps typed = has_called m is p _ adapters f (part_type x a) 1000 _ ends_in args before answers steps typed
+
+    is_ranged : (steps : ℕ) (cs : List Call) → IsTypedIn x m a args before (at steps).log → AreCalls m is (at steps).log cs → HaveHonestTranscoders p cs → AreRangedIn x p a args cs
+    is_ranged steps cs typed are honest =
+        let e = called_so_far steps typed in
         let same = e.its_calls cs are in
-        subst (AreRangedIn x p a args) (sym same) (part_ranged p u a args before answers x h.checked.own_callee memories (is_typed_state (at steps).log typed) e.goes_straight (subst (HaveHonestTranscoders p) same honest))
+        subst (AreRangedIn x p a args) (sym same)
+        (part_ranged p u a args before (its_answers m f args before answers steps) x h.checked.own_callee memories (is_typed_state (at steps).log typed) e.goes_straight (subst (HaveHonestTranscoders p) same honest))
 
     -- ---- runs that returned
 
@@ -204,14 +213,19 @@ module _ (x : AsyncPart) (m : WasmModule) (is : List Import) (u : AdapterTunable
 
     -- ---- honest runs
 
-    honest_run : {Honest : List Call → Type 0} (steps : ℕ) → IsTypedIn x m a args before (at steps).log → HasEndedIn m is p (at steps) end → (cs : List Call) → AreCalls m is (at steps).log cs → Honest cs
-        → IsHonestFrom p (part_type x a).params Honest args before end
-    honest_run {Honest} steps typed e cs are honest = record {
+    -- at an end whose calls are those so far
+    honest_at : {Honest : List Call → Type 0} (e : Ended (List CoreValue)) (steps : ℕ) → IsTypedIn x m a args before (at steps).log → IsStraight e → (cs : List Call) → cs ≡ calls_in e → Honest cs
+        → IsHonestFrom p (part_type x a).params Honest args before e
+    honest_at {Honest} e steps typed straight cs same honest = record {
       state_typed = is_typed_state (at steps).log typed;
       args_typed = args_typed m is p _ adapters f (part_type x a) 1000 _ ends_in args before answers (at steps).log typed;
-      typed = e.goes_straight;
-      honest = subst Honest (e.its_calls cs are) honest;
+      typed = straight;
+      honest = subst Honest same honest;
     }
+
+    honest_run : {Honest : List Call → Type 0} (steps : ℕ) → IsTypedIn x m a args before (at steps).log → HasEndedIn m is p (at steps) end → (cs : List Call) → AreCalls m is (at steps).log cs → Honest cs
+        → IsHonestFrom p (part_type x a).params Honest args before end
+    honest_run {Honest} steps typed e cs are honest = honest_at {Honest = Honest} end steps typed e.goes_straight cs (e.its_calls cs are) honest
 
     module _ (steps : ℕ) (results : List CoreValue) (honest : IsHonestIn x m is a args before (at steps).log) (returns : (at steps).end ≡ Returned results) where
       run_is_honest : IsHonestFrom p (part_type x a).params (AreHonestIn x p a args) args before end
@@ -246,13 +260,22 @@ module _ (x : AsyncPart) (m : WasmModule) (is : List Import) (u : AdapterTunable
     Asked e cs = HasAskedFor (part_transfer x u a) (part_landing x a args) (request_parts x p u a args before) e cs
 
     asks : (steps : ℕ) (honest : IsHonestToTrapIn x m is a args before (at steps).log) → Asked (at steps).end honest.calls
-    asks steps honest = elim (over_or_going (at steps).end) [ inl done ↦ asked (λ q. subst HasEnded q done) | inr going ↦ subst (λ e. Asked e honest.calls) (sym going) tt ]
+    asks steps honest = elim (over_or_going (at steps).end) [ inl done ↦ asked (λ q. subst HasEnded q done) | inr going ↦ subst (λ e. Asked e honest.calls) (sym going) asked_going ]
       where
         asked : (at steps).end ≢ Going → Asked (at steps).end honest.calls
         asked over =
             let e = ended steps honest.typed over in
             let honest_end = honest_run steps honest.typed e honest.calls honest.are_calls honest.honest in
             subst (λ e. Asked e honest.calls) (sym (ends_so steps e)) (subst (Asked (named_outcome end).end) (sym (e.its_calls honest.calls honest.are_calls)) (asked_by end e.goes_straight (part_asked p u a args before answers x memories honest_end)))
+
+        asked_going : Asked Going honest.calls
+        asked_going =
+            let w : World = first_world before (its_answers m f args before answers steps) in
+            let e = called_so_far steps honest.typed in
+            let same = e.its_calls honest.calls honest.are_calls in
+            let honest_end = honest_at (so_far steps) steps honest.typed e.goes_straight honest.calls same honest.honest in
+            subst (Asked Going) (sym same)
+            (asks_so_far p (part_transfer x u a) (part_landing x a args) (request_parts x p u a args before) (part_action x u a args) w e.goes_straight (part_asked p u a args before (its_answers m f args before answers steps) x memories honest_end))
 
     -- ---- traps
 
@@ -285,6 +308,6 @@ part_functions_transfer x m is u a adapters f h = record {
   asks = λ args before answers steps honest. asks x m is u a adapters f h args before answers steps honest;
   calls_no_trap = λ args before answers steps honest over. calls_no_trap x m is u a adapters f h args before answers steps honest over;
   is_confined = λ args before answers steps cs typed are. is_confined x m is u a adapters f h args before answers steps cs typed are;
-  is_ranged = λ args before answers steps cs typed are over honest. is_ranged x m is u a adapters f h args before answers steps cs typed are over honest;
+  is_ranged = λ args before answers steps cs typed are honest. is_ranged x m is u a adapters f h args before answers steps cs typed are honest;
   ends = λ args before answers pass honest there. ends x m is u a adapters f h args before answers pass honest there;
 }

@@ -8,7 +8,7 @@ use Rattle.fact_wasm.specs.declared.types.FuncType.{FuncType}
 use Rattle.fact_machine.specs.declared.types.Answer.{Answer}
 use Rattle.fact_machine.specs.declared.types.CoreValue.{CoreValue}
 use Rattle.fact_machine.specs.declared.types.End.{End}
-use Rattle.fact_machine.specs.declared.types.End.TheVariants.{Returned, Trapped, Thrown, Lacks, Going, Stuck}
+use Rattle.fact_machine.specs.declared.types.End.TheVariants.{Returned, Stuck}
 use Rattle.fact_machine.specs.declared.types.Event.{Event}
 use Rattle.fact_machine.specs.declared.types.MachineState.{MachineState}
 use Rattle.fact_machine.specs.declared.types.Outcome.{Outcome}
@@ -111,15 +111,11 @@ IsHonestIn x m is a args before log = HasCallsFrom m is (part_type x a).params (
 abbrev pub IsHonestToTrapIn : AsyncPart → WasmModule → List Import → LinkedAdapter → (args : List CoreValue) → MachineState → List Event → Type 0
 IsHonestToTrapIn x m is a args before log = HasCallsFrom m is (part_type x a).params (AreHonestUntilTrap (AreHonestIn x (places_in m is) a args)) args before log
 
--- What the calls of a run have asked of realloc: where it returned all that its values call for, and where it stopped a front of that. Of one
--- that goes on nothing is said: with fewer answers it lacks one there.
+-- What the calls of a run have asked of realloc: where it returned all that its values call for, and where it stopped or goes on a front of that.
 abbrev pub HasAskedFor : Transfer → Landing → List RequestPart → End → List Call → Type 0
 HasAskedFor tr l xs (Returned results) calls = AreRequests tr l xs calls
-HasAskedFor tr l xs Trapped calls = BeginRequestsSoFar tr l xs calls
-HasAskedFor tr l xs Thrown calls = BeginRequestsSoFar tr l xs calls
-HasAskedFor tr l xs Lacks calls = BeginRequestsSoFar tr l xs calls
-HasAskedFor tr l xs Going calls = Unit {0}
 HasAskedFor tr l xs Stuck calls = ⊥
+HasAskedFor tr l xs end calls = BeginRequestsSoFar tr l xs calls
 
 -- A run that is over, with no more outside calls than values of this weight account for.
 pub record IsOverIn (weight : ℕ) (o : Outcome) : Type 0 where
@@ -152,7 +148,8 @@ pub record Transfers (x : AsyncPart) (m : WasmModule) (is : List Import) (u : Ad
       → AreCalls m is (run_of m f args before answers steps).log calls
       → (run_of m f args before answers steps).end ≡ Returned results
       → IsClearedTransfer x (places_in m is) u.concurrency a before calls (run_of m f args before answers steps).state
-  -- An honest run asks of realloc what its values call for, in order; and so does one whose last call was answered by a trap.
+  -- After any number of steps an honest run has asked of realloc what its values call for, in order; and so has one whose last call was
+  -- answered by a trap.
   pub asks : (args : List CoreValue) (before : MachineState) (answers : List Answer) (steps : ℕ)
       → (h : IsHonestToTrapIn x m is a args before (run_of m f args before answers steps).log)
       → HasAskedFor (part_transfer x u a) (part_landing x a args) (request_parts x (places_in m is) u a args before) (run_of m f args before answers steps).end h.calls
@@ -166,12 +163,11 @@ pub record Transfers (x : AsyncPart) (m : WasmModule) (is : List Import) (u : Ad
       → IsTypedIn x m a args before (run_of m f args before answers steps).log
       → AreCalls m is (run_of m f args before answers steps).log calls
       → AreOwnWrites (places_in m is) moved_on (landed (part_landing x a args)) (room_in (places_in m is) (landed (part_landing x a args)) before) (trace_of m f args before answers steps) calls
-  -- Where transcoders answer honestly, each one that a run has called by its end reads whole units within the memory that values come from, and
-  -- may write within a sound live region alone.
+  -- Where transcoders answer honestly, each one that a run has called so far reads whole units within the memory that values come from, and may
+  -- write within a sound live region alone.
   pub is_ranged : (args : List CoreValue) (before : MachineState) (answers : List Answer) (steps : ℕ) (calls : List Call)
       → IsTypedIn x m a args before (run_of m f args before answers steps).log
       → AreCalls m is (run_of m f args before answers steps).log calls
-      → (run_of m f args before answers steps).end ≢ Going
       → HaveHonestTranscoders (places_in m is) calls
       → AreRangedIn x (places_in m is) a args calls
   -- Where all answers are honest and the values exist within limits, the run ends; with debug checks on, where besides at each node of

@@ -10,7 +10,7 @@ use Rattle.fact_machine.specs.declared.types.Answer.{Answer}
 use Rattle.fact_machine.specs.declared.types.Event.{Event}
 use Rattle.fact_machine.specs.declared.types.Outcome.{Outcome}
 use Rattle.fact_machine.specs.declared.types.End.{End}
-use Rattle.fact_machine.specs.declared.types.End.TheVariants.{Returned, Trapped, Thrown, Lacks, Going, Stuck}
+use Rattle.fact_machine.specs.declared.types.End.TheVariants.{Returned, Trapped, Lacks, Stuck}
 use Rattle.fact_machine.specs.Machine.{run_of}
 use Rattle.fact_machine.specs.Trace.{trace_of}
 use Rattle.fact_machine.specs.Typed.{IsValue, TypedState, TypedAnswer}
@@ -95,15 +95,12 @@ pub record IsNamedRun (m : WasmModule) (is : List Import) (p : ImportPlaces) (f 
 abbrev pub IsNamedPlainRun : WasmModule → List Import → (f : ℕ) → (args : List CoreValue) → MachineState → List Answer → NamedOutcome → Type 0
 IsNamedPlainRun m is f args before answers o = IsNamedRun m is (places_in m is) f args before answers o
 
--- What the calls of a run have asked of realloc: where it returned all that its values call for, and where it stopped a front of
--- that, if the lower side may be left. Of one that goes on nothing is said: with fewer answers it lacks one there.
+-- What the calls of a run have asked of realloc: where it returned all that its values call for, and where it stopped or goes on a front of
+-- that, if the lower side may be left.
 abbrev pub HasAsked : ImportPlaces → AdapterTunables → LinkedAdapter → (args : List CoreValue) → MachineState → End → List Call → Type 0
 HasAsked p u a args first (Returned results) calls = AreFinished p u a args first calls
-HasAsked p u a args first Trapped calls = flag_in p a.lower.instance first.globals ≢ I32 0 → AreSoFar p u a args first calls
-HasAsked p u a args first Thrown calls = flag_in p a.lower.instance first.globals ≢ I32 0 → AreSoFar p u a args first calls
-HasAsked p u a args first Lacks calls = flag_in p a.lower.instance first.globals ≢ I32 0 → AreSoFar p u a args first calls
-HasAsked p u a args first Going calls = Unit {0}
 HasAsked p u a args first Stuck calls = ⊥
+HasAsked p u a args first end calls = flag_in p a.lower.instance first.globals ≢ I32 0 → AreSoFar p u a args first calls
 
 -- ---- what every run of a sync adapter between two instances does
 
@@ -133,8 +130,8 @@ pub record Behaves (m : WasmModule) (is : List Import) (u : AdapterTunables) (a 
       → AreCalls m is (run_of m f args before answers steps).log calls
       → (run_of m f args before answers steps).end ≡ Returned results
       → AreOrderedCalls (places_in m is) u a before calls (run_of m f args before answers steps).state
-  -- An honest run asks of realloc what its values call for, in order; and so does one whose last call was answered by a trap, be it
-  -- one for a region that no memory can give.
+  -- After any number of steps an honest run has asked of realloc what its values call for, in order; and so has one whose last call was
+  -- answered by a trap, be it one for a region that no memory can give.
   pub asks : (args : List CoreValue) (before : MachineState) (answers : List Answer) (steps : ℕ)
       → (h : IsHonestToTrapSoFar m is a args before (run_of m f args before answers steps).log)
       → HasAsked (places_in m is) u a args before (run_of m f args before answers steps).end h.calls
@@ -149,12 +146,11 @@ pub record Behaves (m : WasmModule) (is : List Import) (u : AdapterTunables) (a 
       → IsTypedRun m a args before (run_of m f args before answers steps).log
       → AreCalls m is (run_of m f args before answers steps).log calls
       → AreOwnWrites (places_in m is) (sync_moved_on a args) (landed (params_landing a)) (room_in (places_in m is) (landed (params_landing a)) before) (trace_of m f args before answers steps) calls
-  -- Where transcoders answer honestly, whatever else is answered, each one that a run has called by its end reads whole units within
-  -- the memory that values come from, and may write within a sound live region alone.
+  -- Where transcoders answer honestly, whatever else is answered, each one that a run has called so far reads whole units within the
+  -- memory that values come from, and may write within a sound live region alone.
   pub is_ranged : (args : List CoreValue) (before : MachineState) (answers : List Answer) (steps : ℕ) (calls : List Call)
       → IsTypedRun m a args before (run_of m f args before answers steps).log
       → AreCalls m is (run_of m f args before answers steps).log calls
-      → (run_of m f args before answers steps).end ≢ Going
       → HaveHonestTranscoders (places_in m is) calls
       → AreRangedSync (places_in m is) a args calls
   -- Where all answers are honest, the caller may be left, and the values exist within limits, the run ends; with debug checks on,

@@ -1,5 +1,5 @@
 -- The functions of async adapters ask of realloc what the parts of their values do.
-use Rattle.std.proofs.Common.{◌≡◌, ℕ, List, Option, Some, None, refl, sym, subst}
+use Rattle.std.proofs.Common.{◌≡◌, ℕ, List, [], Option, Some, None, refl, sym, ap, ◌∙◌, subst}
 use Rattle.std.specs.Prelude.{slice_get}
 use Rattle.std.proofs.lemmas.List.{append-nil}
 use Rattle.fact_types.specs.Adapters.{LinkedAdapter}
@@ -9,16 +9,17 @@ use Rattle.fact_machine.specs.declared.types.CoreValue.{CoreValue}
 use Rattle.fact_machine.specs.declared.types.CoreValue.TheVariants.{I32}
 use Rattle.fact_moves.specs.Actions.{Action, Give, SetFlags, ◌>>=◌}
 use Rattle.fact_moves.specs.Adapters.{params_transfer, results_transfer, cleared, get_flags, last_bits, move_params, move_results}
-use Rattle.fact_moves.specs.Honest.{AreHonest}
+use Rattle.fact_moves.specs.Honest.{AreHonest, IsStraight}
 use Rattle.fact_moves.specs.Regions.{Landing, landed, params_landing, results_landing, moved_on}
-use Rattle.fact_moves.specs.Requests.{RequestPart, AreRequests}
+use Rattle.fact_moves.specs.Requests.{RequestPart, AreRequests, parts_requests}
 use Rattle.fact_moves.specs.Running.{ImportPlaces, Ended, Gave, Halted, Strayed, heavier, later, then_ended, or_strayed, calls_in, run}
 use Rattle.fact_moves.specs.Sides.{Transfer}
 use Rattle.fact_moves.proofs.Binds.{binds_run}
 use Rattle.fact_texts.specs.Laws.{StartRequestsAreCalledFor, ReturnRequestsAreCalledFor}
 use Rattle.fact_texts.specs.Requested.{AsksFor, params_parts, results_parts}
-use Rattle.fact_texts.specs.Trapped.{AreHonestUntilTrap}
+use Rattle.fact_texts.specs.Trapped.{AreHonestUntilTrap, BeginRequestsSoFar}
 use Rattle.fact_texts.proofs.Requests.{params_asked, results_asked}
+use Rattle.fact_texts.proofs.Trapped.{GivesReturned, all_answers, gives_returned}
 
 -- ---- flags
 
@@ -65,3 +66,14 @@ pub return_requests_are_called_for : ReturnRequestsAreCalledFor
 return_requests_are_called_for p u a args w known honest =
     flagged p a (results_transfer u a) (results_landing a args) (results_parts p u a args args w.state) a.lower.instance (move_results u a args (last_bits args)) w
     (λ v same. results_asked p u a known args args w.state honest.state_typed v same (run p (move_results u a args (last_bits args)) v) refl) honest.honest
+
+-- ---- so far
+
+-- what an end has asked for is so far a front of what is called for, also where it gave something
+begun_by : (tr : Transfer) (l : Landing) (xs : List RequestPart) (e : Ended (List CoreValue)) → IsStraight e → GivesReturned e → AsksFor tr l xs e → BeginRequestsSoFar tr l xs (calls_in e)
+begun_by tr l xs (Gave n cs vs w) s returned asked = record { more = []; is = ap (parts_requests tr xs) (all_answers l cs returned) ∙ sym asked ∙ sym (append-nil _) }
+begun_by tr l xs (Halted n cs t w) s returned asked = asked
+begun_by tr l xs (Strayed n cs w) s returned asked = absurd s
+
+pub asks_so_far : (p : ImportPlaces) (tr : Transfer) (l : Landing) (xs : List RequestPart) (q : Action (List CoreValue)) (w : World) → IsStraight (run p q w) → AsksFor tr l xs (run p q w) → BeginRequestsSoFar tr l xs (calls_in (run p q w))
+asks_so_far p tr l xs q w straight asked = begun_by tr l xs (run p q w) straight (gives_returned p q w) asked
