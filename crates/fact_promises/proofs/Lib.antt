@@ -1,3 +1,4 @@
+pub mod AtOne
 pub mod Behaviour
 pub mod EntryFunctions
 pub mod FewCalls

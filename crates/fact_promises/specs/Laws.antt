@@ -1,9 +1,12 @@
 -- Laws of the runs of adapters.
-use Rattle.std.specs.Prelude.{◌≡◌, ℕ, ◌+◌, ◌*◌, ◌≤◌, List, None, filter, length, slice_get}
+use Rattle.std.specs.Prelude.{◌≡◌, ◌≢◌, ◌⊎◌, ℕ, ◌+◌, ◌*◌, ◌≤◌, List, None, filter, length, slice_get}
 use Rattle.fact_wasm.specs.declared.module.WasmModule.{WasmModule}
+use Rattle.fact_wasm.specs.declared.types.ValType.{ValType}
 use Rattle.fact_machine.specs.declared.types.Answer.{Answer}
 use Rattle.fact_machine.specs.declared.types.CoreValue.{CoreValue}
+use Rattle.fact_machine.specs.declared.types.End.TheVariants.{Going}
 use Rattle.fact_machine.specs.declared.types.MachineState.{MachineState}
+use Rattle.fact_machine.specs.Causes.{answers_of}
 use Rattle.fact_machine.specs.Machine.{run_of}
 use Rattle.fact_types.specs.declared.import.Import.{Import}
 use Rattle.fact_types.specs.Adapters.{LinkedAdapter}
@@ -14,10 +17,10 @@ use Rattle.fact_carry.specs.Faithful.{IsFaithful, IsInLimits, whole_weight}
 use Rattle.fact_texts.specs.PassingChecks.{PassChecks}
 use Rattle.fact_emit.specs.ImportSection.{NamesImports}
 use Rattle.fact_compound.specs.declared.asyncs.AsyncPart.{AsyncPart}
-use Rattle.fact_promises.specs.AsyncRuns.{HandsOver, Transfers}
+use Rattle.fact_promises.specs.AsyncRuns.{HandsOver, IsHonestIn, Transfers}
 use Rattle.fact_promises.specs.Functions.{IsAdapterFunction, IsEntryFunctionOf, IsPartFunctionOf, IsTrapFunction}
 use Rattle.fact_promises.specs.Names.{places_in, AreCalls, IsNamedLog}
-use Rattle.fact_promises.specs.Runs.{Behaves, CallNoTrap, IsHonestSoFar, IsOver, OnlyTraps}
+use Rattle.fact_promises.specs.Runs.{Behaves, CallNoTrap, IsHonestSoFar, IsOver, IsTypedFrom, OnlyTraps}
 
 -- A function that does its adapter's action behaves.
 abbrev pub FunctionsBehave : Type 0
@@ -77,3 +80,31 @@ abbrev pub RunsStayShort : Type 0
 RunsStayShort =
     (m : WasmModule) (is : List Import) (u : AdapterTunables) (a : LinkedAdapter) (f : ℕ) (args : List CoreValue) (before : MachineState) (answers : List Answer)
     → Behaves m is u a f → IsAnswered m is u a f args before answers → StaysShort m is a f args before answers
+
+-- ---- one number of steps for all
+
+-- At this number of steps a run is over, or has taken all its answers.
+abbrev pub MakesNoMoreCalls : WasmModule → (f : ℕ) → (args : List CoreValue) → MachineState → List Answer → (last : ℕ) → Type 0
+MakesNoMoreCalls m f args before answers last = ((run_of m f args before answers last).end ≢ Going) ⊎ (answers_of (run_of m f args before answers last).log ≡ answers)
+
+-- A run that is typed there is typed at every number of steps.
+abbrev pub TypedAtOne : Type 0
+TypedAtOne =
+    (m : WasmModule) (f : ℕ) (params : List ValType) (args : List CoreValue) (before : MachineState) (answers : List Answer) (last : ℕ)
+    → MakesNoMoreCalls m f args before answers last → IsTypedFrom m params args before (run_of m f args before answers last).log
+    → (steps : ℕ) → IsTypedFrom m params args before (run_of m f args before answers steps).log
+
+-- Where all answers are honest there, and the values exist within limits, and are as debug checks ask, they are so at every number of steps.
+abbrev pub AnsweredAtOne : Type 0
+AnsweredAtOne =
+    (m : WasmModule) (is : List Import) (u : AdapterTunables) (a : LinkedAdapter) (f : ℕ) (args : List CoreValue) (before : MachineState) (answers : List Answer) (last : ℕ)
+    → MakesNoMoreCalls m f args before answers last
+    → (h : IsHonestSoFar m is a args before (run_of m f args before answers last).log) → PassChecks u a args h.calls → IsInLimits (places_in m is) a args before h.calls
+    → IsAnswered m is u a f args before answers
+
+-- So it is with the answers to a function that moves the values of one part of an async adapter.
+abbrev pub PartAnsweredAtOne : Type 0
+PartAnsweredAtOne =
+    (x : AsyncPart) (m : WasmModule) (is : List Import) (a : LinkedAdapter) (f : ℕ) (args : List CoreValue) (before : MachineState) (answers : List Answer) (last : ℕ)
+    → MakesNoMoreCalls m f args before answers last → IsHonestIn x m is a args before (run_of m f args before answers last).log
+    → (steps : ℕ) → IsHonestIn x m is a args before (run_of m f args before answers steps).log

@@ -1,5 +1,6 @@
 use Rattle.fact_emit.specs.ImportSection.{mentions}
 use Rattle.fact_machine.specs.Machine.{run_of}
+use Rattle.fact_promises.proofs.AtOne.{answered_at_one, part_answered_at_one, typed_at_one}
 use Rattle.fact_promises.proofs.Behaviour.{functions_behave}
 use Rattle.fact_promises.proofs.EntryFunctions.{entry_functions_hand_over}
 use Rattle.fact_promises.proofs.FewCalls.{no_second_call, runs_stay_short}
@@ -18,4 +19,7 @@ returns c = record {
   events_are_named = λ m is adapters f args before answers steps names. named_log m is (mentions adapters) names.named (run_of m f args before answers steps).log (run_told m f args before answers steps);
   no_second_call = no_second_call;
   runs_stay_short = runs_stay_short;
+  typed_at_one = typed_at_one;
+  answered_at_one = answered_at_one;
+  part_answered_at_one = part_answered_at_one;
 }
