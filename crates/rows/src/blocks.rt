@@ -1,6 +1,6 @@
 //! Blocks of a table, each of a plan or of the bytes of a module.
 
-use crate::command::{add_asked, add_bytes, add_end, add_imports, add_page};
+use crate::command::{add_asked, add_bytes, add_end, add_imports, add_page, add_prefixes};
 use crate::modules::{add_of_module, module_of_block};
 use crate::runs::add_run;
 use crate::shown::add_shown;
@@ -28,6 +28,7 @@ fn add_edited(
     match kind {
         "end" => add_end(page, alloc, plan.as_str()),
         "imports" => add_imports(page, alloc, plan.as_str()),
+        "prefixes" => add_prefixes(page, alloc, plan.as_str()),
         _ => add_page(page, alloc, plan.as_str()),
     }
 }

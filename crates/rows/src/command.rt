@@ -125,6 +125,26 @@ pub fn add_end(page: &mut String, alloc: Global, plan: &str) -> Result<(), Alloc
     add_text(page, seen.told())
 }
 
+/// Adds how the command ends for the bytes of each proper prefix of a plan, the empty one first: each end behind the length from
+/// which on it comes, and behind them the length of the plan.
+pub fn add_prefixes(page: &mut String, alloc: Global, plan: &str) -> Result<(), AllocError> {
+    let bytes = plan.as_bytes();
+    let mut last = String::new(alloc);
+    for length in 0..bytes.len() {
+        let given = Given {
+            input: &bytes[..length],
+            ..plain("")
+        };
+        let mut end = String::new(alloc);
+        add_seen(&mut end, alloc, &given)?;
+        if end.as_str() != last.as_str() {
+            write!(page, "{length}: {end}; ")?;
+            last = end;
+        }
+    }
+    write!(page, "{}", bytes.len())
+}
+
 /// Adds how the command ends for so many spaces and the bytes behind them, which need not be text.
 pub fn add_bytes(page: &mut String, alloc: Global, line: &str) -> Result<(), AllocError> {
     let (spaces, digits) = word_of(line);

@@ -8,6 +8,7 @@
 //!     end EDITS                                   how the command ends for the plan with these edits: `module`, or its status and what it tells
 //!     page EDITS                                  its status, what it prints and what it tells then; `$` stands for a newline
 //!     imports EDITS                               the lines that it prints behind the module with `--imports`
+//!     prefixes EDITS                              the same as of `page` for each proper prefix, where it is another than for the one before
 //!     ask PIECE READ WRITE TELL | WORDS | EDITS   the same as of `page` with these words and streams: `command`
 //!     bytes SPACES HEX                            how the command ends for so many spaces and these bytes behind them
 //!     shows ..                                    what the module is like, where the table does not have all its bytes: `shown`
