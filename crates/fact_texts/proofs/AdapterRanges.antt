@@ -16,7 +16,7 @@ use Rattle.fact_machine.specs.World.{World, Trap, Throw, Lack}
 use Rattle.fact_moves.specs.Actions.{Action, Give, Ask, ◌>>=◌, ◌>>◌, trap, unless}
 use Rattle.fact_moves.specs.Adapters.{AdapterTunables, Slotted, none, when_due, cleared, make_call, enters, enter_call, exit_call, read_slots, finish_call, last_bits, params_transfer, results_transfer, check_tuple, from_values, into_params, flat_results, move_params, move_results, sync, async_start, async_return}
 use Rattle.fact_moves.specs.Calls.{HasOwnCallee, is_import_of, is_call_of}
-use Rattle.fact_moves.specs.Confined.{IsRangedBy, AreRangedCalls, HaveHonestTranscoders}
+use Rattle.fact_moves.specs.Confined.{HaveHonestTranscoders}
 use Rattle.fact_moves.specs.Honest.{IsStraight}
 use Rattle.fact_moves.specs.Moves.{entry_extent, move_fields}
 use Rattle.fact_moves.specs.Plain.{guarded_if, ended_sync}
@@ -25,12 +25,14 @@ use Rattle.fact_moves.specs.Running.{ImportPlaces, Call, Ended, Gave, Halted, St
 use Rattle.fact_moves.specs.Sides.{LiftLowerOptions, Source, Values, AtAddress, Target, Slots, Into, options_of, first_bits, address_value, reallocate}
 use Rattle.fact_moves.proofs.OwnParts.{same_self}
 use Rattle.fact_carry.specs.Regions.{TransferSetting}
-use Rattle.fact_texts.specs.Laws.{TranscodersAreRanged, StartTranscodersAreRanged, ReturnTranscodersAreRanged}
+use Rattle.fact_texts.specs.Laws.{TranscodersAreRanged, StartTranscodersAreRanged, ReturnTranscodersAreRanged, TranscodersCanBeAnswered, StartTranscodersCanBeAnswered, ReturnTranscodersCanBeAnswered}
 use Rattle.fact_texts.specs.Premises.{KnowsMemories}
 use Rattle.fact_texts.proofs.AllRanged.{fields_fine}
+use Rattle.fact_texts.proofs.Answerable.{answered_calls}
 use Rattle.fact_texts.proofs.Answered.{position, MovesAlong}
 use Rattle.fact_texts.proofs.Fine.{BothAreThere, typed_is_there, HasKnownSides, Arrived, Fine, answered_there, fine_give, fine_unless, fine_ask, fine_get_flags, fine_set_flags, fine_check, fine_get, fine_reallocate, fine_bind}
 use Rattle.fact_texts.proofs.Ranging.{IsRangedEnd, StaysRanged, ranged_heavier, ranged_later, ranged_give, ranged_get_flags, ranged_ask, ranged_trap, ranged_bind}
+use Rattle.fact_texts.proofs.Served.{IsServedBy, AreServedCalls, ranged_calls}
 
 -- ---- parts of adapters
 
@@ -41,7 +43,7 @@ module _ (c : TransferSetting) (next : Call → Position → Position) (steps : 
   cleared_fine : (i saved : ℕ) (q : Action (List CoreValue)) → F q → F (cleared i saved q)
   cleared_fine i saved q h = fine_set_flags c next steps known i 0 _ (fine_bind c next steps known q _ h (λ vs. fine_set_flags c next steps known i saved _ (fine_give c next steps known vs)))
 
-  when_fine : (b : Bool) (i : Import) (args : List CoreValue) → ((x : Position) (a : Call) → IsRangedBy i c.places x a) → ((d : CoreDef) → is_import_of d i ≡ false) → F (when_due b (make_call i args []))
+  when_fine : (b : Bool) (i : Import) (args : List CoreValue) → ((x : Position) (a : Call) → IsServedBy i c.places x a) → ((d : CoreDef) → is_import_of d i ≡ false) → F (when_due b (make_call i args []))
   when_fine true i args other apart = fine_ask c next steps known i args [] _ other apart (λ rs. fine_give c next steps known rs)
   when_fine false i args other apart = fine_give c next steps known []
 
@@ -138,7 +140,7 @@ module _ (p : ImportPlaces) (u : AdapterTunables) (a : LinkedAdapter) (known : K
   silent_give : {A : Type 0} (r : A) → IsSilent (Give r)
   silent_give r = record { at = λ x w. ranged_give p next tt }
 
-  silent_ask : {A : Type 0} (i : Import) (args : List CoreValue) (ts : List ValType) (k : List CoreValue → Action A) → ((x : Position) (c : Call) → IsRangedBy i p x c) → ((rs : List CoreValue) → IsSilent (k rs)) → IsSilent (Ask i args ts k)
+  silent_ask : {A : Type 0} (i : Import) (args : List CoreValue) (ts : List ValType) (k : List CoreValue → Action A) → ((x : Position) (c : Call) → IsServedBy i p x c) → ((rs : List CoreValue) → IsSilent (k rs)) → IsSilent (Ask i args ts k)
   silent_ask i args ts k other h = record { at = λ x w. ranged_ask p next (λ r. other x _) (λ rs w' typed. (h rs).at _ w') }
 
   silent_finish : (b : Bool) (f : Option CoreDef) (given : List CoreValue) (s : Slotted) (results : List CoreValue) → IsSilent (finish_call b f given s >> Give results)
@@ -201,37 +203,56 @@ guarded_ranged p next x true (Strayed n cs w) h = tt
 -- ---- whole adapters
 
 -- what is said of the calls of an end
-calls_ranged : {A : Type 0} (p : ImportPlaces) (next : Call → Position → Position) (x : Position) (P : Position → A → World → Type 0) (e : Ended A) → IsRangedEnd p next x P e → IsStraight e → HaveHonestTranscoders p (calls_in e) → AreRangedCalls p next x (calls_in e)
-calls_ranged p next x P (Gave n cs r w) h straight o = (h o).0
-calls_ranged p next x P (Halted n cs s w) h straight o = h o
-calls_ranged p next x P (Strayed n cs w) h straight o = absurd straight
+calls_served : {A : Type 0} (p : ImportPlaces) (next : Call → Position → Position) (x : Position) (P : Position → A → World → Type 0) (e : Ended A) → IsRangedEnd p next x P e → IsStraight e → HaveHonestTranscoders p (calls_in e) → AreServedCalls p next x (calls_in e)
+calls_served p next x P (Gave n cs r w) h straight o = (h o).0
+calls_served p next x P (Halted n cs s w) h straight o = h o
+calls_served p next x P (Strayed n cs w) h straight o = absurd straight
 
 -- the calls of an action from live regions on
 fine_calls : {c : TransferSetting} {next : Call → Position → Position} {steps : MovesAlong c next} {known : HasKnownSides c} {A : Type 0} {q : Action A} (gs : List Region) (w : World) → Fine c next steps known q
-    → BothAreThere c.places c.transfer.from c.transfer.to w.state → IsStraight (run c.places q w) → HaveHonestTranscoders c.places (calls_in (run c.places q w)) → AreRangedCalls c.places next (position c gs) (calls_in (run c.places q w))
-fine_calls {c} {next} {steps} {known} {q = q} gs w h there straight o = calls_ranged c.places next (position c gs) (λ y r w'. Arrived c next steps known y w'.state) (run c.places q w) (h.by gs w there).by straight o
+    → BothAreThere c.places c.transfer.from c.transfer.to w.state → IsStraight (run c.places q w) → HaveHonestTranscoders c.places (calls_in (run c.places q w)) → AreServedCalls c.places next (position c gs) (calls_in (run c.places q w))
+fine_calls {c} {next} {steps} {known} {q = q} gs w h there straight o = calls_served c.places next (position c gs) (λ y r w'. Arrived c next steps known y w'.state) (run c.places q w) (h.by gs w there).by straight o
 
 first_there : (p : ImportPlaces) (a : LinkedAdapter) (s : MachineState) → KnowsMemories p a → is_state p s ≡ true → BothAreThere p (options_of a.lower) (options_of a.lift) s
 first_there p a s known typed = record { from = typed_is_there p (options_of a.lower) s known.lower typed; to = typed_is_there p (options_of a.lift) s known.lift typed }
 
+module _ (p : ImportPlaces) (u : AdapterTunables) (a : LinkedAdapter) (args : List CoreValue) (w : World) (own : HasOwnCallee a) (known : KnowsMemories p a) (typed : is_state p w.state ≡ true) where
+  sync_served : IsStraight (ended_sync p u a args w) → HaveHonestTranscoders p (calls_in (ended_sync p u a args w)) → AreServedCalls p (sync_moved_on a args) (landed (params_landing a)) (calls_in (ended_sync p u a args w))
+  sync_served straight honest =
+      calls_served p next (landed (params_landing a)) (λ y r w. Unit {0}) (ended_sync p u a args w)
+      (guarded_ranged p next (landed (params_landing a)) u.exceptions (run p (sync u a args) w) (sync_ranged p u a known own next plain_next args turns w (first_there p a w.state known typed)).by) straight honest
+    where
+      next : Call → Position → Position
+      next = sync_moved_on a args
+
+      plain_next : (c : Call) (x : Position) → is_call_of a.callee c ≡ false → next c x ≡ moved_on c x
+      plain_next c x e = ap (λ b. if b then landed (results_landing a args) else moved_on c x) e
+
+      turns : (c : Call) (x : Position) → c.what ≡ import.CoreDef a.callee → next c x ≡ landed (results_landing a args)
+      turns c x e = ap (λ b. if b then landed (results_landing a args) else moved_on c x) (ap (λ i. is_import_of a.callee i) e ∙ same_self a.callee)
+
+  start_served : IsStraight (run p (async_start u a args) w) → HaveHonestTranscoders p (calls_in (run p (async_start u a args) w)) → AreServedCalls p moved_on (landed (params_landing a)) (calls_in (run p (async_start u a args) w))
+  start_served straight honest = fine_calls [] w (start_fine p u a known own moved_on (λ c x e. refl) args) (first_there p a w.state known typed) straight honest
+
+  return_served : IsStraight (run p (async_return u a args) w) → HaveHonestTranscoders p (calls_in (run p (async_return u a args) w)) → AreServedCalls p moved_on (landed (results_landing a args)) (calls_in (run p (async_return u a args) w))
+  return_served straight honest =
+      let t = first_there p a w.state known typed in
+      fine_calls [] w (return_fine p u a known own moved_on (λ c x e. refl) args) (record { from = t.to; to = t.from }) straight honest
+
 pub transcoders_are_ranged : TranscodersAreRanged
-transcoders_are_ranged p u a args w own known typed straight honest =
-    calls_ranged p next (landed (params_landing a)) (λ y r w. Unit {0}) (ended_sync p u a args w)
-    (guarded_ranged p next (landed (params_landing a)) u.exceptions (run p (sync u a args) w) (sync_ranged p u a known own next plain_next args turns w (first_there p a w.state known typed)).by) straight honest
-  where
-    next : Call → Position → Position
-    next = sync_moved_on a args
-
-    plain_next : (c : Call) (x : Position) → is_call_of a.callee c ≡ false → next c x ≡ moved_on c x
-    plain_next c x e = ap (λ b. if b then landed (results_landing a args) else moved_on c x) e
-
-    turns : (c : Call) (x : Position) → c.what ≡ import.CoreDef a.callee → next c x ≡ landed (results_landing a args)
-    turns c x e = ap (λ b. if b then landed (results_landing a args) else moved_on c x) (ap (λ i. is_import_of a.callee i) e ∙ same_self a.callee)
+transcoders_are_ranged p u a args w own known typed straight honest = ranged_calls p (sync_moved_on a args) (landed (params_landing a)) _ (sync_served p u a args w own known typed straight honest)
 
 pub start_transcoders_are_ranged : StartTranscodersAreRanged
-start_transcoders_are_ranged p u a args w own known typed straight honest = fine_calls [] w (start_fine p u a known own moved_on (λ c x e. refl) args) (first_there p a w.state known typed) straight honest
+start_transcoders_are_ranged p u a args w own known typed straight honest = ranged_calls p moved_on (landed (params_landing a)) _ (start_served p u a args w own known typed straight honest)
 
 pub return_transcoders_are_ranged : ReturnTranscodersAreRanged
-return_transcoders_are_ranged p u a args w own known typed straight honest =
-    let t = first_there p a w.state known typed in
-    fine_calls [] w (return_fine p u a known own moved_on (λ c x e. refl) args) (record { from = t.to; to = t.from }) straight honest
+return_transcoders_are_ranged p u a args w own known typed straight honest = ranged_calls p moved_on (landed (results_landing a args)) _ (return_served p u a args w own known typed straight honest)
+
+pub transcoders_can_be_answered : TranscodersCanBeAnswered
+transcoders_can_be_answered p u a args w own known typed straight honest = answered_calls p (sync_moved_on a args) (landed (params_landing a)) _ (sync_served p u a args w own known typed straight honest)
+
+pub start_transcoders_can_be_answered : StartTranscodersCanBeAnswered
+start_transcoders_can_be_answered p u a args w own known typed straight honest = answered_calls p moved_on (landed (params_landing a)) _ (start_served p u a args w own known typed straight honest)
+
+pub return_transcoders_can_be_answered : ReturnTranscodersCanBeAnswered
+return_transcoders_can_be_answered p u a args w own known typed straight honest = answered_calls p moved_on (landed (results_landing a args)) _ (return_served p u a args w own known typed straight honest)

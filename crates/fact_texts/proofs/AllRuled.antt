@@ -19,7 +19,6 @@ use Rattle.fact_values.specs.Numbers.{is_scalar_value}
 use Rattle.fact_values.specs.Places.{count_of_members, flags_bytes, case_bytes, payload_place}
 use Rattle.fact_moves.specs.Actions.{Action, Give, Visit, Ask, Unreachable, ◌>>=◌, trap, unless, each, each_from}
 use Rattle.fact_moves.specs.Calls.{is_import_of}
-use Rattle.fact_moves.specs.Confined.{IsRangedBy}
 use Rattle.fact_moves.specs.Moves.{canonical_number, plain_size, move_number, move_char, move_handle, move_enum, write_case, entry_extent, move_list, move_plain, move_to_plain, aligned_source, aligned_target, aligned_node, MovingMembers, move_sum, move_node, move_to_node, weight_of, with_field, part, spot, past, payload_part, payload_spot, padded, move, move_fields, move_case}
 use Rattle.fact_moves.specs.Regions.{Position}
 use Rattle.fact_moves.specs.Requests.{is_transcode}
@@ -27,10 +26,11 @@ use Rattle.fact_moves.specs.Running.{ImportPlaces, Call}
 use Rattle.fact_moves.specs.Sides.{LiftLowerOptions, Source, Values, AtAddress, Target, Slots, Into, width_of_side, first_bits, read_number, write_number, read_pair, write_pair, check_region, reallocate, side_abi}
 use Rattle.fact_moves.specs.Strings.{move_string}
 use Rattle.fact_carry.specs.Regions.{TransferSetting}
+use Rattle.fact_texts.proofs.Served.{IsServedBy}
 
 -- Calls that are of no transcoder and of no core function.
 pub record IsPlainCall (i : Import) : Type 0 where
-  pub ranged : (p : ImportPlaces) (x : Position) (a : Call) → IsRangedBy i p x a
+  pub ranged : (p : ImportPlaces) (x : Position) (a : Call) → IsServedBy i p x a
   pub apart : (d : CoreDef) → is_import_of d i ≡ false
   pub other : is_transcode i ≡ false
 

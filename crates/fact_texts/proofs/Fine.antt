@@ -19,7 +19,6 @@ use Rattle.fact_machine.specs.World.{World}
 use Rattle.fact_values.specs.Lift.{bits_of}
 use Rattle.fact_moves.specs.Actions.{Action, Give, Visit, GetFlags, SetFlags, Ask, Unreachable, ◌>>=◌, unless, each_from}
 use Rattle.fact_moves.specs.Calls.{is_import_of}
-use Rattle.fact_moves.specs.Confined.{IsRangedBy}
 use Rattle.fact_moves.specs.Order.{HaveTwoMemories}
 use Rattle.fact_moves.specs.Regions.{Region, Position}
 use Rattle.fact_moves.specs.Running.{ImportPlaces, Call, is_state, is_answer}
@@ -29,6 +28,7 @@ use Rattle.fact_carry.specs.Regions.{TransferSetting, regions_by}
 use Rattle.fact_carry.specs.Places.{IsKnownMemory, HasKnownMemory}
 use Rattle.fact_texts.proofs.Answered.{position, MovesAlong, other_stays, realloc_moves}
 use Rattle.fact_texts.proofs.Ranging.{StaysRanged, ranged_give, ranged_stop, ranged_visit, ranged_get_flags, ranged_set_flags, ranged_read, ranged_length, ranged_write, ranged_ask, ranged_unless, ranged_bind}
+use Rattle.fact_texts.proofs.Served.{IsServedBy}
 use Rattle.fact_texts.proofs.States.{kind_there}
 
 -- ---- memories that are there
@@ -106,7 +106,7 @@ module _ (c : TransferSetting) (next : Call → Position → Position) (steps : 
     fine_unless t b q h = record { by = λ gs w there. ranged_unless c.places next t b (λ yes. (h yes).by gs w there) }
 
     -- a call of a function that is neither a transcoder nor a core function
-    pub fine_ask : (i : Import) (args : List CoreValue) (ts : List ValType) (k : List CoreValue → Action A) → ((x : Position) (a : Call) → IsRangedBy i c.places x a) → ((d : CoreDef) → is_import_of d i ≡ false)
+    pub fine_ask : (i : Import) (args : List CoreValue) (ts : List ValType) (k : List CoreValue → Action A) → ((x : Position) (a : Call) → IsServedBy i c.places x a) → ((d : CoreDef) → is_import_of d i ≡ false)
         → ((rs : List CoreValue) → Fine (k rs)) → Fine (Ask i args ts k)
     fine_ask i args ts k other apart h = record {
       by = λ gs w there. ranged_ask c.places next (λ a. other (position c gs) _) (λ rs w' typed.

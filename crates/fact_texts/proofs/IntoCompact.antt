@@ -18,11 +18,11 @@ use Rattle.fact_moves.specs.Paths.{SourceUnits, WrittenUnits, AllRead, HasNoTag,
 use Rattle.fact_moves.specs.Strings.{most_string_bytes}
 use Rattle.fact_texts.proofs.Bounds.{growth, length_text, all_bound}
 use Rattle.fact_texts.proofs.Stages.{Stage, beginning, Leads, StandsIn, Moved}
-use Rattle.fact_texts.proofs.Transfers.{whole as all_read, counts, first, stands, text_bytes_append, text_units_append, can_spell_append, left, some_left, enough, none_left, lt_or_eq, fresh, begins, pass_by, moved_to}
+use Rattle.fact_texts.proofs.Transfers.{whole as all_read, counts, first, stands, text_bytes_append, text_units_append, can_spell_append, left, some_left, enough, fewer_low, none_left, lt_or_eq, fresh, begins, pass_by, moved_to}
 use Rattle.fact_texts.proofs.Spelled.{SpellsText}
 
 -- Latin-1 bytes made units
-widened_spelling : (c : ℕ) → c < 256 → char_spelling Utf16 c ≡ c ∷ 0 ∷ []
+pub widened_spelling : (c : ℕ) → c < 256 → char_spelling Utf16 c ≡ c ∷ 0 ∷ []
 widened_spelling c h =
     let one : nat_lt c 0x1_0000 ≡ true = lt-ltb c 0x1_0000 (omega (arith, h)) in
     let a : c % 256 ≡ c = mod-eq_of_lt h in
@@ -41,7 +41,7 @@ pub units16 : (t : List ℕ) → AreSpelled Latin1 t → units_of_text Utf16 t �
 units16 [] h = refl
 units16 (c ∷ t) h = let one : nat_lt c 0x1_0000 ≡ true = lt-ltb c 0x1_0000 (let l = h.0 in omega (arith, l)) in rw (one) (ap (λ k. 1 + k) (units16 t h.1))
 
-low_spelled : (t : List ℕ) → all_latin1 t ≡ true → AreSpelled Latin1 t
+pub low_spelled : (t : List ℕ) → all_latin1 t ≡ true → AreSpelled Latin1 t
 low_spelled [] e = tt
 low_spelled (c ∷ t) e = go (nat_lt c 256) refl e (low_spelled t)
   where
@@ -121,7 +121,7 @@ module _ (Kept Good : Type 0) (n : ℕ) where
 
 -- ---- from UTF-8 and UTF-16
 
-length_widened : (bs : List ℕ) → length (widened bs) ≡ 2 * length bs
+pub length_widened : (bs : List ℕ) → length (widened bs) ≡ 2 * length bs
 length_widened [] = refl
 length_widened (b ∷ bs) = omega (arith, length_widened bs)
 
@@ -160,11 +160,13 @@ module _ (Kept Good : Type 0) (f : FixedEncoding) (n : ℕ) where
       λ us2 have l1 l2 same keeps.
           let held : length have ≡ w1 = omega (arith, l2, short, lw) in
           let k : length (take w1 have) ≡ w1 = length-take-le w1 have (omega (arith, held)) in
+          let written : length a1 ≡ 1 * units_of_text Latin1 h1.text = ap length h1.writes ∙ length_text Latin1 h1.text in
+          let low = fewer_low f h1.text h1.can_read h1.can_write in
           pass_by Kept Good n wide Widening f Utf16 true 1 (cut 2 (Tag End)) us2 (record { read = r1; written = w1; size = 2 * n; given = true; have = have }) (After Kept f) k_is f_is t_is (
             l1 ∙ long,
             refl,
             (less, omega (arith, lim)),
-            (omega (arith, held), omega arith),
+            (omega (arith, held), omega arith, omega (arith, written, low, lr, lw, less)),
             omega arith,
             λ a2 b2 h.
                 let lu : get_or b2 0 0 ≡ length (take w1 have) + units_of_text Utf16 h.text = ap (λ l. get_or l 0 0) h.answers in

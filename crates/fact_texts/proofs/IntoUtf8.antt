@@ -19,7 +19,7 @@ use Rattle.fact_texts.proofs.Bounds.{growth, length_spelling, length_text, all_b
 use Rattle.fact_texts.proofs.Stages.{Stage, beginning, Leads, Moved}
 use Rattle.fact_texts.proofs.Transfers.{whole, first, stands, text_bytes_append, text_units_append, can_spell_append, left, some_left, enough, none_left, lt_or_eq, fresh, begins, pass_by, moved_to}
 
-spelled8 : (f : FixedEncoding) (c : ℕ) → IsSpelled f c → IsSpelled Utf8 c
+pub spelled8 : (f : FixedEncoding) (c : ℕ) → IsSpelled f c → IsSpelled Utf8 c
 spelled8 Utf8 c h = h
 spelled8 Utf16 c h = h
 spelled8 Latin1 c h = low_scalar c (omega (arith, h))

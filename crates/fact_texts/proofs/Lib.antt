@@ -4,6 +4,7 @@ mod AllAsked
 mod AllPaths
 mod AllRanged
 mod AllRuled
+mod Answerable
 mod Answered
 mod Asking
 mod Beginning
@@ -21,6 +22,7 @@ pub mod FlaggedRequests
 mod ForTypes
 mod GoodAnswers
 mod Halting
+mod HonestPasses
 mod IntoCompact
 mod IntoUtf8
 mod Invariant
@@ -35,10 +37,12 @@ mod Reading
 mod Reallocs
 mod RequestCases
 pub mod Requests
+mod Served
 mod SparedMoves
 mod SparedTexts
 mod Spares
 mod Spelled
+mod Splits
 mod Stages
 mod States
 mod TextLaw
@@ -47,6 +51,7 @@ mod Trails
 mod Trapped
 mod Transfers
 mod Trapping
+mod TypedTexts
 mod Unread
 mod WalkAsks
 mod Walked

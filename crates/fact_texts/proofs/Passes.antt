@@ -25,10 +25,11 @@ use Rattle.fact_machine.specs.declared.types.Answer.{Answer}
 use Rattle.fact_machine.specs.declared.types.Answer.TheVariants.{Returns}
 use Rattle.fact_types.specs.declared.import.Import.{Import}
 use Rattle.fact_types.specs.declared.outside.Transcode.TheVariants as op
-use Rattle.fact_moves.specs.Confined.{room_bytes, IsRanged, LiesInSound}
+use Rattle.fact_moves.specs.Confined.{room_bytes, LiesInSound}
 use Rattle.fact_moves.specs.Running.{Call}
 use Rattle.fact_texts.proofs.Answered.{position}
 use Rattle.fact_texts.proofs.Bounds.{length_text}
+use Rattle.fact_texts.proofs.Served.{Fits, IsServed}
 use Rattle.fact_texts.proofs.Stages.{Stage, offset, room_at, skipped, after_pass, SomeLeft, IsReadyFor, HasSpace}
 use Rattle.fact_moves.proofs.OwnParts.{bits_address}
 use Rattle.fact_texts.proofs.States.{to_bytes, Later}
@@ -237,10 +238,10 @@ module _ {c : TransferSetting} (e : IsEquipped c) (Kept Good : Type 0) (kept : G
   abbrev pub pass_call : Import → Transcode → (rest : Bool) → (room : ℕ) → PathPoint → MachineState → Answer → Call
   pass_call i o b room v s a = record { what = i; args = pass_args c.transfer o b room v; before = s; answer = a }
 
-  pub in_range : (i : Import) (a : Answer) (live : List Region) (us : List ℕ) (o : Transcode) (b : Bool) (room : ℕ) (st : Stage) (v : PathPoint) (s : MachineState)
+  pub served : (i : Import) (a : Answer) (live : List Region) (us : List ℕ) (o : Transcode) (b : Bool) (room : ℕ) (st : Stage) (v : PathPoint) (s : MachineState)
       → Known live us st v s → unit_bytes (from_encoding o) ≡ unit_bytes f → length us ≡ unit_bytes f * n → st.given ≡ true → SomeLeft n b st
-      → IsReadyFor n (transcode_kind o) b room st → HasSpace n (transcode_kind o) (to_encoding o) room st → IsRanged c.places (position c live) o (pass_call i o b room v s a)
-  in_range i a live us o b room st v s inv unit long given some ready space =
+      → IsReadyFor n (transcode_kind o) b room st → HasSpace n (transcode_kind o) (to_encoding o) room st → IsServed c.places (position c live) o (pass_call i o b room v s a)
+  served i a live us o b room st v s inv unit long given some ready space =
       let args = pass_args c.transfer o b room v in
       let src = source_is live us b st v s inv given some long in
       let same : source_pointer c.transfer (from_encoding o) b v ≡ source_pointer c.transfer f b v = same_pointer b in
@@ -249,11 +250,16 @@ module _ {c : TransferSetting} (e : IsEquipped c) (Kept Good : Type 0) (kept : G
       let to : nth_number args 2 ≡ v.region + offset n (transcode_kind o) b st = bits_address c.transfer.to _ ∙ (target_is live us (transcode_kind o) b room st v s inv given ready).0 in
       let split = mul_split (unit_bytes f) n (skipped n b st) (skips b st some) in
       let high = bounded (transcode_kind o) (to_encoding o) b (address_value c.transfer.from (source_pointer c.transfer (from_encoding o) b v)) (address_value c.transfer.from (source_count c.transfer b v)) (address_value c.transfer.to (target_pointer c.transfer (transcode_kind o) b v)) to many ready space in
+      let call = pass_call i o b room v s a in
       record {
-        aligned = ap (λ u. nth_number args 0 % u) unit ∙ ap (λ a. a % unit_bytes f) at ∙ step_aligned f v.source (skipped n b st) inv.source_aligned;
-        inside = (let q : unit_bytes (from_encoding o) * nth_number args 1 ≡ unit_bytes f * (n - skipped n b st) = ap (λ u. u * nth_number args 1) unit ∙ ap (λ k. unit_bytes f * k) many in omega (arith, at, q, split, inv.source_in, long));
-        own = subst (λ l. LiesInSound (length (to_bytes e s)) l (nth_number args 2) (room_bytes o (pass_call i o b room v s a))) (sym (inv.given given).live_is)
-            (inl (record { aligned = inv.aligned; inside = inv.inside }, (omega (arith, to), subst (λ k. nth_number args 2 + k ≤ v.region + st.size) (sym (room_same o (pass_call i o b room v s a))) high)));
+        ranged = record {
+          aligned = ap (λ u. nth_number args 0 % u) unit ∙ ap (λ a. a % unit_bytes f) at ∙ step_aligned f v.source (skipped n b st) inv.source_aligned;
+          inside = (let q : unit_bytes (from_encoding o) * nth_number args 1 ≡ unit_bytes f * (n - skipped n b st) = ap (λ u. u * nth_number args 1) unit ∙ ap (λ k. unit_bytes f * k) many in omega (arith, at, q, split, inv.source_in, long));
+          own = subst (λ l. LiesInSound (length (to_bytes e s)) l (nth_number args 2) (room_bytes o call)) (sym (inv.given given).live_is)
+              (inl (record { aligned = inv.aligned; inside = inv.inside }, (omega (arith, to), subst (λ k. nth_number args 2 + k ≤ v.region + st.size) (sym (room_same o call)) high)));
+        };
+        small = subst (λ k. k < 2 ^ 32) (sym (room_same o call)) (omega (arith, to, high, inv.small));
+        fits = fitting (transcode_kind o) (address_value c.transfer.from (source_pointer c.transfer (from_encoding o) b v)) (address_value c.transfer.from (source_count c.transfer b v)) (address_value c.transfer.to (target_pointer c.transfer (transcode_kind o) b v)) many ready;
       }
     where
       same_pointer : (b : Bool) → source_pointer c.transfer (from_encoding o) b v ≡ source_pointer c.transfer f b v
@@ -277,3 +283,14 @@ module _ {c : TransferSetting} (e : IsEquipped c) (Kept Good : Type 0) (kept : G
           let none : unit_bytes t * (room * n - 0) ≡ unit_bytes t * (room * n) = (let z : room * n - 0 ≡ room * n = omega arith in ap (λ k. unit_bytes t * k) z) in omega (arith, ed, all, none, space)
       bounded Fitting t true a0 a1 a2 ed ey ready space = let m = room_is live us Fitting true room st v s inv ready in omega (arith, ed, m, ready.1, ready.2)
       bounded Fitting t false a0 a1 a2 ed ey ready space = let m = room_is live us Fitting false room st v s inv ready in omega (arith, ed, m, ready)
+
+      fitting : (k : TranscodeKind) (a0 a1 a2 : CoreValue) → bits_of a1 ≡ n - skipped n b st → IsReadyFor n k b room st → Fits k (a0 ∷ a1 ∷ a2 ∷ more_args c.transfer k b room v)
+      fitting AllUnits a0 a1 a2 ey ready = tt
+      fitting Counted a0 a1 a2 ey ready = tt
+      fitting Narrow a0 a1 a2 ey ready = tt
+      fitting Tagged a0 a1 a2 ey ready = tt
+      fitting Fitting a0 a1 a2 ey ready = tt
+      fitting Widening a0 a1 a2 ey ready =
+          let there : bits_of (address_value c.transfer.to v.written) ≡ st.written = bits_address c.transfer.to v.written ∙ inv.written_is in
+          let all = (room_is live us Widening b room st v s inv ready).0 in
+          omega (arith, ey, there, all, ready.2)

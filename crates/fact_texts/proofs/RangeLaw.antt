@@ -15,7 +15,7 @@ use Rattle.fact_machine.specs.declared.types.MachineState.{MachineState}
 use Rattle.fact_machine.specs.World.{World, Stop, Trap, Throw, Lack}
 use Rattle.fact_values.specs.Texts.{unit_bytes, form_of, byte_length}
 use Rattle.fact_moves.specs.Actions.{Action, ◌>>=◌}
-use Rattle.fact_moves.specs.Confined.{AreRangedCalls, IsHonestTranscoder, HaveHonestTranscoders}
+use Rattle.fact_moves.specs.Confined.{IsHonestTranscoder, HaveHonestTranscoders}
 use Rattle.fact_moves.specs.Paths.{TextForm, align_of, path}
 use Rattle.fact_moves.specs.Regions.{Region, Position}
 use Rattle.fact_moves.specs.Running.{Call, Ended, Gave, Halted, Strayed, run}
@@ -32,6 +32,7 @@ use Rattle.fact_texts.proofs.Limited.{walks_limited}
 use Rattle.fact_carry.proofs.Transcoded.{transcoded}
 use Rattle.fact_texts.proofs.Ranging.{IsRangedEnd, StaysRanged, ranged_length, ranged_unless, ranged_bind}
 use Rattle.fact_texts.proofs.Reading.{form_is, unit_aligned}
+use Rattle.fact_texts.proofs.Served.{AreServedCalls}
 use Rattle.fact_texts.proofs.States.{from_bytes, to_bytes, There, there_of}
 use Rattle.fact_texts.proofs.Trails.{Judged, Walks, MayEnd}
 
@@ -64,7 +65,7 @@ module _ (c : TransferSetting) (next : Call → Position → Position) (steps : 
       → ((rs : List Region) (a : A) (w' : World) → Q rs a w' → BothAreThere c.places c.transfer.from c.transfer.to w'.state) → Walks c next ⊥ ⊥ most gs Q q w → Stays c next steps known gs q w
   walked_ranged {A} {most} {gs} {Q} {q} {w} f h = record { by = by_end (run c.places q w) h.judged }
     where
-      stops : (s : Stop) (cs : List Call) → MayEnd c next ⊥ ⊥ most gs s cs → AreRangedCalls c.places next (position c gs) cs
+      stops : (s : Stop) (cs : List Call) → MayEnd c next ⊥ ⊥ most gs s cs → AreServedCalls c.places next (position c gs) cs
       stops Trap cs h = h.0
       stops Throw cs h = h.0
       stops Lack cs h = h.ranged

@@ -14,18 +14,19 @@ use Rattle.fact_machine.specs.declared.types.TraceEntry.TheVariants.{Called}
 use Rattle.fact_machine.specs.Machine.{i32_of}
 use Rattle.fact_machine.specs.World.{World, Done, Halt, Trap, read, write, written, with_number, number_at, asked, set_global}
 use Rattle.fact_moves.specs.Actions.{Action, Give, Visit, Read, Write, MemoryLength, GetFlags, SetFlags, Ask, Unreachable, ◌>>=◌, trap, unless}
-use Rattle.fact_moves.specs.Confined.{IsRangedBy, AreRangedCalls, HaveHonestTranscoders}
+use Rattle.fact_moves.specs.Confined.{HaveHonestTranscoders}
 use Rattle.fact_moves.specs.Regions.{Position}
 use Rattle.fact_moves.specs.Running.{ImportPlaces, Call, Ended, Gave, Halted, Strayed, heavier, later, then_ended, or_strayed, ended, if_typed, is_answer, with_answer, call_of, run}
 use Rattle.fact_moves.proofs.Binds.{binds_run}
 use Rattle.fact_texts.proofs.Answered.{position_after}
+use Rattle.fact_texts.proofs.Served.{IsServedBy, AreServedCalls}
 
 module _ (p : ImportPlaces) (next : Call → Position → Position) where
   abbrev Honest : List Call → Type 0
   Honest cs = HaveHonestTranscoders p cs
 
   abbrev InRange : Position → List Call → Type 0
-  InRange x cs = AreRangedCalls p next x cs
+  InRange x cs = AreServedCalls p next x cs
 
   honest_split : (cs ds : List Call) → Honest (cs ++ ds) → Honest cs × Honest ds
   honest_split [] ds h = (tt, h)
@@ -132,7 +133,7 @@ module _ (p : ImportPlaces) (next : Call → Position → Position) where
 
     -- a call of anything, where a transcoder's is in its ranges
     pub ranged_ask : {i : Import} {args : List CoreValue} {ts : List ValType} {k : List CoreValue → Action A} {w : World}
-        → ((a : Answer) → IsRangedBy i p x (record { what = i; args = args; before = w.state; answer = a }))
+        → ((a : Answer) → IsServedBy i p x (record { what = i; args = args; before = w.state; answer = a }))
         → ((rs : List CoreValue) (w' : World) → is_answer p ts w.state rs w'.state ≡ true → StaysRanged (next (record { what = i; args = args; before = w.state; answer = Returns rs w'.state }) x) P (k rs) w')
         → StaysRanged x P (Ask i args ts k) w
     ranged_ask {i} {args} {ts} {k} {w} ranged on = record { by = by_answers w.answers }

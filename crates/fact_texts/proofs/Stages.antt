@@ -71,7 +71,7 @@ module _ (n : ℕ) where
   abbrev pub IsReadyFor : TranscodeKind → (rest : Bool) → (room : ℕ) → Stage → Type 0
   IsReadyFor Fitting true c s = (s.written ≤ length s.have) × (s.written < c * n) × (c * n ≡ s.size)
   IsReadyFor Fitting false c s = c * n ≡ s.size
-  IsReadyFor Widening b c s = (s.written ≤ length s.have) × (c * n ≤ s.size)
+  IsReadyFor Widening b c s = (s.written ≤ length s.have) × (c * n ≤ s.size) × (s.written + (n - skipped b s) ≤ c * n)
   IsReadyFor _ b c s = Unit {0}
 
   -- the region has room for what a pass may write

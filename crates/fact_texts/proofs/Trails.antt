@@ -22,21 +22,21 @@ use Rattle.fact_carry.specs.Items.{crossing, crossings}
 use Rattle.fact_moves.proofs.Binds.{binds_run}
 use Rattle.fact_carry.proofs.Judges.{regions_append}
 use Rattle.fact_carry.proofs.Telling.{crossings_append}
-use Rattle.fact_moves.specs.Confined.{IsRangedBy, AreRangedCalls}
+use Rattle.fact_texts.proofs.Served.{IsServedBy, AreServedCalls}
 use Rattle.fact_texts.proofs.Answered.{IsReturnHonest, AreAnswersHonest, position, position_after}
 
 module _ (c : TransferSetting) (next : Call → Position → Position) (Kept Good : Type 0) where
   -- calls that stay in their ranges, move no handles, and are few
   pub record Trail (most : ℕ) (gs : List Region) (cs : List Call) : Type 0 where
-    pub ranged : AreRangedCalls c.places next (position c gs) cs
+    pub ranged : AreServedCalls c.places next (position c gs) cs
     pub moved : position_after next (position c gs) cs ≡ position c (regions_after gs cs)
     pub crosses : crossings cs ≡ []
     pub few : length cs ≤ most
 
   -- where a run may stop: by a trap only if not Good, and by what is thrown only if not Kept
   abbrev pub MayEnd : ℕ → List Region → Stop → List Call → Type 0
-  MayEnd most gs Trap cs = AreRangedCalls c.places next (position c gs) cs × (Good → ⊥)
-  MayEnd most gs Throw cs = AreRangedCalls c.places next (position c gs) cs × (Kept → ⊥)
+  MayEnd most gs Trap cs = AreServedCalls c.places next (position c gs) cs × (Good → ⊥)
+  MayEnd most gs Throw cs = AreServedCalls c.places next (position c gs) cs × (Kept → ⊥)
   MayEnd most gs Lack cs = Trail most gs cs
 
   abbrev pub Judged : {A : Type 0} → ℕ → List Region → (List Region → A → World → Type 0) → Ended A → Type 0
@@ -53,7 +53,7 @@ module _ (c : TransferSetting) (next : Call → Position → Position) (Kept Goo
   honest_split gs [] ds h = (tt, h)
   honest_split gs (x ∷ cs) ds h = let r = honest_split (regions_by x.what x.args x.answer gs) cs ds h.1 in ((h.0, r.0), r.1)
 
-  pub ranged_append : (x : Position) (cs ds : List Call) → AreRangedCalls c.places next x cs → AreRangedCalls c.places next (position_after next x cs) ds → AreRangedCalls c.places next x (cs ++ ds)
+  pub ranged_append : (x : Position) (cs ds : List Call) → AreServedCalls c.places next x cs → AreServedCalls c.places next (position_after next x cs) ds → AreServedCalls c.places next x (cs ++ ds)
   ranged_append x [] ds h k = k
   ranged_append x (q ∷ cs) ds h k = (h.0, ranged_append (next q x) cs ds h.1 k)
 
@@ -62,8 +62,8 @@ module _ (c : TransferSetting) (next : Call → Position → Position) (Kept Goo
   position_append x (q ∷ cs) ds = position_append (next q x) cs ds
 
   -- behind a trail
-  ranged_behind : {a : ℕ} (gs : List Region) (cs ds : List Call) → Trail c next Kept Good a gs cs → AreRangedCalls c.places next (position c (regions_after gs cs)) ds → AreRangedCalls c.places next (position c gs) (cs ++ ds)
-  ranged_behind gs cs ds h k = ranged_append (position c gs) cs ds h.ranged (subst (λ x. AreRangedCalls c.places next x ds) (sym h.moved) k)
+  ranged_behind : {a : ℕ} (gs : List Region) (cs ds : List Call) → Trail c next Kept Good a gs cs → AreServedCalls c.places next (position c (regions_after gs cs)) ds → AreServedCalls c.places next (position c gs) (cs ++ ds)
+  ranged_behind gs cs ds h k = ranged_append (position c gs) cs ds h.ranged (subst (λ x. AreServedCalls c.places next x ds) (sym h.moved) k)
 
   trail_then : (a b most : ℕ) (gs : List Region) (cs ds : List Call) → a + b ≤ most → Trail c next Kept Good a gs cs → Trail c next Kept Good b (regions_after gs cs) ds → Trail c next Kept Good most gs (cs ++ ds)
   trail_then a b most gs cs ds le h k = record {
@@ -126,7 +126,7 @@ module _ {c : TransferSetting} {next : Call → Position → Position} {Kept Goo
 
     -- a call, whose answer may be anything that is typed and honest
     pub walks_ask : {b most : ℕ} {i : Import} {args : List CoreValue} {ts : List ValType} {k : List CoreValue → Action A} {w : World} → 1 + b ≤ most → crossing i args ≡ []
-        → ((a : Answer) → IsRangedBy i c.places (position c gs) (record { what = i; args = args; before = w.state; answer = a }))
+        → ((a : Answer) → IsServedBy i c.places (position c gs) (record { what = i; args = args; before = w.state; answer = a }))
         → ((rs : List CoreValue) (after : MachineState) → next (record { what = i; args = args; before = w.state; answer = Returns rs after }) (position c gs) ≡ position c (regions_by i args (Returns rs after) gs))
         → ((rs : List CoreValue) (w' : World) → is_answer c.places ts w.state rs w'.state ≡ true → IsReturnHonest Kept c gs i args rs w.state w'.state
         → Walks c next Kept Good b (regions_by i args (Returns rs w'.state) gs) P (k rs) w')

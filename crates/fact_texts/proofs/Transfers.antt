@@ -11,7 +11,7 @@ use Rattle.fact_types.specs.declared.outside.Transcode.{Transcode}
 use Rattle.fact_moves.specs.Transcoders.{TranscodeKind, transcode_kind, from_encoding, to_encoding}
 use Rattle.fact_moves.specs.Paths.{SourceUnits, Path, Limit, Resize, Pass}
 use Rattle.fact_moves.specs.Strings.{most_string_bytes}
-use Rattle.fact_texts.proofs.Bounds.{length_text}
+use Rattle.fact_texts.proofs.Bounds.{growth, length_text, all_bound}
 use Rattle.fact_texts.proofs.Stages.{Stage, beginning, Leads, PassLeads, Moved}
 
 -- all of the source was read
@@ -64,6 +64,19 @@ pub enough : (f : FixedEncoding) (x y : ℕ) → unit_bytes f * x ≤ unit_bytes
 enough Utf8 x y h = omega (arith, h)
 enough Utf16 x y h = omega (arith, h)
 enough Latin1 x y h = omega (arith, h)
+
+-- Where an encoding grows by no more than the bytes of its units, a text takes no more of them.
+pub fewer_units : (f t : FixedEncoding) (text : List ℕ) → growth f t ≡ unit_bytes t → AreSpelled f text → AreSpelled t text → units_of_text t text ≤ units_of_text f text
+fewer_units f t text e h g = enough t (units_of_text t text) (units_of_text f text) (subst (λ k. unit_bytes t * units_of_text t text ≤ k * units_of_text f text) e (all_bound f t text h g))
+
+-- so it is into Latin-1
+pub fewer_low : (f : FixedEncoding) (text : List ℕ) → AreSpelled f text → AreSpelled Latin1 text → units_of_text Latin1 text ≤ units_of_text f text
+fewer_low f text h g = fewer_units f Latin1 text (grows f) h g
+  where
+    grows : (f : FixedEncoding) → growth f Latin1 ≡ 1
+    grows Utf8 = refl
+    grows Utf16 = refl
+    grows Latin1 = refl
 
 pub none_left : (f : FixedEncoding) (x n : ℕ) (rest : List ℕ) → unit_bytes f * x + length rest ≡ unit_bytes f * n → x ≡ n → rest ≡ []
 none_left f x n [] h e = refl

@@ -39,7 +39,7 @@ use Rattle.fact_texts.proofs.States.{from_bytes, to_bytes, typed_later}
 use Rattle.fact_texts.proofs.Trails.{Walks, walks_give, walks_more, walks_ask, walks_unless, walks_bind}
 use Rattle.fact_texts.proofs.Reallocs.{walks_with, walks_reallocate}
 use Rattle.fact_texts.proofs.Invariant.{wrap_small, amount_is, SameRoom, rest_of, of_operation, Inv, resize}
-use Rattle.fact_texts.proofs.Passes.{source_pointer, target_pointer, pass_args, args_are, skips, source_is, room_is, behind_pass, in_range}
+use Rattle.fact_texts.proofs.Passes.{source_pointer, target_pointer, pass_args, args_are, skips, source_is, room_is, behind_pass, served}
 use Rattle.fact_texts.proofs.Spelled.{form_encoding}
 
 -- how many calls a path makes at most, a trap's own call aside
@@ -182,7 +182,7 @@ module _ {c : TransferSetting} (e : IsEquipped c) (Kept Good : Type 0) (kept : G
         (walks_with c.transfer.to e.to (λ k. called e.from k) w e.to_is
         (subst (λ args. Walks c next Kept Good 1 live (WalkReached (λ us1 st1. Leads n Kept Good p us1 st1 P)) (Ask (import.Transcode o e.from.def e.from.memory64 e.to.def e.to.memory64) args (transcode_types (transcode_kind o) e.from.memory64 e.to.memory64) (λ rs. Give (passed c.transfer (transcode_kind o) b rs v))) w) (sym (args_are c.transfer o b room v))
         (walks_ask {b = 0} (omega arith) refl
-        (λ a. (of_from, of_to, in_range e Kept Good kept f n p0 size0 gs base first (import.Transcode o e.from.def e.from.memory64 e.to.def e.to.memory64) a live us o b room st v w.state inv unit long l.1 l.2 l.3 l.4))
+        (λ a. (of_from, of_to, served e Kept Good kept f n p0 size0 gs base first (import.Transcode o e.from.def e.from.memory64 e.to.def e.to.memory64) a live us o b room st v w.state inv unit long l.1 l.2 l.3 l.4))
         (λ rs after. other_stays steps _ (position c live) (λ d. refl)) (λ rs w1 typed hp. walks_give (reached rs w1 typed (hp of_from of_to))) kept)))
       where
         called : MemoryOption → MemoryOption → Action PathPoint

@@ -34,6 +34,7 @@ use Rattle.fact_carry.specs.Law.{HasPointers}
 use Rattle.fact_carry.specs.Lawful.{Texts}
 use Rattle.fact_carry.specs.Places.{HoldsMemories, IsGrounded, HasKnownMemory, IsSource}
 use Rattle.fact_carry.specs.Regions.{TransferSetting}
+use Rattle.fact_texts.specs.Answerable.{CanBeAnswered}
 use Rattle.fact_texts.specs.Parts.{pair_of_source}
 use Rattle.fact_texts.specs.PastLimits.{first_factor, greatest_factor, OutgrowsFirst, IsPastLimit, EndsAtTrap}
 use Rattle.fact_texts.specs.Premises.{KnowsMemories, HasMeans}
@@ -64,6 +65,27 @@ abbrev pub ReturnTranscodersAreRanged : Type 0
 ReturnTranscodersAreRanged =
     (p : ImportPlaces) (u : AdapterTunables) (a : LinkedAdapter) (args : List CoreValue) (w : World)
     → HasOwnCallee a → KnowsMemories p a → is_state p w.state ≡ true → IsRangedRun p (AreRangedReturn p a args) (run p (async_return u a args) w)
+
+-- ---- answers of transcoders
+
+-- Each transcoder of a run that does not go astray can be answered honestly, or is to read malformed text.
+abbrev pub IsAnswerableRun : ImportPlaces → Ended (List CoreValue) → Type 0
+IsAnswerableRun p e = IsStraight e → HaveHonestTranscoders p (calls_in e) → CanBeAnswered p (calls_in e)
+
+abbrev pub TranscodersCanBeAnswered : Type 0
+TranscodersCanBeAnswered =
+    (p : ImportPlaces) (u : AdapterTunables) (a : LinkedAdapter) (args : List CoreValue) (w : World)
+    → HasOwnCallee a → KnowsMemories p a → is_state p w.state ≡ true → IsAnswerableRun p (ended_sync p u a args w)
+
+abbrev pub StartTranscodersCanBeAnswered : Type 0
+StartTranscodersCanBeAnswered =
+    (p : ImportPlaces) (u : AdapterTunables) (a : LinkedAdapter) (args : List CoreValue) (w : World)
+    → HasOwnCallee a → KnowsMemories p a → is_state p w.state ≡ true → IsAnswerableRun p (run p (async_start u a args) w)
+
+abbrev pub ReturnTranscodersCanBeAnswered : Type 0
+ReturnTranscodersCanBeAnswered =
+    (p : ImportPlaces) (u : AdapterTunables) (a : LinkedAdapter) (args : List CoreValue) (w : World)
+    → HasOwnCallee a → KnowsMemories p a → is_state p w.state ≡ true → IsAnswerableRun p (run p (async_return u a args) w)
 
 -- A transfer between sides that lack what texts need calls no transcoder, whatever is answered.
 abbrev pub AreOfNoTranscoder : List Call → Type 0

@@ -1,3 +1,4 @@
+pub mod Answerable
 pub mod Laws
 pub mod Parts
 pub mod PastLimits

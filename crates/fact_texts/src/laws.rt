@@ -1,14 +1,18 @@
 //! Laws of the moves of texts.
 
-ghost use Rattle.fact_texts.specs.Laws.{TranscodersAreRanged, StartTranscodersAreRanged, ReturnTranscodersAreRanged, TranscodersNeedMeans, TextsAreMoved, TextsMoveInAdapters, AdaptersAreFaithful, AdaptersWeigh, AdaptersComeToEnd, CheckedStartsComeToEnd, CheckedReturnsComeToEnd, ChecksPass, StartChecksPass, ReturnChecksPass, RequestsAreCalledFor, StartRequestsAreCalledFor, ReturnRequestsAreCalledFor, FirstRequestIsCalledFor, AnswersAreSoFar, LimitsAreThoseOfPaths, LongWalksTrap, TextsPastLimitsTrap, SomeTextsOutgrow};
+ghost use Rattle.fact_texts.specs.Laws.{TranscodersAreRanged, StartTranscodersAreRanged, ReturnTranscodersAreRanged, TranscodersCanBeAnswered, StartTranscodersCanBeAnswered, ReturnTranscodersCanBeAnswered, TranscodersNeedMeans, TextsAreMoved, TextsMoveInAdapters, AdaptersAreFaithful, AdaptersWeigh, AdaptersComeToEnd, CheckedStartsComeToEnd, CheckedReturnsComeToEnd, ChecksPass, StartChecksPass, ReturnChecksPass, RequestsAreCalledFor, StartRequestsAreCalledFor, ReturnRequestsAreCalledFor, FirstRequestIsCalledFor, AnswersAreSoFar, LimitsAreThoseOfPaths, LongWalksTrap, TextsPastLimitsTrap, SomeTextsOutgrow};
 
-/// What holds of the moves of texts: of the ranges of their transcoders, whatever all others answer; in honest runs of what is
-/// moved, and that no debug check fails where upper halves are 0; of texts past the limits, which end in a trap; and of what is
-/// asked of realloc, in runs that are honest but for a last call that may trap. The call does nothing: its contract is the laws.
+/// What holds of the moves of texts: of the ranges of their transcoders, and that each can be answered honestly, but for malformed
+/// text, whatever all others answer; in honest runs of what is moved, and that no debug check fails where upper halves are 0; of
+/// texts past the limits, which end in a trap; and of what is asked of realloc, in runs that are honest but for a last call that may
+/// trap. The call does nothing: its contract is the laws.
 pub fn laws_of_texts()
     ensures transcoders_are_ranged { TranscodersAreRanged }
     ensures start_transcoders_are_ranged { StartTranscodersAreRanged }
     ensures return_transcoders_are_ranged { ReturnTranscodersAreRanged }
+    ensures transcoders_can_be_answered { TranscodersCanBeAnswered }
+    ensures start_transcoders_can_be_answered { StartTranscodersCanBeAnswered }
+    ensures return_transcoders_can_be_answered { ReturnTranscodersCanBeAnswered }
     ensures transcoders_need_means { TranscodersNeedMeans }
     ensures texts_are_moved { TextsAreMoved }
     ensures texts_move { TextsMoveInAdapters }

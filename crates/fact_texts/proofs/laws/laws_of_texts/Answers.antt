@@ -1,4 +1,4 @@
-use Rattle.fact_texts.proofs.AdapterRanges.{transcoders_are_ranged, start_transcoders_are_ranged, return_transcoders_are_ranged}
+use Rattle.fact_texts.proofs.AdapterRanges.{transcoders_are_ranged, start_transcoders_are_ranged, return_transcoders_are_ranged, transcoders_can_be_answered, start_transcoders_can_be_answered, return_transcoders_can_be_answered}
 use Rattle.fact_texts.proofs.Finished.{texts_are_moved, texts_move, adapters_are_faithful, adapters_weigh}
 use Rattle.fact_texts.proofs.ChecksPass.{adapters_come_to_end, starts_come_to_end, returns_come_to_end, checks_pass, start_checks_pass, return_checks_pass}
 use Rattle.fact_texts.proofs.Means.{transcoders_need_means}
@@ -14,6 +14,9 @@ returns c = record {
   transcoders_are_ranged = transcoders_are_ranged;
   start_transcoders_are_ranged = start_transcoders_are_ranged;
   return_transcoders_are_ranged = return_transcoders_are_ranged;
+  transcoders_can_be_answered = transcoders_can_be_answered;
+  start_transcoders_can_be_answered = start_transcoders_can_be_answered;
+  return_transcoders_can_be_answered = return_transcoders_can_be_answered;
   transcoders_need_means = transcoders_need_means;
   texts_are_moved = texts_are_moved;
   texts_move = texts_move;
