@@ -33,9 +33,10 @@ use Rattle.fact_pieces.specs.Runs.{RunReturns, RunsAs}
 use Rattle.fact_carry.specs.Faithful.{IsFaithful, IsInLimits, WhereGiven, whole_weight}
 use Rattle.fact_carry.proofs.Ending.{honest_returned}
 use Rattle.fact_carry.proofs.Stopping.{AreReturned}
+use Rattle.fact_texts.specs.Answerable.{CanBeAnswered}
 use Rattle.fact_texts.specs.Premises.{KnowsMemories}
 use Rattle.fact_texts.specs.Requested.{AreRequested, StopsFinishing}
-use Rattle.fact_texts.proofs.AdapterRanges.{transcoders_are_ranged}
+use Rattle.fact_texts.proofs.AdapterRanges.{transcoders_are_ranged, transcoders_can_be_answered}
 use Rattle.fact_texts.specs.PassingChecks.{PassChecks}
 use Rattle.fact_texts.proofs.ChecksPass.{adapters_come_to_end}
 use Rattle.fact_texts.proofs.Finished.{adapters_are_faithful, adapters_weigh}
@@ -133,13 +134,22 @@ module _ (m : WasmModule) (is : List Import) (u : AdapterTunables) (a : LinkedAd
   called_so_far : (steps : ℕ) → IsTypedRun m a args before (at steps).log → HasCalled m is (at steps).log (so_far steps)
   called_so_far steps typed = has_called m is (places_in m is) _ adapters f a.lower.core_type 1000 _ ends_in args before answers steps typed
 
+  memories : KnowsMemories (places_in m is) a
+  memories = record { lower = h.checked.lower_memory; lift = h.checked.lift_memory; two = h.checked.memories }
+
   is_ranged : (steps : ℕ) (cs : List Call) → IsTypedRun m a args before (at steps).log → AreCalls m is (at steps).log cs → HaveHonestTranscoders (places_in m is) cs → AreRangedSync (places_in m is) a args cs
   is_ranged steps cs typed are honest =
       let e = called_so_far steps typed in
       let same = e.its_calls cs are in
-      let memories : KnowsMemories (places_in m is) a = record { lower = h.checked.lower_memory; lift = h.checked.lift_memory; two = h.checked.memories } in
       subst (AreRangedSync (places_in m is) a args) (sym same)
       (transcoders_are_ranged (places_in m is) u a args (first_world before (its_answers m f args before answers steps)) h.checked.own_callee memories (is_typed_state (at steps).log typed) e.goes_straight (subst (HaveHonestTranscoders (places_in m is)) same honest))
+
+  can_be_answered : (steps : ℕ) (cs : List Call) → IsTypedRun m a args before (at steps).log → AreCalls m is (at steps).log cs → HaveHonestTranscoders (places_in m is) cs → CanBeAnswered (places_in m is) cs
+  can_be_answered steps cs typed are honest =
+      let e = called_so_far steps typed in
+      let same = e.its_calls cs are in
+      subst (CanBeAnswered (places_in m is)) (sym same)
+      (transcoders_can_be_answered (places_in m is) u a args (first_world before (its_answers m f args before answers steps)) h.checked.own_callee memories (is_typed_state (at steps).log typed) e.goes_straight (subst (HaveHonestTranscoders (places_in m is)) same honest))
 
   -- ---- runs that returned
 
@@ -288,5 +298,6 @@ functions_behave m is u a adapters f h = record {
   calls_no_trap = λ args before answers steps honest over. calls_no_trap m is u a adapters f h args before answers steps honest over;
   is_confined = λ args before answers steps cs typed are. is_confined m is u a adapters f h args before answers steps typed cs are;
   is_ranged = λ args before answers steps cs typed are honest. is_ranged m is u a adapters f h args before answers steps cs typed are honest;
+  can_be_answered = λ args before answers steps cs typed are honest. can_be_answered m is u a adapters f h args before answers steps cs typed are honest;
   ends = λ args before answers honest pass limits. ends m is u a adapters f h args before answers honest pass limits;
 }

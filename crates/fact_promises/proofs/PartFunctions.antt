@@ -40,10 +40,11 @@ use Rattle.fact_carry.specs.TransferLaws.{EndsInFew}
 use Rattle.fact_carry.proofs.Returns.{returns_faithful, returns_weigh}
 use Rattle.fact_carry.proofs.Starts.{starts_faithful, starts_weigh}
 use Rattle.fact_texts.proofs.ChecksPass.{returns_come_to_end, starts_come_to_end}
+use Rattle.fact_texts.specs.Answerable.{CanBeAnswered}
 use Rattle.fact_texts.specs.Premises.{KnowsMemories}
 use Rattle.fact_texts.specs.Requested.{AsksFor}
 use Rattle.fact_texts.specs.Trapped.{AreHonestUntilTrap}
-use Rattle.fact_texts.proofs.AdapterRanges.{return_transcoders_are_ranged, start_transcoders_are_ranged}
+use Rattle.fact_texts.proofs.AdapterRanges.{return_transcoders_are_ranged, return_transcoders_can_be_answered, start_transcoders_are_ranged, start_transcoders_can_be_answered}
 use Rattle.fact_texts.proofs.Finished.{texts_move}
 use Rattle.fact_texts.proofs.FlaggedRequests.{asks_so_far, return_requests_are_called_for, start_requests_are_called_for}
 use Rattle.fact_emit.specs.ImportSection.{mentions}
@@ -87,6 +88,10 @@ module _ (p : ImportPlaces) (u : AdapterTunables) (a : LinkedAdapter) where
     part_ranged : (x : AsyncPart) → HasOwnCallee a → KnowsMemories p a → is_state p before ≡ true → IsStraight (come_to x) → HaveHonestTranscoders p (calls_in (come_to x)) → AreRangedIn x p a args (calls_in (come_to x))
     part_ranged part.Start own memories = start_transcoders_are_ranged p u a args (first_world before answers) own memories
     part_ranged part.Return own memories = return_transcoders_are_ranged p u a args (first_world before answers) own memories
+
+    part_answered : (x : AsyncPart) → HasOwnCallee a → KnowsMemories p a → is_state p before ≡ true → IsStraight (come_to x) → HaveHonestTranscoders p (calls_in (come_to x)) → CanBeAnswered p (calls_in (come_to x))
+    part_answered part.Start own memories = start_transcoders_can_be_answered p u a args (first_world before answers) own memories
+    part_answered part.Return own memories = return_transcoders_can_be_answered p u a args (first_world before answers) own memories
 
     part_cleared : (x : AsyncPart) (w : World) (n : ℕ) (cs : List Call) (vs : List CoreValue) → come_to x ≡ Gave n cs vs w → IsClearedTransfer x p u.concurrency a before cs w.state
     part_cleared part.Start w n cs vs is = start_is_transfer p u a args (first_world before answers) w n cs vs is
@@ -182,6 +187,13 @@ module _ (x : AsyncPart) (m : WasmModule) (is : List Import) (u : AdapterTunable
         let same = e.its_calls cs are in
         subst (AreRangedIn x p a args) (sym same)
         (part_ranged p u a args before (its_answers m f args before answers steps) x h.checked.own_callee memories (is_typed_state (at steps).log typed) e.goes_straight (subst (HaveHonestTranscoders p) same honest))
+
+    can_be_answered : (steps : ℕ) (cs : List Call) → IsTypedIn x m a args before (at steps).log → AreCalls m is (at steps).log cs → HaveHonestTranscoders p cs → CanBeAnswered p cs
+    can_be_answered steps cs typed are honest =
+        let e = called_so_far steps typed in
+        let same = e.its_calls cs are in
+        subst (CanBeAnswered p) (sym same)
+        (part_answered p u a args before (its_answers m f args before answers steps) x h.checked.own_callee memories (is_typed_state (at steps).log typed) e.goes_straight (subst (HaveHonestTranscoders p) same honest))
 
     -- ---- runs that returned
 
@@ -309,5 +321,6 @@ part_functions_transfer x m is u a adapters f h = record {
   calls_no_trap = λ args before answers steps honest over. calls_no_trap x m is u a adapters f h args before answers steps honest over;
   is_confined = λ args before answers steps cs typed are. is_confined x m is u a adapters f h args before answers steps cs typed are;
   is_ranged = λ args before answers steps cs typed are honest. is_ranged x m is u a adapters f h args before answers steps cs typed are honest;
+  can_be_answered = λ args before answers steps cs typed are honest. can_be_answered x m is u a adapters f h args before answers steps cs typed are honest;
   ends = λ args before answers pass honest there. ends x m is u a adapters f h args before answers pass honest there;
 }

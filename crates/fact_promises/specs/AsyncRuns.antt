@@ -31,6 +31,7 @@ use Rattle.fact_moves.specs.Running.{ImportPlaces, Call}
 use Rattle.fact_moves.specs.Sides.{Transfer, options_of}
 use Rattle.fact_carry.specs.Faithful.{ParamsAreThere, params_given, weight_of_values}
 use Rattle.fact_carry.specs.TransferLaws.{HandedAreThere, HasHandedResults, HasStarted, results_handed}
+use Rattle.fact_texts.specs.Answerable.{CanBeAnswered}
 use Rattle.fact_texts.specs.Requested.{params_parts, results_parts}
 use Rattle.fact_texts.specs.PassingChecks.{ParamsPassChecks, ResultsPassChecks}
 use Rattle.fact_texts.specs.Trapped.{AreHonestUntilTrap, BeginRequestsSoFar}
@@ -170,6 +171,12 @@ pub record Transfers (x : AsyncPart) (m : WasmModule) (is : List Import) (u : Ad
       → AreCalls m is (run_of m f args before answers steps).log calls
       → HaveHonestTranscoders (places_in m is) calls
       → AreRangedIn x (places_in m is) a args calls
+  -- And each of them can be answered honestly, or is to read malformed text, so that a trap is an honest answer.
+  pub can_be_answered : (args : List CoreValue) (before : MachineState) (answers : List Answer) (steps : ℕ) (calls : List Call)
+      → IsTypedIn x m a args before (run_of m f args before answers steps).log
+      → AreCalls m is (run_of m f args before answers steps).log calls
+      → HaveHonestTranscoders (places_in m is) calls
+      → CanBeAnswered (places_in m is) calls
   -- Where all answers are honest and the values exist within limits, the run ends; with debug checks on, where besides at each node of
   -- the values every i64 in the place of 32 bits has an upper half of 0.
   pub ends : (args : List CoreValue) (before : MachineState) (answers : List Answer)

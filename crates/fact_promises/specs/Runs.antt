@@ -28,6 +28,7 @@ use Rattle.fact_moves.specs.Regions.{landed, params_landing, sync_moved_on}
 use Rattle.fact_moves.specs.Running.{ImportPlaces, Call}
 use Rattle.fact_pieces.specs.Runs.{IsPlainRun, numbered_outcome}
 use Rattle.fact_carry.specs.Faithful.{IsFaithful, IsInLimits, whole_weight}
+use Rattle.fact_texts.specs.Answerable.{CanBeAnswered}
 use Rattle.fact_texts.specs.Requested.{AreFinished, AreSoFar}
 use Rattle.fact_texts.specs.Trapped.{AreHonestUntilTrap}
 use Rattle.fact_texts.specs.PassingChecks.{PassChecks}
@@ -153,6 +154,12 @@ pub record Behaves (m : WasmModule) (is : List Import) (u : AdapterTunables) (a 
       → AreCalls m is (run_of m f args before answers steps).log calls
       → HaveHonestTranscoders (places_in m is) calls
       → AreRangedSync (places_in m is) a args calls
+  -- And each of them can be answered honestly, or is to read malformed text, so that a trap is an honest answer.
+  pub can_be_answered : (args : List CoreValue) (before : MachineState) (answers : List Answer) (steps : ℕ) (calls : List Call)
+      → IsTypedRun m a args before (run_of m f args before answers steps).log
+      → AreCalls m is (run_of m f args before answers steps).log calls
+      → HaveHonestTranscoders (places_in m is) calls
+      → CanBeAnswered (places_in m is) calls
   -- Where all answers are honest, the caller may be left, and the values exist within limits, the run ends; with debug checks on,
   -- where besides at each node of the values every i64 in the place of 32 bits has an upper half of 0.
   pub ends : (args : List CoreValue) (before : MachineState) (answers : List Answer)
