@@ -1,3 +1,4 @@
+pub mod AnsweredRuns
 pub mod AtOne
 pub mod Behaviour
 pub mod EntryFunctions
@@ -6,11 +7,16 @@ pub mod Fronts
 pub mod FunctionRuns
 pub mod ImportNumbers
 pub mod LoggedImports
+pub mod NamedImports
+pub mod OneNumber
+pub mod OneText
 pub mod Outcomes
 pub mod OwnAnswers
 pub mod OwnWrites
 pub mod PartFunctions
+pub mod Replayed
 pub mod Rooms
+pub mod Spelled
 pub mod Traps
 pub mod TrapsLast
 pub mod TypedCalls

@@ -3,3 +3,5 @@ pub mod Runs
 pub mod AsyncRuns
 pub mod Functions
 pub mod Laws
+pub mod Worked
+pub mod WorkedTexts

@@ -2,5 +2,7 @@
 #![tactic(auto)]
 
 mod laws;
+mod worked;
 
 pub use crate::laws::laws_of_functions;
+pub use crate::worked::laws_of_worked_modules;
