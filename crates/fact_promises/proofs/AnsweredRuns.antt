@@ -1,5 +1,6 @@
 -- A run whose answers are honest up to its end, and whose values exist within limits, is so at each number of steps.
 use Rattle.std.proofs.Common.{◌≡◌, ◌≢◌, ℕ, List, [], ◌∷◌, ◌++◌, refl, sym, ap, ◌∙◌, subst, append_assoc}
+use Rattle.std.specs.List.{AllByRecursion}
 use Rattle.fact_wasm.specs.declared.module.WasmModule.{WasmModule}
 use Rattle.fact_machine.specs.declared.types.Answer.{Answer}
 use Rattle.fact_machine.specs.declared.types.CoreValue.{CoreValue}
@@ -21,6 +22,11 @@ use Rattle.fact_promises.specs.Laws.{IsAnswered}
 use Rattle.fact_promises.specs.Names.{places_in, AreCalls}
 use Rattle.fact_promises.specs.Runs.{IsHonestSoFar}
 use Rattle.fact_promises.proofs.Fronts.{fronts, grown_all}
+
+-- what holds of all calls holds of one in their middle
+pub in_middle : (P : Call → Type 0) (before : List Call) (c : Call) (behind : List Call) → AllByRecursion P (before ++ (c ∷ behind)) → P c
+in_middle P [] c behind h = h.0
+in_middle P (x ∷ before) c behind h = in_middle P before c behind h.1
 
 module _ (m : WasmModule) (is : List Import) (a : LinkedAdapter) (args : List CoreValue) (before : MachineState) where
   abbrev p : ImportPlaces
@@ -56,8 +62,7 @@ module _ (m : WasmModule) (is : List Import) (a : LinkedAdapter) (args : List Co
   front_fine xs ys g fine =
       let h : IsHonestSoFar m is a args before ys = fine.0 in
       let f = front_calls xs g.more h.calls (subst (λ log. AreCalls m is log h.calls) g.is h.are_calls) in
-      let two = honest_apart p a (sync_moved_on a args) (landed (params_landing a)) f.front f.behind (subst (AreHonestSync p a args) f.calls_are h.honest) in
-      (
+      let two = honest_apart p a (sync_moved_on a args) (landed (params_landing a)) f.front f.behind (subst (AreHonestSync p a args) f.calls_are h.honest) in (
         record {
           typed = record { state = h.typed.state; arguments = h.typed.arguments; answers = grown_all (λ (e : Event). TypedAnswer m e.func e.before e.answer) xs ys g h.typed.answers };
           calls = f.front;

@@ -1,12 +1,11 @@
 -- The worked module of one u32: its run is computed, and all that is asked of it holds.
-use Rattle.std.proofs.Common.{◌≡◌, ◌≢◌, ℕ, false, true, List, [], ◌∷◌, ◌++◌, refl, sym, ap, subst, arith}
+use Rattle.std.proofs.Common.{◌≡◌, false, true, [], ◌∷◌, refl, sym, ap, subst, arith}
 use Rattle.std.specs.Fmt.{digits}
 use Rattle.std.specs.List.{AllByRecursion}
 use Rattle.std.proofs.lemmas.Bool.{leb-true}
 use Rattle.std.proofs.lemmas.List.Elements.{All-from_recursion}
 use Rattle.fact_wasm.specs.declared.instr.Instr.TheVariants as I
 use Rattle.fact_machine.specs.declared.types.Answer.TheVariants.{Returns}
-use Rattle.fact_machine.specs.declared.types.CoreValue.TheVariants.{I32}
 use Rattle.fact_machine.specs.declared.types.End.TheVariants.{Returned, Going}
 use Rattle.fact_machine.specs.declared.types.Event.{Event}
 use Rattle.fact_machine.specs.declared.types.Outcome.{Outcome}
@@ -17,13 +16,14 @@ use Rattle.fact_types.specs.declared.import.Import.TheVariants as known
 use Rattle.fact_values.specs.Lift.{bits_of, lift_leading}
 use Rattle.fact_values.specs.Limits.{AreWithinLimits}
 use Rattle.fact_values.specs.Weight.{weight, weight_members}
+use Rattle.fact_moves.specs.Honest.{AreHonestSync}
 use Rattle.fact_moves.specs.Running.{ImportPlaces, Call}
 use Rattle.fact_carry.specs.Faithful.{IsInLimits, ResultsAreThere, whole_weight}
 use Rattle.fact_emit.specs.ImportSection.{Flags, Callee, NamesImports}
 use Rattle.fact_promises.specs.Names.{places_in, AreCalls}
 use Rattle.fact_promises.specs.Runs.{IsHonestSoFar}
 use Rattle.fact_promises.specs.Worked.{OneNumberArrives, takes_i32, u32_adapter, u32_answers, u32_args, u32_calls, u32_imports, u32_module, u32_state}
-use Rattle.fact_promises.proofs.AnsweredRuns.{answered_run}
+use Rattle.fact_promises.proofs.AnsweredRuns.{answered_run, in_middle}
 use Rattle.fact_promises.proofs.NamedImports.{imports_apart, no_start_calls, transcoders_named, types_apart}
 
 abbrev p : ImportPlaces
@@ -47,6 +47,9 @@ goes_on = simp rows
 
 -- ---- honest, and within limits
 
+are_honest : AreHonestSync p u32_adapter u32_args u32_calls
+are_honest = (tt, (λ e. let bad : false ≡ true = e in cc, λ e. let bad : false ≡ true = e in cc), tt)
+
 abbrev honest : IsHonestSoFar u32_module u32_imports u32_adapter u32_args u32_state (event ∷ [])
 honest = record {
   typed = record {
@@ -56,16 +59,12 @@ honest = record {
   };
   calls = u32_calls;
   are_calls = (record { what = refl; args = refl; before = refl; answer = refl }, tt);
-  honest = (tt, (λ e. let bad : false ≡ true = e in cc, λ e. let bad : false ≡ true = e in cc), tt);
+  honest = are_honest;
 }
 
 -- the callee gives nothing
 abbrev IsThere : Call → Type 0
 IsThere c = c.what ≡ known.CoreDef u32_adapter.callee → ResultsAreThere p u32_adapter c
-
-in_middle : (before : List Call) (c : Call) (behind : List Call) → AllByRecursion IsThere (before ++ (c ∷ behind)) → IsThere c
-in_middle [] c behind h = h.0
-in_middle (x ∷ before) c behind h = in_middle before c behind h.1
 
 limits : IsInLimits p u32_adapter u32_args u32_state u32_calls
 unfolding lift_leading AreWithinLimits
@@ -73,7 +72,7 @@ limits = record {
   may_leave = λ e. let bad : 1 ≡ 0 = ap bits_of e in omega (arith, bad);
   params = record { values = _; there = refl; bounds = (tt, tt) };
   area = tt;
-  results = λ before c behind e. in_middle before c behind (subst (AllByRecursion IsThere) e (λ what. record { values = []; there = refl; bounds = tt }, tt));
+  results = λ before c behind e. in_middle IsThere before c behind (subst (AllByRecursion IsThere) e (λ what. record { values = []; there = refl; bounds = tt }, tt));
 }
 
 weighs : whole_weight p u32_adapter u32_args u32_state u32_calls ≡ 1

@@ -1,17 +1,16 @@
 -- The worked module of a list of texts: its run is computed, and all that is asked of it holds.
-use Rattle.std.proofs.Common.{◌≡◌, ℕ, ◌+◌, ◌<◌, false, true, List, [], ◌∷◌, ◌++◌, refl, sym, ap, ◌∙◌, subst, arith, inl, inr}
+use Rattle.std.proofs.Common.{◌≡◌, ℕ, false, true, List, [], ◌∷◌, ◌++◌, refl, sym, ap, ◌∙◌, subst, arith, inl, inr}
 use Rattle.std.specs.Prelude.{codes}
 use Rattle.std.specs.Char.{encode_utf8}
 use Rattle.std.specs.Fmt.{digits}
 use Rattle.std.specs.List.{AllByRecursion}
 use Rattle.std.specs.Str.{chars, is_utf8}
-use Rattle.std.proofs.lemmas.Bool.{false≢true, leb-true}
+use Rattle.std.proofs.lemmas.Bool.{leb-true}
 use Rattle.std.proofs.lemmas.List.Elements.{All-from_recursion}
 use Rattle.fact_wasm.specs.declared.instr.BlockType.TheVariants.{Empty}
 use Rattle.fact_wasm.specs.declared.instr.FuncName.TheVariants as func
 use Rattle.fact_wasm.specs.declared.instr.Instr.TheVariants as I
 use Rattle.fact_machine.specs.declared.types.Answer.TheVariants.{Returns}
-use Rattle.fact_machine.specs.declared.types.CoreValue.{CoreValue}
 use Rattle.fact_machine.specs.declared.types.CoreValue.TheVariants.{I32}
 use Rattle.fact_machine.specs.declared.types.End.TheVariants.{Returned, Going}
 use Rattle.fact_machine.specs.declared.types.Event.{Event}
@@ -31,7 +30,7 @@ use Rattle.fact_values.specs.Limits.{AreWithinAt, AreWithinLimits}
 use Rattle.fact_values.specs.Load.{load_members}
 use Rattle.fact_values.specs.Weight.{weight, weight_members}
 use Rattle.fact_moves.specs.Calls.{is_import_of}
-use Rattle.fact_moves.specs.Honest.{IsHonestTranscode}
+use Rattle.fact_moves.specs.Honest.{AreHonestSync, IsHonestTranscode}
 use Rattle.fact_moves.specs.Regions.{IsHonestRegion, Region, params_landing}
 use Rattle.fact_moves.specs.Running.{ImportPlaces, Call}
 use Rattle.fact_carry.specs.Faithful.{IsInLimits, ResultsAreThere, whole_weight}
@@ -39,7 +38,7 @@ use Rattle.fact_emit.specs.ImportSection.{Callee, Flags, NamesImports, Realloc, 
 use Rattle.fact_promises.specs.Names.{places_in, AreCalls}
 use Rattle.fact_promises.specs.Runs.{IsHonestSoFar}
 use Rattle.fact_promises.specs.WorkedTexts.{OneTextArrives, list_moved, none_moved, place, pointer_and_length, text_moved, texts_adapter, texts_answers, texts_args, texts_callee, texts_calls, texts_export, texts_imports, texts_module, texts_realloc, texts_state, texts_transcoder, texts_list_aligned, texts_list_fits, texts_list_within, texts_may_leave, texts_region_aligned, texts_region_within, texts_text_fits, texts_text_region_within, texts_text_within, texts_turn, texts_turns}
-use Rattle.fact_promises.proofs.AnsweredRuns.{answered_run}
+use Rattle.fact_promises.proofs.AnsweredRuns.{answered_run, in_middle}
 use Rattle.fact_promises.proofs.NamedImports.{imports_apart, no_start_calls, transcoders_named, types_apart}
 use Rattle.fact_promises.proofs.Replayed.{Row, row, run_by}
 
@@ -157,6 +156,13 @@ text_copied = record {
   written = refl;
 }
 
+are_honest : AreHonestSync p texts_adapter texts_args texts_calls
+are_honest = (
+  tt,
+  (λ e. list_given, λ e. let bad : false ≡ true = e in cc),
+  (tt, (λ e. text_given, λ e. let bad : false ≡ true = e in cc), (tt, text_copied, (tt, (λ e. let bad : false ≡ true = e in cc, λ e. let bad : false ≡ true = e in cc), tt))),
+)
+
 abbrev honest : IsHonestSoFar texts_module texts_imports texts_adapter texts_args first events
 honest = record {
   typed = record {
@@ -175,21 +181,13 @@ honest = record {
     record { what = refl; args = refl; before = refl; answer = refl },
     (record { what = refl; args = refl; before = refl; answer = refl }, (record { what = refl; args = refl; before = refl; answer = refl }, (record { what = refl; args = refl; before = refl; answer = refl }, tt))),
   );
-  honest = (
-    tt,
-    (λ e. list_given, λ e. let bad : false ≡ true = e in cc),
-    (tt, (λ e. text_given, λ e. let bad : false ≡ true = e in cc), (tt, text_copied, (tt, (λ e. let bad : false ≡ true = e in cc, λ e. let bad : false ≡ true = e in cc), tt))),
-  );
+  honest = are_honest;
 }
 
 -- ---- within limits
 
 abbrev IsThere : Call → Type 0
 IsThere c = c.what ≡ known.CoreDef texts_callee → ResultsAreThere p texts_adapter c
-
-in_middle : (before : List Call) (c : Call) (behind : List Call) → AllByRecursion IsThere (before ++ (c ∷ behind)) → IsThere c
-in_middle [] c behind h = h.0
-in_middle (x ∷ before) c behind h = in_middle before c behind h.1
 
 is_other : (i : Import) → is_import_of texts_callee i ≡ false → i ≡ known.CoreDef texts_callee → ⊥
 is_other i other e = let bad : false ≡ true = sym other ∙ ap (is_import_of texts_callee) e in cc
@@ -204,7 +202,7 @@ limits = record {
     bounds = (record { source = leb-true 9 4294967296 refl; destination = leb-true 9 4294967296 refl; each = (leb-true 1 2147483647 refl, tt) }, tt);
   };
   area = tt;
-  results = λ before c behind e. in_middle before c behind (subst (AllByRecursion IsThere) e (
+  results = λ before c behind e. in_middle IsThere before c behind (subst (AllByRecursion IsThere) e (
     λ what. absurd (is_other (known.CoreDef texts_realloc) refl what),
     (λ what. absurd (is_other (known.CoreDef texts_realloc) refl what), (λ what. absurd (is_other texts_transcoder refl what), (λ what. record { values = []; there = refl; bounds = tt }, tt))),
   ));

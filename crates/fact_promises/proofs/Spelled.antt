@@ -1,5 +1,5 @@
 -- Worked modules as bytes.
-use Rattle.std.proofs.Common.{◌≡◌, ℕ, List, ap}
+use Rattle.std.proofs.Common.{◌≡◌, ℕ}
 use Rattle.fact_wasm.specs.declared.instr.Instr.{Instr, out-Instr, fold_out-Instr, map-Instr}
 use Rattle.fact_wasm.specs.declared.instr.Instr.TheVariants as I
 use Rattle.fact_wasm.specs.Grammar.{InstrNode, code, instr_node, node}
