@@ -1,8 +1,8 @@
-pub mod AnsweredRuns
 pub mod AtOne
 pub mod Behaviour
 pub mod EntryFunctions
 pub mod FewCalls
+pub mod FineRuns
 pub mod Fronts
 pub mod FunctionRuns
 pub mod ImportNumbers

@@ -1,5 +1,5 @@
 -- The worked module of one u32: its run is computed, and all that is asked of it holds.
-use Rattle.std.proofs.Common.{◌≡◌, false, true, [], ◌∷◌, refl, sym, ap, subst, arith}
+use Rattle.std.proofs.Common.{◌≡◌, ℕ, false, true, [], ◌∷◌, refl, sym, ap, subst, arith}
 use Rattle.std.specs.Fmt.{digits}
 use Rattle.std.specs.List.{AllByRecursion}
 use Rattle.std.proofs.lemmas.Bool.{leb-true}
@@ -23,7 +23,7 @@ use Rattle.fact_emit.specs.ImportSection.{Flags, Callee, NamesImports}
 use Rattle.fact_promises.specs.Names.{places_in, AreCalls}
 use Rattle.fact_promises.specs.Runs.{IsHonestSoFar}
 use Rattle.fact_promises.specs.Worked.{OneNumberArrives, takes_i32, u32_adapter, u32_answers, u32_args, u32_calls, u32_imports, u32_module, u32_state}
-use Rattle.fact_promises.proofs.AnsweredRuns.{answered_run, in_middle}
+use Rattle.fact_promises.proofs.FineRuns.{IsFine, fine_run, in_middle}
 use Rattle.fact_promises.proofs.NamedImports.{imports_apart, no_start_calls, transcoders_named, types_apart}
 
 abbrev p : ImportPlaces
@@ -97,10 +97,14 @@ names = record {
 
 -- ---- the whole
 
+fine : (steps : ℕ) → IsFine u32_module u32_imports u32_adapter u32_args u32_state (run_of u32_module 0 u32_args u32_state u32_answers steps).log
+fine = fine_run u32_module u32_imports u32_adapter u32_args u32_state 0 u32_answers 16 returned ran (λ e. let bad : Returned [] ≡ Going = e in cc) (honest, limits)
+
 pub one_number_arrives : OneNumberArrives
 one_number_arrives = record {
   names = names;
-  answered = answered_run u32_module u32_imports u32_adapter u32_args u32_state 0 u32_answers 16 returned ran (λ e. let bad : Returned [] ≡ Going = e in cc) (honest, limits);
+  honest = λ steps. (fine steps).0;
+  limits = λ steps. (fine steps).1;
   going = goes_on;
   returned = ap (λ (x : Outcome). x.end) ran;
   are_calls = subst (λ (x : Outcome). AreCalls u32_module u32_imports x.log u32_calls) (sym ran) honest.are_calls;

@@ -38,7 +38,7 @@ use Rattle.fact_emit.specs.ImportSection.{Callee, Flags, NamesImports, Realloc, 
 use Rattle.fact_promises.specs.Names.{places_in, AreCalls}
 use Rattle.fact_promises.specs.Runs.{IsHonestSoFar}
 use Rattle.fact_promises.specs.WorkedTexts.{OneTextArrives, list_moved, none_moved, place, pointer_and_length, text_moved, texts_adapter, texts_answers, texts_args, texts_callee, texts_calls, texts_export, texts_imports, texts_module, texts_realloc, texts_state, texts_transcoder, texts_list_aligned, texts_list_fits, texts_list_within, texts_may_leave, texts_region_aligned, texts_region_within, texts_text_fits, texts_text_region_within, texts_text_within, texts_turn, texts_turns}
-use Rattle.fact_promises.proofs.AnsweredRuns.{answered_run, in_middle}
+use Rattle.fact_promises.proofs.FineRuns.{IsFine, fine_run, in_middle}
 use Rattle.fact_promises.proofs.NamedImports.{imports_apart, no_start_calls, transcoders_named, types_apart}
 use Rattle.fact_promises.proofs.Replayed.{Row, row, run_by}
 
@@ -248,10 +248,14 @@ names = record {
 
 -- ---- the whole
 
+fine : (steps : ℕ) → IsFine texts_module texts_imports texts_adapter texts_args first (run_of texts_module 0 texts_args first texts_answers steps).log
+fine = fine_run texts_module texts_imports texts_adapter texts_args first 0 texts_answers 225 returned ran (λ e. let bad : Returned [] ≡ Going = e in cc) (honest, limits)
+
 pub one_text_arrives : OneTextArrives
 one_text_arrives = record {
   names = names;
-  answered = answered_run texts_module texts_imports texts_adapter texts_args first 0 texts_answers 225 returned ran (λ e. let bad : Returned [] ≡ Going = e in cc) (honest, limits);
+  honest = λ steps. (fine steps).0;
+  limits = λ steps. (fine steps).1;
   going = goes_on;
   returned = ap (λ (x : Outcome). x.end) ran;
   are_calls = subst (λ (x : Outcome). AreCalls texts_module texts_imports x.log texts_calls) (sym ran) honest.are_calls;

@@ -18,7 +18,6 @@ use Rattle.fact_moves.specs.Regions.{landed, params_landing, sync_moved_on}
 use Rattle.fact_moves.specs.Running.{ImportPlaces, Call}
 use Rattle.fact_carry.specs.Faithful.{IsInLimits}
 use Rattle.fact_carry.proofs.Apart.{honest_apart}
-use Rattle.fact_promises.specs.Laws.{IsAnswered}
 use Rattle.fact_promises.specs.Names.{places_in, AreCalls}
 use Rattle.fact_promises.specs.Runs.{IsHonestSoFar}
 use Rattle.fact_promises.proofs.Fronts.{fronts, grown_all}
@@ -72,10 +71,9 @@ module _ (m : WasmModule) (is : List Import) (a : LinkedAdapter) (args : List Co
         front_limits h.calls f.front f.behind f.calls_are fine.1,
       )
 
-  pub answered_run : (f : ℕ) (answers : List Answer) (last : ℕ) (o : Outcome) → run_of m f args before answers last ≡ o → o.end ≢ Going → IsFine o.log → IsAnswered m is a f args before answers
-  answered_run f answers last o e over h =
+  pub fine_run : (f : ℕ) (answers : List Answer) (last : ℕ) (o : Outcome) → run_of m f args before answers last ≡ o → o.end ≢ Going → IsFine o.log
+      → (steps : ℕ) → IsFine (run_of m f args before answers steps).log
+  fine_run f answers last o e over h steps =
       let going : (run_of m f args before answers last).end ≢ Going = λ q. over (sym (ap (λ (o : Outcome). o.end) e) ∙ q) in
       let there : IsFine (run_of m f args before answers last).log = subst (λ (o : Outcome). IsFine o.log) (sym e) h in
-      let each : (steps : ℕ) → IsFine (run_of m f args before answers steps).log =
-      λ steps. front_fine _ _ (fronts m f args before answers last going steps) there in
-      record { honest = λ steps. (each steps).0; limits = λ steps. (each steps).1 }
+      front_fine _ _ (fronts m f args before answers last going steps) there
