@@ -161,10 +161,10 @@ pub record Plain : Type 0 where
   pub tables : Tables
   pub core : List FuncType
 
-abbrev plain_of : Builder → Plain
+abbrev pub plain_of : Builder → Plain
 plain_of b = record { source = b.source; tables = record b.tables { records = []; variants = []; lists = []; tuples = []; maps = []; flags = []; enums = []; options = []; results = []; fixed_length_lists = [] }; core = b.module_types }
 
-same_plain : (k : Kind) (old new : Builder) → new ≡ with_table_of k old new → plain_of new ≡ plain_of old
+pub same_plain : (k : Kind) (old new : Builder) → new ≡ with_table_of k old new → plain_of new ≡ plain_of old
 same_plain k_record old new r = ap plain_of r
 same_plain k_variant old new r = ap plain_of r
 same_plain k_list old new r = ap plain_of r

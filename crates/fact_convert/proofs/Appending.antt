@@ -25,6 +25,7 @@ use Rattle.fact_builder.specs.Builder.{Builder}
 use Rattle.fact_builder.specs.Keeps.{Keeps}
 use Rattle.fact_resources.specs.declared.error.BuildError.{BuildError}
 use Rattle.fact_resources.specs.Errors.{build_error}
+use Rattle.fact_convert.specs.Appended.{IsDefMade, AreLastInTurn}
 use Rattle.fact_convert.specs.Conversion.{ConverterGrows}
 use Rattle.fact_convert.specs.Converted.{IsItemFrom, IsDefFrom, IsDefWithin}
 use Rattle.fact_convert.specs.Converters.{Converter, tables_of}
@@ -33,7 +34,7 @@ use Rattle.fact_convert.specs.Steps.{Comes, AreKeyed, IsExternFrom, AreItemsFrom
 use Rattle.fact_convert.specs.Tasks.{Task, appends_instance, appends_component, item_tasks, tasks_of}
 use Rattle.fact_convert.proofs.Adding.{gains_instance, gains_component, gains_grow, gains_kept}
 use Rattle.fact_convert.proofs.Coming.{comes_by, comes_refused, comes_then, comes_not, comes_as}
-use Rattle.fact_convert.proofs.CoreLaws.{last_there, no_err}
+use Rattle.fact_convert.proofs.CoreLaws.{last_there, last_number, no_err}
 use Rattle.fact_convert.proofs.Merged.{zip_so, both_put, one_more_merged}
 use Rattle.fact_convert.proofs.Reaching.{instance_sound, component_sound, instance_tasks, component_tasks}
 use Rattle.fact_convert.proofs.Within.{items_stay, items_within}
@@ -59,16 +60,16 @@ instance_within s k c i j x e (Some r) q at there z =
     let sound : ReachBelow s r.rank x.exports = subst (λ (y : SourceInstance). ReachBelow s r.rank y.exports) same (instance_sound s k i.number (Some r) q) in
     (x, e, ap (option_map (λ r. r.entry)) q ∙ at, there, items_within s k c r.rank x.exports e.exports sound z)
 
-pub instance_made : (s : SourceTables) → IsSoundSource s → (a : Converter) (b : Builder) (i : Id SourceInstanceTypes) (x : SourceInstance) (e : InstanceType) (k : Id TypeComponentInstances) → instance_at s i ≡ Some x → AreItemsFrom s a x.exports e.exports
+pub instance_made : (s : SourceTables) → IsSoundSource s → (a : Converter) (b : Builder) (i : Id SourceInstanceTypes) (x : SourceInstance) (e : InstanceType) (k : Id TypeComponentInstances) → instance_at s i ≡ Some x → AreItemsFrom s a x.exports e.exports → AreLastInTurn s (tables_of a) [] x.exports [] e.exports
     → b ≡ record a.builder { tables = record a.builder.tables { component_instances = a.builder.tables.component_instances ++ e ∷ [] } } → Keeps a.builder.tables b.tables → ((Ok k ≡ Err push.TooLarge) ↔ (length a.builder.tables.component_instances ≡ 4294967295)) → k.number ≡ length a.builder.tables.component_instances
-    → Comes s a (appends_instance x ∷ []) (λ c j. IsDefFrom s c (entity.Instance i) (def.ComponentInstance j)) (record a { builder = b }) (Ok k)
-instance_made s sound a b i x e k there from rest keeps t place =
+    → Comes s a (appends_instance x ∷ []) (λ c j. IsDefMade s c (entity.Instance i) (def.ComponentInstance j)) (record a { builder = b }) (Ok k)
+instance_made s sound a b i x e k there from turn rest keeps t place =
     let b' : Builder = record a.builder { tables = record a.builder.tables { component_instances = a.builder.tables.component_instances ++ e ∷ [] } } in
     let g = gains_instance a.builder e (subst (λ (z : Builder). Keeps a.builder.tables z.tables) rest keeps) in
     let c : Converter = record a { builder = b' } in
-    subst (λ (z : Builder). Comes s a (appends_instance x ∷ []) (λ c j. IsDefFrom s c (entity.Instance i) (def.ComponentInstance j)) (record a { builder = z }) (Ok k)) (sym rest)
-    (comes_by s a c (appends_instance x) (λ c j. IsDefFrom s c (entity.Instance i) (def.ComponentInstance j)) k (e, as_items s a x.exports e.exports from, no_err k _ t, refl) (gains_grow a b' g) (gains_kept a b' g)
-    (instance_within s sound c i k x e (slice_get s.instances i.number) refl there (last_there a.builder.tables.component_instances e k.number place) (as_items s c x.exports e.exports (items_stay s a c (gains_grow a b' g) x.exports e.exports from))))
+    subst (λ (z : Builder). Comes s a (appends_instance x ∷ []) (λ c j. IsDefMade s c (entity.Instance i) (def.ComponentInstance j)) (record a { builder = z }) (Ok k)) (sym rest)
+    (comes_by s a c (appends_instance x) (λ c j. IsDefMade s c (entity.Instance i) (def.ComponentInstance j)) k (e, as_items s a x.exports e.exports from, turn, no_err k _ t, refl) (gains_grow a b' g) (gains_kept a b' g)
+    (instance_within s sound c i k x e (slice_get s.instances i.number) refl there (last_there a.builder.tables.component_instances e k.number place) (as_items s c x.exports e.exports (items_stay s a c (gains_grow a b' g) x.exports e.exports from)), last_number a.builder.tables.component_instances e k.number place))
 
 pub instance_full : {K Y : Type 0} (s : SourceTables) (a : Converter) (x : SourceInstance) (F : Converter → Y → Type 0) (res : Result K PushError) (y : PushError) → res ≡ Err y → ((res ≡ Err push.TooLarge) ↔ (length a.builder.tables.component_instances ≡ 4294967295)) → Comes s a (appends_instance x ∷ []) F a (Err (build_error y))
 instance_full s a x F res y q t = comes_refused s a (appends_instance x) [] F y (λ z. t.0 (q ∙ ap Err z))
@@ -83,17 +84,17 @@ component_within s k c i j x e (Some r) q at there z w =
     let sound : ReachBelow s r.rank x.imports × ReachBelow s r.rank x.exports = subst (λ (y : SourceComponent). ReachBelow s r.rank y.imports × ReachBelow s r.rank y.exports) same (component_sound s k i.number (Some r) q) in
     (x, e, ap (option_map (λ r. r.entry)) q ∙ at, there, items_within s k c r.rank x.imports e.imports sound.0 z, items_within s k c r.rank x.exports e.exports sound.1 w)
 
-pub component_made : (s : SourceTables) → IsSoundSource s → (a : Converter) (b : Builder) (i : Id SourceComponentTypes) (x : SourceComponent) (e : ComponentType) (k : Id TypeComponents) → component_at s i ≡ Some x → AreItemsFrom s a x.imports e.imports → AreItemsFrom s a x.exports e.exports
+pub component_made : (s : SourceTables) → IsSoundSource s → (a : Converter) (b : Builder) (i : Id SourceComponentTypes) (x : SourceComponent) (e : ComponentType) (k : Id TypeComponents) → component_at s i ≡ Some x → AreItemsFrom s a x.imports e.imports → AreItemsFrom s a x.exports e.exports → AreLastInTurn s (tables_of a) x.imports x.exports e.imports e.exports
     → b ≡ record a.builder { tables = record a.builder.tables { components = a.builder.tables.components ++ e ∷ [] } } → Keeps a.builder.tables b.tables → ((Ok k ≡ Err push.TooLarge) ↔ (length a.builder.tables.components ≡ 4294967295)) → k.number ≡ length a.builder.tables.components
-    → Comes s a (appends_component x ∷ []) (λ c j. IsDefFrom s c (entity.Component i) (def.Component j)) (record a { builder = b }) (Ok k)
-component_made s sound a b i x e k there imports exports rest keeps t place =
+    → Comes s a (appends_component x ∷ []) (λ c j. IsDefMade s c (entity.Component i) (def.Component j)) (record a { builder = b }) (Ok k)
+component_made s sound a b i x e k there imports exports turn rest keeps t place =
     let b' : Builder = record a.builder { tables = record a.builder.tables { components = a.builder.tables.components ++ e ∷ [] } } in
     let g = gains_component a.builder e (subst (λ (z : Builder). Keeps a.builder.tables z.tables) rest keeps) in
     let c : Converter = record a { builder = b' } in
     let h = gains_grow a b' g in
-    subst (λ (z : Builder). Comes s a (appends_component x ∷ []) (λ c j. IsDefFrom s c (entity.Component i) (def.Component j)) (record a { builder = z }) (Ok k)) (sym rest)
-    (comes_by s a c (appends_component x) (λ c j. IsDefFrom s c (entity.Component i) (def.Component j)) k (e, as_items s a x.imports e.imports imports, as_items s a x.exports e.exports exports, no_err k _ t, refl) h (gains_kept a b' g)
-    (component_within s sound c i k x e (slice_get s.components i.number) refl there (last_there a.builder.tables.components e k.number place) (as_items s c x.imports e.imports (items_stay s a c h x.imports e.imports imports)) (as_items s c x.exports e.exports (items_stay s a c h x.exports e.exports exports))))
+    subst (λ (z : Builder). Comes s a (appends_component x ∷ []) (λ c j. IsDefMade s c (entity.Component i) (def.Component j)) (record a { builder = z }) (Ok k)) (sym rest)
+    (comes_by s a c (appends_component x) (λ c j. IsDefMade s c (entity.Component i) (def.Component j)) k (e, as_items s a x.imports e.imports imports, as_items s a x.exports e.exports exports, turn, no_err k _ t, refl) h (gains_kept a b' g)
+    (component_within s sound c i k x e (slice_get s.components i.number) refl there (last_there a.builder.tables.components e k.number place) (as_items s c x.imports e.imports (items_stay s a c h x.imports e.imports imports)) (as_items s c x.exports e.exports (items_stay s a c h x.exports e.exports exports)), last_number a.builder.tables.components e k.number place))
 
 pub component_full : {K Y : Type 0} (s : SourceTables) (a : Converter) (x : SourceComponent) (F : Converter → Y → Type 0) (res : Result K PushError) (y : PushError) → res ≡ Err y → ((res ≡ Err push.TooLarge) ↔ (length a.builder.tables.components ≡ 4294967295)) → Comes s a (appends_component x ∷ []) F a (Err (build_error y))
 component_full s a x F res y q t = comes_refused s a (appends_component x) [] F y (λ z. t.0 (q ∙ ap Err z))

@@ -1,5 +1,5 @@
 -- What comes of core function types, of the imports and exports of core modules, and of modules.
-use Rattle.std.proofs.Common.{◌≡◌, ◌≢◌, ◌↔◌, ℕ, List, [], ◌∷◌, ◌++◌, length, map, Option, Some, None, refl, sym, ◌∙◌, ap, subst}
+use Rattle.std.proofs.Common.{◌≡◌, ◌≢◌, ◌↔◌, ℕ, List, [], ◌∷◌, ◌++◌, length, map, Option, Some, None, refl, sym, ◌∙◌, ap, subst, suc, arith, length-append}
 use Rattle.std.specs.Prelude.{nat_eq, slice_get, position, flat_map, Result, Ok, Err}
 use Rattle.std.specs.List.{AllZip}
 use Rattle.std.specs.Cmp.Lexicographic.{pointwise}
@@ -30,8 +30,9 @@ use Rattle.fact_builder.specs.Builder.{Builder}
 use Rattle.fact_builder.specs.Keeps.{Keeps}
 use Rattle.fact_resources.specs.Errors.{build_error}
 use Rattle.fact_resources.specs.declared.error.BuildError.{BuildError}
+use Rattle.fact_convert.specs.Appended.{IsDefMade}
 use Rattle.fact_convert.specs.Conversion.{ConverterGrows}
-use Rattle.fact_convert.specs.Converted.{IsEntityFrom, IsModuleFrom, IsDefFrom}
+use Rattle.fact_convert.specs.Converted.{IsEntityFrom, IsModuleFrom}
 use Rattle.fact_convert.specs.Converters.{Converter, tables_of}
 use Rattle.fact_convert.specs.Merging.{merged, merged_pairs, same_pair}
 use Rattle.fact_convert.specs.Performing.{Performs}
@@ -87,19 +88,22 @@ last_there xs x n e = ap (λ m. slice_get (xs ++ x ∷ []) m) e ∙ at_end xs x
     at_end [] x = refl
     at_end (y ∷ ys) x = at_end ys x
 
+pub last_number : {X : Type 0} (xs : List X) (x : X) (n : ℕ) → n ≡ length xs → suc n ≡ length (xs ++ x ∷ [])
+last_number xs x n e = omega (arith, length-append xs (x ∷ []), e)
+
 pub no_err : {K : Type 0} (k : K) (P : Type 0) → ((Ok k ≡ Err push.TooLarge) ↔ P) → P → ⊥
 no_err k P t p = let both : Ok k ≡ Err push.TooLarge = t.1 p in cc
 
 pub module_made : (s : SourceTables) (a : Converter) (b : Builder) (i : Id SourceModuleTypes) (m : SourceModule) (e : ModuleType) (k : Id TypeModules) → slice_get s.modules i.number ≡ Some m → IsModuleFrom a m e
     → b ≡ record a.builder { tables = record a.builder.tables { modules = a.builder.tables.modules ++ e ∷ [] } } → Keeps a.builder.tables b.tables → ((Ok k ≡ Err push.TooLarge) ↔ (length a.builder.tables.modules ≡ 4294967295)) → k.number ≡ length a.builder.tables.modules
-    → Comes s a (appends_module m ∷ []) (λ c j. IsDefFrom s c (entity.Module i) (def.Module j)) (record a { builder = b }) (Ok k)
+    → Comes s a (appends_module m ∷ []) (λ c j. IsDefMade s c (entity.Module i) (def.Module j)) (record a { builder = b }) (Ok k)
 module_made s a b i m e k there from rest keeps t place =
     let b' : Builder = record a.builder { tables = record a.builder.tables { modules = a.builder.tables.modules ++ e ∷ [] } } in
     let g = gains_module a.builder e (subst (λ (z : Builder). Keeps a.builder.tables z.tables) rest keeps) in
     let c : Converter = record a { builder = b' } in
-    subst (λ (z : Builder). Comes s a (appends_module m ∷ []) (λ c j. IsDefFrom s c (entity.Module i) (def.Module j)) (record a { builder = z }) (Ok k)) (sym rest)
-    (comes_by s a c (appends_module m) (λ c j. IsDefFrom s c (entity.Module i) (def.Module j)) k (e, from, no_err k _ t, refl) (gains_grow a b' g) (gains_kept a b' g)
-    (m, e, there, last_there a.builder.tables.modules e k.number place, module_stays a c (gains_grow a b' g) m e from))
+    subst (λ (z : Builder). Comes s a (appends_module m ∷ []) (λ c j. IsDefMade s c (entity.Module i) (def.Module j)) (record a { builder = z }) (Ok k)) (sym rest)
+    (comes_by s a c (appends_module m) (λ c j. IsDefMade s c (entity.Module i) (def.Module j)) k (e, from, no_err k _ t, refl) (gains_grow a b' g) (gains_kept a b' g)
+    ((m, e, there, last_there a.builder.tables.modules e k.number place, module_stays a c (gains_grow a b' g) m e from), last_number a.builder.tables.modules e k.number place))
 
 pub module_full : {K Y : Type 0} (s : SourceTables) (a : Converter) (m : SourceModule) (F : Converter → Y → Type 0) (res : Result K PushError) (x : PushError) → res ≡ Err x → ((res ≡ Err push.TooLarge) ↔ (length a.builder.tables.modules ≡ 4294967295)) → Comes s a (appends_module m ∷ []) F a (Err (build_error x))
 module_full s a m F res x q t = comes_refused s a (appends_module m) [] F x (λ z. t.0 (q ∙ ap Err z))

@@ -25,6 +25,7 @@ mod Payloads
 mod Reaching
 mod ResourceLaws
 mod Shaping
+mod Sizes
 mod TableLaws
 mod Telling
 mod Within

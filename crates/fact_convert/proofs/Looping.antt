@@ -8,6 +8,7 @@ use Rattle.fact_resources.specs.declared.error.BuildError.{BuildError}
 use Rattle.fact_resources.specs.declared.error.BuildError.TheVariants.{OutOfMemory}
 use Rattle.fact_convert.specs.Conversion.{ConverterGrows}
 use Rattle.fact_convert.specs.Converters.{Converter}
+use Rattle.fact_convert.specs.Performing.{PerformsAll}
 use Rattle.fact_convert.specs.Steps.{Comes}
 use Rattle.fact_convert.specs.Tasks.{Task}
 use Rattle.fact_convert.proofs.Coming.{comes_then, comes_not, comes_as, comes_with, comes_short}
@@ -21,15 +22,20 @@ split_at xs i d l = sym (take-append-drop i xs) ∙ ap (λ ys. take i xs ++ ys) 
 joined_at : {X : Type 0} (f : X → List Task) (xs : List X) (i : ℕ) (d : X) → i < length xs → flat_map f xs ≡ flat_map f (take i xs) ++ (f (get_or xs i d) ++ flat_map f (drop (i + 1) xs))
 joined_at f xs i d l = ap (flat_map f) (split_at xs i d l) ∙ flat_map-append f (take i xs) (get_or xs i d ∷ drop (i + 1) xs)
 
--- one more item was converted
+-- one more item was converted; its tasks were done behind those of the items before it
+pub one_more_done : {X Y Z : Type 0} (s : SourceTables) (a b c : Converter) (tasks : X → List Task) (xs : List X) (i : ℕ) (x : X) (F : List X → Converter → Y → Type 0) (G : Converter → Z → Type 0) (y next : Y) (z : Z)
+    → i < length xs → x ≡ get_or xs i x → Comes s a (flat_map tasks (take i xs)) (F (take i xs)) b (Ok y) → Comes s b (tasks x) G c (Ok z)
+    → (PerformsAll s a (flat_map tasks (take i xs) ++ tasks x) c → ConverterGrows b c → F (take i xs) b y → G c z → F (take i xs ++ x ∷ []) c next) → Comes s a (flat_map tasks (take (i + 1) xs)) (F (take (i + 1) xs)) c (Ok next)
+one_more_done s a b c tasks xs i x F G y next z l is p q f =
+    let there : take (i + 1) xs ≡ take i xs ++ x ∷ [] = take_more xs i x l ∙ ap (λ w. take i xs ++ w ∷ []) (sym is) in
+    let both = comes_then s a b c (flat_map tasks (take i xs)) (tasks x) (F (take i xs)) G y (Ok z) p q in
+    let told = comes_with s a c (flat_map tasks (take i xs) ++ tasks x) G (F (take i xs ++ x ∷ [])) z next (f both.converts.0 q.grows p.converts.1) both in
+    subst (λ ws. Comes s a (flat_map tasks ws) (F ws) c (Ok next)) (sym there) (comes_as s a c _ _ _ _ (sym (one_joined tasks (take i xs) x)) told)
+
 pub one_more_came : {X Y Z : Type 0} (s : SourceTables) (a b c : Converter) (tasks : X → List Task) (xs : List X) (i : ℕ) (x : X) (F : List X → Converter → Y → Type 0) (G : Converter → Z → Type 0) (y next : Y) (z : Z)
     → i < length xs → x ≡ get_or xs i x → Comes s a (flat_map tasks (take i xs)) (F (take i xs)) b (Ok y) → Comes s b (tasks x) G c (Ok z)
     → (ConverterGrows b c → F (take i xs) b y → G c z → F (take i xs ++ x ∷ []) c next) → Comes s a (flat_map tasks (take (i + 1) xs)) (F (take (i + 1) xs)) c (Ok next)
-one_more_came s a b c tasks xs i x F G y next z l is p q f =
-    let there : take (i + 1) xs ≡ take i xs ++ x ∷ [] = take_more xs i x l ∙ ap (λ w. take i xs ++ w ∷ []) (sym is) in
-    let both = comes_then s a b c (flat_map tasks (take i xs)) (tasks x) (F (take i xs)) G y (Ok z) p q in
-    let told = comes_with s a c (flat_map tasks (take i xs) ++ tasks x) G (F (take i xs ++ x ∷ [])) z next (f q.grows p.converts.1) both in
-    subst (λ ws. Comes s a (flat_map tasks ws) (F ws) c (Ok next)) (sym there) (comes_as s a c _ _ _ _ (sym (one_joined tasks (take i xs) x)) told)
+one_more_came s a b c tasks xs i x F G y next z l is p q f = one_more_done s a b c tasks xs i x F G y next z l is p q (λ done. f)
 
 -- one was not, and that ends all
 pub one_failed : {X Y Z W : Type 0} (s : SourceTables) (a b c : Converter) (tasks : X → List Task) (xs : List X) (i : ℕ) (x : X) (F : Converter → Y → Type 0) (G : Converter → Z → Type 0) (H : Converter → W → Type 0) (y : Y) (e : BuildError)

@@ -30,6 +30,7 @@ use Rattle.fact_resources.specs.declared.error.BuildError.{BuildError}
 use Rattle.fact_resources.specs.declared.registration.Registration.{Registration}
 use Rattle.fact_resources.specs.declared.registration.Registration.TheVariants as is
 use Rattle.fact_resources.specs.Known.{kept_table, registration, new_table_of, AreKeptLive}
+use Rattle.fact_convert.specs.Appended.{IsDefMade}
 use Rattle.fact_convert.specs.Converted.{IsTypeFrom, IsDefFrom}
 use Rattle.fact_convert.specs.Converters.{Converter, tables_of}
 use Rattle.fact_convert.specs.Performing.{IsMemberFrom, PerformsAll, EndsEarly}
@@ -82,13 +83,13 @@ abbrev pub ConvertsBy : {X : Type 0} → SourceTables → Converter → List Tas
 ConvertsBy s old ms IsFrom new (Ok x) = PerformsAll s old ms new × IsFrom new x
 ConvertsBy s old ms IsFrom new (Err e) = EndsEarly s old ms e new
 
--- The conversion of an import or export by its type.
+-- The conversion of an import or export by its type: a module, an instance or a component is appended, and its index answered.
 abbrev pub ConvertsEntity : SourceTables → Converter → ComponentEntityType → Converter → Result TypeDef BuildError → Type 0
-ConvertsEntity s old e new result = ConvertsBy s old (tasks_of s e) (λ c d. IsDefFrom s c e d) new result
+ConvertsEntity s old e new result = ConvertsBy s old (tasks_of s e) (λ c d. IsDefMade s c e d) new result
 
 -- The conversion of an import or export, with what is said of it.
 abbrev pub ConvertsItem : SourceTables → Converter → SourceItem → Converter → Result ComponentExtern BuildError → Type 0
-ConvertsItem s old x new result = ConvertsBy s old (tasks_of s x.ty) (λ c y. (y.extern_data.implements ≡ x.implements) × (y.extern_data.external_id ≡ x.external_id) × IsDefFrom s c x.ty y.ty) new result
+ConvertsItem s old x new result = ConvertsBy s old (tasks_of s x.ty) (λ c y. (y.extern_data.implements ≡ x.implements) × (y.extern_data.external_id ≡ x.external_id) × IsDefMade s c x.ty y.ty) new result
 
 -- The conversion of a function type.
 abbrev pub ConvertsFunc : SourceTables → Converter → Id SourceFuncTypes → Converter → Result (Id TypeFuncs) BuildError → Type 0

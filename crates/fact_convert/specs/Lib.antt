@@ -1,3 +1,4 @@
+pub mod Appended
 pub mod Conversion
 pub mod Converted
 pub mod Converters

@@ -31,6 +31,7 @@ use Rattle.fact_resources.specs.declared.error.BuildError.TheVariants.{OutOfMemo
 use Rattle.fact_resources.specs.declared.registration.Registration.{Registration}
 use Rattle.fact_resources.specs.declared.registration.Registration.TheVariants as is
 use Rattle.fact_resources.specs.Known.{with_registration, kept_table, registration, new_table, MakesTable}
+use Rattle.fact_convert.specs.Appended.{AreLastInTurn}
 use Rattle.fact_convert.specs.Converted.{IsTypeFrom, IsFuncFrom, IsModuleFrom, IsItemFrom, IsDefFrom}
 use Rattle.fact_convert.specs.Converters.{Converter, tables_of, with_tables}
 use Rattle.fact_convert.specs.Interning.{CanGrow, Interns, LacksRoom}
@@ -93,7 +94,8 @@ abbrev pub MakesErrorContext : Converter → Option (Id RuntimeComponentInstance
 MakesErrorContext a None b = ⊥
 MakesErrorContext a (Some n) b = (ts : List TypeErrorContextTable) × Interns (tables_of a).error_context_tables (record { instance = n }) ts × (b ≡ with_tables a (record (tables_of a) { error_context_tables = ts }))
 
--- What an instance or a component imports and exports was converted before it is appended.
+-- What an instance or a component imports and exports was converted before it is appended, and each got an index of its own
+-- then where it is one that is appended.
 abbrev pub Performs : SourceTables → Converter → Task → Converter → Type 0
 Performs s a (registers r) b = RegistersNext a r (registration a.resources r) b
 Performs s a (takes_table r) b = TakesTable a r (kept_table a.resources r) b
@@ -104,8 +106,8 @@ Performs s a (makes_tuple vs) b = MakesFrom s a k_tuple (placed_values 0 vs) b
 Performs s a (makes_func f) b = (g : TypeFunc) × (fs : List TypeFunc) × IsFuncFrom s a f g × Interns (tables_of a).functions g fs × (b ≡ with_tables a (record (tables_of a) { functions = fs }))
 Performs s a (makes_core params results) b = (fs : List FuncType) × Interns a.builder.module_types (record { params = params; results = results }) fs × (b ≡ record a { builder = record a.builder { module_types = fs } })
 Performs s a (appends_module m) b = (e : ModuleType) × IsModuleFrom a m e × CanGrow (tables_of a).modules × (b ≡ with_tables a (record (tables_of a) { modules = (tables_of a).modules ++ e ∷ [] }))
-Performs s a (appends_instance x) b = (e : InstanceType) × AllZip (IsItemFrom (IsDefFrom s a)) (merged x.exports) e.exports × CanGrow (tables_of a).component_instances × (b ≡ with_tables a (record (tables_of a) { component_instances = (tables_of a).component_instances ++ e ∷ [] }))
-Performs s a (appends_component x) b = (e : ComponentType) × AllZip (IsItemFrom (IsDefFrom s a)) (merged x.imports) e.imports × AllZip (IsItemFrom (IsDefFrom s a)) (merged x.exports) e.exports × CanGrow (tables_of a).components × (b ≡ with_tables a (record (tables_of a) { components = (tables_of a).components ++ e ∷ [] }))
+Performs s a (appends_instance x) b = (e : InstanceType) × AllZip (IsItemFrom (IsDefFrom s a)) (merged x.exports) e.exports × AreLastInTurn s (tables_of a) [] x.exports [] e.exports × CanGrow (tables_of a).component_instances × (b ≡ with_tables a (record (tables_of a) { component_instances = (tables_of a).component_instances ++ e ∷ [] }))
+Performs s a (appends_component x) b = (e : ComponentType) × AllZip (IsItemFrom (IsDefFrom s a)) (merged x.imports) e.imports × AllZip (IsItemFrom (IsDefFrom s a)) (merged x.exports) e.exports × AreLastInTurn s (tables_of a) x.imports x.exports e.imports e.exports × CanGrow (tables_of a).components × (b ≡ with_tables a (record (tables_of a) { components = (tables_of a).components ++ e ∷ [] }))
 Performs s a (refuses e) b = ⊥
 
 abbrev pub PerformsAll : SourceTables → Converter → List Task → Converter → Type 0

@@ -26,6 +26,7 @@ use Rattle.fact_resources.specs.declared.error.BuildError.{BuildError}
 use Rattle.fact_resources.specs.Errors.{build_error}
 use Rattle.fact_resources.specs.Known.{AreKeptLive}
 use Rattle.fact_resources.specs.Walk.{resources_of}
+use Rattle.fact_convert.specs.Appended.{size_of, IsDefMade, AreLast}
 use Rattle.fact_convert.specs.Conversion.{ConvertsBy, ConverterGrows}
 use Rattle.fact_convert.specs.Converted.{IsTypeFrom, IsFuncFrom, IsItemFrom, IsDefFrom, IsEntityFrom, HasCoreType}
 use Rattle.fact_convert.specs.Converters.{Converter, tables_of}
@@ -76,8 +77,16 @@ AreKeyed R xs ys = AllZip (λ x y. (y.0 ≡ x.0) × R x.1 y.1) xs ys
 abbrev pub IsExternFrom : SourceTables → Converter → SourceItem → ComponentExtern → Type 0
 IsExternFrom s c x y = (y.extern_data.implements ≡ x.implements) × (y.extern_data.external_id ≡ x.external_id) × IsDefFrom s c x.ty y.ty
 
+-- The same where it was converted last.
+abbrev pub IsExternMade : SourceTables → Converter → SourceItem → ComponentExtern → Type 0
+IsExternMade s c x y = (y.extern_data.implements ≡ x.implements) × (y.extern_data.external_id ≡ x.external_id) × IsDefMade s c x.ty y.ty
+
 abbrev pub AreItemsFrom : SourceTables → Converter → List (List ℕ × SourceItem) → List (List ℕ × ComponentExtern) → Type 0
 AreItemsFrom s c items made = AreKeyed (IsExternFrom s c) (merged items) made
+
+-- All of them were converted one after another, from the converter a on.
+abbrev pub AreItemsMade : SourceTables → Converter → Converter → List (List ℕ × SourceItem) → List (List ℕ × ComponentExtern) → Type 0
+AreItemsMade s a c items made = AreItemsFrom s c items made × AreLast s (size_of (tables_of a)) items made
 
 abbrev pub AreCoreImportsFrom : Converter → List (List ℕ × List ℕ × SourceEntityType) → List ((List ℕ × List ℕ) × EntityType) → Type 0
 AreCoreImportsFrom c xs made = AreKeyed (IsEntityFrom c) (merged_pairs (map (λ x. ((x.0, x.1), x.2)) xs)) made

@@ -7,9 +7,10 @@ ghost use Rattle.fact_source.specs.Live.{IsLiveEntity, IsLiveAny, AreLiveItems};
 ghost use Rattle.fact_types.specs.declared.interface.TypeDef.TheVariants as def;
 ghost use Rattle.fact_types.specs.Tables.{IsLiveDef};
 ghost use Rattle.fact_convert.specs.Conversion.{ConverterGrows, IsReadyFor, ConvertsEntity, ConvertsItem};
-ghost use Rattle.fact_convert.specs.Converted.{IsDefFrom, entity_of};
+ghost use Rattle.fact_convert.specs.Appended.{IsDefMade};
+ghost use Rattle.fact_convert.specs.Converted.{entity_of};
 ghost use Rattle.fact_convert.specs.Converters.{tables_of};
-ghost use Rattle.fact_convert.specs.Steps.{Comes, AreItemsFrom, IsExternFrom, registered_tasks};
+ghost use Rattle.fact_convert.specs.Steps.{Comes, AreItemsMade, IsExternMade, registered_tasks};
 ghost use Rattle.fact_convert.specs.Tasks.{item_tasks, tasks_of};
 
 use crate::converter::ConvertingBuilder;
@@ -85,7 +86,7 @@ impl ConvertingBuilder {
     ) -> Result<TypeDef, BuildError>
         requires ready { IsReadyFor types.now self.old }
         requires live { IsLiveEntity types.now ty }
-        ensures { Comes types.now self.old (tasks_of types.now ty) (λ c d. IsDefFrom types.now c ty d) self.new result }
+        ensures { Comes types.now self.old (tasks_of types.now ty) (λ c d. IsDefMade types.now c ty d) self.new result }
     {
         match ty {
             ComponentEntityType::Module(id) => {
@@ -117,7 +118,7 @@ impl ConvertingBuilder {
     ) -> Result<TypeDef, BuildError>
         requires ready { IsReadyFor types.now self.old }
         requires live { IsLiveAny types.now created }
-        ensures { Comes types.now self.old (tasks_of types.now (entity.AnyType created)) (λ c d. IsDefFrom types.now c (entity.AnyType created) d) self.new result }
+        ensures { Comes types.now self.old (tasks_of types.now (entity.AnyType created)) (λ c d. IsDefMade types.now c (entity.AnyType created) d) self.new result }
     {
         match created {
             ComponentAnyTypeId::Defined(id) => {
@@ -141,7 +142,7 @@ impl ConvertingBuilder {
     ) -> Result<ComponentExtern, BuildError>
         requires ready { IsReadyFor types.now self.old }
         requires live { IsLiveEntity types.now item.now.ty }
-        ensures { Comes types.now self.old (tasks_of types.now item.now.ty) (λ c y. IsExternFrom types.now c item.now y) self.new result }
+        ensures { Comes types.now self.old (tasks_of types.now item.now.ty) (λ c y. IsExternMade types.now c item.now y) self.new result }
     {
         let ty = self.def_of_entity(types, item.ty)?;
         let extern_data = data_of(item)?;
@@ -157,7 +158,7 @@ impl ConvertingBuilder {
     ) -> Result<TypeComponentInstanceIndex, BuildError>
         requires ready { IsReadyFor types.now self.old }
         requires live { id.number < length types.now.instances }
-        ensures { Comes types.now self.old (tasks_of types.now (entity.Instance id)) (λ c i. IsDefFrom types.now c (entity.Instance id) (def.ComponentInstance i)) self.new result }
+        ensures { Comes types.now self.old (tasks_of types.now (entity.Instance id)) (λ c i. IsDefMade types.now c (entity.Instance id) (def.ComponentInstance i)) self.new result }
     {
         types.reveal();
         let Some(instance) = types.get_instance(id) else {
@@ -178,7 +179,7 @@ impl ConvertingBuilder {
     ) -> Result<TypeComponentIndex, BuildError>
         requires ready { IsReadyFor types.now self.old }
         requires live { id.number < length types.now.components }
-        ensures { Comes types.now self.old (tasks_of types.now (entity.Component id)) (λ c i. IsDefFrom types.now c (entity.Component id) (def.Component i)) self.new result }
+        ensures { Comes types.now self.old (tasks_of types.now (entity.Component id)) (λ c i. IsDefMade types.now c (entity.Component id) (def.Component i)) self.new result }
     {
         types.reveal();
         let Some(component) = types.get_component(id) else {
@@ -200,7 +201,7 @@ impl ConvertingBuilder {
     ) -> Result<IndexMap<Text, ComponentExtern>, BuildError>
         requires ready { IsReadyFor types.now self.old }
         requires live { AreLiveItems types.now items.now }
-        ensures { Comes types.now self.old (flat_map (item_tasks types.now (tasks_of types.now)) items.now) (λ c made. AreItemsFrom types.now c items.now made.entries) self.new result }
+        ensures { Comes types.now self.old (flat_map (item_tasks types.now (tasks_of types.now)) items.now) (λ c made. AreItemsMade types.now self.old c items.now made.entries) self.new result }
     {
         let mut made = IndexMap::new(self.alloc);
         for (name, item) in items {
@@ -219,7 +220,7 @@ impl ConvertingBuilder {
     ) -> Result<ComponentExtern, BuildError>
         requires ready { IsReadyFor types.now self.old }
         requires live { IsLiveEntity types.now item.now.ty }
-        ensures { Comes types.now self.old (registered_tasks types.now item.now.ty) (λ c y. IsExternFrom types.now c item.now y) self.new result }
+        ensures { Comes types.now self.old (registered_tasks types.now item.now.ty) (λ c y. IsExternMade types.now c item.now y) self.new result }
     {
         self.register_abstract(types, item.ty)?;
         self.extern_of_item(types, item)

@@ -6,7 +6,8 @@ ghost use Rattle.fact_entity.specs.Places.{IsInterned};
 ghost use Rattle.fact_source.specs.declared.items.ComponentEntityType.TheVariants as entity;
 ghost use Rattle.fact_source.specs.SourceTables.{SourceTables};
 ghost use Rattle.fact_types.specs.declared.interface.TypeDef.TheVariants as def;
-ghost use Rattle.fact_convert.specs.Converted.{IsDefFrom, IsEntityFrom};
+ghost use Rattle.fact_convert.specs.Appended.{IsDefMade};
+ghost use Rattle.fact_convert.specs.Converted.{IsEntityFrom};
 ghost use Rattle.fact_convert.specs.Merging.{same_pair};
 ghost use Rattle.fact_convert.specs.Steps.{Comes, AreCoreImportsFrom, AreCoreExportsFrom, IsCoreFrom};
 ghost use Rattle.fact_convert.specs.Tasks.{core_tasks, makes_core, tasks_of};
@@ -31,7 +32,7 @@ impl ConvertingBuilder {
         id: ComponentCoreModuleTypeId,
     ) -> Result<TypeModuleIndex, BuildError>
         requires { id.number < length types.now.modules }
-        ensures { Comes types.now self.old (tasks_of types.now (entity.Module id)) (λ c i. IsDefFrom types.now c (entity.Module id) (def.Module i)) self.new result }
+        ensures { Comes types.now self.old (tasks_of types.now (entity.Module id)) (λ c i. IsDefMade types.now c (entity.Module id) (def.Module i)) self.new result }
     {
         let Some(module) = types.get_module(id) else {
             unreachable!();

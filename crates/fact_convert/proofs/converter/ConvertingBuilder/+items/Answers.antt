@@ -5,15 +5,17 @@ use Rattle.fact_source.specs.declared.items.ComponentEntityType.TheVariants as e
 use Rattle.fact_source.specs.Live.{reach_of, IsLiveEntity, AreLiveItems}
 use Rattle.fact_types.specs.declared.interface.TypeDef.TheVariants as def
 use Rattle.fact_resources.specs.declared.error.BuildError.TheVariants.{ValuesNotSupported}
-use Rattle.fact_convert.specs.Converted.{IsDefFrom}
-use Rattle.fact_convert.specs.Steps.{Comes, AreItemsFrom, IsExternFrom, registered_tasks}
+use Rattle.fact_convert.specs.Appended.{size_of, IsDefMade}
+use Rattle.fact_convert.specs.Converters.{tables_of}
+use Rattle.fact_convert.specs.Steps.{AreItemsMade}
 use Rattle.fact_convert.specs.Tasks.{tasks_of, item_tasks}
 use Rattle.fact_convert.proofs.Appending.{instance_made, instance_full, component_made, component_full, one_more_item, instance_comes, instance_fails, component_comes, imports_fail, exports_fail}
 use Rattle.fact_convert.proofs.Coming.{comes_none, comes_out, comes_then, comes_not, comes_short, comes_lost, comes_as, comes_with, comes_failed, comes_at_once, comes_ready}
-use Rattle.fact_convert.proofs.Looping.{one_more_came, one_failed, one_lost, all_came}
+use Rattle.fact_convert.proofs.Looping.{one_more_done, one_failed, one_lost, all_came}
 use Rattle.fact_convert.proofs.Measures.{reach_of_items, one_reaches_no_further, exports_lower, items_lower}
 use Rattle.fact_convert.proofs.Reaching.{instance_tasks, component_tasks}
 use Rattle.fact_convert.proofs.ItemLaws.{items_live_in, items_in}
+use Rattle.fact_convert.proofs.Sizes.{performs_all_sizes, one_more_last, items_in_turn, exports_in_turn}
 use Rattle.fact_convert.proofs.Within.{items_stay}
 use Rattle.fact_convert.proofs.Opening.{comes_from, comes_named, comes_still, comes_to}
 use Rattle.fact_convert.proofs.converter.ConvertingBuilder.+items.Goals as goal
@@ -22,46 +24,46 @@ pub def_of_entity-module_type-requires : goal.def_of_entity-module_type-requires
 def_of_entity-module_type-requires t c = subst (IsLiveEntity c.args.types.now) c.in-Module.is c.requires.live
 
 pub def_of_entity-returns-in_err-module-in-Module : goal.def_of_entity-returns-in_err-module-in-Module
-def_of_entity-returns-in_err-module-in-Module t c = comes_named _ _ _ (tasks_of c.args.types.now) (λ e c' d. IsDefFrom c.args.types.now c' e d) _ _ _ c.in-Module.is (comes_out _ _ _ _ _ c.from_residual.result _ (err_from_is_err_and c.from_residual.result c.from_residual.ensures.1) (comes_failed _ _ _ _ _ _ _ c.in_err-module-in-Module.ensures))
+def_of_entity-returns-in_err-module-in-Module t c = comes_named _ _ _ (tasks_of c.args.types.now) (λ e c' d. IsDefMade c.args.types.now c' e d) _ _ _ c.in-Module.is (comes_out _ _ _ _ _ c.from_residual.result _ (err_from_is_err_and c.from_residual.result c.from_residual.ensures.1) (comes_failed _ _ _ _ _ _ _ c.in_err-module-in-Module.ensures))
 
 pub def_of_entity-returns-in_ok-module-in-Module : goal.def_of_entity-returns-in_ok-module-in-Module
-def_of_entity-returns-in_ok-module-in-Module t c = comes_named _ _ _ (tasks_of c.args.types.now) (λ e c' d. IsDefFrom c.args.types.now c' e d) _ _ _ c.in-Module.is (comes_with _ _ _ _ _ _ _ _ (λ h. h) c.in_ok-module-in-Module.ensures)
+def_of_entity-returns-in_ok-module-in-Module t c = comes_named _ _ _ (tasks_of c.args.types.now) (λ e c' d. IsDefMade c.args.types.now c' e d) _ _ _ c.in-Module.is (comes_with _ _ _ _ _ _ _ _ (λ h. h) c.in_ok-module-in-Module.ensures)
 
 pub def_of_entity-func_type-requires-clause-live : goal.def_of_entity-func_type-requires-clause-live
 def_of_entity-func_type-requires-clause-live t c = subst (IsLiveEntity c.args.types.now) c.in-Func.is c.requires.live
 
 pub def_of_entity-returns-in_err-func-in-Func : goal.def_of_entity-returns-in_err-func-in-Func
-def_of_entity-returns-in_err-func-in-Func t c = comes_named _ _ _ (tasks_of c.args.types.now) (λ e c' d. IsDefFrom c.args.types.now c' e d) _ _ _ c.in-Func.is (comes_out _ _ _ _ _ c.from_residual-in_err-func-in-Func.result _ (err_from_is_err_and c.from_residual-in_err-func-in-Func.result c.from_residual-in_err-func-in-Func.ensures.1) (comes_failed _ _ _ _ _ _ _ c.in_err-func-in-Func.ensures))
+def_of_entity-returns-in_err-func-in-Func t c = comes_named _ _ _ (tasks_of c.args.types.now) (λ e c' d. IsDefMade c.args.types.now c' e d) _ _ _ c.in-Func.is (comes_out _ _ _ _ _ c.from_residual-in_err-func-in-Func.result _ (err_from_is_err_and c.from_residual-in_err-func-in-Func.result c.from_residual-in_err-func-in-Func.ensures.1) (comes_failed _ _ _ _ _ _ _ c.in_err-func-in-Func.ensures))
 
 pub def_of_entity-returns-in_ok-func-in-Func : goal.def_of_entity-returns-in_ok-func-in-Func
-def_of_entity-returns-in_ok-func-in-Func t c = comes_named _ _ _ (tasks_of c.args.types.now) (λ e c' d. IsDefFrom c.args.types.now c' e d) _ _ _ c.in-Func.is (comes_with _ _ _ _ _ _ _ _ (λ h. h) c.in_ok-func-in-Func.ensures)
+def_of_entity-returns-in_ok-func-in-Func t c = comes_named _ _ _ (tasks_of c.args.types.now) (λ e c' d. IsDefMade c.args.types.now c' e d) _ _ _ c.in-Func.is (comes_with _ _ _ _ _ _ _ _ (λ h. (h, tt)) c.in_ok-func-in-Func.ensures)
 
 pub def_of_entity-instance_type-requires : goal.def_of_entity-instance_type-requires
 def_of_entity-instance_type-requires t c = (omega (arith, c.decreases, ap (reach_of c.args.types.now) c.in-Instance.is), (c.requires.ready, subst (IsLiveEntity c.args.types.now) c.in-Instance.is c.requires.live))
 
 pub def_of_entity-returns-in_err-instance-in-Instance : goal.def_of_entity-returns-in_err-instance-in-Instance
-def_of_entity-returns-in_err-instance-in-Instance t c = comes_named _ _ _ (tasks_of c.args.types.now) (λ e c' d. IsDefFrom c.args.types.now c' e d) _ _ _ c.in-Instance.is (comes_out _ _ _ _ _ c.from_residual-in_err-instance-in-Instance.result _ (err_from_is_err_and c.from_residual-in_err-instance-in-Instance.result c.from_residual-in_err-instance-in-Instance.ensures.1) (comes_failed _ _ _ _ _ _ _ c.in_err-instance-in-Instance.ensures))
+def_of_entity-returns-in_err-instance-in-Instance t c = comes_named _ _ _ (tasks_of c.args.types.now) (λ e c' d. IsDefMade c.args.types.now c' e d) _ _ _ c.in-Instance.is (comes_out _ _ _ _ _ c.from_residual-in_err-instance-in-Instance.result _ (err_from_is_err_and c.from_residual-in_err-instance-in-Instance.result c.from_residual-in_err-instance-in-Instance.ensures.1) (comes_failed _ _ _ _ _ _ _ c.in_err-instance-in-Instance.ensures))
 
 pub def_of_entity-returns-in_ok-instance-in-Instance : goal.def_of_entity-returns-in_ok-instance-in-Instance
-def_of_entity-returns-in_ok-instance-in-Instance t c = comes_named _ _ _ (tasks_of c.args.types.now) (λ e c' d. IsDefFrom c.args.types.now c' e d) _ _ _ c.in-Instance.is (comes_with _ _ _ _ _ _ _ _ (λ h. h) c.in_ok-instance-in-Instance.ensures)
+def_of_entity-returns-in_ok-instance-in-Instance t c = comes_named _ _ _ (tasks_of c.args.types.now) (λ e c' d. IsDefMade c.args.types.now c' e d) _ _ _ c.in-Instance.is (comes_with _ _ _ _ _ _ _ _ (λ h. h) c.in_ok-instance-in-Instance.ensures)
 
 pub def_of_entity-component_type-requires : goal.def_of_entity-component_type-requires
 def_of_entity-component_type-requires t c = (omega (arith, c.decreases, ap (reach_of c.args.types.now) c.in-Component.is), (c.requires.ready, subst (IsLiveEntity c.args.types.now) c.in-Component.is c.requires.live))
 
 pub def_of_entity-returns-in_err-component-in-Component : goal.def_of_entity-returns-in_err-component-in-Component
-def_of_entity-returns-in_err-component-in-Component t c = comes_named _ _ _ (tasks_of c.args.types.now) (λ e c' d. IsDefFrom c.args.types.now c' e d) _ _ _ c.in-Component.is (comes_out _ _ _ _ _ c.from_residual-in_err-component-in-Component.result _ (err_from_is_err_and c.from_residual-in_err-component-in-Component.result c.from_residual-in_err-component-in-Component.ensures.1) (comes_failed _ _ _ _ _ _ _ c.in_err-component-in-Component.ensures))
+def_of_entity-returns-in_err-component-in-Component t c = comes_named _ _ _ (tasks_of c.args.types.now) (λ e c' d. IsDefMade c.args.types.now c' e d) _ _ _ c.in-Component.is (comes_out _ _ _ _ _ c.from_residual-in_err-component-in-Component.result _ (err_from_is_err_and c.from_residual-in_err-component-in-Component.result c.from_residual-in_err-component-in-Component.ensures.1) (comes_failed _ _ _ _ _ _ _ c.in_err-component-in-Component.ensures))
 
 pub def_of_entity-returns-in_ok-component-in-Component : goal.def_of_entity-returns-in_ok-component-in-Component
-def_of_entity-returns-in_ok-component-in-Component t c = comes_named _ _ _ (tasks_of c.args.types.now) (λ e c' d. IsDefFrom c.args.types.now c' e d) _ _ _ c.in-Component.is (comes_with _ _ _ _ _ _ _ _ (λ h. h) c.in_ok-component-in-Component.ensures)
+def_of_entity-returns-in_ok-component-in-Component t c = comes_named _ _ _ (tasks_of c.args.types.now) (λ e c' d. IsDefMade c.args.types.now c' e d) _ _ _ c.in-Component.is (comes_with _ _ _ _ _ _ _ _ (λ h. h) c.in_ok-component-in-Component.ensures)
 
 pub def_of_entity-def_of_type-requires-clause-live : goal.def_of_entity-def_of_type-requires-clause-live
 def_of_entity-def_of_type-requires-clause-live t c = subst (IsLiveEntity c.args.types.now) c.in-AnyType.is c.requires.live
 
 pub def_of_entity-returns-in-AnyType : goal.def_of_entity-returns-in-AnyType
-def_of_entity-returns-in-AnyType t c = comes_named _ _ _ (tasks_of c.args.types.now) (λ e c' d. IsDefFrom c.args.types.now c' e d) _ _ _ c.in-AnyType.is c.def_of_type.ensures
+def_of_entity-returns-in-AnyType t c = comes_named _ _ _ (tasks_of c.args.types.now) (λ e c' d. IsDefMade c.args.types.now c' e d) _ _ _ c.in-AnyType.is c.def_of_type.ensures
 
 pub def_of_entity-returns-in-Value : goal.def_of_entity-returns-in-Value
-def_of_entity-returns-in-Value t c = comes_named _ _ _ (tasks_of c.args.types.now) (λ e c' d. IsDefFrom c.args.types.now c' e d) _ _ _ c.in-Value.is (comes_at_once _ _ _ _ ValuesNotSupported refl)
+def_of_entity-returns-in-Value t c = comes_named _ _ _ (tasks_of c.args.types.now) (λ e c' d. IsDefMade c.args.types.now c' e d) _ _ _ c.in-Value.is (comes_at_once _ _ _ _ ValuesNotSupported refl)
 
 -- ---- with what is said beside
 
@@ -94,7 +96,7 @@ instance_type-externs_of_items-requires t c =
     (omega (arith, c.decreases, low.0, ap (reach_of_items c.args.types.now) c.as_slice.ensures), (c.requires.ready, subst (AreLiveItems c.args.types.now) (sym c.as_slice.ensures) low.1))
 
 pub instance_type-push_component_instance-requires : goal.instance_type-push_component_instance-requires
-instance_type-push_component_instance-requires t c = items_live_in c.args.types.now _ _ c.self.view_is (c.in_ok-exports.ensures.kept_live c.requires.ready.kept) c.as_slice.result.now c.in_ok-exports.exports.entries c.in_ok-exports.ensures.converts.1
+instance_type-push_component_instance-requires t c = items_live_in c.args.types.now _ _ c.self.view_is (c.in_ok-exports.ensures.kept_live c.requires.ready.kept) c.as_slice.result.now c.in_ok-exports.exports.entries c.in_ok-exports.ensures.converts.1.0
 
 pub instance_type-returns-in_err-exports : goal.instance_type-returns-in_err-exports
 instance_type-returns-in_err-exports t c = comes_out _ _ _ _ _ c.from_residual.result _ (err_from_is_err_and c.from_residual.result c.from_residual.ensures.1) (instance_fails c.args.types.now c.reveal.ensures _ _ c.args.id c.in-Some.instance.now (sym c.in-Some.ensures.value) _ c.as_slice.ensures _ _ _ c.in_err-exports.ensures)
@@ -105,7 +107,8 @@ instance_type-returns-in_err-index t c = comes_out _ _ _ _ _ c.from_residual-in_
 pub instance_type-returns : goal.instance_type-returns
 instance_type-returns t c =
     instance_comes c.args.types.now c.reveal.ensures _ _ _ c.args.id c.in-Some.instance.now (sym c.in-Some.ensures.value) _ c.as_slice.ensures _ _ _ _ c.in_ok-exports.ensures
-    (comes_from _ _ _ _ _ _ _ c.self.view_is (instance_made c.args.types.now c.reveal.ensures _ c.push_component_instance.new.self c.args.id c.in-Some.instance.now (record { exports = c.in_ok-exports.exports.entries }) c.in_ok-index.index (sym c.in-Some.ensures.value) (items_in c.args.types.now _ _ c.self.view_is _ _ c.as_slice.ensures c.in_ok-exports.exports.entries c.in_ok-exports.ensures.converts.1) c.in_ok-index.ensures.table c.in_ok-index.ensures.keeps c.in_ok-index.ensures.too_large c.in_ok-index.ensures.key))
+    (comes_from _ _ _ _ _ _ _ c.self.view_is (instance_made c.args.types.now c.reveal.ensures _ c.push_component_instance.new.self c.args.id c.in-Some.instance.now (record { exports = c.in_ok-exports.exports.entries }) c.in_ok-index.index (sym c.in-Some.ensures.value) (items_in c.args.types.now _ _ c.self.view_is _ _ c.as_slice.ensures c.in_ok-exports.exports.entries c.in_ok-exports.ensures.converts.1.0)
+    (exports_in_turn c.args.types.now _ _ _ c.self.view_is _ _ c.as_slice.ensures c.in_ok-exports.exports.entries c.in_ok-exports.ensures.converts.0 c.in_ok-exports.ensures.converts.1.1) c.in_ok-index.ensures.table c.in_ok-index.ensures.keeps c.in_ok-index.ensures.too_large c.in_ok-index.ensures.key))
 
 -- ---- components
 
@@ -122,8 +125,8 @@ component_type-externs_of_items-requires-2 t c =
 pub component_type-push_component-requires : goal.component_type-push_component-requires
 component_type-push_component-requires t c =
     let kept = c.in_ok-exports.ensures.kept_live (c.in_ok-imports.ensures.kept_live c.requires.ready.kept) in record {
-      imports = items_live_in c.args.types.now _ _ c.self.view_is kept c.as_slice.result.now c.in_ok-imports.imports.entries (items_stay c.args.types.now _ _ c.in_ok-exports.ensures.grows c.as_slice.result.now c.in_ok-imports.imports.entries c.in_ok-imports.ensures.converts.1);
-      exports = items_live_in c.args.types.now _ _ c.self.view_is kept c.as_slice-2.result.now c.in_ok-exports.exports.entries c.in_ok-exports.ensures.converts.1;
+      imports = items_live_in c.args.types.now _ _ c.self.view_is kept c.as_slice.result.now c.in_ok-imports.imports.entries (items_stay c.args.types.now _ _ c.in_ok-exports.ensures.grows c.as_slice.result.now c.in_ok-imports.imports.entries c.in_ok-imports.ensures.converts.1.0);
+      exports = items_live_in c.args.types.now _ _ c.self.view_is kept c.as_slice-2.result.now c.in_ok-exports.exports.entries c.in_ok-exports.ensures.converts.1.0;
     }
 
 pub component_type-returns-in_err-imports : goal.component_type-returns-in_err-imports
@@ -139,8 +142,9 @@ pub component_type-returns : goal.component_type-returns
 component_type-returns t c =
     component_comes c.args.types.now c.reveal.ensures _ _ _ _ c.args.id c.in-Some.component.now (sym c.in-Some.ensures.value) _ _ c.as_slice.ensures c.as_slice-2.ensures _ _ _ _ _ _ c.in_ok-imports.ensures c.in_ok-exports.ensures
     (comes_from _ _ _ _ _ _ _ c.self.view_is (component_made c.args.types.now c.reveal.ensures _ c.push_component.new.self c.args.id c.in-Some.component.now (record { imports = c.in_ok-imports.imports.entries; exports = c.in_ok-exports.exports.entries }) c.in_ok-index.index (sym c.in-Some.ensures.value)
-    (items_in c.args.types.now _ _ c.self.view_is _ _ c.as_slice.ensures c.in_ok-imports.imports.entries (items_stay c.args.types.now _ _ c.in_ok-exports.ensures.grows c.as_slice.result.now c.in_ok-imports.imports.entries c.in_ok-imports.ensures.converts.1))
-    (items_in c.args.types.now _ _ c.self.view_is _ _ c.as_slice-2.ensures c.in_ok-exports.exports.entries c.in_ok-exports.ensures.converts.1)
+    (items_in c.args.types.now _ _ c.self.view_is _ _ c.as_slice.ensures c.in_ok-imports.imports.entries (items_stay c.args.types.now _ _ c.in_ok-exports.ensures.grows c.as_slice.result.now c.in_ok-imports.imports.entries c.in_ok-imports.ensures.converts.1.0))
+    (items_in c.args.types.now _ _ c.self.view_is _ _ c.as_slice-2.ensures c.in_ok-exports.exports.entries c.in_ok-exports.ensures.converts.1.0)
+    (items_in_turn c.args.types.now _ _ _ _ c.self.view_is _ _ _ _ c.as_slice.ensures c.as_slice-2.ensures c.in_ok-imports.imports.entries c.in_ok-exports.exports.entries c.in_ok-imports.ensures.converts.0 c.in_ok-exports.ensures.converts.0 c.in_ok-imports.ensures.converts.1.1 c.in_ok-exports.ensures.converts.1.1)
     c.in_ok-index.ensures.table c.in_ok-index.ensures.keeps c.in_ok-index.ensures.too_large c.in_ok-index.ensures.key))
 
 -- ---- imports and exports one by one
@@ -152,12 +156,15 @@ externs_of_items-registered_extern-requires t c = (
 )
 
 pub externs_of_items-loop-name-init : goal.externs_of_items-loop-name-init
-externs_of_items-loop-name-init t c = comes_to _ _ _ _ _ [] _ c.new-made.ensures.empty (comes_none _ _ _ [] tt)
+externs_of_items-loop-name-init t c = comes_to _ _ _ _ _ [] _ c.new-made.ensures.empty (comes_none _ _ _ [] (tt, tt))
 
 pub externs_of_items-loop-name-preserved : goal.externs_of_items-loop-name-preserved
 externs_of_items-loop-name-preserved t c =
-    one_more_came c.args.types.now c.args.self.now c.loop-name.self c.registered_extern.new.self (item_tasks c.args.types.now (tasks_of c.args.types.now)) c.args.items.now c.loop-name.name-index c.loop-name-item.result (λ xs c' made. AreItemsFrom c.args.types.now c' xs made) _ _ _ _ c.loop-name-test.true c.loop-name-item.is c.loop-name.invariant c.in_ok-next.ensures
-    (λ g k h. one_more_item c.args.types.now _ _ g (take c.loop-name.name-index c.args.items.now) c.loop-name-item.result _ _ _ k h c.in_ok-put.ensures)
+    one_more_done c.args.types.now c.args.self.now c.loop-name.self c.registered_extern.new.self (item_tasks c.args.types.now (tasks_of c.args.types.now)) c.args.items.now c.loop-name.name-index c.loop-name-item.result (λ xs c' made. AreItemsMade c.args.types.now c.args.self.now c' xs made) _ _ _ _ c.loop-name-test.true c.loop-name-item.is c.loop-name.invariant c.in_ok-next.ensures
+    (λ done g k h. (
+      one_more_item c.args.types.now _ _ g (take c.loop-name.name-index c.args.items.now) c.loop-name-item.result _ _ _ k.0 (h.0, h.1, h.2.0) c.in_ok-put.ensures,
+      one_more_last c.args.types.now (size_of (tables_of c.args.self.now)) c.registered_extern.new.self (take c.loop-name.name-index c.args.items.now) c.loop-name-item.result _ _ _ k.1 (performs_all_sizes c.args.types.now _ _ _ done) h.2.1 c.in_ok-put.ensures,
+    ))
 
 pub externs_of_items-returns-in_err-next : goal.externs_of_items-returns-in_err-next
 externs_of_items-returns-in_err-next t c = comes_out _ _ _ _ _ c.from_residual.result _ (err_from_is_err_and c.from_residual.result c.from_residual.ensures.1) (one_failed c.args.types.now _ _ _ (item_tasks c.args.types.now (tasks_of c.args.types.now)) c.args.items.now c.loop-name.name-index c.loop-name-item.result _ _ _ _ _ c.loop-name-test.true c.loop-name-item.is c.loop-name.invariant c.in_err-next.ensures)
@@ -166,4 +173,4 @@ pub externs_of_items-returns-in_err-put : goal.externs_of_items-returns-in_err-p
 externs_of_items-returns-in_err-put t c = comes_out _ _ _ _ _ c.from_residual-in_err-put.result _ (err_from_is_err_and c.from_residual-in_err-put.result c.from_residual-in_err-put.ensures.1) (one_lost c.args.types.now _ _ _ (item_tasks c.args.types.now (tasks_of c.args.types.now)) c.args.items.now c.loop-name.name-index c.loop-name-item.result _ _ _ _ _ c.loop-name-test.true c.loop-name-item.is c.loop-name.invariant c.in_ok-next.ensures)
 
 pub externs_of_items-returns : goal.externs_of_items-returns
-externs_of_items-returns t c = comes_with c.args.types.now _ _ _ (λ c' made. AreItemsFrom c.args.types.now c' c.args.items.now made) _ c.loop-name.made.entries _ (λ h. h) (all_came c.args.types.now _ _ (item_tasks c.args.types.now (tasks_of c.args.types.now)) c.args.items.now c.loop-name.name-index (λ xs c' made. AreItemsFrom c.args.types.now c' xs made) _ c.loop-name-test.false c.loop-name.invariant)
+externs_of_items-returns t c = comes_with c.args.types.now _ _ _ (λ c' made. AreItemsMade c.args.types.now c.args.self.now c' c.args.items.now made) _ c.loop-name.made.entries _ (λ h. h) (all_came c.args.types.now _ _ (item_tasks c.args.types.now (tasks_of c.args.types.now)) c.args.items.now c.loop-name.name-index (λ xs c' made. AreItemsMade c.args.types.now c.args.self.now c' xs made) _ c.loop-name-test.false c.loop-name.invariant)

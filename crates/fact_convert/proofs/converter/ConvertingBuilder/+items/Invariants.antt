@@ -2,7 +2,7 @@ use Rattle.std.proofs.Common.{◌+◌, ◌*◌, take}
 use Rattle.std.specs.Prelude.{flat_map, Ok}
 use Rattle.fact_source.specs.declared.items.ComponentEntityType.TheVariants as entity
 use Rattle.fact_source.specs.Live.{reach_of}
-use Rattle.fact_convert.specs.Steps.{Comes, AreItemsFrom}
+use Rattle.fact_convert.specs.Steps.{Comes, AreItemsMade}
 use Rattle.fact_convert.specs.Tasks.{item_tasks, tasks_of}
 use Rattle.fact_convert.proofs.Measures.{reach_of_items}
 use Rattle.fact_convert.proofs.converter.ConvertingBuilder.+items.Given as goal
@@ -26,4 +26,4 @@ abbrev pub decreases-component_type : goal.decreases-component_type
 decreases-component_type l = 5 * reach_of l.types.now (entity.Component l.id) + 1
 
 abbrev pub invariant-externs_of_items-loop-name : goal.invariant-externs_of_items-loop-name
-invariant-externs_of_items-loop-name l = Comes l.types l.fn.self (flat_map (item_tasks l.types (tasks_of l.types)) (take l.name-index l.items)) (λ c made. AreItemsFrom l.types c (take l.name-index l.items) made) l.self (Ok l.made.entries)
+invariant-externs_of_items-loop-name l = Comes l.types l.fn.self (flat_map (item_tasks l.types (tasks_of l.types)) (take l.name-index l.items)) (λ c made. AreItemsMade l.types l.fn.self c (take l.name-index l.items) made) l.self (Ok l.made.entries)

@@ -7,7 +7,7 @@ pub returns-clause-converts : goal.returns-clause-converts
 returns-clause-converts c = c.def_of_entity.ensures.converts
 
 pub returns-clause-live : goal.returns-clause-live
-returns-clause-live c = comes_live _ _ _ _ _ _ _ (def_live (reach_of c.args.types.now c.args.ty) c.args.types.now _ (c.def_of_entity.ensures.kept_live c.requires.ready.kept) c.args.ty) c.def_of_entity.ensures
+returns-clause-live c = comes_live _ _ _ _ _ _ _ (λ d h. def_live (reach_of c.args.types.now c.args.ty) c.args.types.now _ (c.def_of_entity.ensures.kept_live c.requires.ready.kept) c.args.ty d h.0) c.def_of_entity.ensures
 
 pub returns-clause-grows : goal.returns-clause-grows
 returns-clause-grows c = c.def_of_entity.ensures.grows

@@ -7,7 +7,7 @@ pub returns-clause-converts : goal.returns-clause-converts
 returns-clause-converts c = c.extern_of_item.ensures.converts
 
 pub returns-clause-live : goal.returns-clause-live
-returns-clause-live c = comes_live _ _ _ _ _ _ _ (λ y h. def_live (reach_of c.args.types.now c.args.item.now.ty) c.args.types.now _ (c.extern_of_item.ensures.kept_live c.requires.ready.kept) _ _ h.2) c.extern_of_item.ensures
+returns-clause-live c = comes_live _ _ _ _ _ _ _ (λ y h. def_live (reach_of c.args.types.now c.args.item.now.ty) c.args.types.now _ (c.extern_of_item.ensures.kept_live c.requires.ready.kept) _ _ h.2.0) c.extern_of_item.ensures
 
 pub returns-clause-grows : goal.returns-clause-grows
 returns-clause-grows c = c.extern_of_item.ensures.grows
