@@ -76,3 +76,8 @@ last_off (z ∷ xs) (w ∷ ys) x y e =
     let first : z ≡ w = cc in
     let others : xs ++ x ∷ [] ≡ ys ++ y ∷ [] = cc in
     λ i. first i ∷ last_off xs ys x y others i
+
+-- no entry is the last of none
+pub none_off : {X : Type 0} (xs ys : List X) (y : X) → xs ≡ [] → xs ≡ ys ++ y ∷ [] → ⊥
+none_off xs [] y e h = cc
+none_off xs (z ∷ ys) y e h = cc

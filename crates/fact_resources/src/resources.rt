@@ -1,6 +1,6 @@
 //! The resources of the source.
 
-ghost use Rattle.std.specs.Prelude.{◌≡◌, ◌<◌, length, is_some, Ok, Some, None, IfOk, IfErr, IsErr, OnOk, OnErr};
+ghost use Rattle.std.specs.Prelude.{◌≡◌, ◌<◌, [], length, is_some, Ok, Some, None, IfOk, IfErr, IsErr, OnOk, OnErr};
 ghost use Rattle.fact_entity.specs.declared.id.Id.{Id};
 ghost use Rattle.fact_entity.specs.declared.table.SourceResources.{SourceResources};
 ghost use Rattle.fact_entity.specs.declared.table.TypeResourceTables.{TypeResourceTables};
@@ -137,10 +137,11 @@ impl ResourcesBuilder {
         Ok(())
     }
 
-    /// Keeps the last table no longer.
-    #[tactic(auto, using(crate::proofs::TableLaws::last_off))]
+    /// Keeps the last table no longer; where none is kept, nothing changes.
+    #[tactic(auto, using(crate::proofs::TableLaws::last_off, crate::proofs::TableLaws::none_off))]
     pub fn take_table_back(&mut self)
-        ensures { (r : KnownResources) (id : Id SourceResources) (t : Id TypeResourceTables) → self.old ≡ with_table r id t → self.new ≡ r }
+        ensures taken { (r : KnownResources) (id : Id SourceResources) (t : Id TypeResourceTables) → self.old ≡ with_table r id t → self.new ≡ r }
+        ensures none { self.old.tables ≡ [] → self.new ≡ self.old }
     {
         let _taken = self.tables.pop();
     }
