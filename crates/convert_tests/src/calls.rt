@@ -6,6 +6,7 @@ ghost use Rattle.fact_types.specs.Tables.{Tables, AreLiveExterns};
 ghost use Rattle.fact_convert.specs.Conversion.{IsReadyFor};
 ghost use Rattle.fact_convert.specs.Finished.{IsLinkedComponent};
 
+use crate::cores::is_module_of_kinds;
 use crate::live::is_live_entity;
 use crate::sources::{Entries, SOURCE, fill};
 use fact_convert::{BuildError, Component, ConvertingBuilder, Export};
@@ -55,7 +56,7 @@ fn is_component(types: &SourceTypes, converter: &mut ConvertingBuilder, id: Comp
     matches!(made, Ok(TypeDef::Component(component)) if component.number == 0)
 }
 
-/// Whether the core module is converted to the first one, under the name that the outside knows it by.
+/// Whether the core module is converted to the first one, with what is said of it.
 fn is_module(types: &SourceTypes, converter: &mut ConvertingBuilder, item: &SourceItem) -> bool
     requires ready { IsReadyFor types.now converter.old }
     ensures ready { IsReadyFor types.now converter.new }
@@ -66,15 +67,18 @@ fn is_module(types: &SourceTypes, converter: &mut ConvertingBuilder, item: &Sour
     let Ok(made) = converter.convert_component_item(types, item) else {
         return false;
     };
-    let named = matches!(&made.extern_data.external_id, Some(name) if name.as_str() == "outside");
-    named && matches!(made.ty, TypeDef::Module(module) if module.number == 0)
+    let data = &made.extern_data;
+    let named = matches!(&data.external_id, Some(name) if name.as_str() == "outside")
+        && matches!(&data.implements, Some(name) if name.as_str() == "interface");
+    let types = converter.types();
+    named && matches!(made.ty, TypeDef::Module(i) if i.number == 0 && is_module_of_kinds(types, i))
 }
 
-/// The core module as an import that has a name outside.
+/// The core module as an import that has both names.
 fn module_item(alloc: Global, entries: Entries) -> Result<SourceItem, OutOfMemory> {
     Ok(SourceItem {
         ty: ComponentEntityType::Module(entries.module),
-        implements: None,
+        implements: Some(Text::from_str(alloc, "interface")?),
         external_id: Some(Text::from_str(alloc, "outside")?),
     })
 }
@@ -141,7 +145,7 @@ fn have_tables(types: &SourceTypes, converter: &mut ConvertingBuilder, entries: 
 }
 
 /// A builder in which an instance is set.
-fn builder_in_instance(alloc: Global) -> ConvertingBuilder
+pub fn builder_in_instance(alloc: Global) -> ConvertingBuilder
     ensures source { result.builder.source ≡ 7 }
     ensures none_kept { result.resources.tables ≡ [] }
 {

@@ -1,9 +1,15 @@
-//! Tests of conversions: each call that takes memory once, with the rows that tell which tables and which refusals come; of the tables of
-//! a source and of what is known of its resources, each call once; and of traces.
+//! Tests of conversions: each call that takes memory once, a type of each kind, and each refusal; of the tables of a source and of what is
+//! known of its resources, each call once; and of traces.
 #![tactic(auto)]
 
 #[cfg(test)]
 mod calls;
+#[cfg(test)]
+mod cores;
+#[cfg(test)]
+mod each;
+#[cfg(test)]
+mod kinds;
 #[cfg(test)]
 mod live;
 #[cfg(test)]

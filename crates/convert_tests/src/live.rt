@@ -1,10 +1,11 @@
 //! Whether types of a source name entries that it holds.
 
 ghost use Rattle.std.specs.Prelude.{IsTrue, length};
-ghost use Rattle.fact_source.specs.Live.{IsValueBelow, IsPayloadBelow, IsLiveSourceFunc, IsLiveAny, IsLiveEntity, AreLiveItems};
+ghost use Rattle.fact_source.specs.Live.{IsValueBelow, IsPayloadBelow, IsLiveDefined, IsLiveSourceFunc, IsLiveAny, IsLiveEntity, AreLiveItems};
 
 use fact_source::{
-    ComponentAnyTypeId, ComponentEntityType, ComponentValType, SourceFunc, SourceItem, SourceTypes,
+    ComponentAnyTypeId, ComponentDefinedType, ComponentEntityType, ComponentValType, SourceFunc,
+    SourceItem, SourceTypes,
 };
 use fact_wasm::{Seq, Text};
 
@@ -25,6 +26,41 @@ fn is_live_payload(types: &SourceTypes, payload: &Option<ComponentValType>) -> b
     match payload {
         Some(ty) => is_live(types, ty),
         None => true,
+    }
+}
+
+/// Whether each type that a defined type names is such a type, and its resource is there.
+pub fn is_live_defined(types: &SourceTypes, entry: &ComponentDefinedType) -> bool
+    ensures { IsTrue result → IsLiveDefined types.now entry.now }
+{
+    match entry {
+        ComponentDefinedType::Record(fields) => {
+            fields
+                .as_slice()
+                .iter()
+                .all(|field| is_live(types, &field.1))
+        }
+        ComponentDefinedType::Variant(cases) => cases
+            .as_slice()
+            .iter()
+            .all(|case| is_live_payload(types, &case.1)),
+        ComponentDefinedType::Tuple(members) => {
+            members.as_slice().iter().all(|ty| is_live(types, ty))
+        }
+        ComponentDefinedType::Map(key, value) => is_live(types, key) && is_live(types, value),
+        ComponentDefinedType::List(ty) => is_live(types, ty),
+        ComponentDefinedType::Option(ty) => is_live(types, ty),
+        ComponentDefinedType::FixedLengthList(ty, _) => is_live(types, ty),
+        ComponentDefinedType::Result { ok, err } => {
+            is_live_payload(types, ok) && is_live_payload(types, err)
+        }
+        ComponentDefinedType::Own(id) => types.has_resource(*id),
+        ComponentDefinedType::Borrow(id) => types.has_resource(*id),
+        ComponentDefinedType::Future(payload) => is_live_payload(types, payload),
+        ComponentDefinedType::Stream(payload) => is_live_payload(types, payload),
+        ComponentDefinedType::Primitive(_) => true,
+        ComponentDefinedType::Flags(_) => true,
+        ComponentDefinedType::Enum(_) => true,
     }
 }
 

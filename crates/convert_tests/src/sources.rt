@@ -2,15 +2,16 @@
 
 ghost use Rattle.std.specs.Prelude.{◌≡◌, ◌∷◌, [], IfOk};
 
+use crate::cores::add_module;
 use crate::live::{are_live_items, is_live_func};
 use fact_entity::{OutOfMemory, PushError, ResourceId};
 use fact_source::{
     ComponentAnyTypeId, ComponentCoreModuleTypeId, ComponentDefinedType, ComponentDefinedTypeId,
     ComponentEntityType, ComponentFuncTypeId, ComponentInstanceTypeId, ComponentTypeId,
-    ComponentValType, PrimitiveValType, SourceComponent, SourceEntityType, SourceFunc,
-    SourceInstance, SourceItem, SourceModule, SourceTypes,
+    ComponentValType, PrimitiveValType, SourceComponent, SourceFunc, SourceInstance, SourceItem,
+    SourceTypes,
 };
-use fact_wasm::{FuncType, Seq, Text, ValType};
+use fact_wasm::{Seq, Text};
 use std::alloc::Global;
 use std::process::Abort;
 
@@ -34,7 +35,7 @@ pub struct Entries {
 }
 
 /// A list of one item.
-fn list_of<T: Drop>(alloc: Global, item: T) -> Result<Seq<T>, OutOfMemory>
+pub fn list_of<T: Drop>(alloc: Global, item: T) -> Result<Seq<T>, OutOfMemory>
     ensures { IfOk result (λ items. items ≡ item ∷ []) }
 {
     let mut items = Seq::new(alloc);
@@ -61,7 +62,7 @@ fn add_taking(
 }
 
 /// An export of which nothing else is said.
-fn export(
+pub fn export(
     alloc: Global,
     name: &str,
     ty: ComponentEntityType,
@@ -92,22 +93,6 @@ fn add_exporting(
     }
     assert!(rt; are_live_items(types, &exports));
     types.add_instance(SourceInstance { exports })
-}
-
-/// A core module that exports a function from an i32 to an i64.
-fn add_module(
-    alloc: Global,
-    types: &mut SourceTypes,
-) -> Result<ComponentCoreModuleTypeId, PushError> {
-    let FuncType { params, results } = FuncType::from_slices(
-        alloc,
-        &[ValType::I32],
-        &[ValType::I64],
-    )?;
-    let func = SourceEntityType::Func { params, results };
-    let exports = list_of(alloc, (Text::from_str(alloc, "f")?, func))?;
-    let imports = Seq::new(alloc);
-    types.add_module(SourceModule { imports, exports })
 }
 
 /// Fills a source.

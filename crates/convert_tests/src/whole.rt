@@ -76,7 +76,7 @@ fn holds_handle(types: &SourceTypes, converter: &mut ConvertingBuilder, entries:
 }
 
 /// Why an import or export is refused.
-fn refusal(
+pub fn refusal(
     types: &SourceTypes,
     converter: &mut ConvertingBuilder,
     ty: ComponentEntityType,
