@@ -112,7 +112,7 @@ avoids_low : {A : Type 0} (debug : Bool) (v : CoreValue) {k : ℕ → Action A} 
 avoids_low true (I64 n) h = avoids_unless _ (nat_lt n (2 ^ 32)) refl (λ e. h _)
 avoids_low true (I32 n) h = h _
 avoids_low true (F32 n) h = h _
-avoids_low true (F64 n) h = h _
+avoids_low true (F64 n) h = avoids_unless _ (nat_lt n (2 ^ 32)) refl (λ e. h _)
 avoids_low true (Func f) h = h _
 avoids_low false v h = h _
 

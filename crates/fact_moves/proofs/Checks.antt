@@ -86,7 +86,7 @@ checks_low : {A : Type 0} (debug : Bool) (v : CoreValue) {k l : ℕ → Action A
 checks_low true (I64 n) h = checks_more DebugAssertUpperBitsUnset (nat_lt n (2 ^ 32)) refl (h _)
 checks_low true (I32 n) h = h _
 checks_low true (F32 n) h = h _
-checks_low true (F64 n) h = h _
+checks_low true (F64 n) h = checks_more DebugAssertUpperBitsUnset (nat_lt n (2 ^ 32)) refl (h _)
 checks_low true (Func f) h = h _
 checks_low false v h = h _
 

@@ -64,7 +64,7 @@ module _ {Has : CoreDef → Type 0} {P : ℕ → (A : Type 0) → Action A → T
   low_kept c A true (I32 n) k h = h _
   low_kept c A true (I64 n) k h = unless_kept c A _ (nat_lt n (2 ^ 32)) (k (n % 2 ^ 32)) (h _)
   low_kept c A true (F32 n) k h = h _
-  low_kept c A true (F64 n) k h = h _
+  low_kept c A true (F64 n) k h = unless_kept c A _ (nat_lt n (2 ^ 32)) (k (n % 2 ^ 32)) (h _)
   low_kept c A true (Func f) k h = h _
   low_kept c A false v k h = h _
 

@@ -1,4 +1,7 @@
 pub mod AdapterEnds
+pub mod Alike
+pub mod AlikeMoves
+pub mod AlikeRuns
 pub mod AlignedMoves
 pub mod Asking
 pub mod Avoids
@@ -9,6 +12,7 @@ pub mod Checks
 pub mod Confines
 pub mod Few
 pub mod Follows
+pub mod GivenSlots
 mod HonestCases
 pub mod Kept
 pub mod Moved

@@ -101,7 +101,7 @@ module _ (p : ImportPlaces) (next : Call → Position → Position) (l : Landing
   low_w live w true (I32 n) k Q h = h _
   low_w live w true (I64 n) k Q h = unless_w live w DebugAssertUpperBitsUnset (nat_lt n (2 ^ 32)) (k (n % 2 ^ 32)) Q (λ t. h _)
   low_w live w true (F32 n) k Q h = h _
-  low_w live w true (F64 n) k Q h = h _
+  low_w live w true (F64 n) k Q h = unless_w live w DebugAssertUpperBitsUnset (nat_lt n (2 ^ 32)) (k (n % 2 ^ 32)) Q (λ t. h _)
   low_w live w true (Func f) k Q h = h _
   low_w live w false v k Q h = h _
 

@@ -1,6 +1,7 @@
 pub mod Actions
 pub mod AdapterLaws
 pub mod Adapters
+pub mod Alike
 pub mod Calls
 pub mod Confined
 pub mod Honest

@@ -65,9 +65,10 @@ abbrev pub first_bits : List CoreValue → ℕ
 first_bits [] = 0
 first_bits (v ∷ vs) = bits_of v
 
--- An i64 where 32 bits are asked for is read by its low half; with debug checks the rest has to be 0.
+-- A number of 64 bits where 32 bits are asked for is read by its low half; with debug checks the rest has to be 0.
 abbrev pub low_half : {A : Type 0} → Bool → CoreValue → (ℕ → Action A) → Action A
 low_half true (I64 n) k = unless DebugAssertUpperBitsUnset (nat_lt n (2 ^ 32)) (k (n % 2 ^ 32))
+low_half true (F64 n) k = unless DebugAssertUpperBitsUnset (nat_lt n (2 ^ 32)) (k (n % 2 ^ 32))
 low_half debug v k = k (bits_of v % 2 ^ 32)
 
 -- a number of so many bytes among core values

@@ -1,6 +1,7 @@
 //! Laws of actions and of adapters.
 
 ghost use Rattle.fact_moves.specs.AdapterLaws.{CallsAreFew, StartCallsAreFew, ReturnCallsAreFew, SyncRunsFollow, CallsAreOrdered, CalleeIsCalledOnce, SourcesAreLeft, TypedRunsStay, TypedStartsStay, TypedReturnsStay, WritesAreOwn, StartWritesAreOwn, ReturnWritesAreOwn, OutcomesAreNamed, StartIsTransfer, ReturnIsTransfer, StartLeavesSource, ReturnLeavesSource, RequestsGrow, ChecksOnlyStop, ValidTypesServe, PlacesAreAligned, StartPlacesAreAligned, ReturnPlacesAreAligned, SameInstanceTraps, TypedSameInstanceStays, AsyncCallsTwice, AsyncCallsWriteNothing, TypedAsyncCallsStay};
+ghost use Rattle.fact_moves.specs.Alike.{MovesAreAlike, MovesFillSlots};
 ghost use Rattle.fact_moves.specs.Laws.{BindsAssociate, BindsRun, RunsFollow, RunsAreNamed};
 
 /// What holds of actions and their runs, whatever they do. The call does nothing: its contract is the laws.
@@ -46,4 +47,12 @@ pub fn laws_of_async_adapters()
     ensures async_calls_twice { AsyncCallsTwice }
     ensures async_calls_write_nothing { AsyncCallsWriteNothing }
     ensures typed_async_calls_stay { TypedAsyncCallsStay }
+{}
+
+/// What holds of moves out of and into core values of other types, for functions that move values for others: one takes each number as
+/// an i64, and gives values of flat types, whatever the slots of the move are. No code calls such a function yet. The call does nothing:
+/// its contract is the laws.
+pub fn laws_of_moves()
+    ensures moves_are_alike { MovesAreAlike }
+    ensures moves_fill_slots { MovesFillSlots }
 {}

@@ -137,7 +137,7 @@ module _ (c : TransferSetting) (next : Call → Position → Position) (steps : 
     fine_low true (I64 n) k h = fine_unless _ (nat_lt n (2 ^ 32)) _ (λ yes. h _)
     fine_low true (I32 n) k h = h _
     fine_low true (F32 n) k h = h _
-    fine_low true (F64 n) k h = h _
+    fine_low true (F64 n) k h = fine_unless _ (nat_lt n (2 ^ 32)) _ (λ yes. h _)
     fine_low true (Func f) k h = h _
     fine_low false v k h = h _
 

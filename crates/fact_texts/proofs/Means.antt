@@ -58,7 +58,7 @@ silent_low : {A : Type 0} (debug : Bool) (v : CoreValue) (k : ℕ → Action A) 
 silent_low true (I64 n) k h = silent_unless _ (nat_lt n (2 ^ 32)) _ (λ yes. h _)
 silent_low true (I32 n) k h = h _
 silent_low true (F32 n) k h = h _
-silent_low true (F64 n) k h = h _
+silent_low true (F64 n) k h = silent_unless _ (nat_lt n (2 ^ 32)) _ (λ yes. h _)
 silent_low true (Func f) k h = h _
 silent_low false v k h = h _
 

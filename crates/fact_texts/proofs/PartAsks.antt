@@ -104,7 +104,7 @@ module _ (c : TransferSetting) (known : HasKnownSides c) where
     low_parts true (I64 n) k h = parts_unless _ (nat_lt n (2 ^ 32)) (λ yes. h)
     low_parts true (I32 n) k h = h
     low_parts true (F32 n) k h = h
-    low_parts true (F64 n) k h = h
+    low_parts true (F64 n) k h = parts_unless _ (nat_lt n (2 ^ 32)) (λ yes. h)
     low_parts true (Func f) k h = h
     low_parts false v k h = h
 

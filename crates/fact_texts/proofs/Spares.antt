@@ -149,7 +149,7 @@ module _ (Good : Import → (args results : List CoreValue) → Type 0) where
   spares_low true (core.I64 n) c h = let e : n ≡ n % 2 ^ 32 = c in spares_pass DebugAssertUpperBitsUnset (nat_lt n (2 ^ 32)) (lt-ltb n (2 ^ 32) (omega (arith, e))) (h _ refl)
   spares_low true (core.I32 n) c h = h _ refl
   spares_low true (core.F32 n) c h = h _ refl
-  spares_low true (core.F64 n) c h = h _ refl
+  spares_low true (core.F64 n) c h = let e : n ≡ n % 2 ^ 32 = c in spares_pass DebugAssertUpperBitsUnset (nat_lt n (2 ^ 32)) (lt-ltb n (2 ^ 32) (omega (arith, e))) (h _ refl)
   spares_low true (core.Func f) c h = h _ refl
   spares_low false v c h = h _ refl
 
