@@ -104,7 +104,7 @@ pub slots_more : (used : ℕ → Bool) (ss : List Slot) (i : ℕ) → used i ≡
 slots_more used [] i u = u
 slots_more used (s ∷ ss) i u = local_more (with_slots used ss) s.0 i (slots_more used ss i u)
 
-slots_other : (used : ℕ → Bool) (ss : List Slot) (i : ℕ) → IsNone i ss → used i ≡ false → with_slots used ss i ≡ false
+pub slots_other : (used : ℕ → Bool) (ss : List Slot) (i : ℕ) → IsNone i ss → used i ≡ false → with_slots used ss i ≡ false
 slots_other used [] i n u = u
 slots_other used (s ∷ ss) i n u = local_other (with_slots used ss) s.0 i n.0 (slots_other used ss i n.1 u)
 

@@ -11,6 +11,8 @@ pub mod FixedMoves
 pub mod Functions
 pub mod Guards
 pub mod Handles
+pub mod HelperCalls
+pub mod HelperMoves
 pub mod Keeping
 pub mod KnowsLaws
 pub mod Lengths

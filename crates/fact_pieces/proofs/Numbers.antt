@@ -149,22 +149,19 @@ module _ {A : Type 0} (vs : List CoreValue) (k : ℕ → Action A) where
   value_read N32 v = refl
   value_read N64 v = refl
 
-  low_read : (t : ValType) (v : CoreValue) → has_type v t ≡ true → is_halved N32 t ≡ false → low_half true v k ≡ k (bits_of v % 2 ^ 32)
-  low_read val.I64 v h e = cc
-  low_read val.I32 (I64 x) h e = cc
-  low_read val.F32 (I64 x) h e = cc
-  low_read val.F64 (I64 x) h e = cc
-  low_read val.FuncRef (I64 x) h e = cc
-  low_read _ (I32 x) h e = refl
-  low_read _ (F32 x) h e = refl
-  low_read _ (F64 x) h e = refl
-  low_read _ (Func f) h e = refl
+  low_read : (t : ValType) (v : CoreValue) → MayHoldI32 t → has_type v t ≡ true → is_halved N32 t ≡ false → low_half true v k ≡ k (bits_of v % 2 ^ 32)
+  low_read val.I64 v m h e = cc
+  low_read val.F64 v m h e = absurd m
+  low_read val.FuncRef v m h e = absurd m
+  low_read val.I32 (I32 x) m h e = refl
+  low_read val.F32 (F32 x) m h e = refl
+  low_read _ _ m h e = cc
 
-  whole_read : (n : Number) (t : ValType) (v : CoreValue) → has_type v t ≡ true → is_halved n t ≡ false → in_value true (size_of n) (v ∷ vs) k ≡ k (number_in n v)
-  whole_read N64 t v h e = refl
-  whole_read N8 t v h e = low_read t v h e
-  whole_read N16 t v h e = low_read t v h e
-  whole_read N32 t v h e = low_read t v h e
+  whole_read : (n : Number) (t : ValType) (v : CoreValue) → MayHold n t → has_type v t ≡ true → is_halved n t ≡ false → in_value true (size_of n) (v ∷ vs) k ≡ k (number_in n v)
+  whole_read N64 t v m h e = refl
+  whole_read N8 t v m h e = low_read t v m h e
+  whole_read N16 t v m h e = low_read t v m h e
+  whole_read N32 t v m h e = low_read t v m h e
 
   -- and where one is
   half_read : (n : Number) (t : ValType) (x : ℕ) → is_halved n t ≡ true → in_value true (size_of n) (I64 x ∷ vs) k ≡ unless DebugAssertUpperBitsUnset (nat_lt x (2 ^ 32)) (k (number_in n (I64 x)))
@@ -182,7 +179,7 @@ module _ {A : Type 0} {M : WasmModule} {p : ImportPlaces} {way : Way} {extra spa
   local_reads : (checks : DebugChecks) (halved : Bool) → is_halved n t ≡ halved → HasUpper M p checks halved
       → Does M p way (8 + extra) spare ins ls (upper_check checks halved i ++ (I.LocalGet i ∷ (narrow n t ++ c))) (in_value (is_on checks) (size_of n) (v ∷ vs) k) out Holds
   local_reads Off halved e h = subst (λ q. Does M p way (8 + extra) spare ins ls (I.LocalGet i ∷ (narrow n t ++ c)) q out Holds) (sym (value_read vs k n v)) (within (omega arith) unchecked)
-  local_reads (On upper aligned) false e h = subst (λ q. Does M p way (8 + extra) spare ins ls (I.LocalGet i ∷ (narrow n t ++ c)) q out Holds) (sym (whole_read vs k n t v (value_type v t value) e)) (within (omega arith) unchecked)
+  local_reads (On upper aligned) false e h = subst (λ q. Does M p way (8 + extra) spare ins ls (I.LocalGet i ∷ (narrow n t ++ c)) q out Holds) (sym (whole_read vs k n t v may (value_type v t value) e)) (within (omega arith) unchecked)
   local_reads (On upper aligned) true e h =
       let x = halved_value n t v (value_type v t value) e in
       let is : in_value true (size_of n) (v ∷ vs) k ≡ unless DebugAssertUpperBitsUnset (nat_lt x.0 (2 ^ 32)) (k (number_in n v)) =

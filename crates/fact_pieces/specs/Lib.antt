@@ -4,6 +4,7 @@ pub mod Code
 pub mod Context
 pub mod Does
 pub mod FixedLists
+pub mod Helpers
 pub mod Knows
 pub mod Lists
 pub mod PieceLaws
