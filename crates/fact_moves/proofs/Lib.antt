@@ -22,6 +22,7 @@ pub mod Names
 pub mod Once
 pub mod Ordered
 pub mod Orderly
+mod OutlinedRows
 pub mod Owned
 pub mod OwnMoves
 pub mod OwnParts

@@ -8,6 +8,8 @@ pub mod Honest
 pub mod Laws
 pub mod Moves
 pub mod Order
+pub mod OutlinedRows
+pub mod Outlining
 pub mod Paths
 pub mod Plain
 pub mod Regions

@@ -2,6 +2,7 @@
 
 ghost use Rattle.fact_moves.specs.AdapterLaws.{CallsAreFew, StartCallsAreFew, ReturnCallsAreFew, SyncRunsFollow, CallsAreOrdered, CalleeIsCalledOnce, SourcesAreLeft, TypedRunsStay, TypedStartsStay, TypedReturnsStay, WritesAreOwn, StartWritesAreOwn, ReturnWritesAreOwn, OutcomesAreNamed, StartIsTransfer, ReturnIsTransfer, StartLeavesSource, ReturnLeavesSource, RequestsGrow, ChecksOnlyStop, ValidTypesServe, PlacesAreAligned, StartPlacesAreAligned, ReturnPlacesAreAligned, SameInstanceTraps, TypedSameInstanceStays, AsyncCallsTwice, AsyncCallsWriteNothing, TypedAsyncCallsStay};
 ghost use Rattle.fact_moves.specs.Alike.{MovesAreAlike, MovesFillSlots};
+ghost use Rattle.fact_moves.specs.OutlinedRows.{ThreeChars, HelpersAreShared, NestOfLists, FixedLists, FuelOfFunctions, FreeTypes, OrdersOfMembers};
 ghost use Rattle.fact_moves.specs.Laws.{BindsAssociate, BindsRun, RunsFollow, RunsAreNamed};
 
 /// What holds of actions and their runs, whatever they do. The call does nothing: its contract is the laws.
@@ -55,4 +56,16 @@ pub fn laws_of_async_adapters()
 pub fn laws_of_moves()
     ensures moves_are_alike { MovesAreAlike }
     ensures moves_fill_slots { MovesFillSlots }
+{}
+
+/// Rows of the definition by which functions leave translations to helpers, each worked out by hand. No code goes by that definition yet.
+/// The call does nothing: its contract is the rows.
+pub fn rows_of_outlining()
+    ensures three_chars { ThreeChars }
+    ensures helpers_are_shared { HelpersAreShared }
+    ensures nest_of_lists { NestOfLists }
+    ensures fixed_lists { FixedLists }
+    ensures fuel_of_functions { FuelOfFunctions }
+    ensures free_types { FreeTypes }
+    ensures orders_of_members { OrdersOfMembers }
 {}

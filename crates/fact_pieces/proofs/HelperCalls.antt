@@ -198,13 +198,14 @@ takes_all used ls (g ∷ fs) [] us ts r v d f = absurd r
 takes_all used ls (g ∷ fs) (s ∷ ss) [] ts r v d f = absurd v
 takes_all used ls (g ∷ fs) (s ∷ ss) (u ∷ us) [] r v d f = absurd f
 takes_all {M} {p} used ls (g ∷ fs) (s ∷ ss) (u ∷ us) (t ∷ ts) r v d f =
+    let le : 3 * length ss + 3 + 0 ≤ 3 * suc (length ss) + 0 = omega arith in
     let first : Does M p Onward (3 * length ss) 0 (reverse us ++ u ∷ []) ls (take_code fs ss) (Give (retyped ss us)) (λ vs. u ∷ []) (λ vs ls'. AreHeld ls' ss vs × KeepsLocals used ls ls') =
     framed (u ∷ []) (takes_all used ls fs ss us ts r.1 v.1 d.1 f.3) in
     let both : Does M p Onward (3 * length ss + 3) 0 (reverse us ++ u ∷ []) ls (take_code fs ss ++ set_code g s) (Give (core_value s.1 (bits_of u) ∷ retyped ss us)) (λ vs. []) (λ vs ls'. AreHeld ls' (s ∷ ss) vs × KeepsLocals used ls ls') =
     in_turn first (λ vs ls1 h.
     let at : slice_get (held_types ls1) s.0 ≡ Some s.1 = ap (λ l. slice_get l s.0) h.1.types ∙ f.1 ∙ ap (λ x. Some x) (sym f.0) in
     weaker (λ us. refl) (λ us ls2 k. (k.0, keeps_then h.1 k.1)) (sets_one used ls1 g s u ss vs r.0 v.0 d.0 at f.2 h.0)) in
-    within (omega arith) (subst (λ vs. Does M p Onward (3 * length ss + 3) 0 vs ls (take_code fs ss ++ set_code g s) (Give (core_value s.1 (bits_of u) ∷ retyped ss us)) (λ vs. []) (λ vs ls'. AreHeld ls' (s ∷ ss) vs × KeepsLocals used ls ls')) (sym (reverse-append (u ∷ []) us)) both)
+    within le (subst (λ vs. Does M p Onward (3 * length ss + 3) 0 vs ls (take_code fs ss ++ set_code g s) (Give (core_value s.1 (bits_of u) ∷ retyped ss us)) (λ vs. []) (λ vs ls'. AreHeld ls' (s ∷ ss) vs × KeepsLocals used ls ls')) (sym (reverse-append (u ∷ []) us)) both)
 
 -- ---- the call
 

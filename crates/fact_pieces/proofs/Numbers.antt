@@ -11,7 +11,7 @@ use Rattle.fact_wasm.specs.declared.instr.Instr.{Instr}
 use Rattle.fact_wasm.specs.declared.instr.Instr.TheVariants as I
 use Rattle.fact_wasm.specs.declared.module.WasmModule.{WasmModule}
 use Rattle.fact_machine.specs.declared.types.CoreValue.{CoreValue}
-use Rattle.fact_machine.specs.declared.types.CoreValue.TheVariants.{I32, I64, F32, F64, Func}
+use Rattle.fact_machine.specs.declared.types.CoreValue.TheVariants.{I32, I64, F32, F64}
 use Rattle.fact_machine.specs.World.{World}
 use Rattle.fact_machine.specs.Machine.{has_type}
 use Rattle.fact_machine.proofs.Laws.{leaves_next, leaves_none, leaves_as}
