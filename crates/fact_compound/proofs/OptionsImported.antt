@@ -3,7 +3,7 @@ use Rattle.std.proofs.Common.{◌≡◌, Bool, sym, subst}
 use Rattle.fact_emit.specs.Imports.{Extended}
 use Rattle.fact_emit.specs.States.{ModuleSoFar}
 use Rattle.fact_emit.specs.StringPieces.{AreSidesImported}
-use Rattle.fact_emit.proofs.SidesImported.{memory_later, realloc_later}
+use Rattle.fact_emit.proofs.SidesImported.{memory_later, realloc_later, wide_later}
 use Rattle.fact_compound.specs.Described.{AreOptionsImported}
 use Rattle.fact_compound.specs.Passed.{params_sides, results_sides}
 use Rattle.fact_compound.specs.declared.adapters.AdapterData.{AdapterData}
@@ -14,13 +14,14 @@ options_later x h = record {
   lower = realloc_later x h.lower;
   lift_memory = memory_later x h.lift_memory;
   lower_memory = memory_later x h.lower_memory;
+  wide = record { lift = wide_later x h.wide.lift; lower = wide_later x h.wide.lower };
 }
 
 pub options_same : {d : AdapterData} {s s' : ModuleSoFar} → s' ≡ s → AreOptionsImported d s → AreOptionsImported d s'
 options_same {d} e h = subst (AreOptionsImported d) (sym e) h
 
 pub params_imported : {d : AdapterData} {debug concurrency : Bool} {s : ModuleSoFar} → AreOptionsImported d s → AreSidesImported (params_sides d debug concurrency) s
-params_imported h = record { realloc = h.lift; from_memory = h.lower_memory; to_memory = h.lift_memory }
+params_imported h = record { realloc = h.lift; from_memory = h.lower_memory; to_memory = h.lift_memory; from_wide = h.wide.lower; to_wide = h.wide.lift }
 
 pub results_imported : {d : AdapterData} {debug concurrency : Bool} {s : ModuleSoFar} → AreOptionsImported d s → AreSidesImported (results_sides d debug concurrency) s
-results_imported h = record { realloc = h.lower; from_memory = h.lift_memory; to_memory = h.lower_memory }
+results_imported h = record { realloc = h.lower; from_memory = h.lift_memory; to_memory = h.lower_memory; from_wide = h.wide.lift; to_wide = h.wide.lower }

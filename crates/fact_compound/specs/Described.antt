@@ -27,7 +27,7 @@ use Rattle.fact_emit.specs.Areas.{IsLinearMemoryOf}
 use Rattle.fact_emit.specs.ImportSection.{custom_page_size}
 use Rattle.fact_emit.specs.declared.places.LinearMemory.{LinearMemory}
 use Rattle.fact_emit.specs.Requests.{IsReallocImported, IsReallocOf, ServesLists}
-use Rattle.fact_emit.specs.StringPieces.{IsMemoryImported}
+use Rattle.fact_emit.specs.StringPieces.{IsMemoryImported, IsMemoryWide}
 use Rattle.fact_emit.specs.States.{ModuleSoFar}
 use Rattle.fact_translate.specs.Movable.{CanMoveFields}
 use Rattle.fact_compound.specs.declared.adapters.AdapterOptions.{AdapterOptions}
@@ -55,12 +55,18 @@ linear_of o = record {
   encoding = o.options.string_encoding;
 }
 
--- The reallocs and the memories of both sides, where they have some, are imported.
+-- The memories of both sides, where they have some, have addresses of the widths of the data.
+pub record AreOptionsWide (d : AdapterData) (s : ModuleSoFar) : Type 0 where
+  pub lift : IsMemoryWide (linear_of d.lift) s
+  pub lower : IsMemoryWide (linear_of d.lower) s
+
+-- The reallocs and the memories of both sides, where they have some, are imported, and so are the memories with their widths.
 pub record AreOptionsImported (d : AdapterData) (s : ModuleSoFar) : Type 0 where
   pub lift : IsReallocImported (linear_of d.lift) s
   pub lower : IsReallocImported (linear_of d.lower) s
   pub lift_memory : IsMemoryImported (linear_of d.lift) s
   pub lower_memory : IsMemoryImported (linear_of d.lower) s
+  pub wide : AreOptionsWide d s
 
 -- ---- sides
 

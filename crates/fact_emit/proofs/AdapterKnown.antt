@@ -30,20 +30,20 @@ use Rattle.fact_emit.proofs.LinkLaws.{knows_flags, knows_function, knows_memory}
 
 -- ---- the steps are links of the mentions
 
-abbrev flags_mention : Side → Mention
+abbrev pub flags_mention : Side → Mention
 flags_mention s = record { def = def.InstanceFlags (record { table = _; number = s.instance }); role = Flags s.instance }
 
-abbrev realloc_mention : Side → List Mention
+abbrev pub realloc_mention : Side → List Mention
 realloc_mention s = mention (Realloc (is_wide s.memory)) s.realloc
 
-abbrev callback_mention : Side → List Mention
+abbrev pub callback_mention : Side → List Mention
 callback_mention s = mention Callback s.callback
 
 -- mentions are linked, with places that are found
-abbrev Links : (old new : ModuleSoFar) → List Mention → Type 0
+abbrev pub Links : (old new : ModuleSoFar) → List Mention → Type 0
 Links old new ms = (places : List ℕ) × AreLinked old new ms places
 
-memory_links : (old new : ModuleSoFar) (o : Option MemoryOption) (place : Option ℕ) → IsMemoryLinked old new o place → Links old new (memory_mention o)
+pub memory_links : (old new : ModuleSoFar) (o : Option MemoryOption) (place : Option ℕ) → IsMemoryLinked old new o place → Links old new (memory_mention o)
 memory_links old new None place l = ([], l.0)
 memory_links old new (Some m) place l = (l.number ∷ [], (new, l.linked, refl))
 
@@ -58,7 +58,7 @@ module _ (old new : ModuleSoFar) (s : Side) (at : SideLinks) (l : IsSideLinked o
   behind_realloc : Links l.supplied new (callback_mention s)
   behind_realloc = any_links l.supplied new Callback s.callback at.callback l.callback
 
-  behind_memory : Links l.stored new (realloc_mention s ++ callback_mention s)
+  pub behind_memory : Links l.stored new (realloc_mention s ++ callback_mention s)
   behind_memory = joined l.stored l.supplied new (realloc_mention s) (callback_mention s) (any_links l.stored l.supplied (Realloc (is_wide s.memory)) s.realloc at.realloc l.realloc) behind_realloc
 
   behind_flags : Links l.flagged new (memory_mention s.memory ++ (realloc_mention s ++ callback_mention s))
@@ -68,17 +68,17 @@ module _ (old new : ModuleSoFar) (s : Side) (at : SideLinks) (l : IsSideLinked o
   side_links = (at.flags ∷ behind_flags.0, (l.flagged, l.flags, behind_flags.1))
 
 -- the mentions behind those of the sides
-abbrev ends : LinkedAdapter → List Mention
+abbrev pub ends : LinkedAdapter → List Mention
 ends a = record { def = a.callee; role = Callee a.name a.lift.core_type } ∷ mention (PostReturn a.name a.lift.core_type.results) a.lift.post_return
 
 module _ (old new : ModuleSoFar) (a : LinkedAdapter) (at : AdapterLinks) (l : IsAdapterLinked old new a at) where
   behind_callee : Links l.called new (mention (PostReturn a.name a.lift.core_type.results) a.lift.post_return)
   behind_callee = any_links l.called new (PostReturn a.name a.lift.core_type.results) a.lift.post_return at.post_return l.post_return
 
-  behind_lower : Links l.lowered new (ends a)
+  pub behind_lower : Links l.lowered new (ends a)
   behind_lower = (at.callee ∷ behind_callee.0, (l.called, l.callee, behind_callee.1))
 
-  behind_lift : Links l.lifted new (side_mentions a.lower ++ ends a)
+  pub behind_lift : Links l.lifted new (side_mentions a.lower ++ ends a)
   behind_lift = joined l.lifted l.lowered new (side_mentions a.lower) (ends a) (side_links l.lifted l.lowered a.lower at.lower l.lower) behind_lower
 
   -- all mentions of an adapter are linked
@@ -88,7 +88,7 @@ module _ (old new : ModuleSoFar) (a : LinkedAdapter) (at : AdapterLinks) (l : Is
 -- ---- what a side mentions
 
 module _ (s : Side) where
-  memory_mentioned : (m : MemoryOption) → s.memory ≡ Some m → Contains (side_mentions s) (record { def = m.def; role = Storage m.memory64 m.page_size_log2 })
+  pub memory_mentioned : (m : MemoryOption) → s.memory ≡ Some m → Contains (side_mentions s) (record { def = m.def; role = Storage m.memory64 m.page_size_log2 })
   memory_mentioned m is = there-get (side_mentions s) 1 _ (rw is refl)
 
   realloc_mentioned : (f : CoreDef) → s.realloc ≡ Some f → Contains (side_mentions s) (record { def = f; role = Realloc (is_wide s.memory) })

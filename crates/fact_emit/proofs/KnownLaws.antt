@@ -38,7 +38,7 @@ module _ {old new : ModuleSoFar} {ms : List Mention} where
       })
 
   -- an import that has the names and the type of what it is
-  known_import : {w : WasmImport} {i : Import} {place : ℕ} → IsImported old new w i place → IsNamed old.types ms old.section w i → IsNamedIfTranscoder old.types (memories_of old) w i → AreKnown old ms → AreKnown new ms
+  known_import : {w : WasmImport} {i : Import} {place : ℕ} → IsImported old new w i place → IsNamed old.types ms old.section w i → IsNamedIfTranscoder old.types old.section (memories_of old) w i → AreKnown old ms → AreKnown new ms
   known_import {w} {i} x n m h =
       elim x.step [
         | inl there ↦ subst (λ s. AreKnown s ms) (sym there.0) h
@@ -83,7 +83,7 @@ known_within s ms ns within h = record { named = go [] s.section s.imports h.nam
 
 -- a function of the runtime
 pub known_runtime : {old new : ModuleSoFar} {ms : List Mention} (f : RuntimeFunction) (place : ℕ) → IsRuntimeImported old new f place → AreKnown old ms → AreKnown new ms
-known_runtime {ms = ms} f place x h = known_import x.imported (runtime-named x.typed.types ms x.typed.section (import_as (origin_of_runtime f) (name_of_runtime f) (import.Func x.ty)) f (record { is_from = refl; is_named = refl; is_typed = x.ty_there })) (runtime-as _ _ _ f) (known_type _ x.types h)
+known_runtime {ms = ms} f place x h = known_import x.imported (runtime-named x.typed.types ms x.typed.section (import_as (origin_of_runtime f) (name_of_runtime f) (import.Func x.ty)) f (record { is_from = refl; is_named = refl; is_typed = x.ty_there })) (runtime-as _ _ _ _ f) (known_type _ x.types h)
 
 -- a transcoder
 pub known_transcoder : {old new : ModuleSoFar} {ms : List Mention} (t : Transcoder) (place : ℕ) → IsTranscoderImported old new t place → AreKnown old ms → AreKnown new ms

@@ -18,6 +18,7 @@ pub mod LinkedLaws
 pub mod ListedCalls
 pub mod ListedLaws
 pub mod Locals
+pub mod MemoryWidths
 pub mod Mentions
 pub mod Named
 pub mod NamedLaws

@@ -87,7 +87,7 @@ once-push is i fresh h = subst (AllPairs (λ i j. i ≢ j)) (sym (filter-append 
 
 -- with one more function that is no core definition
 pub others-function : (s : ModuleSoFar) (ms : List Mention) (w : WasmImport) (i : Import) → def_of i ≡ None → (is_made_once i ≡ true → All (λ j. j ≢ i) s.imports)
-    → IsNamed s.types ms s.section w i → IsNamedIfTranscoder s.types (memories_of s) w i → ListsOthers s ms → ListsOthers (with_import s w i) ms
+    → IsNamed s.types ms s.section w i → IsNamedIfTranscoder s.types s.section (memories_of s) w i → ListsOthers s ms → ListsOthers (with_import s w i) ms
 others-function s ms w i no_def fresh names places h = record {
   defs = filter_map-append def_of s.imports (i ∷ []) ∙ ap (λ o. filter_map def_of s.imports ++ cons_option o []) no_def ∙ append-nil _ ∙ h.defs;
   named = named-push s.types ms [] s.section s.imports w i h.named names;
@@ -109,7 +109,7 @@ listed_unawaited s ms adapters a e h = listed-of (others-of h) (calls-without s.
 
 -- the import of a function that is no core definition, and that is made once
 import_function : (old new : ModuleSoFar) (ms : List Mention) (adapters : List LinkedAdapter) (w : WasmImport) (i : Import) (place : ℕ) → def_of i ≡ None → is_made_once i ≡ true → IsNamed old.types ms old.section w i
-    → IsNamedIfTranscoder old.types (memories_of old) w i → IsImported old new w i place → ListsMentions old ms adapters → ListsMentions new ms adapters
+    → IsNamedIfTranscoder old.types old.section (memories_of old) w i → IsImported old new w i place → ListsMentions old ms adapters → ListsMentions new ms adapters
 import_function old new ms adapters w i place no_def made names places x h = elim x.step [
   | inl there ↦ subst (λ s. ListsMentions s ms adapters) (sym there.0) h
   | inr anew ↦ subst (λ s. ListsMentions s ms adapters) (sym anew.0)
@@ -127,7 +127,7 @@ import_function old new ms adapters w i place no_def made names places x h = eli
 pub listed_runtime : (old new : ModuleSoFar) (ms : List Mention) (adapters : List LinkedAdapter) (f : RuntimeFunction) (place : ℕ) → IsRuntimeImported old new f place → ListsMentions old ms adapters → ListsMentions new ms adapters
 listed_runtime old new ms adapters f place h lists =
     let w = import_as (origin_of_runtime f) (name_of_runtime f) (import.Func h.ty) in
-    import_function h.typed new ms adapters w (import_of f) place (runtime-defines-none f) (runtime-made-once f) (runtime-named h.typed.types ms h.typed.section w f (record { is_from = refl; is_named = refl; is_typed = h.ty_there })) (runtime-as _ _ w f) h.imported
+    import_function h.typed new ms adapters w (import_of f) place (runtime-defines-none f) (runtime-made-once f) (runtime-named h.typed.types ms h.typed.section w f (record { is_from = refl; is_named = refl; is_typed = h.ty_there })) (runtime-as _ _ _ w f) h.imported
     (listed_type old h.typed ms adapters _ h.types lists)
 
 listed_transcoder : (old new : ModuleSoFar) (ms : List Mention) (adapters : List LinkedAdapter) (t : Transcoder) (place : ℕ) → IsTranscoderImported old new t place → ListsMentions old ms adapters → ListsMentions new ms adapters

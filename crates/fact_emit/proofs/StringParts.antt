@@ -34,7 +34,7 @@ use Rattle.fact_emit.specs.Emits.{Emits, Is, Piece}
 use Rattle.fact_emit.specs.NamedFunctions.{imported_named}
 use Rattle.fact_emit.specs.Places.{checks_at}
 use Rattle.fact_emit.specs.RuntimeCalls.{SavesSlots, WritesSlots}
-use Rattle.fact_emit.specs.States.{AreMemoriesImported, ModuleSoFar, functions_of}
+use Rattle.fact_emit.specs.States.{AreMemoriesImported, HaveMemoryWidths, ModuleSoFar, functions_of}
 use Rattle.fact_emit.specs.StringPieces.{AreSidesImported, IsPart, NeedsBoth, NeedsTrapIf, StringPiece, WrotePart, string_move, transcoder_between}
 use Rattle.fact_emit.specs.Writers.{Wrote, TookTranscoder}
 use Rattle.fact_emit.proofs.CheckMoves.{guard_is, guarded_as, trap_is}
@@ -254,3 +254,7 @@ transcoder_is {a} {b} {place} sides o is x = subst (λ t. TookTranscoder a b t p
 -- both memories are imported
 pub memories_imported : {s : ModuleSoFar} {t : Transcoder} (sides : Sides) (o : Transcode) → t ≡ transcoder_between sides o → sides.from.has_memory ≡ true → sides.to.has_memory ≡ true → AreSidesImported sides s → AreMemoriesImported t s
 memories_imported {s} sides o is from to h = subst (λ t. AreMemoriesImported t s) (sym is) (record { from = h.from_memory.below from; to = h.to_memory.below to })
+
+-- they have the widths that it is told of
+pub memories_wide : {s : ModuleSoFar} {t : Transcoder} (sides : Sides) (o : Transcode) → t ≡ transcoder_between sides o → sides.from.has_memory ≡ true → sides.to.has_memory ≡ true → AreSidesImported sides s → HaveMemoryWidths t s
+memories_wide {s} sides o is from to h = subst (λ t. HaveMemoryWidths t s) (sym is) (record { from = h.from_wide.wide from; to = h.to_wide.wide to })

@@ -25,7 +25,7 @@ use Rattle.fact_emit.specs.ImportSection.{Sort, a_function, imports_of, is_made_
 use Rattle.fact_emit.specs.Imports.{HasImport}
 use Rattle.fact_emit.specs.Runtime.{import_of}
 use Rattle.fact_emit.specs.State.{IsIndexed, IsItemOf, IsPrepareItem, IsStartItem}
-use Rattle.fact_emit.specs.States.{HasType, IsImported, IsTranscoderImported, MayImport, ModuleSoFar, functions_of, import_as, known_as, memories_of, name_of_transcoder, type_of_item, type_of_transcoder}
+use Rattle.fact_emit.specs.States.{HasType, HaveMemoryWidths, IsImported, IsTranscoderImported, MayImport, ModuleSoFar, functions_of, import_as, known_as, memories_of, name_of_transcoder, type_of_item, type_of_transcoder}
 use Rattle.fact_emit.specs.TaskCalls.{IsFunctionThere, IsItemImported, IsItemThere, IsMemoryThere, IsPrepareCallImported, IsStartCallImported}
 use Rattle.fact_emit.specs.TaskTypes.{prepare_call_name, prepare_call_type, start_call_name, start_call_type}
 use Rattle.fact_emit.proofs.ExactItems.{known-once, runtime-made-once, runtime-no-start}
@@ -233,14 +233,15 @@ pub runtime-imported : {old new : ModuleSoFar} {v w : WasmImport} {place : ℕ} 
 runtime-imported {old} {new} {place = place} f same h = subst (λ u. IsImported old new u (import_of f) place) same (record { there = h.there; step = h.step })
 
 pub transcoder-imported : {old typed new : ModuleSoFar} (name : List ℕ) (k place : ℕ) (t : Transcoder) (y : ImportedItem) → name ≡ name_of_transcoder t → HasType old typed (type_of_transcoder t)
-    → slice_get typed.types k ≡ Some (type_of_transcoder t) → IsItemOf t typed y → IsItemImported typed new (import_as (codes "transcode") name (import_type.Func k)) y place → IsTranscoderImported old new t place
-transcoder-imported {old} {typed} {new} name k place t y named types at is imported =
+    → slice_get typed.types k ≡ Some (type_of_transcoder t) → IsItemOf t typed y → HaveMemoryWidths t old → IsItemImported typed new (import_as (codes "transcode") name (import_type.Func k)) y place → IsTranscoderImported old new t place
+transcoder-imported {old} {typed} {new} name k place t y named types at is widths imported =
     let h = subst (λ z. IsItemImported typed new (import_as (codes "transcode") name (import_type.Func k)) z place) is.is imported in
     record {
       from = is.from;
       to = is.to;
       from_there = ap (λ ms. slice_get ms t.from_memory.number) (sym (type_memories types)) ∙ is.from_there;
       to_there = ap (λ ms. slice_get ms t.to_memory.number) (sym (type_memories types)) ∙ is.to_there;
+      widths = widths;
       ty = k;
       typed = typed;
       types = types;

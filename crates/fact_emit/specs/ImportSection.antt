@@ -11,6 +11,7 @@ use Rattle.fact_wasm.specs.declared.module.ImportType.{ImportType}
 use Rattle.fact_wasm.specs.declared.module.ImportType.TheVariants as import
 use Rattle.fact_wasm.specs.declared.module.WasmImport.{WasmImport}
 use Rattle.fact_wasm.specs.declared.module.WasmModule.{WasmModule}
+use Rattle.fact_machine.specs.Typed.{type_of_memory}
 use Rattle.fact_types.specs.declared.outside.CoreDef.{CoreDef}
 use Rattle.fact_types.specs.declared.outside.CoreDef.TheVariants as def
 use Rattle.fact_types.specs.declared.import.Import.{Import}
@@ -162,21 +163,29 @@ abbrev pub imports_of : Sort → List WasmImport → List Import → List Import
 imports_of sort (w ∷ ws) (i ∷ is) = if is_of sort w then i ∷ imports_of sort ws is else imports_of sort ws is
 imports_of sort _ _ = []
 
--- The import is this transcoder between the memories of these definitions, which have their places among the imported memories.
-pub record IsTranscoderNamed (types : List FuncType) (memories : List Import) (o : Transcode) (from : CoreDef) (from64 : Bool) (to : CoreDef) (to64 : Bool) (w : WasmImport) : Type 0 where
+-- The imported memory of this place has addresses of this width.
+pub record HasMemoryWidth (ws : List WasmImport) (place : ℕ) (memory64 : Bool) : Type 0 where
+  pub page : Option ℕ
+  pub imported : slice_get (filter_map type_of_memory ws) place ≡ Some (memory64, page)
+
+-- The import is this transcoder between the memories of these definitions, which have their places among the imported memories, and these
+-- widths of addresses.
+pub record IsTranscoderNamed (types : List FuncType) (ws : List WasmImport) (memories : List Import) (o : Transcode) (from : CoreDef) (from64 : Bool) (to : CoreDef) (to64 : Bool) (w : WasmImport) : Type 0 where
   pub from_place : ℕ
   pub to_place : ℕ
   pub from_there : slice_get memories from_place ≡ Some (known.CoreDef from)
   pub to_there : slice_get memories to_place ≡ Some (known.CoreDef to)
+  pub from_wide : HasMemoryWidth ws from_place from64
+  pub to_wide : HasMemoryWidth ws to_place to64
   pub is : IsImportedFunction types w (codes "transcode") (transcoder_name o from_place to_place) (transcoder_type o from64 to64)
 
-abbrev pub IsNamedIfTranscoder : List FuncType → (memories : List Import) → WasmImport → Import → Type 0
-IsNamedIfTranscoder types memories w (known.Transcode o from from64 to to64) = IsTranscoderNamed types memories o from from64 to to64 w
-IsNamedIfTranscoder types memories w _ = Unit {0}
+abbrev pub IsNamedIfTranscoder : List FuncType → List WasmImport → (memories : List Import) → WasmImport → Import → Type 0
+IsNamedIfTranscoder types ws memories w (known.Transcode o from from64 to to64) = IsTranscoderNamed types ws memories o from from64 to to64 w
+IsNamedIfTranscoder types ws memories w _ = Unit {0}
 
 -- Each transcoder among the imports is named so.
 pub record AreTranscodersNamed (types : List FuncType) (ws : List WasmImport) (is : List Import) : Type 0 where
-  pub each : (k : ℕ) (w : WasmImport) (i : Import) → slice_get ws k ≡ Some w → slice_get is k ≡ Some i → IsNamedIfTranscoder types (imports_of a_memory ws is) w i
+  pub each : (k : ℕ) (w : WasmImport) (i : Import) → slice_get ws k ≡ Some w → slice_get is k ≡ Some i → IsNamedIfTranscoder types ws (imports_of a_memory ws is) w i
 
 abbrev pub def_of : Import → Option CoreDef
 def_of (known.CoreDef d) = Some d

@@ -20,7 +20,7 @@ use Rattle.fact_emit.specs.declared.imported.PrepareCallItem.{PrepareCallItem}
 use Rattle.fact_emit.specs.declared.imported.RuntimeFunction.{RuntimeFunction}
 use Rattle.fact_emit.specs.declared.imported.RuntimeFunction.TheVariants as runtime
 use Rattle.fact_emit.specs.declared.transcoders.Transcoder.{Transcoder}
-use Rattle.fact_emit.specs.ImportSection.{a_function, a_memory, a_global, imported_type, imports_of, sort_of}
+use Rattle.fact_emit.specs.ImportSection.{HasMemoryWidth, a_function, a_memory, a_global, imported_type, imports_of, sort_of}
 use Rattle.fact_emit.specs.Runtime.{import_of, name_of_runtime, origin_of_runtime, type_of_runtime}
 use Rattle.fact_emit.specs.TaskTypes.{prepare_call_type, start_call_type}
 use Rattle.fact_emit.specs.TranscoderNames.{transcoder_name}
@@ -81,6 +81,11 @@ pub record AreMemoriesImported (t : Transcoder) (s : ModuleSoFar) : Type 0 where
   pub from : t.from_memory.number < length (memories_of s)
   pub to : t.to_memory.number < length (memories_of s)
 
+-- they have addresses of these widths
+pub record HaveMemoryWidths (t : Transcoder) (s : ModuleSoFar) : Type 0 where
+  pub from : HasMemoryWidth s.section t.from_memory.number t.from_memory64
+  pub to : HasMemoryWidth s.section t.to_memory.number t.to_memory64
+
 -- ---- steps
 
 abbrev pub import_as : List ℕ → List ℕ → ImportType → WasmImport
@@ -135,12 +140,13 @@ abbrev pub IsTrapImported : (old new : ModuleSoFar) → Trap → (place : ℕ) �
 IsTrapImported old new t place = IsRuntimeImported old new (runtime.Trap t) place
 
 -- A transcoder is imported, and has this place among the imported functions. It reads and writes the memories of the definitions that
--- have its places among the imported memories.
+-- have its places among the imported memories, which have its widths.
 pub record IsTranscoderImported (old new : ModuleSoFar) (t : Transcoder) (place : ℕ) : Type 0 where
   pub from : CoreDef
   pub to : CoreDef
   pub from_there : slice_get (memories_of old) t.from_memory.number ≡ Some (known.CoreDef from)
   pub to_there : slice_get (memories_of old) t.to_memory.number ≡ Some (known.CoreDef to)
+  pub widths : HaveMemoryWidths t old
   pub ty : ℕ
   pub typed : ModuleSoFar
   pub types : HasType old typed (type_of_transcoder t)

@@ -18,6 +18,7 @@ use Rattle.fact_emit.specs.declared.places.Sides.{Sides}
 use Rattle.fact_emit.specs.declared.string_locals.StringLocals.{StringLocals}
 use Rattle.fact_emit.specs.declared.transcoders.Transcoder.{Transcoder}
 use Rattle.fact_emit.specs.declared.writer.Writer.{Writer}
+use Rattle.fact_emit.specs.ImportSection.{HasMemoryWidth}
 use Rattle.fact_emit.specs.Numbers.{HasUpperAt}
 use Rattle.fact_emit.specs.Pairs.{length_from, length_to}
 use Rattle.fact_emit.specs.Places.{checks_at}
@@ -32,11 +33,17 @@ use Rattle.fact_emit.specs.Writers.{Wrote}
 pub record IsMemoryImported (m : LinearMemory) (s : ModuleSoFar) : Type 0 where
   pub below : m.has_memory ≡ true → m.memory < length (memories_of s)
 
+-- it has addresses of the width that code takes them to have
+pub record IsMemoryWide (m : LinearMemory) (s : ModuleSoFar) : Type 0 where
+  pub wide : m.has_memory ≡ true → HasMemoryWidth s.section m.memory m.memory64
+
 -- What code of moves between two sides calls and names is imported.
 pub record AreSidesImported (sides : Sides) (s : ModuleSoFar) : Type 0 where
   pub realloc : IsReallocImported sides.to s
   pub from_memory : IsMemoryImported sides.from s
   pub to_memory : IsMemoryImported sides.to s
+  pub from_wide : IsMemoryWide sides.from s
+  pub to_wide : IsMemoryWide sides.to s
 
 -- ---- the locals
 

@@ -6,7 +6,7 @@ ghost use Rattle.fact_wasm.specs.declared.types.FuncType.{FuncType};
 ghost use Rattle.fact_emit.specs.Imports.{AreOnce, Extended, HasTranscoder};
 ghost use Rattle.fact_emit.specs.ImportSection.{imported_type};
 ghost use Rattle.fact_emit.specs.State.{IsItemOf};
-ghost use Rattle.fact_emit.specs.States.{AreMemoriesImported, IsTranscoderImported, OnlyTypesAdded, name_of_transcoder, type_of_transcoder};
+ghost use Rattle.fact_emit.specs.States.{AreMemoriesImported, HaveMemoryWidths, IsTranscoderImported, OnlyTypesAdded, name_of_transcoder, type_of_transcoder};
 ghost use Rattle.fact_emit.specs.TranscoderNames.{transcode_name as transcode_name_of};
 
 use crate::imported::{ImportedItem, TranscoderItem};
@@ -124,6 +124,7 @@ impl ModuleSections {
     /// The place of a transcoder among the imported functions. A new one is imported last.
     pub fn transcoder(&mut self, transcoder: Transcoder) -> Result<u32, OutOfMemory>
         requires memories { AreMemoriesImported transcoder self.old }
+        requires widths { HaveMemoryWidths transcoder self.old }
         ensures imported { IfOk result (λ place. IsTranscoderImported self.old self.new transcoder place) }
         ensures place { IfOk result (λ place. HasTranscoder self.new transcoder place) }
         ensures keeps { Extended self.old self.new }

@@ -4,7 +4,7 @@ ghost use Rattle.std.specs.Prelude.{IsTrue, IfOk, IfSome, OnOk, ◌≡◌, ◌++
 ghost use Rattle.fact_types.specs.declared.import.Import.TheVariants as import;
 ghost use Rattle.fact_emit.specs.Imports.{AreOnce};
 ghost use Rattle.fact_machine.specs.Typing.{is_number};
-ghost use Rattle.fact_emit.specs.States.{AreMemoriesImported};
+ghost use Rattle.fact_emit.specs.States.{AreMemoriesImported, HaveMemoryWidths};
 ghost use Rattle.fact_emit.specs.Writers.{Wrote, AddedLocal, Began, Ended, Took, Freed, TookRuntime, TookTranscoder, TookTrap, Same, free_local_of, taken_in};
 
 use crate::imported::RuntimeFunction;
@@ -111,7 +111,8 @@ impl Writer {
 
     /// The place of a transcoder among the imported functions.
     pub fn transcoder(&mut self, transcoder: Transcoder) -> Result<u32, OutOfMemory>
-        requires { AreMemoriesImported transcoder self.old.imports }
+        requires memories { AreMemoriesImported transcoder self.old.imports }
+        requires widths { HaveMemoryWidths transcoder self.old.imports }
         ensures { IfOk result (λ place. TookTranscoder self.old self.new transcoder place) }
     {
         self.imports.transcoder(transcoder)

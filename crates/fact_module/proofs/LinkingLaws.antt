@@ -14,25 +14,28 @@ use Rattle.fact_types.specs.Adapters.{LinkedAdapter, Side, is_wide}
 use Rattle.fact_types.specs.Functions.{HasSignature}
 use Rattle.fact_types.specs.declared.kinds.TypeFunc.{TypeFunc}
 use Rattle.fact_types.specs.declared.outside.CoreDef.{CoreDef}
+use Rattle.fact_types.specs.declared.outside.MemoryOption.{MemoryOption}
 use Rattle.fact_types.specs.declared.import.Import.TheVariants as known
 use Rattle.fact_checks.specs.declared.adapter.AdapterOptionsDfg.{AdapterOptionsDfg}
 use Rattle.fact_checks.specs.declared.sides.Candidate.{Candidate}
 use Rattle.fact_checks.specs.Linked.{IsLinked, IsSideOf}
 use Rattle.fact_moves.specs.Adapters.{AdapterTunables}
 use Rattle.fact_emit.specs.AdapterLinks.{AdapterLinks, IsAdapterLinked, IsLinkedIfAny, IsSideLinked}
-use Rattle.fact_emit.specs.ImportSection.{Callee, PostReturn, Realloc, Storage}
+use Rattle.fact_emit.specs.ImportSection.{Callee, HasMemoryWidth, PostReturn, Realloc, Storage}
 use Rattle.fact_emit.specs.Imports.{Extended}
 use Rattle.fact_emit.specs.Linked.{IsDefLinked}
 use Rattle.fact_emit.specs.States.{ModuleSoFar, functions_of, memories_of}
+use Rattle.fact_emit.specs.StringPieces.{IsMemoryWide}
 use Rattle.fact_emit.proofs.ImportLaws.{grown_get}
 use Rattle.fact_emit.proofs.KnownLaws.{linked_at}
-use Rattle.fact_compound.specs.Described.{is_marked_type, memory_place, number_if_any}
+use Rattle.fact_emit.proofs.MemoryWidths.{IsSideWide, sides_wide}
+use Rattle.fact_compound.specs.Described.{AreOptionsWide, is_marked_type, linear_of, memory_place, number_if_any}
 use Rattle.fact_compound.specs.Compiled.{Compiled}
 use Rattle.fact_compound.specs.Entries.{tuple_of_results}
 use Rattle.fact_compound.specs.declared.adapters.AdapterData.{AdapterData}
 use Rattle.fact_compound.specs.declared.adapters.AdapterOptions.{AdapterOptions}
 use Rattle.fact_module.specs.Adding.{Adds, HasSideData}
-use Rattle.fact_module.specs.Links.{IsDataOfCandidate, IsDataOfSide, NamesOf, links_of, page_size_log2_of}
+use Rattle.fact_module.specs.Links.{CanBeLinked, IsDataOfCandidate, IsDataOfSide, NamesOf, links_of, page_size_log2_of, side_links_of}
 use Rattle.fact_module.proofs.CompiledLaws.{compiled-as}
 
 -- ---- a side
@@ -127,3 +130,28 @@ module _ {b : Builder} {c : Candidate} {a : LinkedAdapter} (is : IsLinked b c a)
         links = links;
         compiled = compiled-as u d a lift lower compiled;
       }
+
+-- ---- the widths of memories
+
+-- The memory of a side has the width of its data.
+wide-side : (s : ModuleSoFar) (side : Side) (d : AdapterOptions) → d.options.linear.memory64 ≡ is_wide side.memory → IsSideWide s side (side_links_of d) → IsMemoryWide (linear_of d) s
+wide-side s side d same h = record { wide = go d.options.linear.memory side.memory refl refl }
+  where
+    go : (place : Option (Id Memories)) (m : Option MemoryOption) → d.options.linear.memory ≡ place → side.memory ≡ m → is_some place ≡ true → HasMemoryWidth s.section (memory_place place) d.options.linear.memory64
+    go None m e is there = absurd (false≢true there)
+    go (Some i) None e is there = let none : Some i.number ≡ None = sym (ap number_if_any e) ∙ h.none is in cc
+    go (Some i) (Some m) e is there =
+        let (n, at, wide) = h.some m is in
+        let number : Some i.number ≡ Some n = sym (ap number_if_any e) ∙ at in
+        let place : i.number ≡ n = cc in
+        let width : m.memory64 ≡ d.options.linear.memory64 = sym (same ∙ ap is_wide is) in
+        subst (λ k. HasMemoryWidth s.section k d.options.linear.memory64) (sym place) (subst (HasMemoryWidth s.section n) width wide)
+
+-- So have the memories of an adapter that was linked.
+pub options-wide : {b : Builder} {c : Candidate} {old new : ModuleSoFar} → CanBeLinked b c old → (d : AdapterData) → IsDataOfCandidate c d → ((a : LinkedAdapter) → IsLinked b c a → IsAdapterLinked old new a (links_of d)) → AreOptionsWide d new
+options-wide {old = old} {new} can d fits links =
+    let sides = sides_wide old new can.before can.adapter (links_of d) can.known can.alike (links can.adapter can.is) in
+    record {
+      lift = wide-side new can.adapter.lift d.lift (side-data can.is.sides.lift fits.lift).memory64 sides.0;
+      lower = wide-side new can.adapter.lower d.lower (side-data can.is.sides.lower fits.lower).memory64 sides.1;
+    }

@@ -32,6 +32,7 @@ use Rattle.fact_module.specs.declared.taken.TakenAdapter.{TakenAdapter}
 use Rattle.fact_emit.specs.declared.tunables.Tunables.{Tunables}
 use Rattle.fact_emit.specs.declared.tunables.WasmFeatures.{WasmFeatures}
 use Rattle.fact_module.specs.Collected.{AreTaken, Collected, IsStateOf, Extends, IsMade, IsTakenAs, KeepsPromises, no_tree, result_tuple_of, taken_of}
+use Rattle.fact_emit.specs.ImportSection.{mentions}
 use Rattle.fact_emit.specs.Imports.{Extended}
 use Rattle.fact_emit.proofs.ImportLaws.{grown_get}
 use Rattle.fact_emit.proofs.ImportLists.{get-last}
@@ -43,8 +44,11 @@ use Rattle.fact_module.specs.Adding.{Adds, own_functions}
 use Rattle.fact_module.specs.Exports.{exported_as}
 use Rattle.fact_module.specs.Faithful.{Promised, adapter_tunables}
 use Rattle.fact_module.specs.Holding.{Holds}
+use Rattle.fact_module.specs.Links.{CanBeLinked}
 use Rattle.fact_module.specs.Taking.{HasFaultBehind, IsFirstBehind}
+use Rattle.fact_module.proofs.AlikeLaws.{alike_next}
 use Rattle.fact_module.proofs.Adding.{exports-more, functions-more, grown-adds, holds-more, holds-nothing}
+use Rattle.fact_module.proofs.OwnLaws.{known_of}
 use Rattle.fact_module.proofs.Whole.{whole-promised, whole-range}
 
 -- ---- what a typed adapter names can be looked up
@@ -172,6 +176,19 @@ module _ (old : Collected) (checks checks' : Checks) (s s' : ModuleSoFar) (candi
 
   consistent-here : (before : List LinkedAdapter) (a : LinkedAdapter) → AreTaken old before → IsLinked old.builder candidate a → AreConsistent (flat_map uses_of (before ++ a ∷ []))
   consistent-here before a taken h = AreConsistent-covered _ _ (bound-behind before a taken h).uses
+
+  -- what it names can be imported behind what is imported so far
+  pub linkable-here : CanBeLinked old.builder candidate s
+  unfolding linked some
+  linkable-here =
+      let h = (linked-of old.builder sound candidate typed).1 in
+      record {
+        adapter = linked;
+        is = h;
+        before = mentions some;
+        known = known_of (made.covers whole some made.some.1).holds.lists;
+        alike = alike_next some linked (consistent-here some linked made.some.1 h);
+      }
 
   -- with one adapter more its tree is extended
   pub extends-more : (before now : Collected) → before.tree ≡ module_of s → before.imports ≡ s.imports → now.tree ≡ module_of s' → now.imports ≡ s'.imports

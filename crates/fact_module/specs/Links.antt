@@ -1,16 +1,21 @@
 -- Cited by private clauses alone.
 -- The data that an adapter's code is written by, and the places in them.
-use Rattle.std.specs.Prelude.{◌≡◌, ℕ, Option, None, Some}
+use Rattle.std.specs.Prelude.{◌≡◌, ℕ, List, ◌++◌, Option, None, Some}
 use Rattle.fact_entity.specs.declared.id.Id.{Id}
 use Rattle.fact_entity.specs.declared.table.TypeFuncs.{TypeFuncs}
-use Rattle.fact_types.specs.Adapters.{Side, is_wide}
+use Rattle.fact_types.specs.Adapters.{LinkedAdapter, Side, is_wide}
 use Rattle.fact_types.specs.declared.outside.MemoryOption.{MemoryOption}
+use Rattle.fact_builder.specs.Builder.{Builder}
+use Rattle.fact_checks.specs.Linked.{IsLinked}
 use Rattle.fact_checks.specs.declared.adapter.AdapterOptionsDfg.{AdapterOptionsDfg}
 use Rattle.fact_checks.specs.declared.sides.Candidate.{Candidate}
 use Rattle.fact_compound.specs.Described.{number_if_any}
 use Rattle.fact_compound.specs.declared.adapters.AdapterData.{AdapterData}
 use Rattle.fact_compound.specs.declared.adapters.AdapterOptions.{AdapterOptions}
 use Rattle.fact_emit.specs.AdapterLinks.{AdapterLinks, SideLinks}
+use Rattle.fact_emit.specs.ImportSection.{Mention, adapter_mentions}
+use Rattle.fact_emit.specs.Known.{AreKnown, AreUsedAlike}
+use Rattle.fact_emit.specs.States.{ModuleSoFar}
 
 -- where the module has what a side names
 abbrev pub side_links_of : AdapterOptions → SideLinks
@@ -51,3 +56,11 @@ pub record IsDataOfCandidate (c : Candidate) (d : AdapterData) : Type 0 where
   pub lift : IsDataOfSide c.adapter.now.lift_ty c.adapter.now.lift_options d.lift
   pub lower : IsDataOfSide c.adapter.now.lower_ty c.adapter.now.lower_options d.lower
   pub transparent : d.transparent ≡ c.transparent
+
+-- An adapter that a candidate is, where what is imported so far is what these mentions say, and the adapter uses no definition in another way.
+pub record CanBeLinked (b : Builder) (c : Candidate) (s : ModuleSoFar) : Type 0 where
+  pub adapter : LinkedAdapter
+  pub is : IsLinked b c adapter
+  pub before : List Mention
+  pub known : AreKnown s before
+  pub alike : AreUsedAlike (before ++ adapter_mentions adapter)

@@ -15,6 +15,7 @@ ghost use Rattle.fact_module.specs.Adding.{Adds};
 ghost use Rattle.fact_module.specs.Faithful.{Promised, adapter_tunables};
 ghost use Rattle.fact_emit.specs.ImportSection.{NamesImports};
 ghost use Rattle.fact_emit.specs.Settings.{OnlySectionsChanged};
+ghost use Rattle.fact_module.specs.Links.{CanBeLinked};
 ghost use Rattle.fact_module.specs.Order.{IsOrdered};
 ghost use Rattle.fact_module.specs.Taking.{IsFirstBehind, IsSoundBehind};
 
@@ -90,6 +91,7 @@ fn is_memory(error: FuseError) -> bool
 /// Imports what an adapter names, and adds its functions.
 fn add_adapter(state: &mut ModuleState<'_>, candidate: &Candidate<'_>) -> Result<(), OutOfMemory>
     requires typed { NamesTypesOf state.old.builder.now candidate.now.adapter.now }
+    requires linkable { CanBeLinked state.old.builder.now candidate.now state.old.sections }
     ensures added { OnOk result ((a : LinkedAdapter) → IsLinked state.old.builder.now candidate.now a → Adds state.old.builder.now.tables (adapter_tunables state.old.tunables.now state.old.features) state.old.sections state.new.sections a (tuple_of_results state.old.builder.now.tables candidate.now.adapter.now.lift_ty)) }
     ensures keeps { OnlySectionsChanged state.old state.new }
 {
@@ -126,6 +128,7 @@ fn emit(
     candidate: &Candidate<'_>,
 ) -> Result<(), OutOfMemory>
     requires typed { NamesTypesOf state.old.builder.now candidate.now.adapter.now }
+    requires linkable { CanBeLinked state.old.builder.now candidate.now state.old.sections }
     ensures taken { OnOk result (taken.new.items ≡ taken.old.items ++ taken_of candidate.now ∷ []) }
     ensures emitted { OnOk result ((a : LinkedAdapter) → IsLinked state.old.builder.now candidate.now a → Adds state.old.builder.now.tables (adapter_tunables state.old.tunables.now state.old.features) state.old.sections state.new.sections a (tuple_of_results state.old.builder.now.tables candidate.now.adapter.now.lift_ty)) }
     ensures keeps { OnlySectionsChanged state.old state.new }

@@ -29,8 +29,8 @@ at_places R (v ∷ xs) (w ∷ ys) (suc k) x y all e f = at_places R xs ys k x y 
 
 -- ---- transcoders and start-calls
 
-pub transcoders_named : (types : List FuncType) (ws : List WasmImport) (is : List Import) → AllZip (IsNamedIfTranscoder types (imports_of a_memory ws is)) ws is → AreTranscodersNamed types ws is
-transcoders_named types ws is all = record { each = λ k w i e f. at_places (IsNamedIfTranscoder types (imports_of a_memory ws is)) ws is k w i all e f }
+pub transcoders_named : (types : List FuncType) (ws : List WasmImport) (is : List Import) → AllZip (IsNamedIfTranscoder types ws (imports_of a_memory ws is)) ws is → AreTranscodersNamed types ws is
+transcoders_named types ws is all = record { each = λ k w i e f. at_places (IsNamedIfTranscoder types ws (imports_of a_memory ws is)) ws is k w i all e f }
 
 -- none is a start-call
 abbrev pub IsNoStart : Import → Type 0

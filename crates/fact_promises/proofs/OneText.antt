@@ -1,5 +1,5 @@
 -- The worked module of a list of texts: its run is computed, and all that is asked of it holds.
-use Rattle.std.proofs.Common.{◌≡◌, ℕ, false, true, List, [], ◌∷◌, ◌++◌, refl, sym, ap, ◌∙◌, subst, arith, inl, inr}
+use Rattle.std.proofs.Common.{◌≡◌, ℕ, false, true, Some, List, [], ◌∷◌, ◌++◌, refl, sym, ap, ◌∙◌, subst, arith, inl, inr}
 use Rattle.std.specs.Prelude.{codes}
 use Rattle.std.specs.Char.{encode_utf8}
 use Rattle.std.specs.Fmt.{digits}
@@ -236,7 +236,7 @@ names = record {
   );
   transcoders = transcoders_named texts_module.types texts_module.imports texts_imports (
     tt,
-    (tt, (tt, (tt, (tt, (tt, (tt, (tt, (tt, (tt, (record { from_place = 1; to_place = 0; from_there = refl; to_there = refl; is = record { is_from = refl; is_named = refl; is_typed = refl } }, tt)))))))))),
+    (tt, (tt, (tt, (tt, (tt, (tt, (tt, (tt, (tt, (record { from_place = 1; to_place = 0; from_there = refl; to_there = refl; from_wide = record { page = Some 0; imported = refl }; to_wide = record { page = Some 0; imported = refl }; is = record { is_from = refl; is_named = refl; is_typed = refl } }, tt)))))))))),
   );
   task_calls = record {
     starts = no_start_calls texts_module.types (texts_adapter ∷ []) texts_module.imports texts_imports (tt, (tt, (tt, (tt, (tt, (tt, (tt, (tt, (tt, (tt, (tt, tt))))))))))) (refl, tt);

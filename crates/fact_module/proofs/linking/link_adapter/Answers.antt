@@ -17,7 +17,7 @@ returns-clause-callee c =
     function-below c.args.candidate.now.name.now c.index-core_type.result.now callee c.link_post_return.ensures.keeps
 
 pub returns-clause-options : goal.returns-clause-options
-returns-clause-options c =
+returns-clause-options c wide =
     let behind = extended_on c.in_ok-callee.ensures.keeps c.link_post_return.ensures.keeps in
     let before = extended_on c.in_ok-lower.ensures.keeps behind in
     record {
@@ -25,4 +25,5 @@ returns-clause-options c =
       lower = realloc_later behind c.in_ok-lower.ensures.realloc;
       lift_memory = memory_later before c.in_ok-lift.ensures.memory;
       lower_memory = memory_later behind c.in_ok-lower.ensures.memory;
+      wide = wide;
     }

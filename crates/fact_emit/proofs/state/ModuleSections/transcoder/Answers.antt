@@ -11,7 +11,7 @@ import-requires c = record { may = transcoder-may c.args.transcoder c.in_ok-item
 pub returns-clause-imported : goal.returns-clause-imported
 returns-clause-imported c =
     transcoder-imported c.deref.result.now c.in_ok-ty.ty c.in_ok-place.place c.args.transcoder c.in_ok-item.item (c.deref.ensures ∙ c.in_ok-name.ensures) c.in_ok-ty.ensures.types c.in_ok-ty.ensures.place
-    c.in_ok-item.ensures c.in_ok-place.ensures.imported
+    c.in_ok-item.ensures c.requires.widths c.in_ok-place.ensures.imported
 
 pub returns-clause-place : goal.returns-clause-place
 returns-clause-place c = has_transcoder c.args.transcoder c.in_ok-item.item c.in_ok-place.place c.in_ok-item.ensures c.in_ok-place.ensures.keeps c.in_ok-place.ensures.typed

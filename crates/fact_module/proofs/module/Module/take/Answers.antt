@@ -6,11 +6,19 @@ use Rattle.fact_checks.specs.Linked.{IsLinked, NamesTypesOf}
 use Rattle.fact_forms.specs.Sound.{HasValidSides}
 use Rattle.fact_module.specs.Collected.{Collected, taken_of}
 use Rattle.fact_module.specs.Taking.{IsSoundBehind}
-use Rattle.fact_module.proofs.TakeLaws.{extends-more, made-more, refused-behind, sound-behind}
+use Rattle.fact_module.proofs.TakeLaws.{extends-more, linkable-here, made-more, refused-behind, sound-behind}
 use Rattle.fact_module.proofs.module.Module.take.Goals as goal
 
 pub returns-else-is_memory-clause-refused : goal.returns-else-is_memory-clause-refused
 returns-else-is_memory-clause-refused c = refused-behind _ _ _ c.self.inside.state.sections _ _ (told _) c.self.view_is c.self.invariant.0 c.requires.whole c.in-Err.ensures.refused
+
+pub emit-requires-clause-linkable : goal.emit-requires-clause-linkable
+emit-requires-clause-linkable c =
+    let whole = ap (λ (v : Collected). v.whole) c.self.view_is ∙ c.requires.whole in
+    let typed = subst (λ (v : Collected). NamesTypesOf v.builder c.args.candidate.now.adapter.now) (sym c.self.view_is) c.requires.typed in
+    let valid = subst (λ (v : Collected). (a : LinkedAdapter) → IsLinked v.builder c.args.candidate.now a → HasValidSides a) (sym c.self.view_is) c.requires.valid in
+    let sound = subst (λ (t : Tables). IsSound t) c.component_types.ensures c.reveal-2.ensures.sound in
+    linkable-here _ c.self.inside.checks c.check.new.self c.self.inside.state.sections c.self.inside.state.sections c.args.candidate.now c.self.invariant.0 whole sound typed valid c.in_default.ensures.sound
 
 pub invariant_of-self-in-Ok : goal.invariant_of-self-in-Ok
 invariant_of-self-in-Ok c =
