@@ -22,3 +22,4 @@ pub mod WholeEntries
 pub mod WholeExports
 pub mod WholeFunctions
 pub mod WholeTyped
+pub mod WorkedPlans

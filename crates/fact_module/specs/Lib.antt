@@ -11,3 +11,4 @@ pub mod Links
 pub mod Order
 pub mod Taking
 pub mod Typed
+pub mod WorkedPlans

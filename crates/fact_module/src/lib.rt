@@ -8,6 +8,7 @@ mod linking;
 mod module;
 mod taken;
 mod typed;
+mod worked;
 
 pub use dfg::ComponentDfg;
 pub use fact_checks::{Adapter, AdapterOptionsDfg, FuseError, MemoryOption, Place, check_plan};
@@ -22,3 +23,4 @@ pub use fact_types::{
 };
 pub use fusion::{Fused, fuse};
 pub use module::Module;
+pub use worked::laws_of_worked_plans;
