@@ -147,11 +147,13 @@ wide-side s side d same h = record { wide = go d.options.linear.memory side.memo
         let width : m.memory64 ≡ d.options.linear.memory64 = sym (same ∙ ap is_wide is) in
         subst (λ k. HasMemoryWidth s.section k d.options.linear.memory64) (sym place) (subst (HasMemoryWidth s.section n) width wide)
 
--- So have the memories of an adapter that was linked.
-pub options-wide : {b : Builder} {c : Candidate} {old new : ModuleSoFar} → CanBeLinked b c old → (d : AdapterData) → IsDataOfCandidate c d → ((a : LinkedAdapter) → IsLinked b c a → IsAdapterLinked old new a (links_of d)) → AreOptionsWide d new
-options-wide {old = old} {new} can d fits links =
+-- So have the memories of an adapter that was linked, whose data have the widths of its options.
+pub options-wide : {b : Builder} {c : Candidate} {old new : ModuleSoFar} → CanBeLinked b c old → (d : AdapterData)
+    → d.lift.options.linear.memory64 ≡ is_wide c.adapter.now.lift_options.memory → d.lower.options.linear.memory64 ≡ is_wide c.adapter.now.lower_options.memory
+    → ((a : LinkedAdapter) → IsLinked b c a → IsAdapterLinked old new a (links_of d)) → AreOptionsWide d new
+options-wide {old = old} {new} can d lift lower links =
     let sides = sides_wide old new can.before can.adapter (links_of d) can.known can.alike (links can.adapter can.is) in
     record {
-      lift = wide-side new can.adapter.lift d.lift (side-data can.is.sides.lift fits.lift).memory64 sides.0;
-      lower = wide-side new can.adapter.lower d.lower (side-data can.is.sides.lower fits.lower).memory64 sides.1;
+      lift = wide-side new can.adapter.lift d.lift (lift ∙ ap is_wide (sym can.is.sides.lift.memory)) sides.0;
+      lower = wide-side new can.adapter.lower d.lower (lower ∙ ap is_wide (sym can.is.sides.lower.memory)) sides.1;
     }

@@ -10,8 +10,8 @@ ghost use Rattle.fact_emit.specs.Requests.{IsReallocImported};
 ghost use Rattle.fact_emit.specs.States.{functions_of, memories_of};
 ghost use Rattle.fact_emit.specs.StringPieces.{IsMemoryImported};
 ghost use Rattle.fact_checks.specs.Linked.{IsLinked};
-ghost use Rattle.fact_compound.specs.Described.{AreOptionsImported, AreOptionsWide, linear_of, number_if_any};
-ghost use Rattle.fact_module.specs.Links.{IsDataOfCandidate, IsDataOfSide, NamesOf, links_of, page_size_log2_of, side_links_of};
+ghost use Rattle.fact_compound.specs.Described.{AreOptionsImported, linear_of, number_if_any};
+ghost use Rattle.fact_module.specs.Links.{CanBeLinked, IsDataOfCandidate, IsDataOfSide, NamesOf, links_of, page_size_log2_of, side_links_of};
 
 use fact_builder::ComponentTypesBuilder;
 use fact_checks::{AdapterOptionsDfg, Candidate};
@@ -146,9 +146,10 @@ pub fn link_adapter(
     candidate: &Candidate<'_>,
 ) -> Result<AdapterData, OutOfMemory>
     requires typed { candidate.now.adapter.now.lift_options.core_type.number < length builder.now.module_types }
+    requires linkable { CanBeLinked builder.now candidate.now sections.old }
     ensures linked { IfOk result (λ d. (a : LinkedAdapter) → IsLinked builder.now candidate.now a → IsAdapterLinked sections.old sections.new a (links_of d)) }
     ensures callee { IfOk result (λ d. d.callee.number < length (functions_of sections.new)) }
-    ensures options { IfOk result (λ d. AreOptionsWide d sections.new → AreOptionsImported d sections.new) }
+    ensures options { IfOk result (λ d. AreOptionsImported d sections.new) }
     ensures post_return { IfOk result (λ d. IfSome d.lift.post_return (λ (f : id.Id _). f.number < length (functions_of sections.new))) }
     ensures described { IfOk result (λ d. IsDataOfCandidate candidate.now d) }
 {

@@ -1,5 +1,5 @@
 -- The worked module of one u32: its run is computed, and all that is asked of it holds.
-use Rattle.std.proofs.Common.{◌≡◌, ℕ, false, true, [], ◌∷◌, refl, sym, ap, subst, arith}
+use Rattle.std.proofs.Common.{◌≡◌, ℕ, false, true, List, [], ◌∷◌, refl, sym, ap, subst, arith}
 use Rattle.std.specs.Fmt.{digits}
 use Rattle.std.specs.List.{AllByRecursion}
 use Rattle.std.proofs.lemmas.Bool.{leb-true}
@@ -15,10 +15,13 @@ use Rattle.fact_machine.proofs.TypedTests.{answer_decided, state_decided, values
 use Rattle.fact_types.specs.declared.import.Import.TheVariants as known
 use Rattle.fact_values.specs.Lift.{bits_of, lift_leading}
 use Rattle.fact_values.specs.Limits.{AreWithinLimits}
+use Rattle.fact_values.specs.UpperHalves.{IsNarrowThroughout}
 use Rattle.fact_values.specs.Weight.{weight, weight_members}
+use Rattle.fact_moves.specs.Adapters.{AdapterTunables}
 use Rattle.fact_moves.specs.Honest.{AreHonestSync}
 use Rattle.fact_moves.specs.Running.{ImportPlaces, Call}
 use Rattle.fact_carry.specs.Faithful.{IsInLimits, ResultsAreThere, whole_weight}
+use Rattle.fact_texts.specs.PassingChecks.{PassChecks}
 use Rattle.fact_emit.specs.ImportSection.{Flags, Callee, NamesImports}
 use Rattle.fact_promises.specs.Names.{places_in, AreCalls}
 use Rattle.fact_promises.specs.Runs.{IsHonestSoFar}
@@ -45,7 +48,7 @@ ran = simp rows
 goes_on : (run_of u32_module 0 u32_args u32_state u32_answers 15).end ≡ Going
 goes_on = simp rows
 
--- ---- honest, and within limits
+-- ---- honest, within limits, and as debug checks ask
 
 are_honest : AreHonestSync p u32_adapter u32_args u32_calls
 are_honest = (tt, (λ e. let bad : false ≡ true = e in cc, λ e. let bad : false ≡ true = e in cc), tt)
@@ -74,6 +77,10 @@ limits = record {
   area = tt;
   results = λ before c behind e. in_middle IsThere before c behind (subst (AllByRecursion IsThere) e (λ what. record { values = []; there = refl; bounds = tt }, tt));
 }
+
+checks : (u : AdapterTunables) (calls : List Call) → PassChecks u u32_adapter u32_args calls
+unfolding IsNarrowThroughout
+checks u calls = record { params = λ debug. ((refl, tt), tt); results = λ debug before callee behind e what. tt }
 
 weighs : whole_weight p u32_adapter u32_args u32_state u32_calls ≡ 1
 unfolding lift_leading weight weight_members
@@ -104,6 +111,7 @@ pub one_number_arrives : OneNumberArrives
 one_number_arrives = record {
   names = names;
   honest = λ steps. (fine steps).0;
+  checks = λ u steps. checks u (fine steps).0.calls;
   limits = λ steps. (fine steps).1;
   going = goes_on;
   returned = ap (λ (x : Outcome). x.end) ran;

@@ -28,12 +28,15 @@ use Rattle.fact_values.specs.declared.value.Value.TheVariants as value
 use Rattle.fact_values.specs.Lift.{bits_of, lift_leading, lift_members}
 use Rattle.fact_values.specs.Limits.{AreWithinAt, AreWithinLimits}
 use Rattle.fact_values.specs.Load.{load_members}
+use Rattle.fact_values.specs.UpperHalves.{IsNarrowThroughout}
 use Rattle.fact_values.specs.Weight.{weight, weight_members}
+use Rattle.fact_moves.specs.Adapters.{AdapterTunables}
 use Rattle.fact_moves.specs.Calls.{is_import_of}
 use Rattle.fact_moves.specs.Honest.{AreHonestSync, IsHonestTranscode}
 use Rattle.fact_moves.specs.Regions.{IsHonestRegion, Region, params_landing}
 use Rattle.fact_moves.specs.Running.{ImportPlaces, Call}
 use Rattle.fact_carry.specs.Faithful.{IsInLimits, ResultsAreThere, whole_weight}
+use Rattle.fact_texts.specs.PassingChecks.{PassChecks}
 use Rattle.fact_emit.specs.ImportSection.{Callee, Flags, NamesImports, Realloc, Storage}
 use Rattle.fact_promises.specs.Names.{places_in, AreCalls}
 use Rattle.fact_promises.specs.Runs.{IsHonestSoFar}
@@ -184,7 +187,7 @@ honest = record {
   honest = are_honest;
 }
 
--- ---- within limits
+-- ---- within limits, and as debug checks ask
 
 abbrev IsThere : Call → Type 0
 IsThere c = c.what ≡ known.CoreDef texts_callee → ResultsAreThere p texts_adapter c
@@ -207,6 +210,10 @@ limits = record {
     (λ what. absurd (is_other (known.CoreDef texts_realloc) refl what), (λ what. absurd (is_other texts_transcoder refl what), (λ what. record { values = []; there = refl; bounds = tt }, tt))),
   ));
 }
+
+checks : (u : AdapterTunables) (calls : List Call) → PassChecks u texts_adapter texts_args calls
+unfolding IsNarrowThroughout
+checks u calls = record { params = λ debug. (((refl, (refl, tt)), tt), tt); results = λ debug before callee behind e what. tt }
 
 weighs : whole_weight p texts_adapter texts_args first texts_calls ≡ 2
 unfolding aligned lift_leading lift_members load_members weight weight_members encode_utf8 chars is_utf8
@@ -255,6 +262,7 @@ pub one_text_arrives : OneTextArrives
 one_text_arrives = record {
   names = names;
   honest = λ steps. (fine steps).0;
+  checks = λ u steps. checks u (fine steps).0.calls;
   limits = λ steps. (fine steps).1;
   going = goes_on;
   returned = ap (λ (x : Outcome). x.end) ran;

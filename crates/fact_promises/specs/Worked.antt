@@ -25,19 +25,22 @@ use Rattle.fact_types.specs.declared.outside.StringEncoding.TheVariants as strin
 use Rattle.fact_types.specs.declared.outside.Trap.TheVariants.{CannotLeaveComponent}
 use Rattle.fact_types.specs.Adapters.{Side, LinkedAdapter}
 use Rattle.fact_types.specs.Shapes.{s_plain}
+use Rattle.fact_moves.specs.Adapters.{AdapterTunables}
 use Rattle.fact_moves.specs.Running.{Call}
 use Rattle.fact_carry.specs.Faithful.{IsInLimits, whole_weight}
+use Rattle.fact_texts.specs.PassingChecks.{PassChecks}
 use Rattle.fact_emit.specs.ImportSection.{NamesImports}
 use Rattle.fact_emit.specs.States.{import_as, export_as}
 use Rattle.fact_promises.specs.Names.{places_in, AreCalls}
 use Rattle.fact_promises.specs.Runs.{IsHonestSoFar}
 
 -- A run of the one adapter of a module, whose function is the first that the module defines. The module names its imports. At each number of
--- steps all answers are honest, the caller may be left and the values exist within limits. After so many steps the run goes on, and one more
--- brings it to its return, with these calls and values of this weight; that is within the bound on steps.
+-- steps all answers are honest, the caller may be left, and the values exist within limits and are as debug checks ask. After so many steps the
+-- run goes on, and one more brings it to its return, with these calls and values of this weight; that is within the bound on steps.
 pub record IsWorkedRun (m : WasmModule) (is : List Import) (a : LinkedAdapter) (args : List CoreValue) (before : MachineState) (answers : List Answer) (steps : ℕ) (calls : List Call) (weight : ℕ) : Type 0 where
   pub names : NamesImports m is (a ∷ [])
   pub honest : (steps : ℕ) → IsHonestSoFar m is a args before (run_of m 0 args before answers steps).log
+  pub checks : (u : AdapterTunables) → (steps : ℕ) → PassChecks u a args (honest steps).calls
   pub limits : (steps : ℕ) → IsInLimits (places_in m is) a args before (honest steps).calls
   pub going : (run_of m 0 args before answers steps).end ≡ Going
   pub returned : (run_of m 0 args before answers (steps + 1)).end ≡ Returned []

@@ -3,7 +3,7 @@ use Rattle.fact_emit.specs.ImportSection.{Callee}
 use Rattle.fact_emit.specs.Linked.{IsDefLinked}
 use Rattle.fact_emit.proofs.ImportLaws.{extended_on}
 use Rattle.fact_emit.proofs.SidesImported.{memory_later, realloc_later}
-use Rattle.fact_module.proofs.LinkingLaws.{adapter-linked, function-below}
+use Rattle.fact_module.proofs.LinkingLaws.{adapter-linked, function-below, options-wide}
 use Rattle.fact_module.proofs.linking.link_adapter.Goals as goal
 
 pub returns-clause-linked : goal.returns-clause-linked
@@ -17,7 +17,7 @@ returns-clause-callee c =
     function-below c.args.candidate.now.name.now c.index-core_type.result.now callee c.link_post_return.ensures.keeps
 
 pub returns-clause-options : goal.returns-clause-options
-returns-clause-options c wide =
+returns-clause-options c =
     let behind = extended_on c.in_ok-callee.ensures.keeps c.link_post_return.ensures.keeps in
     let before = extended_on c.in_ok-lower.ensures.keeps behind in
     record {
@@ -25,5 +25,5 @@ returns-clause-options c wide =
       lower = realloc_later behind c.in_ok-lower.ensures.realloc;
       lift_memory = memory_later before c.in_ok-lift.ensures.memory;
       lower_memory = memory_later behind c.in_ok-lower.ensures.memory;
-      wide = wide;
+      wide = options-wide c.requires.linkable _ c.in_ok-lift.ensures.described.memory64 c.in_ok-lower.ensures.described.memory64 (returns-clause-linked c);
     }

@@ -3,7 +3,7 @@ use Rattle.std.proofs.lemmas.Result.{on_ok_weaker}
 use Rattle.fact_entity.specs.declared.id.Id.{Id}
 use Rattle.fact_entity.specs.declared.table.TypeFuncs.{TypeFuncs}
 use Rattle.fact_module.specs.Faithful.{adapter_tunables}
-use Rattle.fact_module.proofs.LinkingLaws.{adapter-added, options-wide}
+use Rattle.fact_module.proofs.LinkingLaws.{adapter-added}
 use Rattle.fact_module.proofs.module.add_adapter.Goals as goal
 
 pub compile-compiled-requires-clause-lower_live : goal.compile-compiled-requires-clause-lower_live
@@ -11,9 +11,6 @@ compile-compiled-requires-clause-lower_live c = subst (λ (ty : Id TypeFuncs). t
 
 pub compile-compiled-requires-clause-lift_live : goal.compile-compiled-requires-clause-lift_live
 compile-compiled-requires-clause-lift_live c = subst (λ (ty : Id TypeFuncs). ty.number < length c.args.state.now.builder.now.tables.functions) (sym c.in_ok-linked.ensures.described.lift.ty_is) c.requires.typed.lift
-
-pub compile-compiled-requires-clause-options_imported : goal.compile-compiled-requires-clause-options_imported
-compile-compiled-requires-clause-options_imported c = c.in_ok-linked.ensures.options (options-wide c.requires.linkable _ c.in_ok-linked.ensures.described c.in_ok-linked.ensures.linked)
 
 pub returns-clause-added : goal.returns-clause-added
 returns-clause-added c = on_ok_weaker c.compile-compiled.result (λ compiled a is. adapter-added is (adapter_tunables c.args.state.now.tunables.now c.args.state.now.features) _ c.in_ok-linked.ensures.described (c.in_ok-linked.ensures.linked a is) compiled) c.compile-compiled.ensures.compiled
