@@ -1,6 +1,7 @@
--- Transcoders are named by the places of memories, whatever is imported behind them.
-use Rattle.std.proofs.Common.{◌≡◌, ℕ, Bool, List, [], ◌∷◌, ◌++◌, Some, refl, sym, ap, ◌∙◌, subst, arith, length, slice_get, ◌⊎◌, inl, inr}
+-- Transcoders are named by the places of memories that are imported before them, whatever is imported behind them.
+use Rattle.std.proofs.Common.{◌≡◌, ◌≤◌, ℕ, Bool, List, [], ◌∷◌, ◌++◌, Some, refl, sym, ap, ◌∙◌, subst, arith, length, slice_get, take, take_all, ◌⊎◌, inl, inr}
 use Rattle.std.specs.List.{filter_map}
+use Rattle.std.proofs.lemmas.List.{take-append-le}
 use Rattle.std.proofs.lemmas.List.Elements.{filter_map-append}
 use Rattle.std.specs.Prelude.{codes}
 use Rattle.std.proofs.lemmas.Option.{slice_get_within}
@@ -17,7 +18,7 @@ use Rattle.fact_emit.specs.declared.transcoders.Transcoder.{Transcoder}
 use Rattle.fact_emit.specs.ImportSection.{AreTranscodersNamed, HasMemoryWidth, IsNamedIfTranscoder, a_memory, imports_of}
 use Rattle.fact_emit.specs.Runtime.{import_of}
 use Rattle.fact_emit.specs.States.{HasType, IsTranscoderImported, ModuleSoFar, import_as, memories_of, name_of_transcoder}
-use Rattle.fact_emit.proofs.ImportLists.{imports-append, last-or-before}
+use Rattle.fact_emit.proofs.ImportLists.{last-or-before}
 use Rattle.fact_emit.proofs.Named.{function-more}
 
 -- ---- one import
@@ -54,30 +55,6 @@ module _ (types : List FuncType) (ws : List WasmImport) (memories : List Import)
   named-typed more known.ExitSyncCall h = tt
   named-typed more (known.UnsafeIntrinsic s) h = tt
 
-  -- with more imports, and so more memories, behind those that there are
-  named-behind : (vs : List WasmImport) (more : List Import) (i : Import) → IsNamedIfTranscoder types ws memories w i → IsNamedIfTranscoder types (ws ++ vs) (memories ++ more) w i
-  named-behind vs more (known.Transcode o d v e x) h = record {
-    from_place = h.from_place;
-    to_place = h.to_place;
-    from_there = get_append memories more h.from_place _ h.from_there;
-    to_there = get_append memories more h.to_place _ h.to_there;
-    from_wide = width-more vs h.from_wide;
-    to_wide = width-more vs h.to_wide;
-    is = h.is;
-  }
-  named-behind vs more (known.CoreDef d) h = tt
-  named-behind vs more (known.Trap t) h = tt
-  named-behind vs more known.ResourceTransferOwn h = tt
-  named-behind vs more known.ResourceTransferBorrow h = tt
-  named-behind vs more (known.PrepareCall m) h = tt
-  named-behind vs more (known.StartCall c p) h = tt
-  named-behind vs more known.FutureTransfer h = tt
-  named-behind vs more known.StreamTransfer h = tt
-  named-behind vs more known.ErrorContextTransfer h = tt
-  named-behind vs more known.EnterSyncCall h = tt
-  named-behind vs more known.ExitSyncCall h = tt
-  named-behind vs more (known.UnsafeIntrinsic s) h = tt
-
   -- the other functions of the runtime are no transcoders
   pub runtime-as : (f : RuntimeFunction) → IsNamedIfTranscoder types ws memories w (import_of f)
   runtime-as (runtime.Trap t) = tt
@@ -90,25 +67,37 @@ module _ (types : List FuncType) (ws : List WasmImport) (memories : List Import)
   runtime-as runtime.ExitSyncCall = tt
   runtime-as (runtime.UnsafeIntrinsic s) = tt
 
+-- behind the same imports
+pub named-same : (types : List FuncType) {vs ws : List WasmImport} {is js : List Import} (w : WasmImport) (i : Import) → vs ≡ ws → is ≡ js
+    → IsNamedIfTranscoder types ws (imports_of a_memory ws js) w i → IsNamedIfTranscoder types vs (imports_of a_memory vs is) w i
+named-same types {ws = ws} {is = is} w i e f h =
+    subst (λ vs. IsNamedIfTranscoder types vs (imports_of a_memory vs is) w i) (sym e) (subst (λ js. IsNamedIfTranscoder types ws (imports_of a_memory ws js) w i) (sym f) h)
+
 -- ---- all imports
 
+-- behind those before a place
+abbrev IsNamedAt : List FuncType → (k : ℕ) (ws : List WasmImport) (is : List Import) → WasmImport → Import → Type 0
+IsNamedAt types k ws is w i = IsNamedIfTranscoder types (take k ws) (imports_of a_memory (take k ws) (take k is)) w i
+
 pub transcoders-typed : (types more : List FuncType) (ws : List WasmImport) (is : List Import) → AreTranscodersNamed types ws is → AreTranscodersNamed (types ++ more) ws is
-transcoders-typed types more ws is h = record { each = λ k w i at is_at. named-typed types ws _ w more i (h.each k w i at is_at) }
+transcoders-typed types more ws is h = record { each = λ k w i at is_at. named-typed types (take k ws) _ w more i (h.each k w i at is_at) }
 
 -- one more import, which is named by the memories before it
 pub transcoders-push : (types : List FuncType) (ws : List WasmImport) (is : List Import) (w : WasmImport) (i : Import) → length ws ≡ length is
     → AreTranscodersNamed types ws is → IsNamedIfTranscoder types ws (imports_of a_memory ws is) w i → AreTranscodersNamed types (ws ++ w ∷ []) (is ++ i ∷ [])
 transcoders-push types ws is w i even h n = record { each = λ k v j at is_at. here k v j (last-or-before ws w k v at) (last-or-before is i k j is_at) }
   where
-    behind : (v : WasmImport) (j : Import) → IsNamedIfTranscoder types ws (imports_of a_memory ws is) v j → IsNamedIfTranscoder types (ws ++ w ∷ []) (imports_of a_memory (ws ++ w ∷ []) (is ++ i ∷ [])) v j
-    behind v j m = subst (λ memories. IsNamedIfTranscoder types (ws ++ w ∷ []) memories v j) (sym (imports-append a_memory ws (w ∷ []) is (i ∷ []) even)) (named-behind types ws _ v (w ∷ []) _ j m)
+    before : (k : ℕ) (v : WasmImport) (j : Import) → k ≤ length ws → IsNamedAt types k ws is v j → IsNamedAt types k (ws ++ w ∷ []) (is ++ i ∷ []) v j
+    before k v j within m = named-same types v j (take-append-le k ws (w ∷ []) within) (take-append-le k is (i ∷ []) (omega (arith, within, even))) m
 
-    here : (k : ℕ) (v : WasmImport) (j : Import) → (slice_get ws k ≡ Some v) ⊎ ((k ≡ length ws) × (w ≡ v)) → (slice_get is k ≡ Some j) ⊎ ((k ≡ length is) × (i ≡ j))
-        → IsNamedIfTranscoder types (ws ++ w ∷ []) (imports_of a_memory (ws ++ w ∷ []) (is ++ i ∷ [])) v j
-    here k v j (inl a) (inl b) = behind v j (h.each k v j a b)
+    last : (k : ℕ) → k ≡ length ws → IsNamedAt types k ws is w i
+    last k e = named-same types w i (take_all k ws (omega (arith, e))) (take_all k is (omega (arith, e, even))) n
+
+    here : (k : ℕ) (v : WasmImport) (j : Import) → (slice_get ws k ≡ Some v) ⊎ ((k ≡ length ws) × (w ≡ v)) → (slice_get is k ≡ Some j) ⊎ ((k ≡ length is) × (i ≡ j)) → IsNamedAt types k (ws ++ w ∷ []) (is ++ i ∷ []) v j
+    here k v j (inl a) (inl b) = before k v j (omega (arith, slice_get_within ws k v a)) (h.each k v j a b)
     here k v j (inl a) (inr b) = absurd (omega (arith, b.0, even, slice_get_within ws k v a))
     here k v j (inr a) (inl b) = absurd (omega (arith, a.0, even, slice_get_within is k j b))
-    here k v j (inr a) (inr b) = behind v j (subst (λ u. IsNamedIfTranscoder types ws (imports_of a_memory ws is) u j) a.1 (subst (IsNamedIfTranscoder types ws (imports_of a_memory ws is) w) b.1 n))
+    here k v j (inr a) (inr b) = before k v j (omega (arith, a.0)) (subst (λ u. IsNamedAt types k ws is u j) a.1 (subst (IsNamedAt types k ws is w) b.1 (last k a.0)))
 
 -- ---- a transcoder that is imported
 

@@ -1,5 +1,5 @@
 -- The core definitions that adapters mention, and the import section that names them.
-use Rattle.std.specs.Prelude.{◌≡◌, ◌≢◌, ℕ, ◌<◌, Bool, true, false, ◌&&◌, nat_eq, List, [], ◌∷◌, ◌++◌, AllPairs, Contains, Option, Some, None, filter, slice_get, map, codes, count_by, if◌then◌else◌}
+use Rattle.std.specs.Prelude.{◌≡◌, ◌≢◌, ℕ, ◌<◌, Bool, true, false, ◌&&◌, nat_eq, List, [], ◌∷◌, ◌++◌, AllPairs, Contains, Option, Some, None, filter, slice_get, map, take, codes, count_by, if◌then◌else◌}
 use Rattle.std.specs.List.{AllZip, list_any, flat_map, filter_map}
 use Rattle.std.specs.Fmt.{decimal}
 use Rattle.fact_wasm.specs.declared.types.ValType.{ValType}
@@ -168,24 +168,25 @@ pub record HasMemoryWidth (ws : List WasmImport) (place : ℕ) (memory64 : Bool)
   pub page : Option ℕ
   pub imported : slice_get (filter_map type_of_memory ws) place ≡ Some (memory64, page)
 
--- The import is this transcoder between the memories of these definitions, which have their places among the imported memories, and these
--- widths of addresses.
-pub record IsTranscoderNamed (types : List FuncType) (ws : List WasmImport) (memories : List Import) (o : Transcode) (from : CoreDef) (from64 : Bool) (to : CoreDef) (to64 : Bool) (w : WasmImport) : Type 0 where
+-- The import, behind these others, is this transcoder between the memories of these definitions, which have their places among the memories
+-- that are imported before it, and these widths of addresses.
+pub record IsTranscoderNamed (types : List FuncType) (before : List WasmImport) (memories : List Import) (o : Transcode) (from : CoreDef) (from64 : Bool) (to : CoreDef) (to64 : Bool) (w : WasmImport) : Type 0 where
   pub from_place : ℕ
   pub to_place : ℕ
   pub from_there : slice_get memories from_place ≡ Some (known.CoreDef from)
   pub to_there : slice_get memories to_place ≡ Some (known.CoreDef to)
-  pub from_wide : HasMemoryWidth ws from_place from64
-  pub to_wide : HasMemoryWidth ws to_place to64
+  pub from_wide : HasMemoryWidth before from_place from64
+  pub to_wide : HasMemoryWidth before to_place to64
   pub is : IsImportedFunction types w (codes "transcode") (transcoder_name o from_place to_place) (transcoder_type o from64 to64)
 
-abbrev pub IsNamedIfTranscoder : List FuncType → List WasmImport → (memories : List Import) → WasmImport → Import → Type 0
-IsNamedIfTranscoder types ws memories w (known.Transcode o from from64 to to64) = IsTranscoderNamed types ws memories o from from64 to to64 w
-IsNamedIfTranscoder types ws memories w _ = Unit {0}
+abbrev pub IsNamedIfTranscoder : List FuncType → (before : List WasmImport) → (memories : List Import) → WasmImport → Import → Type 0
+IsNamedIfTranscoder types before memories w (known.Transcode o from from64 to to64) = IsTranscoderNamed types before memories o from from64 to to64 w
+IsNamedIfTranscoder types before memories w _ = Unit {0}
 
 -- Each transcoder among the imports is named so.
 pub record AreTranscodersNamed (types : List FuncType) (ws : List WasmImport) (is : List Import) : Type 0 where
-  pub each : (k : ℕ) (w : WasmImport) (i : Import) → slice_get ws k ≡ Some w → slice_get is k ≡ Some i → IsNamedIfTranscoder types ws (imports_of a_memory ws is) w i
+  pub each : (k : ℕ) (w : WasmImport) (i : Import) → slice_get ws k ≡ Some w → slice_get is k ≡ Some i
+      → IsNamedIfTranscoder types (take k ws) (imports_of a_memory (take k ws) (take k is)) w i
 
 abbrev pub def_of : Import → Option CoreDef
 def_of (known.CoreDef d) = Some d

@@ -1,7 +1,7 @@
 -- What it takes to say that a given module names its imports, by computation.
-use Rattle.std.proofs.Common.{◌≡◌, ◌≢◌, ℕ, zero, suc, Bool, true, false, List, [], ◌∷◌, AllPairs, Some, arith, refl, sym, ap, ◌∙◌, subst, slice_get}
+use Rattle.std.proofs.Common.{◌≡◌, ◌≢◌, ℕ, zero, suc, Bool, true, false, List, [], ◌∷◌, ◌++◌, AllPairs, Some, arith, refl, sym, ap, ◌∙◌, subst, append_assoc, append-nil, slice_get, take}
 use Rattle.std.specs.Prelude.{not, ◌&&◌, nat_eq, length}
-use Rattle.std.specs.List.{AllByRecursion, AllZip}
+use Rattle.std.specs.List.{AllByRecursion}
 use Rattle.std.proofs.lemmas.Bool.{false≢true, eq-eqb}
 use Rattle.std.proofs.lemmas.List.Elements.{All-from_recursion}
 use Rattle.std.proofs.lemmas.List.Kept.{AllPairs-cons}
@@ -14,6 +14,7 @@ use Rattle.fact_types.proofs.ShapeLaws.{same_some, none_some}
 use Rattle.fact_emit.specs.ImportSection.{AreStartCallsNamed, AreTranscodersNamed, IsNamedIfTranscoder, a_memory, imports_of, is_awaited}
 use Rattle.fact_emit.specs.PlacesOf.{same_import}
 use Rattle.fact_emit.proofs.PlacesOfLaws.{import_self}
+use Rattle.fact_emit.proofs.TranscodersNamed.{named-same}
 
 -- what holds of each holds of the one at a place
 at_place : {A : Type 0} (P : A → Type 0) (xs : List A) (k : ℕ) (x : A) → AllByRecursion P xs → slice_get xs k ≡ Some x → P x
@@ -21,16 +22,29 @@ at_place P [] k x all e = absurd (none_some _ x refl e)
 at_place P (y ∷ xs) zero x all e = subst P (same_some (Some y) y x refl e) all.0
 at_place P (y ∷ xs) (suc k) x all e = at_place P xs k x all.1 e
 
-at_places : {A B : Type 0} (R : A → B → Type 0) (xs : List A) (ys : List B) (k : ℕ) (x : A) (y : B) → AllZip R xs ys → slice_get xs k ≡ Some x → slice_get ys k ≡ Some y → R x y
-at_places R [] ys k x y all e f = absurd (none_some _ x refl e)
-at_places R (v ∷ xs) [] k x y all e f = absurd all
-at_places R (v ∷ xs) (w ∷ ys) zero x y all e f = subst (λ x. R x y) (same_some (Some v) v x refl e) (subst (λ y. R v y) (same_some (Some w) w y refl f) all.0)
-at_places R (v ∷ xs) (w ∷ ys) (suc k) x y all e f = at_places R xs ys k x y all.1 e f
-
 -- ---- transcoders and start-calls
 
-pub transcoders_named : (types : List FuncType) (ws : List WasmImport) (is : List Import) → AllZip (IsNamedIfTranscoder types ws (imports_of a_memory ws is)) ws is → AreTranscodersNamed types ws is
-transcoders_named types ws is all = record { each = λ k w i e f. at_places (IsNamedIfTranscoder types ws (imports_of a_memory ws is)) ws is k w i all e f }
+-- each import is named so, behind those before it
+abbrev pub AreNamedInTurn : List FuncType → (vs : List WasmImport) → (js : List Import) → List WasmImport → List Import → Type 0
+AreNamedInTurn types vs js [] [] = Unit {0}
+AreNamedInTurn types vs js (w ∷ ws) (i ∷ is) = IsNamedIfTranscoder types vs (imports_of a_memory vs js) w i × AreNamedInTurn types (vs ++ w ∷ []) (js ++ i ∷ []) ws is
+AreNamedInTurn types vs js [] (i ∷ is) = ⊥
+AreNamedInTurn types vs js (w ∷ ws) [] = ⊥
+
+named_in_turn : (types : List FuncType) (vs : List WasmImport) (js : List Import) (ws : List WasmImport) (is : List Import) (k : ℕ) (w : WasmImport) (i : Import) → AreNamedInTurn types vs js ws is
+    → slice_get ws k ≡ Some w → slice_get is k ≡ Some i → IsNamedIfTranscoder types (vs ++ take k ws) (imports_of a_memory (vs ++ take k ws) (js ++ take k is)) w i
+named_in_turn types vs js [] is k w i all e f = absurd (none_some _ w refl e)
+named_in_turn types vs js (v ∷ ws) [] k w i all e f = absurd all
+named_in_turn types vs js (v ∷ ws) (j ∷ is) zero w i all e f =
+    named-same types w i (append-nil vs) (append-nil js)
+    (subst (λ u. IsNamedIfTranscoder types vs (imports_of a_memory vs js) u i) (same_some (Some v) v w refl e)
+    (subst (λ x. IsNamedIfTranscoder types vs (imports_of a_memory vs js) v x) (same_some (Some j) j i refl f) all.0))
+named_in_turn types vs js (v ∷ ws) (j ∷ is) (suc k) w i all e f =
+    named-same types w i (sym (append_assoc vs (v ∷ []) (take k ws))) (sym (append_assoc js (j ∷ []) (take k is)))
+    (named_in_turn types (vs ++ v ∷ []) (js ++ j ∷ []) ws is k w i all.1 e f)
+
+pub transcoders_named : (types : List FuncType) (ws : List WasmImport) (is : List Import) → AreNamedInTurn types [] [] ws is → AreTranscodersNamed types ws is
+transcoders_named types ws is all = record { each = λ k w i e f. named_in_turn types [] [] ws is k w i all e f }
 
 -- none is a start-call
 abbrev pub IsNoStart : Import → Type 0
