@@ -1,7 +1,7 @@
 """Judges the schema of plans that is named by the examples and by the texts of the tests.
 
-The texts stand in the table of crates/rows: what is asked in its stdin, what comes of it in its stdout. A block is a plan, and lines that
-ask how the command ends for it, or for the plan with some edits. Ends with status 1 where a text is not judged as it should be, where the
+The texts stand in the table of crates/rows: what is asked in its stdin, what comes of it in its stdout. A block may be a plan, and lines
+that ask how the command ends for it, or for the plan with some edits. Ends with status 1 where a text is not judged as it should be, where the
 schema is none or does not tell what a key is, and where the texts cannot be read or have become fewer.
 """
 
@@ -90,9 +90,9 @@ def blocks():
     came = {(it["name"], int(it["number"])): it["came"] for it in map(CAME.fullmatch, lines_of("stdout")) if it}
     found = []
     for line in lines_of("stdin"):
-        if not found and not line.startswith("plan "):
+        if not found and not line.startswith("block "):
             continue
-        if line.startswith("plan "):
+        if line.startswith("block "):
             _, name, plan = line.split(" ", 2)
             found.append((name, plan, []))
             continue

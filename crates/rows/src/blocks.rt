@@ -1,19 +1,21 @@
-//! Blocks of a table, each of a plan or of the bytes of a module.
+//! Blocks of a table: of plans, of the bytes of modules, and of types.
 
 use crate::command::{add_asked, add_bytes, add_end, add_imports, add_page, add_prefixes};
+use crate::made::made_of;
 use crate::modules::{add_of_module, module_of_block};
 use crate::runs::add_run;
 use crate::shown::add_shown;
+use crate::type_lines::add_of_types;
 use crate::words::{edited, word_of};
+use fact_plan_types::{FuseError, PlanTypes};
 use fact_wasm::WasmModule;
 use std::alloc::{AllocError, Global};
 
-/// What the lines of a block speak of.
+/// What the lines of a block speak of: a plan, or the bytes of a module, with the module that it has; or types, or why there are none.
 #[derive(Clone, Copy)]
-struct Block<'a> {
-    name: &'a str,
-    plan: &'a str,
-    module: &'a Option<WasmModule>,
+enum Head<'a> {
+    Module(&'a str, &'a Option<WasmModule>),
+    Types(&'a Result<PlanTypes, FuseError>),
 }
 
 /// Adds what comes of the plan of a block with edits.
@@ -33,22 +35,37 @@ fn add_edited(
     }
 }
 
+/// Adds what comes of a line that asks of a plan or of a module.
+fn add_of_plan(
+    page: &mut String,
+    alloc: Global,
+    plan: &str,
+    module: &Option<WasmModule>,
+    line: &str,
+) -> Result<(), AllocError> {
+    let (kind, rest) = word_of(line);
+    match (kind, module) {
+        ("run", Some(module)) => add_run(page, alloc, module, rest),
+        ("run", None) => page.push_str("no module"),
+        ("ask", _) => add_asked(page, alloc, plan, rest),
+        ("bytes", _) => add_bytes(page, alloc, rest),
+        ("shows", _) => add_shown(page, alloc, plan, module, rest),
+        ("spells" | "call" | "tree", module) => add_of_module(page, alloc, module, kind, rest),
+        _ => add_edited(page, alloc, plan, kind, rest),
+    }
+}
+
 /// Adds what comes of a line.
 fn add_came(
     page: &mut String,
     alloc: Global,
-    block: &Block<'_>,
+    head: &Head<'_>,
     line: &str,
 ) -> Result<(), AllocError> {
-    let (kind, rest) = word_of(line);
-    match (kind, block.module) {
-        ("run", Some(module)) => add_run(page, alloc, module, rest),
-        ("run", None) => page.push_str("no module"),
-        ("ask", _) => add_asked(page, alloc, block.plan, rest),
-        ("bytes", _) => add_bytes(page, alloc, rest),
-        ("shows", _) => add_shown(page, alloc, block.plan, block.module, rest),
-        ("spells" | "call" | "tree", module) => add_of_module(page, alloc, module, kind, rest),
-        _ => add_edited(page, alloc, block.plan, kind, rest),
+    match *head {
+        Head::Module(plan, module) => add_of_plan(page, alloc, plan, module, line),
+        Head::Types(Ok(made)) => add_of_types(page, alloc, made, line),
+        Head::Types(Err(refusal)) => write!(page, "{refusal}"),
     }
 }
 
@@ -56,15 +73,16 @@ fn add_came(
 fn add_line(
     page: &mut String,
     alloc: Global,
-    block: &Block<'_>,
+    name: &str,
+    head: &Head<'_>,
     number: usize,
     line: &str,
 ) -> Result<(), AllocError> {
     if line.starts_with('#') {
         return writeln!(page, "{line}");
     }
-    write!(page, "{} {number}: ", block.name)?;
-    add_came(page, alloc, block, line)?;
+    write!(page, "{name} {number}: ")?;
+    add_came(page, alloc, head, line)?;
     page.push('\n')
 }
 
@@ -72,30 +90,57 @@ fn add_line(
 fn add_lines_of(
     page: &mut String,
     alloc: Global,
-    block: &Block<'_>,
+    name: &str,
+    head: &Head<'_>,
     lines: &str,
 ) -> Result<(), AllocError> {
     for (number, line) in lines.lines().enumerate() {
-        add_line(page, alloc, block, number, line)?;
+        add_line(page, alloc, name, head, number, line)?;
     }
     Ok(())
 }
 
+/// Adds the answers to the lines of a block of a plan, or of the bytes of a module.
+fn add_lines_of_plan(
+    page: &mut String,
+    alloc: Global,
+    name: &str,
+    plan: &str,
+    lines: &str,
+) -> Result<(), AllocError> {
+    let module = module_of_block(alloc, plan)?;
+    let added = add_lines_of(page, alloc, name, &Head::Module(plan, &module), lines);
+    drop(module);
+    added
+}
+
+/// Adds the answers to the lines of a block of types.
+fn add_lines_of_types(
+    page: &mut String,
+    alloc: Global,
+    name: &str,
+    words: &str,
+    lines: &str,
+) -> Result<(), AllocError> {
+    let made = made_of(alloc, words);
+    let added = add_lines_of(page, alloc, name, &Head::Types(&made), lines);
+    // A call that drops the types has a short proof, the end of their scope a long one.
+    drop(made);
+    added
+}
+
 fn add_block(page: &mut String, alloc: Global, text: &str) -> Result<(), AllocError> {
     let (head, lines) = text.split_once("\n").unwrap_or((text, ""));
-    let (name, plan) = word_of(head);
-    let module = module_of_block(alloc, plan)?;
-    let block = Block {
-        name,
-        plan,
-        module: &module,
-    };
-    add_lines_of(page, alloc, &block, lines)
+    let (name, head) = word_of(head);
+    match word_of(head) {
+        ("types", words) => add_lines_of_types(page, alloc, name, words, lines),
+        _ => add_lines_of_plan(page, alloc, name, head, lines),
+    }
 }
 
 /// Adds the answers to a table.
 pub fn add_blocks(page: &mut String, alloc: Global, text: &str) -> Result<(), AllocError> {
-    for block in text.split("\nplan ").skip(1) {
+    for block in text.split("\nblock ").skip(1) {
         add_block(page, alloc, block)?;
     }
     Ok(())

@@ -4,8 +4,8 @@
 //! call, so that what was written stays.
 
 use crate::command::{plain, run_on};
-use crate::told::add_outcome;
-use crate::words::{first_of, number_of, word_of};
+use crate::told_runs::add_outcome;
+use crate::words::{core_value_of, core_values_of, first_of, number_of, small_number_of, word_of};
 use fact_machine::{Answer, CoreValue, Machine, MachineState, Outcome};
 use fact_wasm::{Seq, WasmModule, decode};
 use std::alloc::{AllocError, Global};
@@ -27,28 +27,6 @@ pub fn module_of(alloc: Global, plan: &str) -> Result<Option<WasmModule>, AllocE
     let module = module_in(alloc, seen.printed());
     drop(seen);
     module
-}
-
-/// A number of 32 bits or of 64, a float by its bits.
-fn value_of(word: &str) -> Option<CoreValue> {
-    let (kind, number) = word.split_once(":")?;
-    let bits = number.parse::<u64>().ok()?;
-    match kind {
-        "i32" => Some(CoreValue::I32(u32::try_from(bits).ok()?)),
-        "i64" => Some(CoreValue::I64(bits)),
-        "f32" => Some(CoreValue::F32(u32::try_from(bits).ok()?)),
-        "f64" => Some(CoreValue::F64(bits)),
-        _ => None,
-    }
-}
-
-/// The values of words, of which there are none in `nothing`.
-fn values_of(alloc: Global, words: &str) -> Result<Seq<CoreValue>, AllocError> {
-    let mut values = Seq::new(alloc);
-    for value in words.split_whitespace().filter_map(value_of) {
-        values.push(value)?;
-    }
-    Ok(values)
 }
 
 /// Puts bytes at an address: `ADDRESS=HEX`.
@@ -79,10 +57,10 @@ fn memory_of(alloc: Global, word: &str) -> Result<Seq<u8>, AllocError> {
 
 /// The state of a line.
 fn state_of(alloc: Global, words: &str) -> Result<MachineState, AllocError> {
-    let globals = values_of(alloc, words)?;
+    let globals = core_values_of(alloc, words)?;
     let mut memories = Seq::new(alloc);
     for word in words.split_whitespace() {
-        if value_of(word).is_none() {
+        if core_value_of(word).is_none() {
             memories.push(memory_of(alloc, word)?)?;
         }
     }
@@ -97,9 +75,9 @@ fn answer_of(alloc: Global, words: &str, mut state: MachineState) -> Result<Answ
         "throws" => return Ok(Answer::Throws),
         _ => (),
     }
-    let results = values_of(alloc, words)?;
+    let results = core_values_of(alloc, words)?;
     if !globals.is_empty() {
-        state.globals = values_of(alloc, globals)?;
+        state.globals = core_values_of(alloc, globals)?;
     }
     Ok(Answer::Returns { results, state })
 }
@@ -173,10 +151,10 @@ pub fn add_run(
     let (func, steps) = word_of(call);
     let (steps, through) = word_of(steps);
     let state = state_of(alloc, state)?;
-    let args = values_of(alloc, args)?;
+    let args = core_values_of(alloc, args)?;
     let begin = Begin {
         module,
-        func: u32::try_from(number_of(func)).unwrap_or(u32::MAX),
+        func: small_number_of(func),
         steps: number_of(steps),
         args: args.as_slice(),
         state: &state,

@@ -48,7 +48,7 @@ def text(name, folder):
 def block(name):
     """The bytes of a block of the table, and its calls."""
     came = dict(line.split(": ", 1) for line in (ROWS / "stdout").read_text().splitlines() if ": " in line)
-    blocks = (ROWS / "stdin").read_text().split("\nplan ")
+    blocks = (ROWS / "stdin").read_text().split("\nblock ")
     head, *lines = next(block for block in blocks if block.startswith(f"modules.{name} ")).splitlines()
     calls = []
     for number, line in enumerate(lines):

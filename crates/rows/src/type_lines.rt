@@ -1,18 +1,17 @@
-//! Blocks of a table, each of the types that its head makes.
+//! What is asked of the types that the head of a block makes.
 
 use crate::agreed::{add_agree, add_agree_all};
 use crate::funcs::{add_core_type, add_flattened, add_one_func, add_signature, add_tables};
 use crate::layouts::{add_laid, add_next};
 use crate::live::are_live;
-use crate::made::made_of;
 use crate::types::{add_inside, add_known, add_layout, add_place, types_of};
 use crate::values::{add_carried, add_lifted, add_loaded};
 use crate::words::{first_of, word_of, yes_or_no};
-use fact_plan_types::{FuseError, PlanTypes};
+use fact_plan_types::PlanTypes;
 use std::alloc::{AllocError, Global};
 
-/// Adds what comes of a line that asks of types.
-fn add_of_types(
+/// Adds what comes of a line that names types.
+fn add_of_named(
     page: &mut String,
     alloc: Global,
     made: &PlanTypes,
@@ -41,7 +40,7 @@ fn add_of_types(
 }
 
 /// Adds what comes of a line.
-fn add_came(
+pub fn add_of_types(
     page: &mut String,
     alloc: Global,
     made: &PlanTypes,
@@ -56,57 +55,6 @@ fn add_came(
         "one" => add_one_func(page, made.funcs.as_slice(), rest),
         "signature" => add_signature(page, made, rest),
         "agree-all" => add_agree_all(page, alloc, made, rest),
-        _ => add_of_types(page, alloc, made, kind, rest),
+        _ => add_of_named(page, alloc, made, kind, rest),
     }
-}
-
-/// Adds what comes of a line, or why there are no types.
-fn add_answer(
-    page: &mut String,
-    alloc: Global,
-    made: &Result<PlanTypes, FuseError>,
-    line: &str,
-) -> Result<(), AllocError> {
-    match made {
-        Ok(made) => add_came(page, alloc, made, line),
-        Err(refusal) => write!(page, "{refusal}"),
-    }
-}
-
-/// Adds the answers to the lines of a block.
-fn add_lines_of(
-    page: &mut String,
-    alloc: Global,
-    name: &str,
-    made: &Result<PlanTypes, FuseError>,
-    lines: &str,
-) -> Result<(), AllocError> {
-    for (number, line) in lines.lines().enumerate() {
-        if line.starts_with('#') {
-            page.push_str(line)?;
-        } else {
-            write!(page, "{name} {number}: ")?;
-            add_answer(page, alloc, made, line)?;
-        }
-        page.push('\n')?;
-    }
-    Ok(())
-}
-
-fn add_block(page: &mut String, alloc: Global, text: &str) -> Result<(), AllocError> {
-    let (head, lines) = text.split_once("\n").unwrap_or((text, ""));
-    let (name, head) = word_of(head);
-    let made = made_of(alloc, head);
-    let added = add_lines_of(page, alloc, name, &made, lines);
-    // A call that drops the types has a short proof, the end of their scope a long one.
-    drop(made);
-    added
-}
-
-/// Adds the answers to a table.
-pub fn add_blocks(page: &mut String, alloc: Global, text: &str) -> Result<(), AllocError> {
-    for block in text.split("\nblock ").skip(1) {
-        add_block(page, alloc, block)?;
-    }
-    Ok(())
 }

@@ -3,7 +3,7 @@
 
 ghost use Rattle.fact_types.specs.Tables.{IsLive};
 
-use crate::told::add_value;
+use crate::told_values::add_value;
 use crate::words::{bytes_of, core_values_of, number_of, numbers_of, side_of, word_of};
 use fact_abi::{Value, carry, lift, load};
 use fact_builder::ComponentTypesBuilder;
