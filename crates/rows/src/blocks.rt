@@ -1,12 +1,13 @@
-//! Blocks of a table: of plans, of the bytes of modules, and of types.
+//! Blocks of a table: of plans, of the bytes of modules, of types, and of sources.
 
 use crate::command::{add_asked, add_bytes, add_end, add_imports, add_page, add_prefixes};
+use crate::conversions::add_lines_of_source;
 use crate::made::made_of;
 use crate::modules::{add_of_module, module_of_block};
 use crate::runs::add_run;
 use crate::shown::add_shown;
 use crate::type_lines::add_of_types;
-use crate::words::{edited, word_of};
+use crate::words::{begins_answer, edited, word_of};
 use fact_plan_types::{FuseError, PlanTypes};
 use fact_wasm::WasmModule;
 use std::alloc::{AllocError, Global};
@@ -78,11 +79,9 @@ fn add_line(
     number: usize,
     line: &str,
 ) -> Result<(), AllocError> {
-    if line.starts_with('#') {
-        return writeln!(page, "{line}");
+    if begins_answer(page, name, number, line)? {
+        add_came(page, alloc, head, line)?;
     }
-    write!(page, "{name} {number}: ")?;
-    add_came(page, alloc, head, line)?;
     page.push('\n')
 }
 
@@ -134,6 +133,7 @@ fn add_block(page: &mut String, alloc: Global, text: &str) -> Result<(), AllocEr
     let (name, head) = word_of(head);
     match word_of(head) {
         ("types", words) => add_lines_of_types(page, alloc, name, words, lines),
+        ("source", words) => add_lines_of_source(page, alloc, name, words, lines),
         _ => add_lines_of_plan(page, alloc, name, head, lines),
     }
 }

@@ -2,7 +2,7 @@
 //! comparison with values that were worked out apart from the program.
 //!
 //! A line `block NAME HEAD` begins a block, whose lines below it speak of what its head is: a plan; the bytes of a module (`modules`); or,
-//! behind `types`, the types that a plan has or words make (`made`). Each of them is answered by one line: the name, the number of the line
+//! behind `types`, the types that a plan has or words make (`made`); or, behind `source`, types that are converted (`conversions`). Each of them is answered by one line: the name, the number of the line
 //! in its block, and what came, or why the head makes no types. A line that begins with `#` is copied. Parts of a line are parted by ` | `.
 //!
 //! Of a plan:
@@ -41,13 +41,19 @@
 mod agreed;
 mod blocks;
 mod command;
+mod conversions;
+mod core_items;
+mod defined;
 mod funcs;
 mod layouts;
 mod live;
+mod live_source;
 mod made;
 mod modules;
 mod runs;
 mod shown;
+mod sources;
+mod told_defs;
 mod told_runs;
 mod told_values;
 mod trees;

@@ -92,7 +92,7 @@ pub fn add_layout(
 }
 
 /// The kind of a type, and its index in the table of this kind.
-fn named(ty: &InterfaceType) -> (&'static str, u32) {
+pub fn named(ty: &InterfaceType) -> (&'static str, u32) {
     match *ty {
         InterfaceType::Record(i) => ("record", i.as_u32()),
         InterfaceType::Variant(i) => ("variant", i.as_u32()),

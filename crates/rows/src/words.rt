@@ -1,4 +1,4 @@
-//! Parts of lines, numbers, bytes, sides, core values, and plans with edits.
+//! Parts of lines, numbers, bytes, sides, core values, and plans with edits; and how answers begin.
 
 use fact_abi::SideAbi;
 use fact_machine::CoreValue;
@@ -110,4 +110,19 @@ pub fn add_text(page: &mut String, text: &str) -> Result<(), AllocError> {
         page.push_str(line)?;
     }
     Ok(())
+}
+
+/// Begins the answer to a line by the name of its block and its number. A comment is copied, and has no answer.
+pub fn begins_answer(
+    page: &mut String,
+    name: &str,
+    number: usize,
+    line: &str,
+) -> Result<bool, AllocError> {
+    if line.starts_with('#') {
+        page.push_str(line)?;
+        return Ok(false);
+    }
+    write!(page, "{name} {number}: ")?;
+    Ok(true)
 }

@@ -73,7 +73,7 @@ pub fn is_live_func(types: &SourceTypes, func: &SourceFunc) -> bool
 }
 
 /// Whether a type that an export makes known is there.
-fn is_live_any(types: &SourceTypes, id: ComponentAnyTypeId) -> bool
+pub fn is_live_any(types: &SourceTypes, id: ComponentAnyTypeId) -> bool
     ensures { IsTrue result → IsLiveAny types.now id }
 {
     match id {

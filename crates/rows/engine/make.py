@@ -8,7 +8,7 @@ something differs.
 import json, pathlib, subprocess, sys, tempfile
 
 HERE = pathlib.Path(__file__).resolve().parent
-ROWS = HERE.parents[1] / "rows"
+ROWS = HERE.parent
 SUITES = ["numbers", "narrow", "wide", "several", "controls", "turns"]
 TEXTS = {"sum": "tree.sum", "memories": "tree.memories", "branches": "tree.branches", "unchecked": "unchecked"}
 

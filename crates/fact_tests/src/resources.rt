@@ -1,18 +1,48 @@
-//! The resources of the source: each call once.
+//! The resources of a source: each call once.
 
-ghost use Rattle.std.specs.Prelude.{◌≡◌};
+ghost use Rattle.std.specs.Prelude.{◌≡◌, ◌∷◌, [], IfOk, All};
+ghost use Rattle.fact_entity.specs.declared.source.ComponentAnyTypeId.TheVariants as any;
 ghost use Rattle.fact_resources.specs.Known.{no_resources};
+ghost use Rattle.fact_source.specs.declared.items.ComponentEntityType.TheVariants as entity;
 
-use crate::tables::resource_export;
 use fact_entity::{
     AbstractResourceIndex, EntityRef, OutOfMemory, PushError, ResourceId, ResourceIndex,
     RuntimeComponentInstanceIndex,
 };
 use fact_resources::{BuildError, ResourcesBuilder};
-use fact_source::{ComponentEntityType, ComponentInstanceTypeId, SourceInstance, SourceTypes};
+use fact_source::{
+    ComponentAnyTypeId, ComponentEntityType, ComponentInstanceTypeId, SourceInstance, SourceItem,
+    SourceTypes,
+};
 use fact_types::{ComponentTypes, Lookup, TypeResourceTable, TypeResourceTableIndex};
 use fact_wasm::{Seq, Text};
 use std::alloc::Global;
+
+/// A list of one item.
+fn list_of<T: Drop>(alloc: Global, item: T) -> Result<Seq<T>, OutOfMemory>
+    ensures { IfOk result (λ items. items ≡ item ∷ []) }
+{
+    let mut items = Seq::new(alloc);
+    items.push(item)?;
+    Ok(items)
+}
+
+/// The export of a resource under the name r.
+fn resource_export(
+    alloc: Global,
+    resource: ResourceId,
+) -> Result<Seq<(Text, SourceItem)>, OutOfMemory>
+    ensures { IfOk result (λ items. All (λ x. x.1.ty ≡ entity.AnyType (any.Resource resource)) items) }
+{
+    let item = SourceItem {
+        ty: ComponentEntityType::AnyType {
+            created: ComponentAnyTypeId::Resource(resource),
+        },
+        implements: None,
+        external_id: None,
+    };
+    list_of(alloc, (Text::from_str(alloc, "r")?, item))
+}
 
 /// A new instance that exports a new resource.
 fn exporting(

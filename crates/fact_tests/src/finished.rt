@@ -1,0 +1,105 @@
+//! The calls of a builder that converts which no row makes: its error contexts, and its end.
+
+ghost use Rattle.std.specs.Prelude.{IfOk};
+ghost use Rattle.fact_types.specs.Tables.{Tables, AreLiveExterns};
+ghost use Rattle.fact_convert.specs.Finished.{IsLinkedComponent};
+
+use fact_convert::{BuildError, Component, ConvertingBuilder, Export};
+use fact_entity::{EntityRef, OutOfMemory, PrimaryMap, RuntimeComponentInstanceIndex};
+use fact_types::{ComponentExtern, ComponentExternData, InterfaceType, Lookup, TypeDef};
+use fact_wasm::{Seq, Text};
+use std::alloc::Global;
+
+/// The number of the source.
+const SOURCE: u64 = 7;
+
+/// Whether error contexts have no table where no instance is set, and else one, whichever call asks for it.
+fn have_one_table(converter: &mut ConvertingBuilder) -> bool {
+    let none = converter.error_context_type();
+    let resources = converter.resources_mut();
+    resources.set_current_instance(RuntimeComponentInstanceIndex::from_u32(2));
+    let first = converter.error_context_type();
+    let again = converter.error_context_table_type();
+    none == Err(BuildError::NoInstance) && first.is_ok() && first == again
+}
+
+/// What is said of an import or export without names beside its type.
+fn untold() -> ComponentExternData {
+    ComponentExternData {
+        implements: None,
+        external_id: None,
+    }
+}
+
+/// Imports of two numbers under one name.
+fn imports_of(alloc: Global) -> Result<Seq<(Text, ComponentExtern)>, OutOfMemory>
+    ensures { IfOk result (λ xs. (t : Tables) → AreLiveExterns t xs) }
+{
+    let extern_data = untold();
+    let ty = TypeDef::Interface(InterfaceType::U8);
+    let first = (
+        Text::from_str(alloc, "n")?,
+        ComponentExtern { extern_data, ty },
+    );
+    let extern_data = untold();
+    let ty = TypeDef::Interface(InterfaceType::U16);
+    let second = (
+        Text::from_str(alloc, "n")?,
+        ComponentExtern { extern_data, ty },
+    );
+    let mut imports = Seq::new(alloc);
+    imports.push(first)?;
+    imports.push(second)?;
+    Ok(imports)
+}
+
+/// A component that imports a number, twice under one name, and exports one.
+fn component_of(alloc: Global) -> Result<Component, BuildError>
+    ensures { IfOk result (λ c. (t : Tables) → IsLinkedComponent t c) }
+{
+    let import_types = imports_of(alloc)?;
+    let mut export_items = PrimaryMap::new(alloc);
+    let item = export_items.push(Export::AnyType(TypeDef::Interface(InterfaceType::U32)))?;
+    let mut exports = Seq::new(alloc);
+    exports.push((Text::from_str(alloc, "m")?, item, untold()))?;
+    Ok(Component {
+        import_types,
+        exports,
+        export_items,
+    })
+}
+
+/// Whether a type is that of a u16.
+fn is_u16(ty: &TypeDef) -> bool {
+    matches!(ty, TypeDef::Interface(InterfaceType::U16))
+}
+
+/// Whether the end of a builder without components gives the first one, which has one import, of the last type under its name, and one
+/// export, with the core types.
+fn ends_with_component(alloc: Global, converter: ConvertingBuilder) -> bool {
+    let Ok(component) = component_of(alloc) else {
+        drop(converter);
+        return false;
+    };
+    let finished = converter.finish(&component);
+    drop(component);
+    let Ok((types, index)) = finished else {
+        return false;
+    };
+    let told = types.get(index).is_some_and(|it| {
+        it.imports.len() == 1
+            && matches!(it.imports.values().next(), Some(import) if is_u16(&import.ty))
+            && it.exports.len() == 1
+    });
+    let core_types = types.module_types_opt().is_some();
+    drop(types);
+    index.number == 0 && told && core_types
+}
+
+#[test]
+fn a_builder_ends_with_a_component(rt: HostRuntime) {
+    let mut converter = ConvertingBuilder::new(rt.alloc(), SOURCE);
+    let have = have_one_table(&mut converter);
+    let ended = ends_with_component(rt.alloc(), converter);
+    assert!(rt; have && ended);
+}

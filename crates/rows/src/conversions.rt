@@ -1,0 +1,378 @@
+//! What the types of a source are converted to. The head of a block is `source`, the number of the instance that is set, or `-`, and the
+//! entries of the source (`sources`). Its lines ask, of one builder:
+//!
+//!     convert E                   what an import or export of a type becomes, or why it is refused
+//!     any E                       the same of a type that is made known
+//!     item E | NAME | NAME        the same of an import or export of the name of an interface, and of a name outside
+//!     type N                      what a defined type becomes, as `known` and `layout` tell it
+//!     func N                      what a function type becomes, whether it holds a handle, and how its parameters are laid out
+//!     concrete E, abstract E      the names on the path to the last resource that is registered, as resource 3, or as abstract
+//!                                 resource 9, and whether the first list is there then
+//!     table N                     the table of a resource
+//!     counts                      how many tables of handles there are, and how many core types
+//!     tuple N, instance N, component N    what an entry that was made has
+
+ghost use Rattle.std.specs.Prelude.{◌≡◌, []};
+ghost use Rattle.fact_convert.specs.Conversion.{IsReadyFor};
+
+use crate::live_source::{is_live_any, is_live_entity};
+use crate::sources::{SOURCE, any_of, entity_of, is_filled};
+use crate::told_defs::{
+    add_component, add_counts, add_def, add_instance, add_params, add_table, add_tuple,
+};
+use crate::types::{add_known, add_layout};
+use crate::words::{begins_answer, first_of, small_number_of, word_of, yes_or_no};
+use fact_convert::{BuildError, ConvertingBuilder};
+use fact_entity::{
+    AbstractResourceIndex, EntityRef, ResourceId, ResourceIndex, RuntimeComponentInstanceIndex,
+};
+use fact_source::{ComponentDefinedTypeId, ComponentFuncTypeId, SourceItem, SourceTypes};
+use fact_types::{ComponentTypes, Lookup, TypeDef, TypeListIndex};
+use fact_wasm::{Seq, Text};
+use std::alloc::{AllocError, Global};
+
+/// Adds what was made, or why it was refused.
+fn add_made(page: &mut String, made: Result<TypeDef, BuildError>) -> Result<(), AllocError> {
+    match made {
+        Ok(made) => add_def(page, &made),
+        Err(refusal) => write!(page, "{refusal}"),
+    }
+}
+
+fn add_converted(
+    page: &mut String,
+    types: &SourceTypes,
+    converter: &mut ConvertingBuilder,
+    word: &str,
+) -> Result<(), AllocError>
+    requires ready { IsReadyFor types.now converter.old }
+    ensures ready { IsReadyFor types.now converter.new }
+{
+    let Some(ty) = entity_of(word) else {
+        return page.push_str("no such entry");
+    };
+    if !is_live_entity(types, &ty) {
+        return page.push_str("no such entry");
+    }
+    add_made(page, converter.convert_component_entity_type(types, ty))
+}
+
+fn add_any(
+    page: &mut String,
+    types: &SourceTypes,
+    converter: &mut ConvertingBuilder,
+    word: &str,
+) -> Result<(), AllocError>
+    requires ready { IsReadyFor types.now converter.old }
+    ensures ready { IsReadyFor types.now converter.new }
+{
+    let Some(id) = any_of(word) else {
+        return page.push_str("no such entry");
+    };
+    if !is_live_any(types, id) {
+        return page.push_str("no such entry");
+    }
+    add_made(page, converter.convert_type(types, id))
+}
+
+/// The import or export of a line.
+fn item_of(alloc: Global, line: &str) -> Result<Option<SourceItem>, AllocError> {
+    let (word, names) = first_of(line);
+    let (interface, outside) = first_of(names);
+    let Some(ty) = entity_of(word) else {
+        return Ok(None);
+    };
+    Ok(Some(SourceItem {
+        ty,
+        implements: Some(Text::from_str(alloc, interface)?),
+        external_id: Some(Text::from_str(alloc, outside)?),
+    }))
+}
+
+/// Adds a name that is said of an import or export.
+fn add_said(page: &mut String, name: &Option<Text>) -> Result<(), AllocError> {
+    match name {
+        Some(name) => write!(page, "{} ", name.as_str()),
+        None => page.push_str("- "),
+    }
+}
+
+/// Adds what an import or export becomes, behind the names that are said of it.
+fn add_converted_item(
+    page: &mut String,
+    types: &SourceTypes,
+    converter: &mut ConvertingBuilder,
+    item: &SourceItem,
+) -> Result<(), AllocError>
+    requires ready { IsReadyFor types.now converter.old }
+    ensures ready { IsReadyFor types.now converter.new }
+{
+    if !is_live_entity(types, &item.ty) {
+        return page.push_str("no such entry");
+    }
+    match converter.convert_component_item(types, item) {
+        Ok(made) => {
+            add_said(page, &made.extern_data.implements)?;
+            add_said(page, &made.extern_data.external_id)?;
+            add_def(page, &made.ty)
+        }
+        Err(refusal) => write!(page, "{refusal}"),
+    }
+}
+
+fn add_item(
+    page: &mut String,
+    alloc: Global,
+    types: &SourceTypes,
+    converter: &mut ConvertingBuilder,
+    line: &str,
+) -> Result<(), AllocError>
+    requires ready { IsReadyFor types.now converter.old }
+    ensures ready { IsReadyFor types.now converter.new }
+{
+    let Some(item) = item_of(alloc, line)? else {
+        return page.push_str("no such entry");
+    };
+    let added = add_converted_item(page, types, converter, &item);
+    drop(item);
+    added
+}
+
+fn add_type(
+    page: &mut String,
+    alloc: Global,
+    types: &SourceTypes,
+    converter: &mut ConvertingBuilder,
+    word: &str,
+) -> Result<(), AllocError>
+    requires ready { IsReadyFor types.now converter.old }
+    ensures ready { IsReadyFor types.now converter.new }
+{
+    let id = ComponentDefinedTypeId::from_u32(small_number_of(word));
+    if types.get_defined(id).is_none() {
+        return page.push_str("no such entry");
+    }
+    match converter.defined_type(types, id) {
+        Ok(ty) => {
+            add_known(page, converter.types(), &ty)?;
+            page.push(' ')?;
+            add_layout(page, alloc, converter.types(), &ty)
+        }
+        Err(refusal) => write!(page, "{refusal}"),
+    }
+}
+
+fn add_func(
+    page: &mut String,
+    types: &SourceTypes,
+    converter: &mut ConvertingBuilder,
+    word: &str,
+) -> Result<(), AllocError>
+    requires ready { IsReadyFor types.now converter.old }
+    ensures ready { IsReadyFor types.now converter.new }
+{
+    let id = ComponentFuncTypeId::from_u32(small_number_of(word));
+    if types.get_func(id).is_none() {
+        return page.push_str("no such entry");
+    }
+    match converter.convert_component_func_type(types, id) {
+        Ok(func) => {
+            let handle = converter.types().func_contains_any_handle(func);
+            write!(page, "{} {} ", func.as_u32(), yes_or_no(handle))?;
+            add_params(page, converter.types().component_types(), func)
+        }
+        Err(refusal) => write!(page, "{refusal}"),
+    }
+}
+
+fn add_concrete(
+    page: &mut String,
+    alloc: Global,
+    types: &SourceTypes,
+    converter: &mut ConvertingBuilder,
+    word: &str,
+) -> Result<(), AllocError>
+    requires ready { IsReadyFor types.now converter.old }
+    ensures ready { IsReadyFor types.now converter.new }
+{
+    let Some(ty) = entity_of(word) else {
+        return page.push_str("no such entry");
+    };
+    let mut told = (0, false);
+    let mut register = |path: &[Text], tables: &ComponentTypes| {
+        told = (path.len(), tables.get(TypeListIndex::from_u32(0)).is_some());
+        ResourceIndex::from_u32(3)
+    };
+    let mut path = Seq::new(alloc);
+    let walked = converter.register_component_entity_type(types, ty, &mut path, &mut register);
+    drop(path);
+    walked?;
+    write!(page, "{} {}", told.0, yes_or_no(told.1))
+}
+
+fn add_abstract(
+    page: &mut String,
+    alloc: Global,
+    types: &SourceTypes,
+    converter: &mut ConvertingBuilder,
+    word: &str,
+) -> Result<(), AllocError>
+    requires ready { IsReadyFor types.now converter.old }
+    ensures ready { IsReadyFor types.now converter.new }
+{
+    let Some(ty) = entity_of(word) else {
+        return page.push_str("no such entry");
+    };
+    let mut told = (0, false);
+    let mut register = |path: &[Text], tables: &ComponentTypes| {
+        told = (path.len(), tables.get(TypeListIndex::from_u32(0)).is_some());
+        AbstractResourceIndex::from_u32(9)
+    };
+    let mut path = Seq::new(alloc);
+    let walked = converter.register_abstract_component_entity_type(
+        types,
+        ty,
+        &mut path,
+        &mut register,
+    );
+    drop(path);
+    walked?;
+    write!(page, "{} {}", told.0, yes_or_no(told.1))
+}
+
+/// Adds the table of a resource.
+fn add_table_of(
+    page: &mut String,
+    types: &SourceTypes,
+    converter: &mut ConvertingBuilder,
+    word: &str,
+) -> Result<(), AllocError>
+    requires ready { IsReadyFor types.now converter.old }
+    ensures ready { IsReadyFor types.now converter.new }
+{
+    match converter.resource_id(ResourceId::from_u32(small_number_of(word))) {
+        Ok(table) => add_table(page, converter.types().component_types(), table),
+        Err(refusal) => write!(page, "{refusal}"),
+    }
+}
+
+/// Adds what an entry that was made has.
+fn add_entry(
+    page: &mut String,
+    converter: &ConvertingBuilder,
+    kind: &str,
+    word: &str,
+) -> Result<(), AllocError> {
+    let number = small_number_of(word);
+    let tables = converter.types().component_types();
+    match kind {
+        "counts" => add_counts(page, converter.types()),
+        "tuple" => add_tuple(page, tables, EntityRef::from_u32(number)),
+        "instance" => add_instance(page, tables, EntityRef::from_u32(number)),
+        "component" => add_component(page, tables, EntityRef::from_u32(number)),
+        _ => page.push_str("no such question"),
+    }
+}
+
+/// Adds what comes of a line.
+fn add_came(
+    page: &mut String,
+    alloc: Global,
+    types: &SourceTypes,
+    converter: &mut ConvertingBuilder,
+    line: &str,
+) -> Result<(), AllocError>
+    requires ready { IsReadyFor types.now converter.old }
+    ensures ready { IsReadyFor types.now converter.new }
+{
+    let (kind, rest) = word_of(line);
+    match kind {
+        "convert" => add_converted(page, types, converter, rest),
+        "any" => add_any(page, types, converter, rest),
+        "item" => add_item(page, alloc, types, converter, rest),
+        "type" => add_type(page, alloc, types, converter, rest),
+        "func" => add_func(page, types, converter, rest),
+        "concrete" => add_concrete(page, alloc, types, converter, rest),
+        "abstract" => add_abstract(page, alloc, types, converter, rest),
+        "table" => add_table_of(page, types, converter, rest),
+        _ => add_entry(page, converter, kind, rest),
+    }
+}
+
+/// Adds the answers to lines.
+fn add_lines(
+    page: &mut String,
+    alloc: Global,
+    name: &str,
+    types: &SourceTypes,
+    converter: &mut ConvertingBuilder,
+    lines: &str,
+) -> Result<(), AllocError>
+    requires ready { IsReadyFor types.now converter.old }
+{
+    for (number, line) in lines.lines().enumerate() {
+        if begins_answer(page, name, number, line)? {
+            add_came(page, alloc, types, converter, line)?;
+        }
+        page.push('\n')?;
+    }
+    Ok(())
+}
+
+/// A builder in which an instance is set.
+fn converter_in(alloc: Global, instance: u32) -> ConvertingBuilder
+    ensures source { result.builder.source ≡ 7 }
+    ensures none_kept { result.resources.tables ≡ [] }
+{
+    let mut converter = ConvertingBuilder::new(alloc, SOURCE);
+    let resources = converter.resources_mut();
+    resources.set_current_instance(RuntimeComponentInstanceIndex::from_u32(instance));
+    converter
+}
+
+/// A builder in which the instance of a word is set, or none.
+fn converter_of(alloc: Global, word: &str) -> ConvertingBuilder
+    ensures source { result.builder.source ≡ 7 }
+    ensures none_kept { result.resources.tables ≡ [] }
+{
+    match word.parse::<u32>() {
+        Ok(instance) => converter_in(alloc, instance),
+        Err(_) => ConvertingBuilder::new(alloc, SOURCE),
+    }
+}
+
+/// Adds the answers to lines, where the entries make a source.
+fn add_filled(
+    page: &mut String,
+    alloc: Global,
+    block: (&str, &str, &str),
+    types: &mut SourceTypes,
+    converter: &mut ConvertingBuilder,
+) -> Result<(), AllocError>
+    requires source { converter.old.builder.source ≡ 7 }
+    requires none_kept { converter.old.resources.tables ≡ [] }
+{
+    let (name, entries, lines) = block;
+    if !is_filled(alloc, types, entries) {
+        return writeln!(page, "{name}: no such source");
+    }
+    add_lines(page, alloc, name, types, converter, lines)
+}
+
+/// Adds the answers to the lines of a block of a source.
+pub fn add_lines_of_source(
+    page: &mut String,
+    alloc: Global,
+    name: &str,
+    words: &str,
+    lines: &str,
+) -> Result<(), AllocError> {
+    let (instance, entries) = word_of(words);
+    let mut types = SourceTypes::new(alloc, SOURCE);
+    let mut converter = converter_of(alloc, instance);
+    let block = (name, entries, lines);
+    let added = add_filled(page, alloc, block, &mut types, &mut converter);
+    drop(converter);
+    drop(types);
+    added
+}
