@@ -1,0 +1,16 @@
+mod Branches
+mod Causes
+mod Control
+mod ImportRows
+mod Invariant
+mod Known
+mod Loops
+mod NeverStuck
+mod Numbers
+mod PlainTyping
+mod Rows
+mod Sections
+mod States
+mod Steps
+mod Transcoders
+mod Types

@@ -1,0 +1,7 @@
+pub mod Accepted
+pub mod Causes
+pub mod Imports
+pub mod Operands
+pub mod Plain
+pub mod Sections
+pub mod Soundness

@@ -1,0 +1,19 @@
+//! A checker of adapter modules.
+#![tactic(auto)]
+
+mod checking;
+mod context;
+mod error;
+mod imports;
+mod laws;
+mod operands;
+mod plain;
+mod section;
+mod typing;
+
+pub use checking::check;
+pub use error::{CheckError, CheckPlace};
+pub use laws::laws_of_checked;
+
+/// Want of memory, the one free answer of each call that allocates.
+pub type OutOfMemory = std::alloc::AllocError;
