@@ -1,9 +1,12 @@
 mod Branches
 mod Causes
 mod Control
+mod Exports
 mod ImportRows
 mod Invariant
 mod Known
+mod LastOperands
+mod LocalRuns
 mod Loops
 mod NeverStuck
 mod Numbers

@@ -1,8 +1,12 @@
 -- One import, one function and one export more.
 use Rattle.std.proofs.Common.{◌≡◌, ◌<◌, ◌≤◌, ◌+◌, ◌⊎◌, inl, inr, ℕ, zero, suc, Bool, true, false, ◌||◌, List, [], ◌∷◌, ◌++◌, Option, Some, None, refl, sym, ap, ◌∙◌, subst, take, slice_get, arith}
+use Rattle.std.specs.Prelude.{cond}
+use Rattle.std.specs.Ordering.{is_eq, nat_cmp}
+use Rattle.std.specs.Cmp.Lexicographic.{slice_cmp}
 use Rattle.std.specs.List.{list_any}
 use Rattle.std.specs.Str.{bytes_eq}
 use Rattle.std.proofs.lemmas.Bool.{false≢true, cases_lt}
+use Rattle.std.proofs.lemmas.Map.Text.{is_eq-slice_cmp}
 use Rattle.std.proofs.lemmas.Slice.Eq.{bytes_eq-Decides}
 use Rattle.fact_wasm.specs.declared.module.WasmImport.{WasmImport}
 use Rattle.fact_wasm.specs.declared.module.WasmFunc.{WasmFunc}
@@ -84,3 +88,36 @@ took_next (y ∷ xs) (suc i) x e = ap (λ l. y ∷ l) (took_next xs i x e)
 -- one item more of a list
 pub took : {A : Type 0} (xs : List A) (i : ℕ) (x : A) → slice_get xs i ≡ Some x → take i xs ++ x ∷ [] ≡ take (i + 1) xs
 took xs i x e = let next : suc i ≡ i + 1 = omega arith in took_next xs i x e ∙ ap (λ k. take k xs) next
+
+-- ---- names
+
+-- a test that one item more passes, and one that it does not
+pub any_with : {A : Type 0} (f : A → Bool) (xs : List A) (x : A) → f x ≡ true → list_any f (xs ++ x ∷ []) ≡ true
+any_with f [] x h = ap (λ b. b || false) h
+any_with f (y ∷ xs) x h = either (f y) (any_with f xs x h)
+  where
+    either : (b : Bool) → list_any f (xs ++ x ∷ []) ≡ true → (b || list_any f (xs ++ x ∷ [])) ≡ true
+    either true q = refl
+    either false q = q
+
+pub any_without : {A : Type 0} (f : A → Bool) (xs : List A) (x : A) → f x ≡ false → list_any f (xs ++ x ∷ []) ≡ list_any f xs
+any_without f [] x h = ap (λ b. b || false) h
+any_without f (y ∷ xs) x h = ap (λ b. f y || b) (any_without f xs x h)
+
+same_back : (a b : List ℕ) (t : Bool) → bytes_eq a b ≡ t → bytes_eq b a ≡ t
+same_back a b true h = (bytes_eq-Decides b a).1 (sym ((bytes_eq-Decides a b).0 h))
+same_back a b false h = by_test (bytes_eq b a) refl
+  where
+    by_test : (t : Bool) → bytes_eq b a ≡ t → bytes_eq b a ≡ false
+    by_test true q = absurd (false≢true (sym h ∙ (bytes_eq-Decides a b).1 (sym ((bytes_eq-Decides b a).0 q))))
+    by_test false q = q
+
+-- which names there are, with that of one export more
+pub names_more : (es : List WasmExport) (i : ℕ) (e : WasmExport) (old new : List ℕ → Bool) → slice_get es i ≡ Some e → ((q : List ℕ) → new q ≡ cond (is_eq (slice_cmp nat_cmp e.name q)) true (old q))
+    → ((q : List ℕ) → old q ≡ list_any (λ (d : WasmExport). bytes_eq q d.name) (take i es)) → (q : List ℕ) → new q ≡ list_any (λ (d : WasmExport). bytes_eq q d.name) (take (i + 1) es)
+names_more es i e old new there added before q =
+    added q ∙ ap (λ b. cond b true (old q)) (is_eq-slice_cmp e.name q) ∙ by_name (bytes_eq e.name q) refl ∙ ap (list_any (λ (d : WasmExport). bytes_eq q d.name)) (took es i e there)
+  where
+    by_name : (b : Bool) → bytes_eq e.name q ≡ b → cond b true (old q) ≡ list_any (λ (d : WasmExport). bytes_eq q d.name) (take i es ++ e ∷ [])
+    by_name true h = sym (any_with (λ (d : WasmExport). bytes_eq q d.name) (take i es) e (same_back e.name q true h))
+    by_name false h = before q ∙ sym (any_without (λ (d : WasmExport). bytes_eq q d.name) (take i es) e (same_back e.name q false h))

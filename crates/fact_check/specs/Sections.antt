@@ -1,6 +1,6 @@
 -- Cited by private clauses alone.
 -- The imports of a module by their kinds, and the context of code in it.
-use Rattle.std.specs.Prelude.{◌≡◌, Bool, true, false, List, [], ◌∷◌, ◌++◌, Option, Some, None, map, reverse}
+use Rattle.std.specs.Prelude.{◌≡◌, ℕ, ◌+◌, ◌-◌, ◌<◌, ◌^◌, min, Bool, true, false, List, [], ◌∷◌, ◌++◌, Option, Some, None, length, map, reverse, slice_get}
 use Rattle.std.specs.List.{filter_map}
 use Rattle.std.specs.Borrow.{Bor}
 use Rattle.fact_wasm.specs.declared.types.ValType.{ValType}
@@ -8,10 +8,15 @@ use Rattle.fact_wasm.specs.declared.instr.Instr.{Instr, out-Instr, map-Instr}
 use Rattle.fact_wasm.specs.declared.instr.Instr.TheOpen as o
 use Rattle.fact_wasm.specs.declared.instr.Instr.TheOpen.{Instr-F}
 use Rattle.fact_wasm.specs.declared.module.ImportType.TheVariants as import
+use Rattle.fact_wasm.specs.declared.instr.FuncName.{FuncName}
+use Rattle.fact_wasm.specs.declared.instr.FuncName.TheVariants as func
 use Rattle.fact_wasm.specs.declared.module.WasmImport.{WasmImport}
-use Rattle.fact_machine.specs.Typing.{Context, Typing, is_body, typing, typing_row, local_types}
+use Rattle.fact_wasm.specs.declared.module.WasmExport.{WasmExport}
+use Rattle.fact_wasm.specs.declared.module.WasmModule.{WasmModule}
+use Rattle.fact_machine.specs.Typing.{Context, Typing, is_body, is_exported, typing, typing_row, local_types}
 use Rattle.fact_check.specs.Imports.{type_of_function, width_of_memory}
 use Rattle.fact_check.specs.declared.section.Section.{Section}
+use Rattle.fact_check.specs.declared.exported.Exported.{Exported}
 use Rattle.fact_check.specs.declared.context.CodeContext.{CodeContext}
 use Rattle.fact_check.specs.declared.plain.Plain.{Plain}
 use Rattle.fact_check.specs.declared.plain.Plain.TheVariants as plain
@@ -24,6 +29,33 @@ pub record IsSectionOf (s : Section) (imports : List WasmImport) : Type 0 where
   pub functions : s.functions ≡ filter_map type_of_function imports
   pub memories : s.memories ≡ filter_map width_of_memory imports
   pub globals : s.globals ≡ filter_map kind_of_global imports
+
+-- of the functions of a form, so many in number, whether each is exported
+pub record AreMarks (marks : List Bool) (form : ℕ → FuncName) (count : ℕ) (exports : List WasmExport) : Type 0 where
+  pub many : length marks ≡ count
+  pub each : (n : ℕ) → n < count → slice_get marks n ≡ Some (is_exported (form n) exports)
+
+pub record IsExportedOf (e : Exported) (imports defined : ℕ) (exports : List WasmExport) : Type 0 where
+  pub of_imports : AreMarks e.imports func.Import imports exports
+  pub of_defined : AreMarks e.defined func.Defined defined exports
+
+-- those of a module
+abbrev pub AreExported : Exported → WasmModule → Type 0
+AreExported e m = IsExportedOf e (length (filter_map type_of_function m.imports)) (length m.funcs) m.exports
+
+-- how many locals there are up to the end of each run, with so many before; past what a number of 64 bits tells, the greatest one
+abbrev pub end_of : (before : ℕ) → ℕ × ValType → ℕ
+end_of before p = min (before + p.0) (2 ^ 64 - 1)
+
+abbrev pub ends_from : (before : ℕ) → List (ℕ × ValType) → List ℕ
+ends_from before [] = []
+ends_from before (p ∷ ps) = end_of before p ∷ ends_from (end_of before p) ps
+
+-- what is told of a module and a function is theirs
+pub record IsCodeContext (c : CodeContext) : Type 0 where
+  pub section : IsSectionOf c.section.now c.module.now.imports
+  pub exported : AreExported c.exported.now c.module.now
+  pub ends : c.ends ≡ ends_from 0 c.locals.now
 
 -- labels of which the innermost is the last
 abbrev pub labels_of : List (Bor (List ValType)) → List (List ValType)

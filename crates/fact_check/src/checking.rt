@@ -1,8 +1,6 @@
 //! The check of bytes.
 
 ghost use Rattle.std.specs.Prelude.{◌≡◌, ◌<◌, ◌^◌, ℕ, [], IfOk, IfErr, MatchOption, length};
-ghost use Rattle.std.specs.List.{list_any};
-ghost use Rattle.std.specs.Str.{bytes_eq};
 ghost use Rattle.fact_wasm.specs.declared.module.WasmModule.{WasmModule};
 ghost use Rattle.fact_check.specs.Accepted.{AreAdapterImports, AreTypedFunctions, HasCause, IsAccepted, IsCause, IsErrorOrMemory, IsFirstForeign, IsFirstIllTyped, IsFirstRepeated, IsModuleOrMemory, IsRepeated};
 ghost use Rattle.fact_check.specs.Causes.{IsFaultless};
@@ -13,11 +11,13 @@ ghost use Rattle.fact_check.specs.Soundness.{IsNeverStuck};
 
 use crate::OutOfMemory;
 use crate::error::{CheckError, CheckPlace};
+use crate::exported::Exported;
 use crate::imports::is_row;
 use crate::section::Section;
 use crate::typing::is_typed_function;
 use fact_wasm::{DecodeError, WasmExport, WasmModule, decode};
 use std::alloc::Global;
+use std::collections::BTreeSet;
 
 /// The first import that is none of an adapter module; where there is none, the imports by their kinds.
 fn first_foreign(module: &WasmModule, section: &mut Section) -> Result<Option<u32>, OutOfMemory>
@@ -46,9 +46,15 @@ fn first_ill_typed(
     requires few { length «module».now.funcs < 2 ^ 32 }
     ensures { IfOk result (λ first. MatchOption first (AreTypedFunctions «module».now (length «module».now.funcs)) (IsFirstIllTyped «module».now)) }
 {
+    let exported = Exported::of(
+        alloc,
+        section.functions.len(),
+        module.funcs.len(),
+        module.exports.as_slice(),
+    )?;
     let mut place = 0;
     for func in module.funcs.as_slice() {
-        if !is_typed_function(alloc, module, section, func)? {
+        if !is_typed_function(alloc, module, section, &exported, func)? {
             return Ok(Some(place));
         }
         place += 1;
@@ -56,26 +62,21 @@ fn first_ill_typed(
     Ok(None)
 }
 
-/// Whether one of the exports has a name.
-fn is_name_of(exports: &[WasmExport], name: &str) -> bool
-    ensures { result ≡ list_any (λ e. bytes_eq name.now e.name) exports.now }
-{
-    exports.iter().any(|export| export.name.as_str() == name)
-}
-
 /// The first export whose name an earlier one has.
-fn first_repeated(exports: &[WasmExport]) -> Option<u32>
+fn first_repeated(alloc: Global, exports: &[WasmExport]) -> Result<Option<u32>, OutOfMemory>
     requires { length exports.now < 2 ^ 32 }
-    ensures { MatchOption result ((n : ℕ) → IsRepeated exports.now n → ⊥) (IsFirstRepeated exports.now) }
+    ensures { IfOk result (λ first. MatchOption first ((n : ℕ) → IsRepeated exports.now n → ⊥) (IsFirstRepeated exports.now)) }
 {
+    let mut names = BTreeSet::new(alloc);
     let mut place = 0;
     for export in exports {
-        if is_name_of(&exports[..place as usize], export.name.as_str()) {
-            return Some(place);
+        let is_new = names.insert(export.name.as_str())?;
+        if !is_new {
+            return Ok(Some(place));
         }
         place += 1;
     }
-    None
+    Ok(None)
 }
 
 /// What is wrong with a module whose lists have fewer than 2^32 items each.
@@ -92,10 +93,10 @@ fn cause_of(alloc: Global, module: &WasmModule) -> Result<Option<CheckError>, Ou
     if let Some(place) = first_ill_typed(alloc, module, &section)? {
         return Ok(Some(CheckError::IllTyped(CheckPlace::Func(place))));
     }
-    match first_repeated(module.exports.as_slice()) {
-        Some(place) => Ok(Some(CheckError::IllTyped(CheckPlace::Export(place)))),
-        None => Ok(None),
+    if let Some(place) = first_repeated(alloc, module.exports.as_slice())? {
+        return Ok(Some(CheckError::IllTyped(CheckPlace::Export(place))));
     }
+    Ok(None)
 }
 
 /// The module that bytes spell, where it is an adapter module: its imports are those of such modules, and it is well typed

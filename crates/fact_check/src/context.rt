@@ -1,21 +1,25 @@
 //! What code of a function stands in (core specification, "Validation", "Contexts").
 
-ghost use Rattle.std.specs.Prelude.{◌≡◌, ◌&&◌, ◌^◌, [], ◌∷◌, ◌++◌, nat_le, nat_lt, slice_get, option_map};
+ghost use Rattle.std.specs.Prelude.{◌≡◌, ◌&&◌, ◌^◌, true, [], ◌∷◌, nat_le, nat_lt, is_some, slice_get, option_map};
 ghost use Rattle.std.specs.Option.{option_copied};
-ghost use Rattle.fact_machine.specs.Typing.{address_at, address_bits, address_type, function_type, global_import, local_types, types_of_block};
+ghost use Rattle.fact_machine.specs.Typing.{address_at, address_bits, address_type, function_type, global_import, is_exported, types_of_block};
 ghost use Rattle.fact_machine.specs.Machine.{memory_import};
-ghost use Rattle.fact_check.specs.Sections.{IsSectionOf, context_of, labels_of};
+ghost use Rattle.fact_check.specs.Sections.{IsCodeContext, context_of, labels_of};
 
+use crate::exported::{Exported, is_marked};
 use crate::section::Section;
 use fact_wasm::{BlockType, FuncName, FuncType, MemArg, Seq, ValType, WasmModule};
 
-/// The module around code and its imports by their kinds, and the parameters and the declared locals of its function.
-#[derive(Clone, Copy)]
+/// The module around code, its imports by their kinds and which functions it exports; the parameters and the declared locals of
+/// the function, and how many locals there are up to the end of each run.
+#[derive(Drop)]
 pub struct CodeContext<'m> {
     pub module: &'m WasmModule,
     pub section: &'m Section,
+    pub exported: &'m Exported,
     pub params: &'m [ValType],
     pub locals: &'m [(u32, ValType)],
+    pub ends: Seq<u64>,
 }
 
 /// The type of addresses of so many bits.
@@ -23,27 +27,6 @@ pub fn address_type(memory64: bool) -> ValType
     ensures { result ≡ address_type memory64 }
 {
     if memory64 { ValType::I64 } else { ValType::I32 }
-}
-
-/// The type of the nth local, the parameters first.
-pub fn local_type(params: &[ValType], locals: &[(u32, ValType)], n: u32) -> Option<ValType>
-    ensures { result ≡ slice_get (params.now ++ local_types locals.now) n }
-{
-    let place = n as usize;
-    if place < params.len() {
-        return Some(params[place]);
-    }
-    let mut before = place - params.len();
-    let mut left = locals;
-    while let [(count, ty), rest @ ..] = left {
-        left = rest;
-        let count = *count as usize;
-        if before < count {
-            return Some(*ty);
-        }
-        before -= count;
-    }
-    None
 }
 
 /// The types that a branch to a label takes, counted from the innermost, which is the last.
@@ -115,7 +98,7 @@ fn is_placed(memory64: bool, natural: u32, place: MemArg) -> bool
 
 /// The type of a function, where it is there.
 pub fn function_type<'m>(context: &CodeContext<'m>, func: FuncName) -> Option<&'m FuncType>
-    requires { IsSectionOf context.now.section.now context.now.module.now.imports }
+    requires { IsCodeContext context.now }
     ensures { option_copied result ≡ function_type context.now.module.now func }
 {
     match func {
@@ -130,9 +113,21 @@ pub fn function_type<'m>(context: &CodeContext<'m>, func: FuncName) -> Option<&'
     }
 }
 
+/// Whether a function that is there is exported.
+pub fn is_exported(context: &CodeContext, func: FuncName) -> bool
+    requires context { IsCodeContext context.now }
+    requires there { is_some (function_type context.now.module.now func) ≡ true }
+    ensures { result ≡ is_exported func context.now.module.now.exports }
+{
+    match func {
+        FuncName::Import(n) => is_marked(&context.exported.imports, n),
+        FuncName::Defined(n) => is_marked(&context.exported.defined, n),
+    }
+}
+
 /// Whether the addresses of a memory have 64 bits, where it is there.
 pub fn memory64(context: &CodeContext, n: u32) -> Option<bool>
-    requires { IsSectionOf context.now.section.now context.now.module.now.imports }
+    requires { IsCodeContext context.now }
     ensures { result ≡ option_map (λ k. k.0) (memory_import context.now.module.now.imports n) }
 {
     context.section.memories.get(n as usize).copied()
@@ -140,7 +135,7 @@ pub fn memory64(context: &CodeContext, n: u32) -> Option<bool>
 
 /// The type of a global, with whether it may be set, where it is there.
 pub fn global(context: &CodeContext, n: u32) -> Option<(ValType, bool)>
-    requires { IsSectionOf context.now.section.now context.now.module.now.imports }
+    requires { IsCodeContext context.now }
     ensures { result ≡ global_import context.now.module.now.imports n }
 {
     context.section.globals.get(n as usize).copied()
@@ -149,7 +144,7 @@ pub fn global(context: &CodeContext, n: u32) -> Option<(ValType, bool)>
 /// The type of a place's address, where its memory is there, it is aligned to no more than its bytes, whose exponent is
 /// `natural`, and the memory's addresses could say its offset.
 pub fn address_at(context: &CodeContext, natural: u32, place: MemArg) -> Option<ValType>
-    requires { IsSectionOf context.now.section.now context.now.module.now.imports }
+    requires { IsCodeContext context.now }
     ensures { (labels : _) → result ≡ address_at (context_of context.now labels) natural place }
 {
     match memory64(context, place.memory_index) {

@@ -4,8 +4,10 @@
 mod checking;
 mod context;
 mod error;
+mod exported;
 mod imports;
 mod laws;
+mod locals;
 mod operands;
 mod plain;
 mod section;

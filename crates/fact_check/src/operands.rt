@@ -1,7 +1,7 @@
 //! The types of operands (core specification, "Validation", "Instructions", "Instruction Sequences").
 
-ghost use Rattle.std.specs.Prelude.{◌≡◌, [], ◌∷◌, Option, Some, OnOk, IfOk, reverse};
-ghost use Rattle.fact_machine.specs.Typing.{only_if, same_type, matches, is_number, pop, pop_all, push_all, change, jump, ends, is_empty, drop_operand, common_number, choose};
+ghost use Rattle.std.specs.Prelude.{◌≡◌, [], ◌∷◌, Option, Some, OnOk, IfOk, is_some, reverse};
+ghost use Rattle.fact_machine.specs.Typing.{Known, Open, only_if, same_type, matches, is_number, pop, pop_all, push_all, change, jump, ends, is_empty, drop_operand, common_number, choose};
 ghost use Rattle.fact_check.specs.Operands.{operands_of};
 ghost use Rattle.fact_check.specs.declared.operands.Operands.TheVariants as Operands;
 
@@ -69,6 +69,44 @@ fn common_number(a: Option<ValType>, b: Option<ValType>) -> Option<Option<ValTyp
             }
         }
     }
+}
+
+/// Whether just these operands end in some of these types.
+fn known_end_in(known: &[ValType], types: &[ValType]) -> bool
+    ensures { result ≡ is_some (pop_all (reverse types.now) (Known (reverse known.now))) }
+{
+    let mut below = known;
+    let mut left = types;
+    while let [rest @ .., last] = left {
+        let [under @ .., top] = below else {
+            return false;
+        };
+        if !same_type(*last, *top) {
+            return false;
+        }
+        left = rest;
+        below = under;
+    }
+    true
+}
+
+/// Whether these operands, below which there are any, end in some of these types.
+fn open_end_in(known: &[Option<ValType>], types: &[ValType]) -> bool
+    ensures { result ≡ is_some (pop_all (reverse types.now) (Open (reverse known.now))) }
+{
+    let mut below = known;
+    let mut left = types;
+    while let [rest @ .., last] = left {
+        let [under @ .., top] = below else {
+            return true;
+        };
+        if !matches(*last, *top) {
+            return false;
+        }
+        left = rest;
+        below = under;
+    }
+    true
 }
 
 impl Operands {
@@ -203,6 +241,16 @@ impl Operands {
         self.pop_all(results) && self.is_empty()
     }
 
+    /// Whether operands of these types are there, the last topmost.
+    pub fn end_in(&self, types: &[ValType]) -> bool
+        ensures { result ≡ is_some (pop_all (reverse types.now) (operands_of self.now)) }
+    {
+        match self {
+            Operands::Known(known) => known_end_in(known.as_slice(), types),
+            Operands::Open(known) => open_end_in(known.as_slice(), types),
+        }
+    }
+
     /// Whether no operand is known.
     fn is_empty(&self) -> bool
         ensures { result ≡ is_empty (operands_of self.now) }
@@ -210,22 +258,6 @@ impl Operands {
         match self {
             Operands::Known(types) => types.len() == 0,
             Operands::Open(types) => types.len() == 0,
-        }
-    }
-
-    /// Equal operands.
-    pub fn try_clone(&self, alloc: Global) -> Result<Operands, OutOfMemory>
-        ensures { IfOk result (λ copy. copy ≡ self.now) }
-    {
-        match self {
-            Operands::Known(types) => {
-                let types = Vec::from_slice(alloc, types.as_slice())?;
-                Ok(Operands::Known(Seq::from_vec(types)))
-            }
-            Operands::Open(types) => {
-                let types = Vec::from_slice(alloc, types.as_slice())?;
-                Ok(Operands::Open(Seq::from_vec(types)))
-            }
         }
     }
 }

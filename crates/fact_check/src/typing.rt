@@ -2,42 +2,23 @@
 
 ghost use Rattle.std.specs.Prelude.{◌≡◌, IfOk, Some, true};
 ghost use Rattle.std.specs.List.{list_all};
-ghost use Rattle.fact_machine.specs.Typing.{only_if, code_typing, declares_numbers, is_catch, is_exported, is_target, is_typed_body, is_typed_function, load_typing, same_function, store_typing};
+ghost use Rattle.fact_machine.specs.Typing.{only_if, code_typing, declares_numbers, is_catch, is_target, is_typed_body, is_typed_function, load_typing, store_typing};
 ghost use Rattle.fact_check.specs.Operands.{operands_of};
 ghost use Rattle.fact_wasm.specs.declared.instr.Instr.{out-Instr};
-ghost use Rattle.fact_check.specs.Sections.{IsSectionOf, body_ends, context_of, is_simple, row_of};
+ghost use Rattle.fact_check.specs.Sections.{AreExported, IsCodeContext, IsSectionOf, body_ends, context_of, is_simple, row_of};
 
 use crate::OutOfMemory;
 use crate::context::{
-    BlockTypes, CodeContext, address_at, address_type, function_type, global, label, local_type,
+    BlockTypes, CodeContext, address_at, address_type, function_type, global, is_exported, label,
     memory64, types_of_block,
 };
+use crate::exported::Exported;
+use crate::locals::{ends_of, local_type};
 use crate::operands::{Operands, is_number};
 use crate::plain::{operate, plain_of};
 use crate::section::Section;
-use fact_wasm::{
-    FuncName, FuncType, Instr, MemArg, Seq, ValType, WasmExport, WasmFunc, WasmModule,
-};
+use fact_wasm::{FuncType, Instr, MemArg, Seq, ValType, WasmFunc, WasmModule};
 use std::alloc::Global;
-
-fn same_function(a: FuncName, b: FuncName) -> bool
-    ensures { result ≡ same_function a b }
-{
-    match (a, b) {
-        (FuncName::Import(m), FuncName::Import(n)) => m == n,
-        (FuncName::Defined(m), FuncName::Defined(n)) => m == n,
-        _ => false,
-    }
-}
-
-/// Whether a function is exported.
-fn is_exported(func: FuncName, exports: &[WasmExport]) -> bool
-    ensures { result ≡ is_exported func exports.now }
-{
-    exports
-        .iter()
-        .any(|export| same_function(func, export.func))
-}
 
 /// Whether a label is there that takes nothing.
 fn is_catch(context: &CodeContext, labels: &[&[ValType]], n: u32) -> bool
@@ -62,41 +43,35 @@ fn are_catches(context: &CodeContext, labels: &[&[ValType]], catches: &[u32]) ->
 
 /// Whether a label is there that takes so many operands, and they are there.
 fn is_target(
-    alloc: Global,
     context: &CodeContext,
     labels: &[&[ValType]],
     arity: usize,
     operands: &Operands,
     n: u32,
-) -> Result<bool, OutOfMemory>
-    ensures { IfOk result (λ is. is ≡ is_target (context_of context.now labels.now) arity (operands_of operands.now) n) }
+) -> bool
+    ensures { result ≡ is_target (context_of context.now labels.now) arity (operands_of operands.now) n }
 {
-    let Some(takes) = label(labels, n) else {
-        return Ok(false);
-    };
-    if takes.len() != arity {
-        return Ok(false);
+    match label(labels, n) {
+        Some(takes) => takes.len() == arity && operands.end_in(takes),
+        None => false,
     }
-    let mut copy = operands.try_clone(alloc)?;
-    Ok(copy.pop_all(takes))
 }
 
 fn are_targets(
-    alloc: Global,
     context: &CodeContext,
     labels: &[&[ValType]],
     arity: usize,
     operands: &Operands,
     table: &[u32],
-) -> Result<bool, OutOfMemory>
-    ensures { IfOk result (λ are. are ≡ list_all (is_target (context_of context.now labels.now) arity (operands_of operands.now)) table.now) }
+) -> bool
+    ensures { result ≡ list_all (is_target (context_of context.now labels.now) arity (operands_of operands.now)) table.now }
 {
     for n in table {
-        if !is_target(alloc, context, labels, arity, operands, *n)? {
-            return Ok(false);
+        if !is_target(context, labels, arity, operands, *n) {
+            return false;
         }
     }
-    Ok(true)
+    true
 }
 
 fn load(
@@ -107,7 +82,7 @@ fn load(
     ty: ValType,
     place: MemArg,
 ) -> Result<bool, OutOfMemory>
-    requires { IsSectionOf context.now.section.now context.now.module.now.imports }
+    requires { IsCodeContext context.now }
     ensures { IfOk result (λ typed. load_typing natural ty place (context_of context.now labels.now) (operands_of operands.old) ≡ only_if typed (Some (operands_of operands.new))) }
 {
     match address_at(context, natural, place) {
@@ -124,7 +99,7 @@ fn store(
     ty: ValType,
     place: MemArg,
 ) -> Result<bool, OutOfMemory>
-    requires { IsSectionOf context.now.section.now context.now.module.now.imports }
+    requires { IsCodeContext context.now }
     ensures { IfOk result (λ typed. store_typing natural ty place (context_of context.now labels.now) (operands_of operands.old) ≡ only_if typed (Some (operands_of operands.new))) }
 {
     match address_at(context, natural, place) {
@@ -141,7 +116,7 @@ fn simple(
     operands: &mut Operands,
     instr: &Instr,
 ) -> Result<bool, OutOfMemory>
-    requires section { IsSectionOf context.now.section.now context.now.module.now.imports }
+    requires context { IsCodeContext context.now }
     requires simple { is_simple (out-Instr instr.now) ≡ true }
     ensures { IfOk result (λ typed. row_of instr.now (context_of context.now labels.now) (operands_of operands.old) ≡ only_if typed (Some (operands_of operands.new))) }
 {
@@ -165,14 +140,7 @@ fn simple(
                 if !operands.pop(ValType::I32) {
                     return Ok(false);
                 }
-                if !are_targets(
-                    alloc,
-                    context,
-                    labels,
-                    takes.len(),
-                    operands,
-                    table.as_slice(),
-                )? {
+                if !are_targets(context, labels, takes.len(), operands, table.as_slice()) {
                     return Ok(false);
                 }
                 Ok(operands.jump(alloc, takes))
@@ -185,7 +153,7 @@ fn simple(
         },
         Instr::RefFunc(func) => match function_type(context, *func) {
             Some(_) => {
-                if !is_exported(*func, context.module.exports.as_slice()) {
+                if !is_exported(context, *func) {
                     return Ok(false);
                 }
                 operands.change(&[], &[ValType::FuncRef])
@@ -199,15 +167,15 @@ fn simple(
             }
             operands.choose()
         }
-        Instr::LocalGet(n) => match local_type(context.params, context.locals, *n) {
+        Instr::LocalGet(n) => match local_type(context.params, context.locals, &context.ends, *n) {
             Some(ty) => operands.change(&[], &[ty]),
             None => Ok(false),
         },
-        Instr::LocalSet(n) => match local_type(context.params, context.locals, *n) {
+        Instr::LocalSet(n) => match local_type(context.params, context.locals, &context.ends, *n) {
             Some(ty) => operands.change(&[ty], &[]),
             None => Ok(false),
         },
-        Instr::LocalTee(n) => match local_type(context.params, context.locals, *n) {
+        Instr::LocalTee(n) => match local_type(context.params, context.locals, &context.ends, *n) {
             Some(ty) => operands.change(&[ty], &[ty]),
             None => Ok(false),
         },
@@ -252,7 +220,7 @@ fn instruction<'m>(
     operands: &mut Operands,
     instr: &Instr,
 ) -> Result<bool, OutOfMemory>
-    requires { IsSectionOf context.now.section.now context.now.module.now.imports }
+    requires { IsCodeContext context.now }
     ensures typed { IfOk result (λ typed. row_of instr.now (context_of context.now labels.old) (operands_of operands.old) ≡ only_if typed (Some (operands_of operands.new))) }
     ensures labels { IfOk result (λ typed. labels.new ≡ labels.old) }
 {
@@ -354,7 +322,7 @@ fn is_body<'m>(
     types: BlockTypes<'m>,
     body: &[Instr],
 ) -> Result<bool, OutOfMemory>
-    requires { IsSectionOf context.now.section.now context.now.module.now.imports }
+    requires { IsCodeContext context.now }
     ensures typed { IfOk result (λ typed. typed ≡ body_ends (context_of context.now labels.old) takes.now types.entry.params.now types.entry.results.now body.now) }
     ensures labels { IfOk result (λ typed. labels.new ≡ labels.old) }
 {
@@ -375,7 +343,7 @@ fn code<'m>(
     operands: &mut Operands,
     code: &[Instr],
 ) -> Result<bool, OutOfMemory>
-    requires { IsSectionOf context.now.section.now context.now.module.now.imports }
+    requires { IsCodeContext context.now }
     ensures typed { IfOk result (λ typed. code_typing (context_of context.now labels.old) code.now (operands_of operands.old) ≡ only_if typed (Some (operands_of operands.new))) }
     ensures labels { IfOk result (λ typed. labels.new ≡ labels.old) }
 {
@@ -396,21 +364,26 @@ fn declares_numbers(locals: &[(u32, ValType)]) -> bool
 }
 
 /// Whether a body takes nothing and ends in the results of its function.
-fn is_typed_body(
+fn is_typed_body<'m>(
     alloc: Global,
-    module: &WasmModule,
-    section: &Section,
-    func: &WasmFunc,
-    ty: &FuncType,
+    module: &'m WasmModule,
+    section: &'m Section,
+    exported: &'m Exported,
+    func: &'m WasmFunc,
+    ty: &'m FuncType,
 ) -> Result<bool, OutOfMemory>
-    requires { IsSectionOf section.now «module».now.imports }
+    requires section { IsSectionOf section.now «module».now.imports }
+    requires exported { AreExported exported.now «module».now }
     ensures { IfOk result (λ typed. typed ≡ is_typed_body «module».now func.now ty.now) }
 {
+    let ends = ends_of(alloc, func.locals.as_slice())?;
     let context = CodeContext {
         module,
         section,
+        exported,
         params: ty.params.as_slice(),
         locals: func.locals.as_slice(),
+        ends,
     };
     let mut labels = Seq::new(alloc);
     labels.push(ty.results.as_slice())?;
@@ -426,20 +399,22 @@ fn is_typed_body(
 }
 
 /// Whether a function is well typed.
-pub fn is_typed_function(
+pub fn is_typed_function<'m>(
     alloc: Global,
-    module: &WasmModule,
-    section: &Section,
-    func: &WasmFunc,
+    module: &'m WasmModule,
+    section: &'m Section,
+    exported: &'m Exported,
+    func: &'m WasmFunc,
 ) -> Result<bool, OutOfMemory>
-    requires { IsSectionOf section.now «module».now.imports }
+    requires section { IsSectionOf section.now «module».now.imports }
+    requires exported { AreExported exported.now «module».now }
     ensures { IfOk result (λ typed. typed ≡ is_typed_function «module».now func.now) }
 {
     if !declares_numbers(func.locals.as_slice()) {
         return Ok(false);
     }
     match module.types.get(func.ty as usize) {
-        Some(ty) => is_typed_body(alloc, module, section, func, ty),
+        Some(ty) => is_typed_body(alloc, module, section, exported, func, ty),
         None => Ok(false),
     }
 }
