@@ -1,5 +1,6 @@
 //! Blocks of a table: of plans, of the bytes of modules, of types, and of sources.
 
+use crate::checked::add_checked;
 use crate::command::{add_asked, add_bytes, add_end, add_imports, add_page, add_prefixes};
 use crate::conversions::add_lines_of_source;
 use crate::made::made_of;
@@ -50,6 +51,7 @@ fn add_of_plan(
         ("run", None) => page.push_str("no module"),
         ("ask", _) => add_asked(page, alloc, plan, rest),
         ("bytes", _) => add_bytes(page, alloc, rest),
+        ("check", _) => add_checked(page, alloc, rest),
         ("shows", _) => add_shown(page, alloc, plan, module, rest),
         ("spells" | "call" | "tree", module) => add_of_module(page, alloc, module, kind, rest),
         _ => add_edited(page, alloc, plan, kind, rest),

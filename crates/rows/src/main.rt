@@ -15,6 +15,7 @@
 //!     ask PIECE READ WRITE TELL | WORDS | EDITS   the same as of `page` with these words and streams: `command`
 //!     bytes SPACES HEX                            how the command ends for so many spaces and these bytes behind them
 //!     shows ..                                    what the module is like, where the table does not have all its bytes: `shown`
+//!     check WHAT | BYTES                          what the check of adapter modules says of these bytes: `checked`
 //!
 //! Of a module by its bytes: `run`, `spells`, `call` and `tree`, as `modules` tells.
 //!
@@ -40,6 +41,7 @@
 
 mod agreed;
 mod blocks;
+mod checked;
 mod command;
 mod conversions;
 mod core_items;
