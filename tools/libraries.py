@@ -1,0 +1,272 @@
+"""Proves and builds the libraries of the program, several at a time, as `factc` does before its first use.
+
+`python3 tools/libraries.py TOP RT CALLER`: TOP is the top of the repository, RT the toolchain's command, CALLER the process that waits, at whose
+end all ends. Each library is what `rt lib` makes of its crate, begun once those that it uses are there. Standard output has a line `library NAME`
+for each that is there, in the order in which they end, or `unproved NAME` for the first that failed, at which the others are ended.
+
+The longest chain of crates goes first: of what can begin, the crate with the longest one from it to the program gets a process for each
+processor, another two where its chain is at least half as long, else one. A check uses one processor while it reads libraries and while it
+writes its own, so that twice as many processes as processors are begun, as far as memory reaches.
+
+Two calls of `rt lib` would wait for one another, since each locks the folders of all crates that it reads as if it wrote there. Here a crate is
+locked so while it is built, and the libraries below it, which are there, as readers lock.
+
+RT_JOBS, where it is a number, stands for the number of processors, as for `rt ci`.
+
+Ends with 0; with 1 where a library failed; with 3, and nothing done, where the toolchain's rt is another than this was written for.
+"""
+
+import contextlib
+import ctypes
+import fcntl
+import importlib.machinery
+import importlib.util
+import os
+import signal
+import sys
+import time
+
+FAILED, OTHER_RT = 1, 3
+ENDING = (signal.SIGINT, signal.SIGTERM, signal.SIGHUP)
+# Linux: the signal that a process gets when the one that began it ends.
+PR_SET_PDEATHSIG = 1
+# More processes do little for one crate, by the prover's own help.
+MOST = 8
+# How rt ends where the prover was killed, most likely for memory.
+KILLED = 256 - signal.SIGKILL
+
+
+class Ended(Exception):
+    """A signal came, or the caller has ended."""
+
+
+def toolchain(path):
+    """The toolchain's rt, a Python script, as a module; None where it has not what is used of it here."""
+    # Nothing is written beside it.
+    sys.dont_write_bytecode = True
+    loader = importlib.machinery.SourceFileLoader("rt", os.path.realpath(path))
+    rt = importlib.util.module_from_spec(importlib.util.spec_from_loader("rt", loader))
+    try:
+        loader.exec_module(rt)
+        used = [rt.main, rt.free, rt.processors, rt.rtlib.lock, rt.rtlib.files_of, rt.rtlib.Crate.below, rt.rtlib.Crate.is_built, rt.rtlib.Crate.stamp]
+    except (Exception, SystemExit):
+        return None
+    return rt if all(map(callable, used)) else None
+
+
+def hold(crates):
+    """Locks the folders of crates: as readers do, and that of the last one alone."""
+    own = os.path.realpath(crates[-1].folder)
+    # In the order in which rt locks, so that no two wait for one another.
+    folders = sorted({os.path.realpath(it.folder) for it in crates})
+    held = [os.open(it, os.O_RDONLY) for it in folders]
+    for folder, it in zip(folders, held):
+        # Some file systems have no locks.
+        with contextlib.suppress(OSError):
+            fcntl.flock(it, fcntl.LOCK_EX if folder == own else fcntl.LOCK_SH)
+    return held
+
+
+def share_locks(rtlib):
+    """Has rt lock a library as `hold` does, where those below it are there, and look only once at what these were made from."""
+    lock_alone, stamp = rtlib.lock, rtlib.Crate.stamp
+
+    def lock(crates):
+        *below, own = crates
+        held, stamps = hold(crates), {}
+
+        def stamp_once(crate):
+            if crate.folder == own.folder:
+                return stamp(crate)
+            if crate.folder not in stamps:
+                stamps[crate.folder] = stamp(crate)
+            return stamps[crate.folder]
+
+        # While it is locked, a library is what its stamp says, whatever becomes of its sources.
+        rtlib.Crate.stamp = stamp_once
+        if all(it.is_built() for it in below):
+            return held
+        rtlib.Crate.stamp = stamp
+        for it in held:
+            os.close(it)
+        return lock_alone(crates)
+
+    rtlib.lock = lock
+
+
+def lines_of(path):
+    with open(path, "rb") as it:
+        return it.read().count(b"\n")
+
+
+class Library:
+    """A library of the program, with what its proof is likely to take by the lines of its files."""
+
+    def __init__(self, rtlib, crate):
+        self.name, self.folder, self.below = crate.name, crate.folder, [it.name for it in crate.below()]
+        files = list(rtlib.files_of(crate.folder))
+        code = sum(lines_of(it) for it in files if it.endswith(".rt"))
+        laws = sum(lines_of(it) for it in files if it.endswith(".antt"))
+        # In processor minutes and gigabytes.
+        self.work = 0.5 + 0.0025 * code + 0.0002 * laws
+        self.memory = 1 + 0.0006 * code + 0.0001 * laws
+        # The work of the longest chain from it to the program, which `in_order` sums up.
+        self.chain = self.work
+        self.is_alone = False
+
+    def takes(self, processes):
+        """The memory that it is likely to take with so many processes, which share what they read."""
+        return self.memory * (1 + 0.3 * (processes - 1))
+
+
+def in_order(rt, top):
+    """The libraries that the program stands on, each behind those that it uses."""
+    program = rt.rtlib.Crate(f"{top}/crates/factc", top, {})
+    libraries = [Library(rt.rtlib, it) for it in program.below()]
+    for at, one in reversed(list(enumerate(libraries))):
+        one.chain += max([it.chain for it in libraries[at:] if one.name in it.below], default=0)
+    return libraries
+
+
+class Build:
+    """What is left, what is there, and what runs: by its process the library, and with how many processes of the prover."""
+
+    def __init__(self, rt, libraries, caller):
+        self.rt, self.left, self.caller = rt, libraries, caller
+        self.there, self.running = set(), {}
+        number = os.environ.get("RT_JOBS", "")
+        self.processors = int(number) if number.isdigit() and int(number) else rt.processors()
+        # Some checks take more than is likely.
+        self.memory = 0.85 * rt.free() / 1e9
+
+    def processes_for(self, library, longest):
+        """How many processes the library gets now, or 0 where it has to wait."""
+        most = min(self.processors, MOST) if library.chain >= longest else 2 if 2 * library.chain >= longest else 1
+        if not self.running:
+            room = self.memory
+        elif library.is_alone or any(it.is_alone for it, _ in self.running.values()):
+            return 0
+        else:
+            most = min(most, 2 * self.processors - sum(number for _, number in self.running.values()))
+            room = self.memory - sum(it.takes(number) for it, number in self.running.values())
+        most = 1 if library.is_alone else min(most, self.processors)
+        while most > 0 and library.takes(most) > room:
+            most -= 1
+        return most if self.running else max(most, 1)
+
+    def begin_what_can(self):
+        ready = sorted((it for it in self.left if self.there.issuperset(it.below)), key=lambda it: -it.chain)
+        longest = max([it.chain for it in ready] + [it.chain for it, _ in self.running.values()], default=0)
+        for library in ready:
+            processes = self.processes_for(library, longest)
+            if not processes:
+                # What stands on a shorter chain does not take its place.
+                return
+            self.left.remove(library)
+            self.begin(library, processes)
+
+    def begin(self, library, processes):
+        parent = os.getpid()
+        child = os.fork()
+        if child:
+            self.running[child] = library, processes
+            return
+        status = FAILED
+        try:
+            for it in ENDING:
+                signal.signal(it, signal.SIG_DFL)
+            ctypes.CDLL(None).prctl(PR_SET_PDEATHSIG, signal.SIGKILL)
+            if os.getppid() == parent:
+                nothing = os.open(os.devnull, os.O_RDWR)
+                for it in range(3):
+                    os.dup2(nothing, it)
+                os.chdir(library.folder)
+                status = self.rt.main(["lib", "--jobs", str(processes)])
+        except SystemExit as it:
+            status = it.code
+        finally:
+            os._exit(status % 256)
+
+    def pause(self):
+        """Waits a little, and ends where nobody waits for this process any more."""
+        time.sleep(0.1)
+        try:
+            os.kill(self.caller, 0)
+        except OSError:
+            raise Ended from None
+
+    def take_turn(self, folder):
+        """Waits until no other call builds here. It locks a folder that rt never locks, so that neither waits for the other."""
+        turn = os.open(folder, os.O_RDONLY)
+        # Some file systems have no locks.
+        with contextlib.suppress(OSError):
+            while True:
+                try:
+                    fcntl.flock(turn, fcntl.LOCK_EX | fcntl.LOCK_NB)
+                    return
+                except BlockingIOError:
+                    self.pause()
+
+    def await_one(self):
+        """Waits until a library ends, and returns it, and how many processes it had and what it ended with."""
+        while True:
+            child, status = os.waitpid(-1, os.WNOHANG)
+            if child:
+                break
+            self.pause()
+        library, processes = self.running.pop(child)
+        if os.WIFSIGNALED(status) and os.WTERMSIG(status) in ENDING:
+            raise Ended
+        return library, processes, os.WEXITSTATUS(status) if os.WIFEXITED(status) else KILLED
+
+    def run(self):
+        """Builds what is left, and returns the library that failed, if one did."""
+        while self.left or self.running:
+            self.begin_what_can()
+            library, processes, status = self.await_one()
+            if status == KILLED and (self.running or processes > 1) and not library.is_alone:
+                library.is_alone = True
+                self.left.append(library)
+            elif status:
+                return library
+            else:
+                self.there.add(library.name)
+                print(f"library {library.name}", flush=True)
+        return None
+
+    def end(self):
+        """Ends what runs: where rt ends, the provers that it began end too."""
+        for it in ENDING:
+            signal.signal(it, signal.SIG_IGN)
+        for child in self.running:
+            os.kill(child, signal.SIGKILL)
+        for child in self.running:
+            os.waitpid(child, 0)
+
+
+def main(top, path, caller):
+    rt = toolchain(path)
+    if not rt:
+        return OTHER_RT
+
+    def end(number, _):
+        raise Ended
+
+    for it in ENDING:
+        signal.signal(it, end)
+    share_locks(rt.rtlib)
+    build = Build(rt, in_order(rt, top), int(caller))
+    try:
+        build.take_turn(f"{top}/crates")
+        failed = build.run()
+        if failed:
+            print(f"unproved {failed.name}", flush=True)
+        return FAILED if failed else 0
+    except Ended:
+        return FAILED
+    finally:
+        build.end()
+
+
+if __name__ == "__main__":
+    sys.exit(main(*sys.argv[1:]))
