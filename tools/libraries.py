@@ -2,11 +2,12 @@
 
 `python3 tools/libraries.py TOP RT CALLER`: TOP is the top of the repository, RT the toolchain's command, CALLER the process that waits, at whose
 end all ends. Each library is what `rt lib` makes of its crate, begun once those that it uses are there. Standard output has a line `library NAME`
-for each that is there, in the order in which they end, or `unproved NAME` for the first that failed, at which the others are ended.
+for each that is there, in the order in which they end; or `unproved NAME` for the first that failed, or `killed NAME` where its prover was killed
+even with nothing beside it, most likely for memory, at which the others are ended.
 
 The longest chain of crates goes first: of what can begin, the crate with the longest one from it to the program gets a process for each
 processor, another two where its chain is at least half as long, else one. A check uses one processor while it reads libraries and while it
-writes its own, so that twice as many processes as processors are begun, as far as memory reaches.
+writes its own, so that twice as many processes as processors are begun where there are several, as far as memory reaches.
 
 Two calls of `rt lib` would wait for one another, since each locks the folders of all crates that it reads as if it wrote there. Here a crate is
 locked so while it is built, and the libraries below it, which are there, as readers lock.
@@ -17,7 +18,6 @@ Ends with 0; with 1 where a library failed; with 3, and nothing done, where the 
 """
 
 import contextlib
-import ctypes
 import fcntl
 import importlib.machinery
 import importlib.util
@@ -94,6 +94,15 @@ def share_locks(rtlib):
     rtlib.lock = lock
 
 
+def end_with(parent):
+    """Has this process end with the one that began it, and returns whether that runs still."""
+    with contextlib.suppress(ImportError, AttributeError, OSError):
+        import ctypes
+
+        ctypes.CDLL(None).prctl(PR_SET_PDEATHSIG, signal.SIGKILL)
+    return os.getppid() == parent
+
+
 def lines_of(path):
     with open(path, "rb") as it:
         return it.read().count(b"\n")
@@ -136,8 +145,8 @@ class Build:
         self.there, self.running = set(), {}
         number = os.environ.get("RT_JOBS", "")
         self.processors = int(number) if number.isdigit() and int(number) else rt.processors()
-        # Some checks take more than is likely.
-        self.memory = 0.85 * rt.free() / 1e9
+        self.most = 2 * self.processors if self.processors > 1 else 1
+        self.memory = 0
 
     def processes_for(self, library, longest):
         """How many processes the library gets now, or 0 where it has to wait."""
@@ -147,7 +156,7 @@ class Build:
         elif library.is_alone or any(it.is_alone for it, _ in self.running.values()):
             return 0
         else:
-            most = min(most, 2 * self.processors - sum(number for _, number in self.running.values()))
+            most = min(most, self.most - sum(number for _, number in self.running.values()))
             room = self.memory - sum(it.takes(number) for it, number in self.running.values())
         most = 1 if library.is_alone else min(most, self.processors)
         while most > 0 and library.takes(most) > room:
@@ -155,6 +164,9 @@ class Build:
         return most if self.running else max(most, 1)
 
     def begin_what_can(self):
+        if not self.running:
+            # Some checks take more than is likely.
+            self.memory = 0.85 * self.rt.free() / 1e9
         ready = sorted((it for it in self.left if self.there.issuperset(it.below)), key=lambda it: -it.chain)
         longest = max([it.chain for it in ready] + [it.chain for it, _ in self.running.values()], default=0)
         for library in ready:
@@ -175,17 +187,16 @@ class Build:
         try:
             for it in ENDING:
                 signal.signal(it, signal.SIG_DFL)
-            ctypes.CDLL(None).prctl(PR_SET_PDEATHSIG, signal.SIGKILL)
-            if os.getppid() == parent:
-                nothing = os.open(os.devnull, os.O_RDWR)
-                for it in range(3):
-                    os.dup2(nothing, it)
-                os.chdir(library.folder)
+            nothing = os.open(os.devnull, os.O_RDWR)
+            for it in range(3):
+                os.dup2(nothing, it)
+            os.chdir(library.folder)
+            if end_with(parent):
                 status = self.rt.main(["lib", "--jobs", str(processes)])
         except SystemExit as it:
             status = it.code
         finally:
-            os._exit(status % 256)
+            os._exit(status % 256 if isinstance(status, int) else FAILED)
 
     def pause(self):
         """Waits a little, and ends where nobody waits for this process any more."""
@@ -208,40 +219,42 @@ class Build:
                     self.pause()
 
     def await_one(self):
-        """Waits until a library ends, and returns it, and how many processes it had and what it ended with."""
+        """Waits until a library ends, and returns it and what it ended with."""
         while True:
             child, status = os.waitpid(-1, os.WNOHANG)
             if child:
                 break
             self.pause()
-        library, processes = self.running.pop(child)
+        library, _ = self.running.pop(child)
         if os.WIFSIGNALED(status) and os.WTERMSIG(status) in ENDING:
             raise Ended
-        return library, processes, os.WEXITSTATUS(status) if os.WIFEXITED(status) else KILLED
+        return library, os.WEXITSTATUS(status) if os.WIFEXITED(status) else KILLED
 
     def run(self):
-        """Builds what is left, and returns the library that failed, if one did."""
+        """Builds what is left, and tells what is there, or what failed. What was killed is begun once more, with nothing beside it."""
         while self.left or self.running:
             self.begin_what_can()
-            library, processes, status = self.await_one()
-            if status == KILLED and (self.running or processes > 1) and not library.is_alone:
+            library, status = self.await_one()
+            if status == KILLED and not library.is_alone:
                 library.is_alone = True
                 self.left.append(library)
             elif status:
-                return library
+                print("killed" if status == KILLED else "unproved", library.name, flush=True)
+                return FAILED
             else:
                 self.there.add(library.name)
-                print(f"library {library.name}", flush=True)
-        return None
+                print("library", library.name, flush=True)
+        return 0
 
     def end(self):
         """Ends what runs: where rt ends, the provers that it began end too."""
         for it in ENDING:
             signal.signal(it, signal.SIG_IGN)
-        for child in self.running:
-            os.kill(child, signal.SIGKILL)
-        for child in self.running:
-            os.waitpid(child, 0)
+        for call in (lambda it: os.kill(it, signal.SIGKILL), lambda it: os.waitpid(it, 0)):
+            for child in self.running:
+                # One may have ended meanwhile.
+                with contextlib.suppress(OSError):
+                    call(child)
 
 
 def main(top, path, caller):
@@ -258,10 +271,7 @@ def main(top, path, caller):
     build = Build(rt, in_order(rt, top), int(caller))
     try:
         build.take_turn(f"{top}/crates")
-        failed = build.run()
-        if failed:
-            print(f"unproved {failed.name}", flush=True)
-        return FAILED if failed else 0
+        return build.run()
     except Ended:
         return FAILED
     finally:
