@@ -74,7 +74,7 @@ def main():
     if len(sys.argv) != 3:
         sys.exit(__doc__)
     bytes_ = made(sys.argv[1], int(sys.argv[2]))
-    print(f"# {len(bytes_)} bytes\nplan {sys.argv[1]} bytes\ncheck {sys.argv[2]} | {bytes_.hex()}")
+    print(f"# {len(bytes_)} bytes\nblock {sys.argv[1]} bytes\ncheck {sys.argv[2]} | {bytes_.hex()}")
 
 
 main()
