@@ -1,16 +1,13 @@
 //! Blocks of a table: of plans, of the bytes of modules, of types, and of sources.
 
-use crate::checked::add_checked;
 use crate::command::{add_asked, add_bytes, add_end, add_imports, add_page, add_prefixes};
-use crate::conversions::add_lines_of_source;
-use crate::made::made_of;
-use crate::modules::{add_of_module, module_of_block};
-use crate::runs::add_run;
+use crate::printed::module_of_block;
 use crate::shown::add_shown;
-use crate::type_lines::add_of_types;
-use crate::words::{begins_answer, edited, word_of};
 use fact_plan_types::{FuseError, PlanTypes};
 use fact_wasm::WasmModule;
+use row_lines::{
+    add_checked, add_lines_of_source, add_of_module, add_of_types, add_run, begins_answer, edited, made_of, word_of,
+};
 use std::alloc::{AllocError, Global};
 
 /// What the lines of a block speak of: a plan, or the bytes of a module, with the module that it has; or types, or why there are none.

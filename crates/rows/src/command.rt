@@ -1,8 +1,8 @@
 //! Runs of the command over memory. An `ask` says the most bytes that a call takes, and the calls of reading, of writing and of telling
 //! that fail, or 0 where none does; the words, each behind a `|`; and the edits that make the plan that is read.
 
-use crate::words::{add_text, edited, first_of, number_of, word_of};
 use fact_run::{BytesSink, BytesSource, Status, run};
+use row_lines::{add_text, edited, first_of, number_of, word_of};
 use std::alloc::{AllocError, Global};
 
 /// What a run begins with: the words, the input, the most bytes that a call takes, and the calls that fail.

@@ -39,30 +39,10 @@
 //!     next MEMBER OFFSET           where a field stands behind an offset, and where it ends
 #![tactic(auto)]
 
-mod agreed;
 mod blocks;
-mod checked;
 mod command;
-mod conversions;
-mod core_items;
-mod defined;
-mod funcs;
-mod layouts;
-mod live;
-mod live_source;
-mod made;
-mod modules;
-mod runs;
+mod printed;
 mod shown;
-mod sources;
-mod told_defs;
-mod told_runs;
-mod told_values;
-mod trees;
-mod type_lines;
-mod types;
-mod values;
-mod words;
 
 use blocks::add_blocks;
 use std::io;

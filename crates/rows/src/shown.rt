@@ -9,9 +9,8 @@
 //!     generated N         its functions, and whether `--generate N` counts what it has
 
 use crate::command::{asked, plain, run_on};
-use crate::trees::add_types;
-use crate::words::word_of;
 use fact_wasm::{ImportType, WasmImport, WasmModule};
+use row_lines::{add_types, word_of};
 use std::alloc::{AllocError, Global};
 
 /// Adds the names that a module exports.

@@ -3,31 +3,11 @@
 //! Answers are parted by `;`; `lacks` is none. Where `through` stands behind the steps, an answer leaves the state as it was before its
 //! call, so that what was written stays.
 
-use crate::command::{plain, run_on};
 use crate::told_runs::add_outcome;
 use crate::words::{core_value_of, core_values_of, first_of, number_of, small_number_of, word_of};
 use fact_machine::{Answer, CoreValue, Machine, MachineState, Outcome};
-use fact_wasm::{Seq, WasmModule, decode};
+use fact_wasm::{Seq, WasmModule};
 use std::alloc::{AllocError, Global};
-
-/// The module in a text that begins with a line of hex, if there is one.
-fn module_in(alloc: Global, text: &str) -> Result<Option<WasmModule>, AllocError> {
-    let Some(line) = text.lines().next() else {
-        return Ok(None);
-    };
-    let Ok(bytes) = hex::decode(alloc, line) else {
-        return Ok(None);
-    };
-    Ok(decode(alloc, bytes.as_slice()).ok())
-}
-
-/// The module that the command prints for a plan, if it prints one.
-pub fn module_of(alloc: Global, plan: &str) -> Result<Option<WasmModule>, AllocError> {
-    let seen = run_on(alloc, &plain(plan))?;
-    let module = module_in(alloc, seen.printed());
-    drop(seen);
-    module
-}
 
 /// Puts bytes at an address: `ADDRESS=HEX`.
 fn patch_bytes(alloc: Global, bytes: &mut Vec<u8>, patch: &str) -> Result<(), AllocError> {

@@ -6,10 +6,10 @@
 //!
 //! where N is the number of a resource, or a length.
 
+use crate::listed::{Listed, list_of};
 use crate::words::{small_number_of, word_of};
 use fact_entity::{EntityRef, ResourceId};
 use fact_source::{ComponentDefinedType, ComponentValType, PrimitiveValType};
-use fact_wasm::{Seq, Text};
 use std::alloc::{AllocError, Global};
 
 /// The primitive type that a word names.
@@ -41,75 +41,48 @@ pub fn value_of(word: &str) -> Option<ComponentValType> {
     }
 }
 
-/// The name before `=`, and the word behind it.
-pub fn pair_of(word: &str) -> (&str, &str) {
-    word.split_once("=").unwrap_or((word, ""))
-}
-
-/// The types of words.
-fn members_of(alloc: Global, words: &str) -> Result<Seq<ComponentValType>, AllocError> {
-    let mut members = Seq::new(alloc);
-    for ty in words.split_whitespace().filter_map(value_of) {
-        members.push(ty)?;
+impl Listed for ComponentValType {
+    fn of_word(_alloc: Global, word: &str) -> Result<Option<ComponentValType>, AllocError> {
+        Ok(value_of(word))
     }
-    Ok(members)
 }
 
-/// Names of flags or of an enum.
-fn names_of(alloc: Global, words: &str) -> Result<Seq<Text>, AllocError> {
-    let mut names = Seq::new(alloc);
-    for name in words.split_whitespace() {
-        names.push(Text::from_str(alloc, name)?)?;
+/// The payload of a case, if it has one.
+impl Listed for Option<ComponentValType> {
+    fn of_word(_alloc: Global, word: &str) -> Result<Option<Option<ComponentValType>>, AllocError> {
+        Ok(Some(value_of(word)))
     }
-    Ok(names)
 }
 
-/// Fields or parameters.
-pub fn fields_of(alloc: Global, words: &str) -> Result<Seq<(Text, ComponentValType)>, AllocError> {
-    let mut fields = Seq::new(alloc);
-    for word in words.split_whitespace() {
-        let (name, ty) = pair_of(word);
-        if let Some(ty) = value_of(ty) {
-            fields.push((Text::from_str(alloc, name)?, ty))?;
-        }
-    }
-    Ok(fields)
-}
-
-/// Cases, each with its payload where it has one.
-fn cases_of(
-    alloc: Global,
-    words: &str,
-) -> Result<Seq<(Text, Option<ComponentValType>)>, AllocError> {
-    let mut cases = Seq::new(alloc);
-    for word in words.split_whitespace() {
-        let (name, ty) = pair_of(word);
-        cases.push((Text::from_str(alloc, name)?, value_of(ty)))?;
-    }
-    Ok(cases)
-}
-
-/// A defined type that names two types at most.
-fn small_type_of(kind: &str, first: &str, second: &str) -> Option<ComponentDefinedType> {
-    let number = small_number_of(first);
+/// A defined type that is made of a type of values.
+fn type_around(kind: &str, ty: ComponentValType, word: &str) -> Option<ComponentDefinedType> {
     match kind {
-        "list" => Some(ComponentDefinedType::List(value_of(first)?)),
-        "option" => Some(ComponentDefinedType::Option(value_of(first)?)),
-        "map" => Some(ComponentDefinedType::Map(value_of(first)?, value_of(second)?)),
-        "fixed-list" => Some(ComponentDefinedType::FixedLengthList(
-            value_of(first)?,
-            small_number_of(second),
-        )),
+        "list" => Some(ComponentDefinedType::List(ty)),
+        "option" => Some(ComponentDefinedType::Option(ty)),
+        "map" => Some(ComponentDefinedType::Map(ty, value_of(word)?)),
+        _ => Some(ComponentDefinedType::FixedLengthList(ty, small_number_of(word))),
+    }
+}
+
+/// A defined type of a kind and two words.
+fn small_type_of(kind: &str, first: &str, second: &str) -> Option<ComponentDefinedType> {
+    match kind {
+        "list" | "option" | "map" | "fixed-list" => type_around(kind, value_of(first)?, second),
         "result" => Some(ComponentDefinedType::Result {
             ok: value_of(first),
             err: value_of(second),
         }),
-        "own" => Some(ComponentDefinedType::Own(ResourceId::from_u32(number))),
-        "borrow" => Some(ComponentDefinedType::Borrow(ResourceId::from_u32(number))),
+        "own" => Some(ComponentDefinedType::Own(resource_of(first))),
+        "borrow" => Some(ComponentDefinedType::Borrow(resource_of(first))),
         "future" => Some(ComponentDefinedType::Future(value_of(first))),
         "stream" => Some(ComponentDefinedType::Stream(value_of(first))),
         _ => Some(ComponentDefinedType::Primitive(primitive_of(kind)?)),
     }
+}
+
+/// The resource of a number.
+fn resource_of(word: &str) -> ResourceId {
+    ResourceId::from_u32(small_number_of(word))
 }
 
 /// The defined type of a kind and the words behind it.
@@ -119,11 +92,11 @@ pub fn type_of(
     words: &str,
 ) -> Result<Option<ComponentDefinedType>, AllocError> {
     match kind {
-        "record" => Ok(Some(ComponentDefinedType::Record(fields_of(alloc, words)?))),
-        "variant" => Ok(Some(ComponentDefinedType::Variant(cases_of(alloc, words)?))),
-        "tuple" => Ok(Some(ComponentDefinedType::Tuple(members_of(alloc, words)?))),
-        "flags" => Ok(Some(ComponentDefinedType::Flags(names_of(alloc, words)?))),
-        "enum" => Ok(Some(ComponentDefinedType::Enum(names_of(alloc, words)?))),
+        "record" => Ok(Some(ComponentDefinedType::Record(list_of(alloc, words)?))),
+        "variant" => Ok(Some(ComponentDefinedType::Variant(list_of(alloc, words)?))),
+        "tuple" => Ok(Some(ComponentDefinedType::Tuple(list_of(alloc, words)?))),
+        "flags" => Ok(Some(ComponentDefinedType::Flags(list_of(alloc, words)?))),
+        "enum" => Ok(Some(ComponentDefinedType::Enum(list_of(alloc, words)?))),
         _ => {
             let (first, second) = word_of(words);
             Ok(small_type_of(kind, first, second))

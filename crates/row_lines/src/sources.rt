@@ -11,7 +11,8 @@
 ghost use Rattle.std.specs.Prelude.{◌≡◌, IsTrue};
 
 use crate::core_items::add_module;
-use crate::defined::{fields_of, pair_of, type_of, value_of};
+use crate::defined::{type_of, value_of};
+use crate::listed::{Listed, list_of};
 use crate::live_source::{are_live_items, is_live_defined, is_live_func};
 use crate::words::{small_number_of, word_of};
 use fact_entity::{EntityRef, PushError, ResourceId};
@@ -19,7 +20,6 @@ use fact_source::{
     ComponentAnyTypeId, ComponentEntityType, SourceComponent, SourceFunc, SourceInstance,
     SourceItem, SourceTypes,
 };
-use fact_wasm::{Seq, Text};
 use std::alloc::{AllocError, Global};
 
 /// The number of the source.
@@ -60,21 +60,18 @@ pub fn entity_of(word: &str) -> Option<ComponentEntityType> {
     }
 }
 
-/// Imports or exports of which nothing but the type is said.
-fn items_of(alloc: Global, words: &str) -> Result<Seq<(Text, SourceItem)>, AllocError> {
-    let mut items = Seq::new(alloc);
-    for word in words.split_whitespace() {
-        let (name, ty) = pair_of(word);
-        if let Some(ty) = entity_of(ty) {
-            let item = SourceItem {
-                ty,
-                implements: None,
-                external_id: None,
-            };
-            items.push((Text::from_str(alloc, name)?, item))?;
-        }
+/// An import or export of which nothing but the type is said.
+impl Listed for SourceItem {
+    fn of_word(_alloc: Global, word: &str) -> Result<Option<SourceItem>, AllocError> {
+        let Some(ty) = entity_of(word) else {
+            return Ok(None);
+        };
+        Ok(Some(SourceItem {
+            ty,
+            implements: None,
+            external_id: None,
+        }))
     }
-    Ok(items)
 }
 
 /// Adds a defined type, and answers whether it names what is there; so do those below.
@@ -103,7 +100,7 @@ fn add_func(
     let (result, params) = word_of(words);
     let func = SourceFunc {
         async_,
-        params: fields_of(alloc, params)?,
+        params: list_of(alloc, params)?,
         result: value_of(result),
     };
     if !is_live_func(types, &func) {
@@ -114,7 +111,7 @@ fn add_func(
 }
 
 fn add_instance(alloc: Global, types: &mut SourceTypes, words: &str) -> Result<bool, PushError> {
-    let exports = items_of(alloc, words)?;
+    let exports = list_of(alloc, words)?;
     if !are_live_items(types, &exports) {
         return Ok(false);
     }
@@ -124,8 +121,8 @@ fn add_instance(alloc: Global, types: &mut SourceTypes, words: &str) -> Result<b
 
 fn add_component(alloc: Global, types: &mut SourceTypes, words: &str) -> Result<bool, PushError> {
     let (imports, exports) = words.split_once(">").unwrap_or((words, ""));
-    let imports = items_of(alloc, imports)?;
-    let exports = items_of(alloc, exports)?;
+    let imports = list_of(alloc, imports)?;
+    let exports = list_of(alloc, exports)?;
     if !are_live_items(types, &imports) || !are_live_items(types, &exports) {
         return Ok(false);
     }

@@ -1,5 +1,5 @@
 use Rattle.fact_convert.specs.Conversion.{IsReadyFor}
-use Rattle.rows.proofs.conversions.add_lines.Given as goal
+use Rattle.row_lines.proofs.conversions.add_lines.Given as goal
 
 -- each conversion leaves the builder ready for the next one
 abbrev pub invariant-loop-number : goal.invariant-loop-number

@@ -2,10 +2,10 @@
 //! from an i32 to an i64; `tag`, of an i32; `exact`, a function of exactly one type; `table`, of 1 to 2 elements of 64-bit indices;
 //! `memory`, of 3 pages of one byte and 64-bit addresses; a core type, a global; or `mut`, a global of an f64 that may be set.
 
-use crate::defined::pair_of;
+use crate::listed::{Listed, list_of};
 use fact_entity::PushError;
 use fact_source::{SourceEntityType, SourceModule, SourceTypes};
-use fact_wasm::{FuncType, Seq, Text, ValType};
+use fact_wasm::{FuncType, Text, ValType};
 use std::alloc::{AllocError, Global};
 
 fn core_func(alloc: Global) -> Result<SourceEntityType, AllocError> {
@@ -50,48 +50,34 @@ fn plain_item_of(word: &str) -> Option<SourceEntityType> {
     }
 }
 
-fn core_item_of(alloc: Global, word: &str) -> Result<Option<SourceEntityType>, AllocError> {
-    match word {
-        "func" => Ok(Some(core_func(alloc)?)),
-        "tag" => Ok(Some(core_tag(alloc)?)),
-        _ => Ok(plain_item_of(word)),
+impl Listed for SourceEntityType {
+    fn of_word(alloc: Global, word: &str) -> Result<Option<SourceEntityType>, AllocError> {
+        match word {
+            "func" => Ok(Some(core_func(alloc)?)),
+            "tag" => Ok(Some(core_tag(alloc)?)),
+            _ => Ok(plain_item_of(word)),
+        }
     }
 }
 
-fn core_imports_of(
-    alloc: Global,
-    words: &str,
-) -> Result<Seq<(Text, Text, SourceEntityType)>, AllocError> {
-    let mut imports = Seq::new(alloc);
-    for word in words.split_whitespace() {
-        let (name, ty) = pair_of(word);
-        if let Some(ty) = core_item_of(alloc, ty)? {
-            let module = Text::from_str(alloc, "m")?;
-            imports.push((module, Text::from_str(alloc, name)?, ty))?;
-        }
+/// An import of the module `m`.
+impl Listed for (Text, Text, SourceEntityType) {
+    fn of_word(
+        alloc: Global,
+        word: &str,
+    ) -> Result<Option<(Text, Text, SourceEntityType)>, AllocError> {
+        let Some((name, item)) = <(Text, SourceEntityType) as Listed>::of_word(alloc, word)? else {
+            return Ok(None);
+        };
+        Ok(Some((Text::from_str(alloc, "m")?, name, item)))
     }
-    Ok(imports)
-}
-
-fn core_exports_of(
-    alloc: Global,
-    words: &str,
-) -> Result<Seq<(Text, SourceEntityType)>, AllocError> {
-    let mut exports = Seq::new(alloc);
-    for word in words.split_whitespace() {
-        let (name, ty) = pair_of(word);
-        if let Some(ty) = core_item_of(alloc, ty)? {
-            exports.push((Text::from_str(alloc, name)?, ty))?;
-        }
-    }
-    Ok(exports)
 }
 
 /// Adds a type of core modules.
 pub fn add_module(alloc: Global, types: &mut SourceTypes, words: &str) -> Result<bool, PushError> {
     let (imports, exports) = words.split_once(">").unwrap_or((words, ""));
-    let imports = core_imports_of(alloc, imports)?;
-    let exports = core_exports_of(alloc, exports)?;
+    let imports = list_of(alloc, imports)?;
+    let exports = list_of(alloc, exports)?;
     types.add_module(SourceModule { imports, exports })?;
     Ok(true)
 }

@@ -8,9 +8,9 @@
 //!
 //! Bytes are parts of hex, each as often as `*N` behind it says.
 
-use crate::runs::{add_run, module_of};
+use crate::runs::add_run;
 use crate::trees::add_tree;
-use crate::words::{first_of, number_of, word_of};
+use crate::words::{first_of, number_of};
 use fact_wasm::{DecodeError, FuncName, Seq, WasmModule, decode, encode};
 use std::alloc::{AllocError, Global};
 
@@ -60,12 +60,8 @@ fn shortened(alloc: Global, mut module: WasmModule) -> WasmModule {
     module
 }
 
-/// The module of a block's text.
-pub fn module_of_block(alloc: Global, text: &str) -> Result<Option<WasmModule>, AllocError> {
-    let (how, parts) = word_of(text);
-    if !matches!(how, "bytes" | "copy" | "shortened") {
-        return module_of(alloc, text);
-    }
+/// The module that bytes spell, as the word before them says: itself, a copy of it, or without its last function and its imports.
+pub fn module_of_bytes(alloc: Global, how: &str, parts: &str) -> Result<Option<WasmModule>, AllocError> {
     match (module_spelled(alloc, parts)?, how) {
         (Some(module), "copy") => Ok(Some(copy_of(module)?)),
         (Some(module), "shortened") => Ok(Some(shortened(alloc, module))),

@@ -1,0 +1,35 @@
+//! Lines of the table of `rows` that speak of modules by their bytes, of types and of sources, and what comes of them; `rows` has those of plans,
+//! and of what the command answers. Apart from it, they are proved beside all that only the command needs.
+#![tactic(auto)]
+
+mod agreed;
+mod checked;
+mod conversions;
+mod core_items;
+mod defined;
+mod funcs;
+mod layouts;
+mod listed;
+mod live;
+mod live_source;
+mod made;
+mod modules;
+mod runs;
+mod sources;
+mod told_defs;
+mod told_runs;
+mod told_values;
+mod trees;
+mod type_lines;
+mod types;
+mod values;
+mod words;
+
+pub use checked::add_checked;
+pub use conversions::add_lines_of_source;
+pub use made::made_of;
+pub use modules::{add_of_module, module_of_bytes};
+pub use runs::add_run;
+pub use trees::add_types;
+pub use type_lines::add_of_types;
+pub use words::{add_text, begins_answer, edited, first_of, number_of, word_of};
