@@ -1,8 +1,9 @@
 //! Reads a table of plans, of modules and of types with what is asked of each, and prints the same table with what came of it, for a
 //! comparison with values that were worked out apart from the program.
 //!
-//! A line `block NAME HEAD` begins a block, whose lines below it speak of what its head is: a plan; the bytes of a module (`modules`); or,
-//! behind `types`, the types that a plan has or words make (`made`); or, behind `source`, types that are converted (`conversions`). Each of them is answered by one line: the name, the number of the line
+//! A line `block NAME HEAD` begins a block, whose lines below it speak of what its head is: a plan; the bytes of a module (`modules` of
+//! `row_lines`, as all that is named below and is not here); or, behind `types`, the types that a plan has or words make (`made`); or, behind
+//! `source`, types that are converted (`conversions`). Each of them is answered by one line: the name, the number of the line
 //! in its block, and what came, or why the head makes no types. A line that begins with `#` is copied. Parts of a line are parted by ` | `.
 //!
 //! Of a plan:
