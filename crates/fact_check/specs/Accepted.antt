@@ -1,5 +1,5 @@
 -- Which bytes spell an adapter module, and why others do not.
-use Rattle.std.specs.Prelude.{◌≡◌, ℕ, ◌<◌, true, false, List, Some, Result, Ok, Err, length, slice_get}
+use Rattle.std.specs.Prelude.{◌≡◌, ◌≢◌, ℕ, ◌<◌, true, false, List, Some, Result, Ok, Err, length, slice_get}
 use Rattle.fact_wasm.specs.declared.module.WasmExport.{WasmExport}
 use Rattle.fact_wasm.specs.declared.module.WasmModule.{WasmModule}
 use Rattle.fact_wasm.specs.Ranges.{InRange}
@@ -87,3 +87,7 @@ abbrev pub IsErrorOrMemory : Result WasmModule CheckError → CheckError → Typ
 IsErrorOrMemory (Ok found) e = ⊥
 IsErrorOrMemory (Err error.OutOfMemory) e = Unit {0}
 IsErrorOrMemory (Err told) e = told ≡ e
+
+-- Bytes that are accepted have no cause: each input of the check has one answer, but for a want of memory.
+abbrev pub AcceptedHasNoCause : Type 0
+AcceptedHasNoCause = (bytes : List ℕ) (m : WasmModule) (e : CheckError) → IsAccepted bytes m → e ≢ error.OutOfMemory → IsCause bytes e → ⊥

@@ -110,3 +110,12 @@ is_simple (o.F64Store m) = true
 is_simple (o.I32Store8 m) = true
 is_simple (o.I32Store16 m) = true
 is_simple _ = false
+
+-- a conditional, and a block with handlers
+abbrev pub is_conditional : Instr-F Instr → Bool
+is_conditional (o.If ty body other) = true
+is_conditional _ = false
+
+abbrev pub is_handler : Instr-F Instr → Bool
+is_handler (o.TryTable ty catches body) = true
+is_handler _ = false

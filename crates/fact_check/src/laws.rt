@@ -1,8 +1,18 @@
-//! Laws of well typed modules.
+//! Laws of the check.
 
+ghost use Rattle.fact_check.specs.Accepted.{AcceptedHasNoCause};
 ghost use Rattle.fact_check.specs.Soundness.{WellTypedIsNeverStuck};
+
+use fact_wasm::bytes_spell_one_module;
 
 /// What well typed modules do. The call does nothing: its contract is the law.
 pub fn laws_of_checked()
     ensures { WellTypedIsNeverStuck }
 {}
+
+/// No bytes are accepted and have a cause. The call does nothing: its contract is the law.
+pub fn accepted_bytes_have_no_cause()
+    ensures { AcceptedHasNoCause }
+{
+    bytes_spell_one_module();
+}

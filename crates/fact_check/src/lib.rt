@@ -15,7 +15,7 @@ mod typing;
 
 pub use checking::check;
 pub use error::{CheckError, CheckPlace};
-pub use laws::laws_of_checked;
+pub use laws::{accepted_bytes_have_no_cause, laws_of_checked};
 
 /// Want of memory, the one free answer of each call that allocates.
 pub type OutOfMemory = std::alloc::AllocError;

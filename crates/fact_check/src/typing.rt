@@ -2,10 +2,11 @@
 
 ghost use Rattle.std.specs.Prelude.{◌≡◌, IfOk, Some, true};
 ghost use Rattle.std.specs.List.{list_all};
-ghost use Rattle.fact_machine.specs.Typing.{only_if, code_typing, declares_numbers, is_catch, is_target, is_typed_body, is_typed_function, load_typing, store_typing};
+ghost use Rattle.fact_machine.specs.Typing.{only_if, code_typing, declares_numbers, is_catch, is_target, is_typed_body, is_typed_function, load_typing, store_typing, typing_row};
 ghost use Rattle.fact_check.specs.Operands.{operands_of};
 ghost use Rattle.fact_wasm.specs.declared.instr.Instr.{out-Instr};
-ghost use Rattle.fact_check.specs.Sections.{AreExported, IsCodeContext, IsSectionOf, body_ends, context_of, is_simple, row_of};
+ghost use Rattle.fact_wasm.specs.declared.instr.Instr.TheOpen as kind;
+ghost use Rattle.fact_check.specs.Sections.{AreExported, IsCodeContext, IsSectionOf, body_ends, context_of, is_conditional, is_handler, is_simple, row_of};
 
 use crate::OutOfMemory;
 use crate::context::{
@@ -17,7 +18,7 @@ use crate::locals::{ends_of, local_type};
 use crate::operands::{Operands, is_number};
 use crate::plain::{operate, plain_of};
 use crate::section::Section;
-use fact_wasm::{FuncType, Instr, MemArg, Seq, ValType, WasmFunc, WasmModule};
+use fact_wasm::{FuncName, FuncType, Instr, MemArg, Seq, ValType, WasmFunc, WasmModule};
 use std::alloc::Global;
 
 /// Whether a label is there that takes nothing.
@@ -108,6 +109,206 @@ fn store(
     }
 }
 
+/// What a branch makes of operands.
+fn branch(
+    alloc: Global,
+    context: &CodeContext,
+    labels: &[&[ValType]],
+    operands: &mut Operands,
+    n: u32,
+) -> bool
+    ensures { typing_row (kind.Br n) (context_of context.now labels.now) (operands_of operands.old) ≡ only_if result (Some (operands_of operands.new)) }
+{
+    match label(labels, n) {
+        Some(takes) => operands.jump(alloc, takes),
+        None => false,
+    }
+}
+
+fn branch_if(
+    context: &CodeContext,
+    labels: &[&[ValType]],
+    operands: &mut Operands,
+    n: u32,
+) -> Result<bool, OutOfMemory>
+    ensures { IfOk result (λ typed. typing_row (kind.BrIf n) (context_of context.now labels.now) (operands_of operands.old) ≡ only_if typed (Some (operands_of operands.new))) }
+{
+    match label(labels, n) {
+        Some(takes) => {
+            if !operands.pop(ValType::I32) {
+                return Ok(false);
+            }
+            operands.change(takes, takes)
+        }
+        None => Ok(false),
+    }
+}
+
+fn branch_table(
+    alloc: Global,
+    context: &CodeContext,
+    labels: &[&[ValType]],
+    operands: &mut Operands,
+    table: &[u32],
+    last: u32,
+) -> bool
+    ensures { typing_row (kind.BrTable table.now last) (context_of context.now labels.now) (operands_of operands.old) ≡ only_if result (Some (operands_of operands.new)) }
+{
+    match label(labels, last) {
+        Some(takes) => {
+            if !operands.pop(ValType::I32) {
+                return false;
+            }
+            if !are_targets(context, labels, takes.len(), operands, table) {
+                return false;
+            }
+            operands.jump(alloc, takes)
+        }
+        None => false,
+    }
+}
+
+fn call(
+    context: &CodeContext,
+    labels: &[&[ValType]],
+    operands: &mut Operands,
+    func: FuncName,
+) -> Result<bool, OutOfMemory>
+    requires { IsCodeContext context.now }
+    ensures { IfOk result (λ typed. typing_row (kind.Call func) (context_of context.now labels.now) (operands_of operands.old) ≡ only_if typed (Some (operands_of operands.new))) }
+{
+    match function_type(context, func) {
+        Some(ty) => operands.change(ty.params.as_slice(), ty.results.as_slice()),
+        None => Ok(false),
+    }
+}
+
+/// What a reference to a function makes of operands, which has to be exported.
+fn reference(
+    context: &CodeContext,
+    labels: &[&[ValType]],
+    operands: &mut Operands,
+    func: FuncName,
+) -> Result<bool, OutOfMemory>
+    requires { IsCodeContext context.now }
+    ensures { IfOk result (λ typed. typing_row (kind.RefFunc func) (context_of context.now labels.now) (operands_of operands.old) ≡ only_if typed (Some (operands_of operands.new))) }
+{
+    match function_type(context, func) {
+        Some(_) => {
+            if !is_exported(context, func) {
+                return Ok(false);
+            }
+            operands.change(&[], &[ValType::FuncRef])
+        }
+        None => Ok(false),
+    }
+}
+
+/// What a choice between two operands makes of operands.
+fn select(
+    context: &CodeContext,
+    labels: &[&[ValType]],
+    operands: &mut Operands,
+) -> Result<bool, OutOfMemory>
+    ensures { IfOk result (λ typed. typing_row kind.Select (context_of context.now labels.now) (operands_of operands.old) ≡ only_if typed (Some (operands_of operands.new))) }
+{
+    if !operands.pop(ValType::I32) {
+        return Ok(false);
+    }
+    operands.choose()
+}
+
+fn get_local(
+    context: &CodeContext,
+    labels: &[&[ValType]],
+    operands: &mut Operands,
+    n: u32,
+) -> Result<bool, OutOfMemory>
+    requires { IsCodeContext context.now }
+    ensures { IfOk result (λ typed. typing_row (kind.LocalGet n) (context_of context.now labels.now) (operands_of operands.old) ≡ only_if typed (Some (operands_of operands.new))) }
+{
+    match local_type(context.params, context.locals, &context.ends, n) {
+        Some(ty) => operands.change(&[], &[ty]),
+        None => Ok(false),
+    }
+}
+
+fn set_local(
+    context: &CodeContext,
+    labels: &[&[ValType]],
+    operands: &mut Operands,
+    n: u32,
+) -> Result<bool, OutOfMemory>
+    requires { IsCodeContext context.now }
+    ensures { IfOk result (λ typed. typing_row (kind.LocalSet n) (context_of context.now labels.now) (operands_of operands.old) ≡ only_if typed (Some (operands_of operands.new))) }
+{
+    match local_type(context.params, context.locals, &context.ends, n) {
+        Some(ty) => operands.change(&[ty], &[]),
+        None => Ok(false),
+    }
+}
+
+fn tee_local(
+    context: &CodeContext,
+    labels: &[&[ValType]],
+    operands: &mut Operands,
+    n: u32,
+) -> Result<bool, OutOfMemory>
+    requires { IsCodeContext context.now }
+    ensures { IfOk result (λ typed. typing_row (kind.LocalTee n) (context_of context.now labels.now) (operands_of operands.old) ≡ only_if typed (Some (operands_of operands.new))) }
+{
+    match local_type(context.params, context.locals, &context.ends, n) {
+        Some(ty) => operands.change(&[ty], &[ty]),
+        None => Ok(false),
+    }
+}
+
+fn get_global(
+    context: &CodeContext,
+    labels: &[&[ValType]],
+    operands: &mut Operands,
+    n: u32,
+) -> Result<bool, OutOfMemory>
+    requires { IsCodeContext context.now }
+    ensures { IfOk result (λ typed. typing_row (kind.GlobalGet n) (context_of context.now labels.now) (operands_of operands.old) ≡ only_if typed (Some (operands_of operands.new))) }
+{
+    match global(context, n) {
+        Some((ty, _)) => operands.change(&[], &[ty]),
+        None => Ok(false),
+    }
+}
+
+/// What the setting of a global makes of operands, which has to be one that may be set.
+fn set_global(
+    context: &CodeContext,
+    labels: &[&[ValType]],
+    operands: &mut Operands,
+    n: u32,
+) -> Result<bool, OutOfMemory>
+    requires { IsCodeContext context.now }
+    ensures { IfOk result (λ typed. typing_row (kind.GlobalSet n) (context_of context.now labels.now) (operands_of operands.old) ≡ only_if typed (Some (operands_of operands.new))) }
+{
+    match global(context, n) {
+        Some((ty, true)) => operands.change(&[ty], &[]),
+        _ => Ok(false),
+    }
+}
+
+fn memory_size(
+    context: &CodeContext,
+    labels: &[&[ValType]],
+    operands: &mut Operands,
+    n: u32,
+) -> Result<bool, OutOfMemory>
+    requires { IsCodeContext context.now }
+    ensures { IfOk result (λ typed. typing_row (kind.MemorySize n) (context_of context.now labels.now) (operands_of operands.old) ≡ only_if typed (Some (operands_of operands.new))) }
+{
+    match memory64(context, n) {
+        Some(memory64) => operands.change(&[], &[address_type(memory64)]),
+        None => Ok(false),
+    }
+}
+
 /// What an instruction that has no bodies makes of operands, where it is well typed.
 fn simple(
     alloc: Global,
@@ -122,75 +323,22 @@ fn simple(
 {
     match instr {
         Instr::Unreachable => Ok(operands.jump(alloc, &[])),
-        Instr::Br(n) => match label(labels, *n) {
-            Some(takes) => Ok(operands.jump(alloc, takes)),
-            None => Ok(false),
-        },
-        Instr::BrIf(n) => match label(labels, *n) {
-            Some(takes) => {
-                if !operands.pop(ValType::I32) {
-                    return Ok(false);
-                }
-                operands.change(takes, takes)
-            }
-            None => Ok(false),
-        },
-        Instr::BrTable(table, last) => match label(labels, *last) {
-            Some(takes) => {
-                if !operands.pop(ValType::I32) {
-                    return Ok(false);
-                }
-                if !are_targets(context, labels, takes.len(), operands, table.as_slice()) {
-                    return Ok(false);
-                }
-                Ok(operands.jump(alloc, takes))
-            }
-            None => Ok(false),
-        },
-        Instr::Call(func) => match function_type(context, *func) {
-            Some(ty) => operands.change(ty.params.as_slice(), ty.results.as_slice()),
-            None => Ok(false),
-        },
-        Instr::RefFunc(func) => match function_type(context, *func) {
-            Some(_) => {
-                if !is_exported(context, *func) {
-                    return Ok(false);
-                }
-                operands.change(&[], &[ValType::FuncRef])
-            }
-            None => Ok(false),
-        },
-        Instr::Drop => Ok(operands.drop_operand()),
-        Instr::Select => {
-            if !operands.pop(ValType::I32) {
-                return Ok(false);
-            }
-            operands.choose()
+        Instr::Br(n) => Ok(branch(alloc, context, labels, operands, *n)),
+        Instr::BrIf(n) => branch_if(context, labels, operands, *n),
+        Instr::BrTable(table, last) => {
+            let table = table.as_slice();
+            Ok(branch_table(alloc, context, labels, operands, table, *last))
         }
-        Instr::LocalGet(n) => match local_type(context.params, context.locals, &context.ends, *n) {
-            Some(ty) => operands.change(&[], &[ty]),
-            None => Ok(false),
-        },
-        Instr::LocalSet(n) => match local_type(context.params, context.locals, &context.ends, *n) {
-            Some(ty) => operands.change(&[ty], &[]),
-            None => Ok(false),
-        },
-        Instr::LocalTee(n) => match local_type(context.params, context.locals, &context.ends, *n) {
-            Some(ty) => operands.change(&[ty], &[ty]),
-            None => Ok(false),
-        },
-        Instr::GlobalGet(n) => match global(context, *n) {
-            Some((ty, _)) => operands.change(&[], &[ty]),
-            None => Ok(false),
-        },
-        Instr::GlobalSet(n) => match global(context, *n) {
-            Some((ty, true)) => operands.change(&[ty], &[]),
-            _ => Ok(false),
-        },
-        Instr::MemorySize(n) => match memory64(context, *n) {
-            Some(memory64) => operands.change(&[], &[address_type(memory64)]),
-            None => Ok(false),
-        },
+        Instr::Call(func) => call(context, labels, operands, *func),
+        Instr::RefFunc(func) => reference(context, labels, operands, *func),
+        Instr::Drop => Ok(operands.drop_operand()),
+        Instr::Select => select(context, labels, operands),
+        Instr::LocalGet(n) => get_local(context, labels, operands, *n),
+        Instr::LocalSet(n) => set_local(context, labels, operands, *n),
+        Instr::LocalTee(n) => tee_local(context, labels, operands, *n),
+        Instr::GlobalGet(n) => get_global(context, labels, operands, *n),
+        Instr::GlobalSet(n) => set_global(context, labels, operands, *n),
+        Instr::MemorySize(n) => memory_size(context, labels, operands, *n),
         Instr::I32Load(place) => load(context, labels, operands, 2, ValType::I32, *place),
         Instr::I64Load(place) => load(context, labels, operands, 3, ValType::I64, *place),
         Instr::F32Load(place) => load(context, labels, operands, 2, ValType::F32, *place),
@@ -209,6 +357,76 @@ fn simple(
         Instr::I32Store16(place) => store(context, labels, operands, 1, ValType::I32, *place),
         _ => unreachable!(),
     }
+}
+
+/// What a conditional makes of operands, where it is well typed. The labels stay.
+#[cycle(typed)]
+fn conditional<'m>(
+    alloc: Global,
+    context: &CodeContext<'m>,
+    labels: &mut Seq<&'m [ValType]>,
+    operands: &mut Operands,
+    instr: &Instr,
+) -> Result<bool, OutOfMemory>
+    requires context { IsCodeContext context.now }
+    requires conditional { is_conditional (out-Instr instr.now) ≡ true }
+    ensures typed { IfOk result (λ typed. row_of instr.now (context_of context.now labels.old) (operands_of operands.old) ≡ only_if typed (Some (operands_of operands.new))) }
+    ensures labels { IfOk result (λ typed. labels.new ≡ labels.old) }
+{
+    let Instr::If(ty, body, other) = instr else {
+        unreachable!()
+    };
+    if !operands.pop(ValType::I32) {
+        return Ok(false);
+    }
+    let Some(types) = types_of_block(context.module.types.as_slice(), *ty) else {
+        return Ok(false);
+    };
+    let body = body.as_slice();
+    if !is_body(alloc, context, labels, types.results, types, body)? {
+        return Ok(false);
+    }
+    let is_other = match other {
+        Some(other) => {
+            let other = other.as_slice();
+            is_body(alloc, context, labels, types.results, types, other)?
+        }
+        None => is_body(alloc, context, labels, types.results, types, &[])?,
+    };
+    if !is_other {
+        return Ok(false);
+    }
+    operands.change(types.params, types.results)
+}
+
+/// What a handler makes of operands, where it is well typed. The labels stay.
+#[cycle(typed)]
+fn handler<'m>(
+    alloc: Global,
+    context: &CodeContext<'m>,
+    labels: &mut Seq<&'m [ValType]>,
+    operands: &mut Operands,
+    instr: &Instr,
+) -> Result<bool, OutOfMemory>
+    requires context { IsCodeContext context.now }
+    requires handler { is_handler (out-Instr instr.now) ≡ true }
+    ensures typed { IfOk result (λ typed. row_of instr.now (context_of context.now labels.old) (operands_of operands.old) ≡ only_if typed (Some (operands_of operands.new))) }
+    ensures labels { IfOk result (λ typed. labels.new ≡ labels.old) }
+{
+    let Instr::TryTable(ty, catches, body) = instr else {
+        unreachable!()
+    };
+    let Some(types) = types_of_block(context.module.types.as_slice(), *ty) else {
+        return Ok(false);
+    };
+    if !are_catches(context, labels.as_slice(), catches.as_slice()) {
+        return Ok(false);
+    }
+    let body = body.as_slice();
+    if !is_body(alloc, context, labels, types.results, types, body)? {
+        return Ok(false);
+    }
+    operands.change(types.params, types.results)
 }
 
 /// What an instruction makes of operands, where it is well typed. The labels stay.
@@ -232,14 +450,8 @@ fn instruction<'m>(
             let Some(types) = types_of_block(context.module.types.as_slice(), *ty) else {
                 return Ok(false);
             };
-            if !is_body(
-                alloc,
-                context,
-                labels,
-                types.results,
-                types,
-                body.as_slice(),
-            )? {
+            let body = body.as_slice();
+            if !is_body(alloc, context, labels, types.results, types, body)? {
                 return Ok(false);
             }
             operands.change(types.params, types.results)
@@ -248,65 +460,14 @@ fn instruction<'m>(
             let Some(types) = types_of_block(context.module.types.as_slice(), *ty) else {
                 return Ok(false);
             };
-            if !is_body(alloc, context, labels, types.params, types, body.as_slice())? {
+            let body = body.as_slice();
+            if !is_body(alloc, context, labels, types.params, types, body)? {
                 return Ok(false);
             }
             operands.change(types.params, types.results)
         }
-        Instr::If(ty, body, other) => {
-            if !operands.pop(ValType::I32) {
-                return Ok(false);
-            }
-            let Some(types) = types_of_block(context.module.types.as_slice(), *ty) else {
-                return Ok(false);
-            };
-            if !is_body(
-                alloc,
-                context,
-                labels,
-                types.results,
-                types,
-                body.as_slice(),
-            )? {
-                return Ok(false);
-            }
-            let is_other = match other {
-                Some(other) => {
-                    is_body(
-                        alloc,
-                        context,
-                        labels,
-                        types.results,
-                        types,
-                        other.as_slice(),
-                    )?
-                }
-                None => is_body(alloc, context, labels, types.results, types, &[])?,
-            };
-            if !is_other {
-                return Ok(false);
-            }
-            operands.change(types.params, types.results)
-        }
-        Instr::TryTable(ty, catches, body) => {
-            let Some(types) = types_of_block(context.module.types.as_slice(), *ty) else {
-                return Ok(false);
-            };
-            if !are_catches(context, labels.as_slice(), catches.as_slice()) {
-                return Ok(false);
-            }
-            if !is_body(
-                alloc,
-                context,
-                labels,
-                types.results,
-                types,
-                body.as_slice(),
-            )? {
-                return Ok(false);
-            }
-            operands.change(types.params, types.results)
-        }
+        Instr::If(_, _, _) => conditional(alloc, context, labels, operands, instr),
+        Instr::TryTable(_, _, _) => handler(alloc, context, labels, operands, instr),
         _ => simple(alloc, context, labels.as_slice(), operands, instr),
     }
 }

@@ -1,7 +1,7 @@
 -- How the ends of a run follow from what was read and written.
 use Rattle.std.proofs.Common.{◌≡◌, ◌≢◌, ℕ, zero, suc, ◌≤◌, ◌<◌, Bool, true, false, List, [], ◌++◌, length, Option, None, Some, Result, Ok, Err, OnOk, OnErr, IfSome, ◌⊎◌, inl, inr, refl, sym, subst, ap, ◌∙◌, arith, append-nil, length-append, string_bytes}
 use Rattle.std.specs.Prelude.{⊤, IsSome, IsSomeAnd, nat_lt}
-use Rattle.std.proofs.lemmas.Bool.{lt-ltb, le-ltb}
+use Rattle.std.proofs.lemmas.Bool.{false≢true, lt-ltb, le-ltb}
 use Rattle.std.specs.Io.KnownBytes.{Appends}
 use Rattle.std.proofs.KnownBytes.{Consumes-nil}
 use Rattle.serde_json.specs.Data.{Data}
@@ -26,7 +26,7 @@ use Rattle.fact_run.specs.declared.command.CommandOptions.{CommandOptions}
 use Rattle.fact_run.specs.Command.{reading}
 use Rattle.fact_run.specs.Refusal.{refusal_line}
 use Rattle.fact_run.specs.Status.{line_of}
-use Rattle.fact_run.specs.Run.{Counts, GeneratesPlan, HoldsFault, HoldsFaultless, HoldsNoJson, HoldsPlan, HoldsRefusal, IsEndUnread, IsOrMemory, IsTooLong, IsUndisturbed, Read, ReadsPlan, Sends, SendsBy, SendsCounts, SendsPage, TellsLine, limit}
+use Rattle.fact_run.specs.Run.{Counts, GeneratesPlan, HoldsFault, HoldsFaultless, HoldsNoJson, HoldsPlan, HoldsRefusal, IsEndUnread, IsOrMemory, IsPlanMode, IsTooLong, IsUndisturbed, Read, ReadsPlan, Sends, SendsAccepted, SendsBy, SendsCounts, SendsPage, TellsLine, limit}
 
 -- ---- from what was read to a reply
 
@@ -51,6 +51,8 @@ replied-fault o bytes v f reply.ReadFault within j h e = absurd e
 replied-fault o bytes v f reply.TooLong within j h e = absurd e
 replied-fault o bytes v f reply.NotJson within j h e = absurd e
 replied-fault o bytes v f (reply.Refused line) within j h e = absurd e
+replied-fault o bytes v f reply.NotHex within j h e = absurd e
+replied-fault o bytes v f (reply.Rejected line) within j h e = absurd e
 
 -- a plan that the bytes hold
 pub replied-plan : (o : CommandOptions) (bytes : List ℕ) (p : FusePlan) (r : Reply) → HoldsPlan bytes p → IsReplyToPlan o p r → IsReplyTo o bytes r
@@ -71,6 +73,8 @@ replied-plan o bytes p (reply.BadPlan line) h e = absurd e
 replied-plan o bytes p reply.ReadFault h e = absurd e
 replied-plan o bytes p reply.TooLong h e = absurd e
 replied-plan o bytes p reply.NotJson h e = absurd e
+replied-plan o bytes p reply.NotHex h e = absurd e
+replied-plan o bytes p (reply.Rejected line) h e = absurd e
 
 -- a source of which nothing was taken
 pub untaken : (left : Option (List ℕ)) (most : ℕ) → TakesUpTo left left most
@@ -84,6 +88,8 @@ replied o left left' fault bytes reply.TooLong all h = absurd h
 replied o left left' fault bytes reply.NotJson all h = record { bytes = bytes; all = all; is_so = h }
 replied o left left' fault bytes (reply.BadPlan line) all h = record { bytes = bytes; all = all; is_so = h }
 replied o left left' fault bytes (reply.Refused line) all h = record { bytes = bytes; all = all; is_so = h }
+replied o left left' fault bytes reply.NotHex all h = absurd h
+replied o left left' fault bytes (reply.Rejected line) all h = absurd h
 replied o left left' fault bytes reply.OutOfMemory all h = tt
 
 -- ---- from a reply to an end
@@ -95,34 +101,47 @@ sent-as o bytes P Q f a = record { holds = a.holds; text = a.text; prints = a.pr
 sent-counts : (o : CommandOptions) (n : ℕ) (text : List ℕ) (Q : List ℕ → Type 0) → SendsCounts o n (λ sent. sent ≡ text) → Q text → SendsCounts o n Q
 sent-counts o n text Q a q = record { text = a.text; counted = a.counted; sent = subst Q (sym a.sent) q }
 
-sent-by : (m : Option ℕ) (o : CommandOptions) (left left' : Option (List ℕ)) (text : List ℕ) (Q : List ℕ → Type 0) → SendsBy m o left left' (λ sent. sent ≡ text) → Q text → SendsBy m o left left' Q
-sent-by None o left left' text Q r q = record {
+sent-accepted : (input text : List ℕ) (Q : List ℕ → Type 0) → SendsAccepted input (λ sent. sent ≡ text) → Q text → SendsAccepted input Q
+sent-accepted input text Q a q = record { found = a.found; holds = a.holds; sent = subst Q (sym a.sent) q }
+
+sent-by : (check : Bool) (m : Option ℕ) (o : CommandOptions) (left left' : Option (List ℕ)) (text : List ℕ) (Q : List ℕ → Type 0) → SendsBy check m o left left' (λ sent. sent ≡ text) → Q text → SendsBy check m o left left' Q
+sent-by true m o left left' text Q r q = record { bytes = r.bytes; all = r.all; is_so = sent-accepted r.bytes text Q r.is_so q }
+sent-by false None o left left' text Q r q = record {
   bytes = r.bytes;
   all = r.all;
   is_so = sent-as o r.bytes (λ sent. sent ≡ text) Q (λ t e. subst Q (sym e) q) r.is_so;
 }
-sent-by (Some n) o left left' text Q a q = sent-counts o n text Q a q
+sent-by false (Some n) o left left' text Q a q = sent-counts o n text Q a q
 
 -- the text that a run comes to was sent
 pub sent-of : (o : CommandOptions) (left left' : Option (List ℕ)) (text : List ℕ) (Q : List ℕ → Type 0) → Sends o left left' (λ sent. sent ≡ text) → Q text → Sends o left left' Q
-sent-of o left left' text Q r q = sent-by o.generate o left left' text Q r q
+sent-of o left left' text Q r q = sent-by o.check o.generate o left left' text Q r q
 
 -- ---- modes
 
+-- what was sent in a mode
+sends-in : (check : Bool) (m : Option ℕ) (o : CommandOptions) (left left' : Option (List ℕ)) (Sent : List ℕ → Type 0) → o.check ≡ check → o.generate ≡ m → SendsBy check m o left left' Sent → Sends o left left' Sent
+sends-in check m o left left' Sent c g h =
+    let P : Bool → Type 0 = λ b. SendsBy b m o left left' Sent in
+    let Q : Option ℕ → Type 0 = λ k. SendsBy o.check k o left left' Sent in
+    subst Q (sym g) (subst P (sym c) h)
+
 -- what a source comes to, where a plan is read
-pub replied-read : (o : CommandOptions) (left left' : Option (List ℕ)) (fault : Type 0) (r : Reply) → o.generate ≡ None → IsReply o left left' fault r → IsReplyUnder o left left' fault r
-replied-read o left left' fault (reply.Page text) none h = let P : Option ℕ → Type 0 = λ m. SendsBy m o left left' (λ sent. sent ≡ string_bytes text) in subst P (sym none) h
-replied-read o left left' fault reply.ReadFault none h = h
-replied-read o left left' fault reply.TooLong none h = h
-replied-read o left left' fault reply.NotJson none h = h
-replied-read o left left' fault (reply.BadPlan line) none h = h
-replied-read o left left' fault (reply.Refused line) none h = h
-replied-read o left left' fault reply.OutOfMemory none h = h
+pub replied-read : (o : CommandOptions) (left left' : Option (List ℕ)) (fault : Type 0) (r : Reply) → o.generate ≡ None → o.check ≡ false → IsReply o left left' fault r → IsReplyUnder o left left' fault r
+replied-read o left left' fault (reply.Page text) none unchecked h = sends-in false None o left left' (λ sent. sent ≡ string_bytes text) unchecked none h
+replied-read o left left' fault reply.ReadFault none unchecked h = h
+replied-read o left left' fault reply.TooLong none unchecked h = h
+replied-read o left left' fault reply.NotJson none unchecked h = (record { not_generated = none; not_checked = unchecked }, h)
+replied-read o left left' fault (reply.BadPlan line) none unchecked h = (record { not_generated = none; not_checked = unchecked }, h)
+replied-read o left left' fault (reply.Refused line) none unchecked h = (record { not_generated = none; not_checked = unchecked }, h)
+replied-read o left left' fault reply.NotHex none unchecked h = absurd h.is_so
+replied-read o left left' fault (reply.Rejected line) none unchecked h = absurd h.is_so
+replied-read o left left' fault reply.OutOfMemory none unchecked h = h
 
 -- counts that were made of a plan that is generated
-pub replied-counts : (o : CommandOptions) (n : ℕ) (left left' : Option (List ℕ)) (text : List ℕ) → o.generate ≡ Some n → Counts o n text → Sends o left left' (λ sent. sent ≡ text)
-replied-counts o n left left' text some made =
-    let P : Option ℕ → Type 0 = λ m. SendsBy m o left left' (λ sent. sent ≡ text) in subst P (sym some) (record { text = text; counted = made; sent = refl })
+pub replied-counts : (o : CommandOptions) (n : ℕ) (left left' : Option (List ℕ)) (text : List ℕ) → o.generate ≡ Some n → o.check ≡ false → Counts o n text → Sends o left left' (λ sent. sent ≡ text)
+replied-counts o n left left' text some unchecked made =
+    sends-in false (Some n) o left left' (λ sent. sent ≡ text) unchecked some (record { text = text; counted = made; sent = refl })
 
 -- a run that reads nothing ends as such runs do
 pub ended-unread : (r : Reply) → IsReplyUnread r → IsEndUnread (ending_with r).status
@@ -133,6 +152,8 @@ ended-unread reply.TooLong h = absurd h
 ended-unread reply.NotJson h = absurd h
 ended-unread (reply.BadPlan line) h = absurd h
 ended-unread (reply.Refused line) h = absurd h
+ended-unread reply.NotHex h = absurd h
+ended-unread (reply.Rejected line) h = absurd h
 
 pub unread-done : (s : Status) → IsEndUnread s → (s ≡ status.WriteFault → ⊥) → IsOrMemory status.Done s
 unread-done s (inl done) clean = inl done
@@ -143,19 +164,27 @@ unread-done s (inr (inr memory)) clean = inr memory
 pub options-generate : (words : List (List ℕ)) (o : CommandOptions) → reading words ≡ Some o → GeneratesPlan words → IsSome o.generate
 options-generate words o e g = let P : Option CommandOptions → Type 0 = λ r. IsSomeAnd r (λ x. IsSome x.generate) in subst P e g
 
-options-read : (words : List (List ℕ)) (o : CommandOptions) → reading words ≡ Some o → ReadsPlan words → o.generate ≡ None
-options-read words o e g = let P : Option CommandOptions → Type 0 = λ r. IsSomeAnd r (λ x. x.generate ≡ None) in subst P e g
+options-read : (words : List (List ℕ)) (o : CommandOptions) → reading words ≡ Some o → ReadsPlan words → IsPlanMode o
+options-read words o e g = let P : Option CommandOptions → Type 0 = λ r. IsSomeAnd r IsPlanMode in subst P e g
 
 pub none-generates : (words : List (List ℕ)) → reading words ≡ None → GeneratesPlan words → ⊥
 none-generates words e g = let P : Option CommandOptions → Type 0 = λ r. IsSomeAnd r (λ x. IsSome x.generate) in subst P e g
 
 none-reads : (words : List (List ℕ)) → reading words ≡ None → ReadsPlan words → ⊥
-none-reads words e g = let P : Option CommandOptions → Type 0 = λ r. IsSomeAnd r (λ x. x.generate ≡ None) in subst P e g
+none-reads words e g = let P : Option CommandOptions → Type 0 = λ r. IsSomeAnd r IsPlanMode in subst P e g
+
+-- and the other way round
+pub plan-read : (words : List (List ℕ)) (o : CommandOptions) → reading words ≡ Some o → IsPlanMode o → ReadsPlan words
+plan-read words o e h = let P : Option CommandOptions → Type 0 = λ r. IsSomeAnd r IsPlanMode in subst P (sym e) h
 
 -- what was sent of a plan that was read
 sent-read : (words : List (List ℕ)) (o : CommandOptions) (left left' : Option (List ℕ)) (Sent : List ℕ → Type 0) → reading words ≡ Some o → ReadsPlan words → Sends o left left' Sent
     → Read left left' (λ bytes. SendsPage o bytes Sent)
-sent-read words o left left' Sent e reads h = let P : Option ℕ → Type 0 = λ m. SendsBy m o left left' Sent in subst P (options-read words o e reads) h
+sent-read words o left left' Sent e reads h =
+    let mode = options-read words o e reads in
+    let P : Bool → Type 0 = λ b. SendsBy b o.generate o left left' Sent in
+    let Q : Option ℕ → Type 0 = λ m. SendsBy false m o left left' Sent in
+    subst Q mode.not_generated (subst P mode.not_checked h)
 
 -- ---- each input comes to one end
 
@@ -218,12 +247,16 @@ all-taken bytes None taken all = absurd all.taken
 all-taken bytes (Some ys) taken all = sym (all.taken ∙ ap (λ (t : List ℕ). taken ++ t) all.ended ∙ append-nil taken)
 
 -- and it is so of these bytes
-so : (bytes : List ℕ) (left' : Option (List ℕ)) (P : List ℕ → Type 0) → Read (Some bytes) left' P → P bytes
+pub so : (bytes : List ℕ) (left' : Option (List ℕ)) (P : List ℕ → Type 0) → Read (Some bytes) left' P → P bytes
 so bytes left' P r = subst P (all-taken bytes left' r.bytes r.all) r.is_so
 
-past : (bytes : List ℕ) (left' : Option (List ℕ)) → TakesPast (Some bytes) left' limit → IsTooLong bytes
+pub past : (bytes : List ℕ) (left' : Option (List ℕ)) → TakesPast (Some bytes) left' limit → IsTooLong bytes
 past bytes None r = absurd r.taken
 past bytes (Some ys) r = omega (arith, r.past, ap length r.taken, length-append r.bytes ys)
+
+-- where a plan is read, no bytes are checked
+unchecked : (words : List (List ℕ)) (o : CommandOptions) → reading words ≡ Some o → ReadsPlan words → o.check ≡ true → ⊥
+unchecked words o e given check = false≢true (sym (options-read words o e given).not_checked ∙ check)
 
 -- an end without a fault, of a run whose words are read, tells what the bytes hold
 end-of : (words : List (List ℕ)) (bytes : List ℕ) (left' : Option (List ℕ)) (read : Type 0) (old new : Option (List ℕ)) (write : Type 0) (s : Status) (line : List ℕ)
@@ -233,9 +266,11 @@ end-of words bytes left' read old new write status.Usage line h given none = abs
 end-of words bytes left' read old new write status.ReadFault line h given none = absurd (none h.2.0)
 end-of words bytes left' read old new write status.WriteFault line h given none = inl (so bytes left' (λ b. SendsPage h.0 b (λ text. AppendsFront old new text)) (sent-read words h.0 (Some bytes) left' (λ text. AppendsFront old new text) h.1 given h.2.1)).holds
 end-of words bytes left' read old new write status.TooLong line h given none = inl (past bytes left' h.2.0)
-end-of words bytes left' read old new write status.NotJson line h given none = inl (so bytes left' HoldsNoJson h.2.0)
-end-of words bytes left' read old new write status.BadPlan line h given none = let t = so bytes left' _ h.2.0 in inl (t.fault, t.holds)
-end-of words bytes left' read old new write status.Refused line h given none = let t = so bytes left' _ h.2.0 in inl (t.fault, t.place, t.holds)
+end-of words bytes left' read old new write status.NotJson line h given none = inl (so bytes left' HoldsNoJson h.2.1)
+end-of words bytes left' read old new write status.BadPlan line h given none = let t = so bytes left' _ h.2.1 in inl (t.fault, t.holds)
+end-of words bytes left' read old new write status.Refused line h given none = let t = so bytes left' _ h.2.1 in inl (t.fault, t.place, t.holds)
+end-of words bytes left' read old new write status.NotHex line h given none = absurd (unchecked words h.0 h.1 given h.2.0)
+end-of words bytes left' read old new write status.Rejected line h given none = absurd (unchecked words h.0 h.1 given h.2.0)
 end-of words bytes left' read old new write status.OutOfMemory line h given none = inr refl
 
 -- words that are not read are told so
@@ -250,6 +285,8 @@ usage-end words left left' read old new write status.TooLong line h none = cc
 usage-end words left left' read old new write status.NotJson line h none = cc
 usage-end words left left' read old new write status.BadPlan line h none = cc
 usage-end words left left' read old new write status.Refused line h none = cc
+usage-end words left left' read old new write status.NotHex line h none = cc
+usage-end words left left' read old new write status.Rejected line h none = cc
 
 -- before a plan is read, an end is that of its stage
 of-stage : (s : Status) (bytes : List ℕ) → IsOf s bytes → (stage_of bytes ≡ 3) ⊎ (s ≡ end_at (stage_of bytes))
@@ -261,6 +298,8 @@ of-stage status.Done bytes h = inl (stage-plan bytes h.plan h.is_plan)
 of-stage status.WriteFault bytes h = inl (stage-plan bytes h.plan h.is_plan)
 of-stage status.Usage bytes h = absurd h
 of-stage status.ReadFault bytes h = absurd h
+of-stage status.NotHex bytes h = absurd h
+of-stage status.Rejected bytes h = absurd h
 of-stage status.OutOfMemory bytes h = absurd h
 
 at-stage : (n : ℕ) (s : Status) (bytes : List ℕ) → n < 3 → stage_of bytes ≡ n → IsOf s bytes ⊎ (s ≡ status.OutOfMemory) → IsOrMemory (end_at n) s
@@ -299,6 +338,8 @@ refused-end status.NotJson bytes r (inl h) = absurd (not-early 1 bytes r.2.plan 
 refused-end status.BadPlan bytes r (inl h) = absurd (not-early 2 bytes r.2.plan r.2.is_plan (omega arith) (stage-fault bytes h.0 h.1))
 refused-end status.Usage bytes r (inl h) = absurd h
 refused-end status.ReadFault bytes r (inl h) = absurd h
+refused-end status.NotHex bytes r (inl h) = absurd h
+refused-end status.Rejected bytes r (inl h) = absurd h
 refused-end status.OutOfMemory bytes r (inl h) = absurd h
 
 pub faultless-end : (s : Status) (bytes : List ℕ) → (s ≡ status.WriteFault → ⊥) → HoldsFaultless bytes → IsOf s bytes ⊎ (s ≡ status.OutOfMemory) → IsOrMemory status.Done s
@@ -311,6 +352,8 @@ faultless-end status.NotJson bytes unfaulted b (inl h) = absurd (not-early 1 byt
 faultless-end status.BadPlan bytes unfaulted b (inl h) = absurd (not-early 2 bytes b.plan b.is_plan (omega arith) (stage-fault bytes h.0 h.1))
 faultless-end status.Usage bytes unfaulted b (inl h) = absurd h
 faultless-end status.ReadFault bytes unfaulted b (inl h) = absurd h
+faultless-end status.NotHex bytes unfaulted b (inl h) = absurd h
+faultless-end status.Rejected bytes unfaulted b (inl h) = absurd h
 faultless-end status.OutOfMemory bytes unfaulted b (inl h) = absurd h
 
 -- Where the words are read, what holds of a source's bytes decides the end.
@@ -329,16 +372,18 @@ no-write-fault words left left' read old new write s line h none e =
 
 -- the line of an end, but for one that names a fault
 pub plain-line : (words : List (List ℕ)) (left left' : Option (List ℕ)) (read : Type 0) (old new : Option (List ℕ)) (write : Type 0) (s : Status) (line : List ℕ)
-    → IsEnding words left left' read old new write s line → s ≢ status.BadPlan → s ≢ status.Refused → line ≡ line_of s
-plain-line words left left' read old new write status.Done line h other told = h.2.1
-plain-line words left left' read old new write status.Usage line h other told = h.2
-plain-line words left left' read old new write status.ReadFault line h other told = h.2.2
-plain-line words left left' read old new write status.WriteFault line h other told = h.2.2
-plain-line words left left' read old new write status.TooLong line h other told = h.2.2
-plain-line words left left' read old new write status.NotJson line h other told = h.2.2
-plain-line words left left' read old new write status.BadPlan line h other told = absurd (other refl)
-plain-line words left left' read old new write status.Refused line h other told = absurd (told refl)
-plain-line words left left' read old new write status.OutOfMemory line h other told = h.1
+    → IsEnding words left left' read old new write s line → s ≢ status.BadPlan → s ≢ status.Refused → s ≢ status.Rejected → line ≡ line_of s
+plain-line words left left' read old new write status.Done line h bad refused rejected = h.2.1
+plain-line words left left' read old new write status.Usage line h bad refused rejected = h.2
+plain-line words left left' read old new write status.ReadFault line h bad refused rejected = h.2.2
+plain-line words left left' read old new write status.WriteFault line h bad refused rejected = h.2.2
+plain-line words left left' read old new write status.TooLong line h bad refused rejected = h.2.2
+plain-line words left left' read old new write status.NotJson line h bad refused rejected = h.2.3
+plain-line words left left' read old new write status.BadPlan line h bad refused rejected = absurd (bad refl)
+plain-line words left left' read old new write status.Refused line h bad refused rejected = absurd (refused refl)
+plain-line words left left' read old new write status.NotHex line h bad refused rejected = h.2.3
+plain-line words left left' read old new write status.Rejected line h bad refused rejected = absurd (rejected refl)
+plain-line words left left' read old new write status.OutOfMemory line h bad refused rejected = h.1
 
 -- The fault of a plan was told, where its line was.
 pub told-fault : (left left' : Option (List ℕ)) (line : List ℕ) (old new : Option (List ℕ)) (before now : ℕ) → Read left left' (λ bytes. TellsFault bytes line) → TellsLine old new before now line

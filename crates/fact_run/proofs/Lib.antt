@@ -1,3 +1,5 @@
+pub mod CheckEnds
 pub mod Configured
+pub mod Digits
 pub mod Ends
 pub mod Words

@@ -12,19 +12,19 @@ use Rattle.std.specs.Option.{option_map_or}
 use Rattle.std.specs.Str.{bytes_eq}
 use Rattle.clap.specs.Facts.{Entry}
 use Rattle.clap.specs.Matches.{first_value, matched_of}
-use Rattle.clap.specs.Walk.{Row, first_of, row_of, rows_of}
+use Rattle.clap.specs.Walk.{Row, Rule, first_of, row_of, rows_of}
 use Rattle.clap.specs.declared.parser.matches.Found.{Found}
 use Rattle.clap.specs.declared.parser.matches.MatchedArg.{MatchedArg}
 use Rattle.clap.specs.declared.parser.matches.ValueSource.{ValueSource}
 use Rattle.std.proofs.lemmas.Bool.Decides.{nat_tests}
 use Rattle.clap.proofs.WalkLemmas.{find_row, first_value-rows}
 use Rattle.clap.proofs.OnLiterals.{clap_on_literals}
-use Rattle.clap.specs.Simple.{App, is_simple, matches_of}
+use Rattle.clap.specs.Simple.{App, is_simple, matches_of, with_rule}
 use Rattle.clap.specs.Faults.{fault_of, is_simple_and_free}
-use Rattle.std.specs.Prelude.{Bool, true, false, codes, if◌then◌else◌, IfSome}
+use Rattle.std.specs.Prelude.{Bool, true, false, ◌&&◌, codes, if◌then◌else◌, is_some, IfSome}
 use Rattle.fact_run.specs.declared.command.CommandOptions.{CommandOptions}
 use Rattle.fact_generate.specs.Generated.{most_generated}
-use Rattle.fact_run.specs.Command.{are_taken, command, fuel_or_default, generated_in, is_from_words, is_number, is_plain_number, is_used, least_fuel, most_fuel, number_in, options_in, reading, source_of}
+use Rattle.fact_run.specs.Command.{are_taken, bare_command, command, flag, fuel_or_default, generated_in, in_one_mode, is_from_words, is_number, is_plain_number, is_used, least_fuel, most_fuel, number_in, option, options_in, reading, source_of}
 
 source-rows : (f : Found) (id : List ℕ) → option_and_then (λ (a : MatchedArg). a.source) (matched_of f id) ≡ source_of id (rows_of f)
 source-rows f id = go (find (λ (e : Entry). bytes_eq e.0.now id) f.entries.items) ∙ ap (option_and_then (λ (r : Row). r.source)) (sym (find_row f.entries.items id))
@@ -36,6 +36,13 @@ source-rows f id = go (find (λ (e : Entry). bytes_eq e.0.now id) f.entries.item
 -- whether a flag is used, by its source
 pub used : (f : Found) (id : List ℕ) (o : Option ValueSource) → o ≡ option_and_then (λ (a : MatchedArg). a.source) (matched_of f id) → option_map_or is_from_words o false ≡ is_used id (rows_of f)
 used f id o e = ap (λ (s : Option ValueSource). option_map_or is_from_words s false) (e ∙ source-rows f id)
+
+-- the command by its options
+pub with-options : (a b c d e f : App) (p q r s t : Rule) → a ≡ bare_command → p ≡ flag (codes "debug") → b ≡ with_rule a p → q ≡ option (codes "fuel") → c ≡ with_rule b q
+    → r ≡ flag (codes "imports") → d ≡ with_rule c r → s ≡ option (codes "generate") → e ≡ with_rule d s → t ≡ flag (codes "check") → f ≡ with_rule e t → f ≡ command
+with-options a b c d e f p q r s t bare debug with_debug fuel with_fuel imports with_imports generate with_generate check with_check =
+    let with_all : f ≡ with_rule (with_rule (with_rule (with_rule (with_rule bare_command (flag (codes "debug"))) (option (codes "fuel"))) (flag (codes "imports"))) (option (codes "generate"))) (flag (codes "check")) = cc in
+    with_all
 
 pub simple : is_simple command ≡ true
 unfolding clap_on_literals
@@ -96,7 +103,7 @@ generated-behind f o e = ap generated_in (e ∙ first_value-rows f (codes "gener
 -- ---- the numbers are within their bounds
 
 abbrev IsWithinBounds : CommandOptions → Type 0
-IsWithinBounds o = (1 ≤ o.fuel) × IfSome o.generate (λ n. n ≤ most_generated)
+IsWithinBounds o = (1 ≤ o.fuel) × IfSome o.generate (λ n. n ≤ most_generated) × (o.check ≡ true → o.generate ≡ None)
 
 number-within : (least most : ℕ) (text : List ℕ) → IfSome (number_in least most text) (λ n. (least ≤ n) × (n ≤ most))
 number-within least most text = go (is_number least most text) refl
@@ -121,11 +128,19 @@ number-behind (Some text) = go (number_in 0 most_generated text) (number-within 
     go None h = tt
     go (Some n) h = h.1
 
-with-numbers : (fuel : Option ℕ) (generate : Option (Option ℕ)) (debug imports : Bool) → IfSome fuel (λ n. 1 ≤ n) → IfSome generate (λ g. IfSome g (λ n. n ≤ most_generated))
-    → IfSome (option_and_then (λ n. option_map (λ g. record { debug = debug; imports = imports; fuel = n; generate = g }) generate) fuel) IsWithinBounds
-with-numbers None generate debug imports h k = tt
-with-numbers (Some n) None debug imports h k = tt
-with-numbers (Some n) (Some g) debug imports h k = (h, k)
+in-mode : (o : CommandOptions) → 1 ≤ o.fuel → IfSome o.generate (λ n. n ≤ most_generated) → IfSome (in_one_mode o) IsWithinBounds
+in-mode o h k = go o.check o.generate refl refl
+  where
+    go : (check : Bool) (generate : Option ℕ) → o.check ≡ check → o.generate ≡ generate → IfSome (if check && is_some generate then None else Some o) IsWithinBounds
+    go true None c g = (h, k, λ _. g)
+    go true (Some n) c g = tt
+    go false generate c g = (h, k, λ check. absurd (true≢false (sym check ∙ c)))
+
+with-numbers : (fuel : Option ℕ) (generate : Option (Option ℕ)) (debug imports check : Bool) → IfSome fuel (λ n. 1 ≤ n) → IfSome generate (λ g. IfSome g (λ n. n ≤ most_generated))
+    → IfSome (option_and_then (λ n. option_and_then (λ g. in_one_mode (record { debug = debug; imports = imports; fuel = n; generate = g; check = check })) generate) fuel) IsWithinBounds
+with-numbers None generate debug imports check h k = tt
+with-numbers (Some n) None debug imports check h k = tt
+with-numbers (Some n) (Some g) debug imports check h k = in-mode (record { debug = debug; imports = imports; fuel = n; generate = g; check = check }) h k
 
 where-taken : (b : Bool) (o : Option CommandOptions) → IfSome o IsWithinBounds → IfSome (if b then o else None) IsWithinBounds
 where-taken true o h = h
@@ -136,7 +151,7 @@ unfolding reading
 within words =
     let rows = matches_of command words in
     where-taken (are_taken words) (options_in rows) (with-numbers (fuel_or_default (first_of (codes "fuel") rows)) (generated_in (first_of (codes "generate") rows))
-    (is_used (codes "debug") rows) (is_used (codes "imports") rows) (fuel-behind (first_of (codes "fuel") rows)) (number-behind (first_of (codes "generate") rows)))
+    (is_used (codes "debug") rows) (is_used (codes "imports") rows) (is_used (codes "check") rows) (fuel-behind (first_of (codes "fuel") rows)) (number-behind (first_of (codes "generate") rows)))
 
 pub has-fuel : (words : List (List ℕ)) → IfSome (reading words) (λ options. 1 ≤ options.fuel)
 has-fuel words = go (reading words) (within words)
@@ -151,3 +166,10 @@ has-number words = go (reading words) (within words)
     go : (o : Option CommandOptions) → IfSome o IsWithinBounds → IfSome o (λ options. IfSome options.generate (λ n. n ≤ most_generated))
     go None h = tt
     go (Some o) h = h.1
+
+pub has-mode : (words : List (List ℕ)) → IfSome (reading words) (λ options. options.check ≡ true → options.generate ≡ None)
+has-mode words = go (reading words) (within words)
+  where
+    go : (o : Option CommandOptions) → IfSome o IsWithinBounds → IfSome o (λ options. options.check ≡ true → options.generate ≡ None)
+    go None h = tt
+    go (Some o) h = h.2

@@ -1,6 +1,6 @@
 -- Cited by private clauses alone.
 -- What an inner answer and an ending say of the source and of the sink.
-use Rattle.std.specs.Prelude.{ℕ, ◌≡◌, List, Option, Some, None, string_bytes}
+use Rattle.std.specs.Prelude.{ℕ, ◌≡◌, ◌≢◌, true, List, Option, Some, None, string_bytes}
 use Rattle.std.specs.Io.KnownBytes.{Appends, Keeps}
 use Rattle.fact_io.specs.Transfers.{AppendsFront, TakesPast}
 use Rattle.fact_plan.specs.declared.fault.PlanFault.{PlanFault}
@@ -17,7 +17,12 @@ use Rattle.fact_plan_types.specs.Faults.{Fault}
 use Rattle.fact_checks.specs.FirstFault.{IsFaultlessPlan, IsFirstAt}
 use Rattle.fact_run.specs.Command.{reading}
 use Rattle.fact_run.specs.Refusal.{refusal_line}
-use Rattle.fact_run.specs.Run.{HoldsFault, HoldsNoJson, HoldsRefusal, Prints, Read, Sends, SendsPage, limit}
+use Rattle.fact_wasm.specs.declared.module.WasmModule.{WasmModule}
+use Rattle.fact_check.specs.Accepted.{IsAccepted, IsCause}
+use Rattle.fact_check.specs.declared.error.CheckError.{CheckError}
+use Rattle.fact_check.specs.declared.error.CheckError.TheVariants as error
+use Rattle.fact_run.specs.Check.{HoldsNoHex, HoldsRejected, accepted_line, rejected_line}
+use Rattle.fact_run.specs.Run.{HoldsFault, HoldsNoJson, HoldsRefusal, IsPlanMode, Prints, Read, Sends, SendsAccepted, SendsPage, limit}
 use Rattle.fact_run.specs.Status.{line_of}
 
 -- the line tells the fault that the bytes hold
@@ -67,6 +72,8 @@ IsReplyTo o bytes reply.TooLong = ⊥
 IsReplyTo o bytes reply.NotJson = HoldsNoJson bytes
 IsReplyTo o bytes (reply.BadPlan line) = TellsFault bytes (string_bytes line)
 IsReplyTo o bytes (reply.Refused line) = TellsRefusalIn bytes (string_bytes line)
+IsReplyTo o bytes reply.NotHex = ⊥
+IsReplyTo o bytes (reply.Rejected line) = ⊥
 IsReplyTo o bytes reply.OutOfMemory = Unit {0}
 
 -- what a source comes to
@@ -76,10 +83,51 @@ IsReply o left left' fault reply.TooLong = TakesPast left left' limit
 IsReply o left left' fault reply.OutOfMemory = Unit {0}
 IsReply o left left' fault r = Read left left' (λ bytes. IsReplyTo o bytes r)
 
--- what a run with these options comes to
+-- the line tells the cause for which the bytes of an input are rejected
+pub record TellsRejection (input : List ℕ) (line : List ℕ) : Type 0 where
+  pub cause : CheckError
+  pub holds : HoldsRejected input cause
+  pub is_line : line ≡ rejected_line cause
+
+-- what a cause comes to
+abbrev pub IsReplyToCause : CheckError → Reply → Type 0
+IsReplyToCause e (reply.Rejected line) = (e ≢ error.OutOfMemory) × (string_bytes line ≡ rejected_line e)
+IsReplyToCause e reply.OutOfMemory = Unit {0}
+IsReplyToCause e _ = ⊥
+
+-- what bytes come to that are checked
+abbrev pub IsReplyToBytes : List ℕ → Reply → Type 0
+IsReplyToBytes bytes (reply.Page text) = (m : WasmModule) × IsAccepted bytes m × (string_bytes text ≡ accepted_line m)
+IsReplyToBytes bytes (reply.Rejected line) = (e : CheckError) × (e ≢ error.OutOfMemory) × IsCause bytes e × (string_bytes line ≡ rejected_line e)
+IsReplyToBytes bytes reply.OutOfMemory = Unit {0}
+IsReplyToBytes bytes _ = ⊥
+
+-- what an input comes to that is checked, no longer than an input may be
+abbrev pub IsReplyToCheck : List ℕ → Reply → Type 0
+IsReplyToCheck input (reply.Page text) = SendsAccepted input (λ sent. sent ≡ string_bytes text)
+IsReplyToCheck input reply.NotHex = HoldsNoHex input
+IsReplyToCheck input (reply.Rejected line) = TellsRejection input (string_bytes line)
+IsReplyToCheck input reply.OutOfMemory = Unit {0}
+IsReplyToCheck input _ = ⊥
+
+-- what a source comes to whose input is checked
+abbrev pub IsCheckReply : Option (List ℕ) → Option (List ℕ) → Type 0 → Reply → Type 0
+IsCheckReply left left' fault reply.ReadFault = fault
+IsCheckReply left left' fault reply.TooLong = TakesPast left left' limit
+IsCheckReply left left' fault reply.OutOfMemory = Unit {0}
+IsCheckReply left left' fault r = Read left left' (λ input. IsReplyToCheck input r)
+
+-- what a run with these options comes to, and in which mode
 abbrev pub IsReplyUnder : CommandOptions → Option (List ℕ) → Option (List ℕ) → Type 0 → Reply → Type 0
 IsReplyUnder o left left' fault (reply.Page text) = Sends o left left' (λ sent. sent ≡ string_bytes text)
-IsReplyUnder o left left' fault r = IsReply o left left' fault r
+IsReplyUnder o left left' fault reply.ReadFault = fault
+IsReplyUnder o left left' fault reply.TooLong = TakesPast left left' limit
+IsReplyUnder o left left' fault reply.NotJson = IsPlanMode o × Read left left' HoldsNoJson
+IsReplyUnder o left left' fault (reply.BadPlan line) = IsPlanMode o × Read left left' (λ bytes. TellsFault bytes (string_bytes line))
+IsReplyUnder o left left' fault (reply.Refused line) = IsPlanMode o × Read left left' (λ bytes. TellsRefusalIn bytes (string_bytes line))
+IsReplyUnder o left left' fault reply.NotHex = (o.check ≡ true) × Read left left' HoldsNoHex
+IsReplyUnder o left left' fault (reply.Rejected line) = (o.check ≡ true) × Read left left' (λ input. TellsRejection input (string_bytes line))
+IsReplyUnder o left left' fault reply.OutOfMemory = Unit {0}
 
 -- the replies of a run that reads nothing
 abbrev pub IsReplyUnread : Reply → Type 0
@@ -95,6 +143,8 @@ ending_with reply.TooLong = record { status = status.TooLong; told = None }
 ending_with reply.NotJson = record { status = status.NotJson; told = None }
 ending_with (reply.BadPlan line) = record { status = status.BadPlan; told = Some line }
 ending_with (reply.Refused line) = record { status = status.Refused; told = Some line }
+ending_with reply.NotHex = record { status = status.NotHex; told = None }
+ending_with (reply.Rejected line) = record { status = status.Rejected; told = Some line }
 ending_with reply.OutOfMemory = record { status = status.OutOfMemory; told = None }
 
 -- the line of an ending
@@ -102,16 +152,18 @@ abbrev pub line_in : Status → Option (List ℕ) → List ℕ
 line_in s None = line_of s
 line_in s (Some line) = line
 
--- how a run with these options ends, with the line that tells it
+-- how a run with these options ends, in which mode it may, and with the line that tells it
 abbrev pub IsEndUnder : CommandOptions → Option (List ℕ) → Option (List ℕ) → Type 0 → Option (List ℕ) → Option (List ℕ) → Type 0 → Status → List ℕ → Type 0
 IsEndUnder o left left' read old new write status.Done line = Sends o left left' (λ text. Appends old new text) × (line ≡ line_of status.Done)
 IsEndUnder o left left' read old new write status.Usage line = ⊥
 IsEndUnder o left left' read old new write status.ReadFault line = read × Keeps old new × (line ≡ line_of status.ReadFault)
 IsEndUnder o left left' read old new write status.WriteFault line = write × Sends o left left' (λ text. AppendsFront old new text) × (line ≡ line_of status.WriteFault)
 IsEndUnder o left left' read old new write status.TooLong line = TakesPast left left' limit × Keeps old new × (line ≡ line_of status.TooLong)
-IsEndUnder o left left' read old new write status.NotJson line = Read left left' HoldsNoJson × Keeps old new × (line ≡ line_of status.NotJson)
-IsEndUnder o left left' read old new write status.BadPlan line = Read left left' (λ bytes. TellsFault bytes line) × Keeps old new
-IsEndUnder o left left' read old new write status.Refused line = Read left left' (λ bytes. TellsRefusalIn bytes line) × Keeps old new
+IsEndUnder o left left' read old new write status.NotJson line = IsPlanMode o × Read left left' HoldsNoJson × Keeps old new × (line ≡ line_of status.NotJson)
+IsEndUnder o left left' read old new write status.BadPlan line = IsPlanMode o × Read left left' (λ bytes. TellsFault bytes line) × Keeps old new
+IsEndUnder o left left' read old new write status.Refused line = IsPlanMode o × Read left left' (λ bytes. TellsRefusalIn bytes line) × Keeps old new
+IsEndUnder o left left' read old new write status.NotHex line = (o.check ≡ true) × Read left left' HoldsNoHex × Keeps old new × (line ≡ line_of status.NotHex)
+IsEndUnder o left left' read old new write status.Rejected line = (o.check ≡ true) × Read left left' (λ input. TellsRejection input line) × Keeps old new
 IsEndUnder o left left' read old new write status.OutOfMemory line = Keeps old new × (line ≡ line_of status.OutOfMemory)
 
 -- how a run ends

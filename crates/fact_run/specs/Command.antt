@@ -1,5 +1,5 @@
 -- What the words of the command line ask for: `clap`'s reading of them as one simple command.
-use Rattle.std.specs.Prelude.{ℕ, ◌==◌, ◌&&◌, nat_le, not, Bool, true, false, List, [], ◌∷◌, Option, Some, None, codes, find, if◌then◌else◌, length, option_and_then, option_map}
+use Rattle.std.specs.Prelude.{ℕ, ◌==◌, ◌&&◌, nat_le, not, Bool, true, false, List, [], ◌∷◌, Option, Some, None, codes, find, if◌then◌else◌, is_some, length, option_and_then, option_map}
 use Rattle.std.specs.List.{list_all, list_any}
 use Rattle.std.specs.Char.{is_ascii_digit}
 use Rattle.std.specs.Option.{option_map_or}
@@ -34,7 +34,7 @@ bare_command = record {
 abbrev pub command : App
 command = record {
   top = record (new_shape (codes "factc")) {
-    rules = flag (codes "debug") ∷ option (codes "fuel") ∷ flag (codes "imports") ∷ option (codes "generate") ∷ [];
+    rules = flag (codes "debug") ∷ option (codes "fuel") ∷ flag (codes "imports") ∷ option (codes "generate") ∷ flag (codes "check") ∷ [];
     no_binary_name = true;
     disable_help_flag = true;
     disable_version_flag = true;
@@ -88,14 +88,19 @@ source_of name rows = option_and_then (λ r. r.source) (find (λ r. bytes_eq r.i
 abbrev pub is_used : List ℕ → List Row → Bool
 is_used name rows = option_map_or is_from_words (source_of name rows) false
 
+-- not two modes: bytes are checked, or a plan is generated, or one is read
+abbrev pub in_one_mode : CommandOptions → Option CommandOptions
+in_one_mode o = if o.check && is_some o.generate then None else Some o
+
 -- what the matches ask for, where the numbers have their form
 abbrev pub options_in : List Row → Option CommandOptions
-options_in rows = option_and_then (λ fuel. option_map (λ generate. record {
+options_in rows = option_and_then (λ fuel. option_and_then (λ generate. in_one_mode (record {
   debug = is_used (codes "debug") rows;
   imports = is_used (codes "imports") rows;
   fuel = fuel;
   generate = generate;
-}) (generated_in (first_of (codes "generate") rows))) (fuel_or_default (first_of (codes "fuel") rows))
+  check = is_used (codes "check") rows;
+})) (generated_in (first_of (codes "generate") rows))) (fuel_or_default (first_of (codes "fuel") rows))
 
 -- `clap` finds no fault in the words, and none is a bare `--`
 abbrev pub are_taken : List (List ℕ) → Bool

@@ -1,4 +1,5 @@
 pub mod Answer
+pub mod Check
 pub mod Command
 pub mod ImportLines
 pub mod Refusal

@@ -1,5 +1,5 @@
 -- What a run reads and writes.
-use Rattle.std.specs.Prelude.{ℕ, ◌≡◌, ◌≤◌, ◌<◌, List, [], ◌∷◌, ◌++◌, length, Bool, ◌||◌, if◌then◌else◌, Option, Some, None, IsSome, IsSomeAnd, Ok, Err, ◌⊎◌, codes}
+use Rattle.std.specs.Prelude.{ℕ, ◌≡◌, ◌≤◌, ◌<◌, List, [], ◌∷◌, ◌++◌, length, Bool, true, false, ◌||◌, if◌then◌else◌, Option, Some, None, IsSome, IsSomeAnd, Ok, Err, ◌⊎◌, codes}
 use Rattle.std.specs.Io.KnownBytes.{Appends}
 use Rattle.std.specs.Fmt.{decimal}
 use Rattle.hex.specs.Hex.{encode_lower}
@@ -24,11 +24,9 @@ use Rattle.fact_run.specs.declared.command.CommandOptions.{CommandOptions}
 use Rattle.fact_run.specs.declared.status.Status.{Status}
 use Rattle.fact_run.specs.declared.status.Status.TheVariants as status
 use Rattle.fact_run.specs.Command.{reading}
+pub use Rattle.fact_run.specs.Check.{limit}
+use Rattle.fact_run.specs.Check.{HoldsAccepted, accepted_line}
 use Rattle.fact_run.specs.ImportLines.{import_lines}
-
--- the most bytes that an input may have
-abbrev pub limit : ℕ
-limit = 67_108_864
 
 -- ---- what an input of some bytes comes to: each input comes to one of these
 
@@ -125,21 +123,38 @@ pub record SendsCounts (o : CommandOptions) (n : ℕ) (Sent : List ℕ → Type 
 
 -- ---- the mode
 
--- What was sent: where a plan is generated of its counts, and else of the text that prints the module of the plan that was read.
-abbrev pub SendsBy : Option ℕ → CommandOptions → (left left' : Option (List ℕ)) → (List ℕ → Type 0) → Type 0
-SendsBy None o left left' Sent = Read left left' (λ bytes. SendsPage o bytes Sent)
-SendsBy (Some n) o left left' Sent = SendsCounts o n Sent
+-- The digits of an input spell an adapter module, and of the line that tells it this was sent.
+pub record SendsAccepted (input : List ℕ) (Sent : List ℕ → Type 0) : Type 0 where
+  pub found : WasmModule
+  pub holds : HoldsAccepted input found
+  pub sent : Sent (accepted_line found)
+
+-- What was sent: where bytes are checked of the line that accepts them, where a plan is generated of its counts, and else of the text
+-- that prints the module of the plan that was read.
+abbrev pub SendsBy : (check : Bool) → Option ℕ → CommandOptions → (left left' : Option (List ℕ)) → (List ℕ → Type 0) → Type 0
+SendsBy true generate o left left' Sent = Read left left' (λ input. SendsAccepted input Sent)
+SendsBy false None o left left' Sent = Read left left' (λ bytes. SendsPage o bytes Sent)
+SendsBy false (Some n) o left left' Sent = SendsCounts o n Sent
 
 abbrev pub Sends : CommandOptions → (left left' : Option (List ℕ)) → (List ℕ → Type 0) → Type 0
-Sends o left left' Sent = SendsBy o.generate o left left' Sent
+Sends o left left' Sent = SendsBy o.check o.generate o left left' Sent
+
+-- a plan is read
+pub record IsPlanMode (o : CommandOptions) : Type 0 where
+  pub not_generated : o.generate ≡ None
+  pub not_checked : o.check ≡ false
 
 -- The command takes the words, and a plan is read.
 abbrev pub ReadsPlan : List (List ℕ) → Type 0
-ReadsPlan words = IsSomeAnd (reading words) (λ o. o.generate ≡ None)
+ReadsPlan words = IsSomeAnd (reading words) IsPlanMode
 
 -- The command takes the words, and a plan is generated.
 abbrev pub GeneratesPlan : List (List ℕ) → Type 0
 GeneratesPlan words = IsSomeAnd (reading words) (λ o. IsSome o.generate)
+
+-- The command takes the words, and bytes are checked.
+abbrev pub ChecksBytes : List (List ℕ) → Type 0
+ChecksBytes words = IsSomeAnd (reading words) (λ o. o.check ≡ true)
 
 -- the ends of a run that reads nothing
 abbrev pub IsEndUnread : Status → Type 0
@@ -155,6 +170,11 @@ pub record TellsLine (old new : Option (List ℕ)) (before now : ℕ) (line : Li
 -- The command takes the words, a plan is read, and no read failed.
 pub record IsUndisturbed (words : List (List ℕ)) (before now : ℕ) : Type 0 where
   pub reads : ReadsPlan words
+  pub no_fault : Rose before now → ⊥
+
+-- The command takes the words, bytes are checked, and no read failed.
+pub record IsUndisturbedCheck (words : List (List ℕ)) (before now : ℕ) : Type 0 where
+  pub checks : ChecksBytes words
   pub no_fault : Rose before now → ⊥
 
 -- The end is this one, or a want of memory.

@@ -13,15 +13,19 @@ exit_status_of status.NotJson = 6
 exit_status_of status.BadPlan = 7
 exit_status_of status.Refused = 8
 exit_status_of status.OutOfMemory = 9
+exit_status_of status.NotHex = 11
+exit_status_of status.Rejected = 12
 
 -- the line of an end that is told alike for every input; nothing for the others
 abbrev pub line_of : Status → List ℕ
 line_of status.Done = []
-line_of status.Usage = codes "usage: factc [--debug] [--fuel N] [--imports] [--generate N]\n"
+line_of status.Usage = codes "usage: factc [--debug] [--fuel N] [--imports] [--generate N] [--check]\n"
 line_of status.ReadFault = codes "read fault\n"
 line_of status.WriteFault = codes "write fault\n"
 line_of status.TooLong = codes "input too long\n"
 line_of status.NotJson = codes "not json\n"
 line_of status.BadPlan = []
 line_of status.Refused = []
+line_of status.NotHex = codes "not hex\n"
+line_of status.Rejected = []
 line_of status.OutOfMemory = codes "out of memory\n"

@@ -23,7 +23,7 @@ use std::alloc::{AllocError, Global};
 /// What a run has to tell.
 #[derive(Drop)]
 pub enum Reply {
-    /// The text that is written: what prints the module, or the counts of one that was generated.
+    /// The text that is written: what prints the module, the counts of one that was generated, or the line of one that is accepted.
     Page(String),
     ReadFault,
     TooLong,
@@ -32,6 +32,9 @@ pub enum Reply {
     BadPlan(String),
     /// The line that tells the fault of a plan.
     Refused(String),
+    NotHex,
+    /// The line that tells why bytes are rejected.
+    Rejected(String),
     OutOfMemory,
 }
 

@@ -1,6 +1,6 @@
 //! The words of the command line.
 
-ghost use Rattle.std.specs.Prelude.{◌≡◌, ◌≤◌, IfOk, IfSome, codes, false, map, string_bytes};
+ghost use Rattle.std.specs.Prelude.{◌≡◌, ◌≤◌, IfOk, IfSome, None, codes, false, true, map, string_bytes};
 ghost use Rattle.std.specs.Char.{is_ascii_digit};
 ghost use Rattle.std.specs.List.{list_all, list_any};
 ghost use Rattle.std.specs.Option.{option_map_or};
@@ -9,7 +9,7 @@ ghost use Rattle.clap.specs.Simple.{app_of, with_rule};
 ghost use Rattle.clap.specs.Walk.{first_of, rows_of, rule_of};
 ghost use Rattle.clap.specs.Matches.{found_of};
 ghost use Rattle.fact_generate.specs.Generated.{most_generated};
-ghost use Rattle.fact_run.specs.Command.{bare_command, command, flag, fuel_or_default, generated_in, is_from_words, is_plain_number, is_used, number_in, option, options_in, reading};
+ghost use Rattle.fact_run.specs.Command.{bare_command, command, flag, fuel_or_default, generated_in, in_one_mode, is_from_words, is_plain_number, is_used, number_in, option, options_in, reading};
 
 use clap::error::ErrorKind;
 use clap::parser::ValueSource;
@@ -35,6 +35,8 @@ pub struct CommandOptions {
     pub fuel: u32,
     /// A plan of so many adapters is generated, and none is read.
     pub generate: Option<u32>,
+    /// Bytes in hex are read and checked, and no plan is.
+    pub check: bool,
 }
 
 fn flag<'a>(alloc: Global, name: &'a str) -> Arg<'a>
@@ -77,7 +79,8 @@ fn command<'a>(alloc: Global) -> Result<Command<'a>, OutOfMemory>
     let with_debug = with(bare, flag(alloc, "debug"))?;
     let with_fuel = with(with_debug, option(alloc, "fuel"))?;
     let with_imports = with(with_fuel, flag(alloc, "imports"))?;
-    with(with_imports, option(alloc, "generate"))
+    let with_generate = with(with_imports, option(alloc, "generate"))?;
+    with(with_generate, flag(alloc, "check"))
 }
 
 fn are_digits(text: &[u8]) -> bool
@@ -146,16 +149,28 @@ fn generated_of(matches: &ArgMatches) -> Option<Option<u32>>
     }
 }
 
+/// The options, where they ask for one mode at most.
+fn in_one_mode(options: CommandOptions) -> Option<CommandOptions>
+    ensures { result ≡ in_one_mode options }
+{
+    if options.check && options.generate.is_some() {
+        None
+    } else {
+        Some(options)
+    }
+}
+
 fn options_in(matches: &ArgMatches) -> Option<CommandOptions>
     ensures { result ≡ options_in (rows_of (found_of matches.now)) }
 {
     let fuel = fuel_of(matches)?;
     let generate = generated_of(matches)?;
-    Some(CommandOptions {
+    in_one_mode(CommandOptions {
         debug: is_used(matches, "debug"),
         imports: is_used(matches, "imports"),
         fuel,
         generate,
+        check: is_used(matches, "check"),
     })
 }
 
@@ -172,6 +187,7 @@ pub fn command_of(alloc: Global, words: &[String]) -> Result<Option<CommandOptio
     ensures reading { IfOk result (λ options. options ≡ reading (map string_bytes words.now)) }
     ensures fuel { IfOk result (λ options. IfSome options (λ o. 1 ≤ o.fuel)) }
     ensures generate { IfOk result (λ options. IfSome options (λ o. IfSome o.generate (λ n. n ≤ most_generated))) }
+    ensures one { IfOk result (λ options. IfSome options (λ o. o.check ≡ true → o.generate ≡ None)) }
 {
     if has_bare_dashes(words) {
         return Ok(None);

@@ -3,6 +3,7 @@
 #![tactic(auto)]
 
 mod answer;
+mod check_mode;
 mod command;
 mod counts;
 mod ending;

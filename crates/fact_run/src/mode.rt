@@ -1,6 +1,6 @@
 //! What a run comes to, by its mode.
 
-ghost use Rattle.std.specs.Prelude.{◌≡◌, ◌≢◌, ◌≤◌, ◌+◌, IfOk, IfSome, IsSome, string_bytes};
+ghost use Rattle.std.specs.Prelude.{◌≡◌, ◌≢◌, ◌≤◌, ◌+◌, IfOk, IfSome, IsSome, None, true, string_bytes};
 ghost use Rattle.fact_io.specs.Faults.{Rose};
 ghost use Rattle.fact_io.specs.Transfers.{TakesUpTo};
 ghost use Rattle.fact_generate.specs.Generated.{generated, most_generated};
@@ -8,6 +8,7 @@ ghost use Rattle.fact_run.specs.Answer.{IsReplyUnder, IsReplyUnread};
 ghost use Rattle.fact_run.specs.Run.{Counts, configured, counts, limit};
 
 use crate::answer::{Reply, configure, reply_of};
+use crate::check_mode::check_reply;
 use crate::command::CommandOptions;
 use crate::counts::counts_text;
 use fact_generate::generate;
@@ -49,15 +50,19 @@ fn generated_counts(alloc: Global, n: u32, options: CommandOptions) -> Result<St
     text
 }
 
-/// What a run with these options comes to: where a plan is generated nothing is read.
+/// What a run with these options comes to: where bytes are checked no plan is read, and where a plan is generated nothing is.
 pub fn reply_under<S: Source>(alloc: Global, source: &mut S, options: CommandOptions) -> Reply
     requires fuel { 1 ≤ options.fuel }
     requires number { IfSome options.generate (λ n. n ≤ most_generated) }
+    requires one { options.check ≡ true → options.generate ≡ None }
     ensures reply { IsReplyUnder options (S.left source.old) (S.left source.new) (Rose (S.faults source.old) (S.faults source.new)) result }
     ensures most { TakesUpTo (S.left source.old) (S.left source.new) (limit + 1) }
     ensures no_fault { result ≢ Reply.ReadFault → S.faults source.new ≡ S.faults source.old }
     ensures unread { IsSome options.generate → (source.new ≡ source.old) × IsReplyUnread result }
 {
+    if options.check {
+        return check_reply(alloc, source);
+    }
     match options.generate {
         Some(n) => match generated_counts(alloc, n, options) {
             Ok(text) => Reply::Page(text),

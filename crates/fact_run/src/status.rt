@@ -6,7 +6,7 @@ ghost use Rattle.fact_run.specs.Status.{line_of, exit_status_of};
 /// How a run ended.
 #[derive(Clone, Copy, Debug, Drop, PartialEq, Eq)]
 pub enum Status {
-    /// The module was printed, or the counts of the one that was generated.
+    /// The module was printed, or the counts of the one that was generated or checked.
     Done,
     /// The words are no command.
     Usage,
@@ -22,6 +22,10 @@ pub enum Status {
     BadPlan,
     /// The plan has a fault.
     Refused,
+    /// The input is no hex digits.
+    NotHex,
+    /// The bytes spell no adapter module.
+    Rejected,
     /// There was no memory.
     OutOfMemory,
 }
@@ -41,21 +45,24 @@ impl Status {
             Status::BadPlan => 7,
             Status::Refused => 8,
             Status::OutOfMemory => 9,
+            Status::NotHex => 11,
+            Status::Rejected => 12,
         }
     }
 
     /// The line that tells it, with its newline, where it is the same for every input; nothing for [`Status::Done`], and
-    /// for [`Status::BadPlan`] and [`Status::Refused`], whose lines name the fault.
+    /// for [`Status::BadPlan`], [`Status::Refused`] and [`Status::Rejected`], whose lines name the fault.
     pub fn line(self) -> &'static str
         ensures { result.now ≡ line_of self }
     {
         match self {
-            Status::Done | Status::BadPlan | Status::Refused => "",
-            Status::Usage => "usage: factc [--debug] [--fuel N] [--imports] [--generate N]\n",
+            Status::Done | Status::BadPlan | Status::Refused | Status::Rejected => "",
+            Status::Usage => "usage: factc [--debug] [--fuel N] [--imports] [--generate N] [--check]\n",
             Status::ReadFault => "read fault\n",
             Status::WriteFault => "write fault\n",
             Status::TooLong => "input too long\n",
             Status::NotJson => "not json\n",
+            Status::NotHex => "not hex\n",
             Status::OutOfMemory => "out of memory\n",
         }
     }

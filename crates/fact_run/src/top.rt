@@ -1,6 +1,6 @@
 //! The top call.
 
-ghost use Rattle.std.specs.Prelude.{◌≡◌, ◌≢◌, ◌≤◌, ◌+◌, IfSome, IsSome, None, Some, map, option_map, string_bytes};
+ghost use Rattle.std.specs.Prelude.{◌≡◌, ◌≢◌, ◌≤◌, ◌+◌, IfSome, IsSome, None, Some, true, map, option_map, string_bytes};
 ghost use Rattle.std.specs.Io.KnownBytes.{Appends, Keeps};
 ghost use Rattle.fact_io.specs.Faults.{Rose};
 ghost use Rattle.fact_io.specs.Transfers.{AppendsFront, TakesPast, TakesUpTo};
@@ -13,7 +13,10 @@ ghost use Rattle.fact_run.specs.declared.command.CommandOptions.{CommandOptions}
 ghost use Rattle.fact_run.specs.Command.{reading};
 ghost use Rattle.fact_run.specs.Refusal.{refusal_line};
 ghost use Rattle.fact_run.specs.Answer.{IsEndUnder, IsEnding, ending_with, line_in};
-ghost use Rattle.fact_run.specs.Run.{GeneratesPlan, HoldsFault, HoldsFaultless, HoldsNoJson, HoldsRefusal, IsEndUnread, IsOrMemory, IsTooLong, IsUndisturbed, Read, Sends, TellsLine, limit};
+ghost use Rattle.fact_wasm.specs.declared.module.WasmModule.{WasmModule};
+ghost use Rattle.fact_check.specs.declared.error.CheckError.{CheckError};
+ghost use Rattle.fact_run.specs.Check.{HoldsAccepted, HoldsNoHex, HoldsRejected, rejected_line};
+ghost use Rattle.fact_run.specs.Run.{ChecksBytes, GeneratesPlan, HoldsFault, HoldsFaultless, HoldsNoJson, HoldsRefusal, IsEndUnread, IsOrMemory, IsTooLong, IsUndisturbed, IsUndisturbedCheck, Read, ReadsPlan, Sends, TellsLine, limit};
 ghost use Rattle.fact_run.specs.Status.{line_of};
 
 use crate::answer::Reply;
@@ -21,6 +24,7 @@ use crate::command::{CommandOptions, command_of};
 use crate::ending::Ending;
 use crate::mode::reply_under;
 use crate::status::Status;
+use fact_check::accepted_bytes_have_no_cause;
 use fact_io::{Sink, Source, write_text};
 use std::alloc::Global;
 
@@ -35,6 +39,8 @@ fn ending_with(reply: Reply) -> Ending
         Reply::NotJson => Ending::of(Status::NotJson),
         Reply::BadPlan(line) => Ending::telling(Status::BadPlan, line),
         Reply::Refused(line) => Ending::telling(Status::Refused, line),
+        Reply::NotHex => Ending::of(Status::NotHex),
+        Reply::Rejected(line) => Ending::telling(Status::Rejected, line),
         Reply::OutOfMemory => Ending::of(Status::OutOfMemory),
     }
 }
@@ -48,6 +54,7 @@ fn end<S: Source, K: Sink>(
 ) -> Ending
     requires fuel { 1 ≤ options.fuel }
     requires number { IfSome options.generate (λ n. n ≤ most_generated) }
+    requires one { options.check ≡ true → options.generate ≡ None }
     ensures end { IsEndUnder options (S.left source.old) (S.left source.new) (Rose (S.faults source.old) (S.faults source.new))
         (K.written out.old) (K.written out.new) (Rose (K.faults out.old) (K.faults out.new)) result.status (line_in result.status (option_map string_bytes result.told)) }
     ensures most { TakesUpTo (S.left source.old) (S.left source.new) (limit + 1) }
@@ -92,7 +99,9 @@ fn ending_of<S: Source, K: Sink>(
 /// line. `words` are those after the program's name: `--debug` adds debug checks, `--fuel N` says how much translation a
 /// function may hold (1 to 1,000,000, else 1,000), `--imports` asks for the lines of the imports. `--generate N` (0 to 4,096)
 /// reads nothing: the plan is the one that is generated for N adapters, and four lines are written, `adapters A`, `functions F`,
-/// `imports I` and `bytes B`, F counting the functions that its module defines. Want of memory may be answered at any point.
+/// `imports I` and `bytes B`, F counting the functions that its module defines. `--check` reads hex digits and at most one newline
+/// behind them in place of a plan, checks that their bytes spell an adapter module, and writes `ok F`, F counting the functions that
+/// it defines. Want of memory may be answered at any point.
 pub fn run<S: Source, K: Sink, E: Sink>(
     alloc: Global,
     words: &[String],
@@ -100,15 +109,18 @@ pub fn run<S: Source, K: Sink, E: Sink>(
     out: &mut K,
     err: &mut E,
 ) -> Status
-    // Why each end comes.
+    // Why each end comes, and in which mode: where a plan is read, where bytes are checked, or in any.
     ensures usage { result ≡ Status.Usage → reading (map string_bytes words.now) ≡ None }
     ensures read_fault { result ≡ Status.ReadFault → Rose (S.faults source.old) (S.faults source.new) }
     ensures too_long { result ≡ Status.TooLong → TakesPast (S.left source.old) (S.left source.new) limit }
-    ensures not_json { result ≡ Status.NotJson → Read (S.left source.old) (S.left source.new) HoldsNoJson }
-    ensures bad_plan { result ≡ Status.BadPlan → Read (S.left source.old) (S.left source.new) (λ bytes. (f : PlanFault)
+    ensures not_json { result ≡ Status.NotJson → ReadsPlan (map string_bytes words.now) × Read (S.left source.old) (S.left source.new) HoldsNoJson }
+    ensures bad_plan { result ≡ Status.BadPlan → ReadsPlan (map string_bytes words.now) × Read (S.left source.old) (S.left source.new) (λ bytes. (f : PlanFault)
         × HoldsFault bytes f × TellsLine (E.written err.old) (E.written err.new) (E.faults err.old) (E.faults err.new) (fault_line f)) }
-    ensures refused { result ≡ Status.Refused → Read (S.left source.old) (S.left source.new) (λ bytes. (f : Fault) × (place : Place)
+    ensures refused { result ≡ Status.Refused → ReadsPlan (map string_bytes words.now) × Read (S.left source.old) (S.left source.new) (λ bytes. (f : Fault) × (place : Place)
         × HoldsRefusal bytes f place × TellsLine (E.written err.old) (E.written err.new) (E.faults err.old) (E.faults err.new) (refusal_line f place)) }
+    ensures not_hex { result ≡ Status.NotHex → ChecksBytes (map string_bytes words.now) × Read (S.left source.old) (S.left source.new) HoldsNoHex }
+    ensures rejected { result ≡ Status.Rejected → ChecksBytes (map string_bytes words.now) × Read (S.left source.old) (S.left source.new) (λ input. (e : CheckError)
+        × HoldsRejected input e × TellsLine (E.written err.old) (E.written err.new) (E.faults err.old) (E.faults err.new) (rejected_line e)) }
     ensures write_fault { result ≡ Status.WriteFault → Rose (K.faults out.old) (K.faults out.new) }
     ensures done { result ≡ Status.Done → (o : CommandOptions) × (reading (map string_bytes words.now) ≡ Some o)
         × Sends o (S.left source.old) (S.left source.new) (λ text. Appends (K.written out.old) (K.written out.new) text) }
@@ -121,7 +133,7 @@ pub fn run<S: Source, K: Sink, E: Sink>(
     ensures unread { GeneratesPlan (map string_bytes words.now) → (source.new ≡ source.old) × IsEndUnread result }
     ensures most { TakesUpTo (S.left source.old) (S.left source.new) (limit + 1) }
 
-    // The other way round: of the words, and where a plan is read, the source tells its bytes and no read failed, of the bytes.
+    // The other way round: of the words, and where the source is read, it tells its bytes and no read failed, of the bytes.
     ensures exactly_usage { reading (map string_bytes words.now) ≡ None → IsOrMemory Status.Usage result }
     ensures exactly_too_long { IsUndisturbed (map string_bytes words.now) (S.faults source.old) (S.faults source.new)
         → IfSome (S.left source.old) (λ bytes. IsTooLong bytes → IsOrMemory Status.TooLong result) }
@@ -134,15 +146,25 @@ pub fn run<S: Source, K: Sink, E: Sink>(
     ensures complete { IsUndisturbed (map string_bytes words.now) (S.faults source.old) (S.faults source.new)
         → (Rose (K.faults out.old) (K.faults out.new) → ⊥)
         → IfSome (S.left source.old) (λ bytes. HoldsFaultless bytes → IsOrMemory Status.Done result) }
+    ensures exactly_not_hex { IsUndisturbedCheck (map string_bytes words.now) (S.faults source.old) (S.faults source.new)
+        → IfSome (S.left source.old) (λ input. HoldsNoHex input → IsOrMemory Status.NotHex result) }
+    ensures exactly_rejected { IsUndisturbedCheck (map string_bytes words.now) (S.faults source.old) (S.faults source.new)
+        → IfSome (S.left source.old) (λ input. ((e : CheckError) × HoldsRejected input e) → IsOrMemory Status.Rejected result) }
+    ensures exactly_long_check { IsUndisturbedCheck (map string_bytes words.now) (S.faults source.old) (S.faults source.new)
+        → IfSome (S.left source.old) (λ input. IsTooLong input → IsOrMemory Status.TooLong result) }
+    ensures complete_check { IsUndisturbedCheck (map string_bytes words.now) (S.faults source.old) (S.faults source.new)
+        → (Rose (K.faults out.old) (K.faults out.new) → ⊥)
+        → IfSome (S.left source.old) (λ input. ((m : WasmModule) × HoldsAccepted input m) → IsOrMemory Status.Done result) }
     ensures complete_generated { GeneratesPlan (map string_bytes words.now) → (Rose (K.faults out.old) (K.faults out.new) → ⊥) → IsOrMemory Status.Done result }
 
     // What was written.
     ensures part { result ≡ Status.WriteFault → (o : CommandOptions) × (reading (map string_bytes words.now) ≡ Some o)
         × Sends o (S.left source.old) (S.left source.new) (λ text. AppendsFront (K.written out.old) (K.written out.new) text) }
     ensures kept { result ≢ Status.Done → result ≢ Status.WriteFault → Keeps (K.written out.old) (K.written out.new) }
-    ensures told { result ≢ Status.BadPlan → result ≢ Status.Refused
+    ensures told { result ≢ Status.BadPlan → result ≢ Status.Refused → result ≢ Status.Rejected
         → TellsLine (E.written err.old) (E.written err.new) (E.faults err.old) (E.faults err.new) (line_of result) }
 {
+    accepted_bytes_have_no_cause();
     let ending = ending_of(alloc, words, source, out);
     let _ = write_text(err, ending.line().as_bytes());
     ending.status

@@ -3,7 +3,7 @@ use Rattle.std.specs.Str.{bytes_eq}
 use Rattle.clap.specs.Matches.{found_of}
 use Rattle.clap.specs.Walk.{rows_of}
 use Rattle.clap.proofs.WalkLemmas.{list_any-map}
-use Rattle.fact_run.proofs.Words.{bare-unread, has-fuel, has-number, read}
+use Rattle.fact_run.proofs.Words.{bare-unread, has-fuel, has-mode, has-number, read}
 use Rattle.fact_run.proofs.command.command_of.Goals as goal
 
 pub returns-then-has_bare_dashes-clause-reading : goal.returns-then-has_bare_dashes-clause-reading
@@ -15,4 +15,4 @@ returns-in-Ok c =
     let words = map string_bytes c.args.words.now in
     let bare = sym (list_any-map (λ (word : List ℕ). bytes_eq word (codes "--")) string_bytes c.args.words.now) ∙ sym c.has_bare_dashes.ensures ∙ c.if-has_bare_dashes.false in
     let is = c.options_in.ensures ∙ read _ words (rows_of (found_of c.in-Ok.matches)) c.in_ok-command.ensures bare c.in-Ok.ensures.kinds (λ h. (c.in-Ok.ensures.matches h).0) in
-    record { reading = is; fuel = rw is (has-fuel words); generate = rw is (has-number words) }
+    record { reading = is; fuel = rw is (has-fuel words); generate = rw is (has-number words); one = rw is (has-mode words) }

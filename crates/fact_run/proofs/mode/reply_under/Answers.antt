@@ -1,8 +1,15 @@
+use Rattle.fact_run.proofs.CheckEnds.{not-generated, replied-checked}
 use Rattle.fact_run.proofs.Ends.{replied-counts, replied-read}
 use Rattle.fact_run.proofs.mode.reply_under.Goals as goal
 
+pub returns-then-check-clause-reply : goal.returns-then-check-clause-reply
+returns-then-check-clause-reply g c = replied-checked _ _ _ _ c.check_reply.result c.if-check.true c.check_reply.ensures.reply
+
+pub returns-then-check-clause-unread : goal.returns-then-check-clause-unread
+returns-then-check-clause-unread g c = λ some. absurd (not-generated c.args.options (c.requires.one c.if-check.true) some)
+
 pub returns-in-Ok-clause-reply : goal.returns-in-Ok-clause-reply
-returns-in-Ok-clause-reply g c = replied-counts _ _ _ _ _ c.in-Some.is c.in-Ok.ensures
+returns-in-Ok-clause-reply g c = replied-counts _ _ _ _ _ c.in-Some.is c.if-check.false c.in-Ok.ensures
 
 pub returns-in-None-clause-reply : goal.returns-in-None-clause-reply
-returns-in-None-clause-reply g c = replied-read _ _ _ _ c.reply_of.result c.in-None.is c.reply_of.ensures.reply
+returns-in-None-clause-reply g c = replied-read _ _ _ _ c.reply_of.result c.in-None.is c.if-check.false c.reply_of.ensures.reply

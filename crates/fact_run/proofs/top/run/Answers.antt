@@ -1,5 +1,6 @@
 use Rattle.fact_run.specs.declared.status.Status.TheVariants as status
-use Rattle.fact_run.proofs.Ends.{exactly, faultless-end, no-write-fault, printed, printed-front, usage-end, fault-end, json-end, long-end, refused-end, unread-done, plain-line, told, told-fault, told-refusal, is-end}
+use Rattle.fact_run.proofs.CheckEnds.{accepted-end, bytes-checked, check-long-end, exactly-checked, hex-end, rejected-end, told-rejection}
+use Rattle.fact_run.proofs.Ends.{exactly, faultless-end, no-write-fault, plan-read, printed, printed-front, usage-end, fault-end, json-end, long-end, refused-end, unread-done, plain-line, told, told-fault, told-refusal, is-end}
 use Rattle.fact_run.proofs.top.run.Goals as goal
 
 pub returns-clause-exactly_too_long : goal.returns-clause-exactly_too_long
@@ -22,21 +23,49 @@ pub returns-clause-complete_generated : goal.returns-clause-complete_generated
 returns-clause-complete_generated g c =
     λ generates unfaulted. unread-done _ (c.ending_of-ending.ensures.unread generates).1 (no-write-fault _ _ _ _ _ _ _ _ _ c.ending_of-ending.ensures.end unfaulted)
 
+pub returns-clause-exactly_long_check : goal.returns-clause-exactly_long_check
+returns-clause-exactly_long_check g c = exactly-checked _ _ _ _ _ _ _ _ _ _ _ _ (check-long-end _) c.ending_of-ending.ensures.end
+
+pub returns-clause-exactly_not_hex : goal.returns-clause-exactly_not_hex
+returns-clause-exactly_not_hex g c = exactly-checked _ _ _ _ _ _ _ _ _ _ _ _ (hex-end _) c.ending_of-ending.ensures.end
+
+pub returns-clause-exactly_rejected : goal.returns-clause-exactly_rejected
+returns-clause-exactly_rejected g c = exactly-checked _ _ _ _ _ _ _ _ _ _ _ _ (rejected-end c.accepted_bytes_have_no_cause.ensures _) c.ending_of-ending.ensures.end
+
+pub returns-clause-complete_check : goal.returns-clause-complete_check
+returns-clause-complete_check g c = λ calm unfaulted.
+    exactly-checked _ _ _ _ _ _ _ _ _ _ _ _ (λ input. accepted-end c.accepted_bytes_have_no_cause.ensures _ input (no-write-fault _ _ _ _ _ _ _ _ _ c.ending_of-ending.ensures.end unfaulted)) c.ending_of-ending.ensures.end calm
+
+pub returns-clause-not_json : goal.returns-clause-not_json
+returns-clause-not_json g c = λ e. let k = is-end _ _ _ _ _ _ _ _ status.NotJson _ c.ending_of-ending.ensures.end e in (plan-read _ _ k.1 k.2.0, k.2.1)
+
+pub returns-clause-not_hex : goal.returns-clause-not_hex
+returns-clause-not_hex g c = λ e. let k = is-end _ _ _ _ _ _ _ _ status.NotHex _ c.ending_of-ending.ensures.end e in (bytes-checked _ _ k.1 k.2.0, k.2.1)
+
 pub returns-clause-bad_plan : goal.returns-clause-bad_plan
 returns-clause-bad_plan g c =
     λ e. let line = told c.write_text.result _ _ _ _ _ (rw (c.as_bytes.ensures.value, c.line.ensures) at c.write_text.ensures.whole)
     (rw (c.as_bytes.ensures.value, c.line.ensures) at c.write_text.ensures.part) c.write_text.ensures.rose in
-    told-fault _ _ _ _ _ _ _ (is-end _ _ _ _ _ _ _ _ status.BadPlan _ c.ending_of-ending.ensures.end e).2.0 line
+    let k = is-end _ _ _ _ _ _ _ _ status.BadPlan _ c.ending_of-ending.ensures.end e in
+    (plan-read _ _ k.1 k.2.0, told-fault _ _ _ _ _ _ _ k.2.1 line)
 
 pub returns-clause-refused : goal.returns-clause-refused
 returns-clause-refused g c =
     λ e. let line = told c.write_text.result _ _ _ _ _ (rw (c.as_bytes.ensures.value, c.line.ensures) at c.write_text.ensures.whole)
     (rw (c.as_bytes.ensures.value, c.line.ensures) at c.write_text.ensures.part) c.write_text.ensures.rose in
-    told-refusal _ _ _ _ _ _ _ (is-end _ _ _ _ _ _ _ _ status.Refused _ c.ending_of-ending.ensures.end e).2.0 line
+    let k = is-end _ _ _ _ _ _ _ _ status.Refused _ c.ending_of-ending.ensures.end e in
+    (plan-read _ _ k.1 k.2.0, told-refusal _ _ _ _ _ _ _ k.2.1 line)
+
+pub returns-clause-rejected : goal.returns-clause-rejected
+returns-clause-rejected g c =
+    λ e. let line = told c.write_text.result _ _ _ _ _ (rw (c.as_bytes.ensures.value, c.line.ensures) at c.write_text.ensures.whole)
+    (rw (c.as_bytes.ensures.value, c.line.ensures) at c.write_text.ensures.part) c.write_text.ensures.rose in
+    let k = is-end _ _ _ _ _ _ _ _ status.Rejected _ c.ending_of-ending.ensures.end e in
+    (bytes-checked _ _ k.1 k.2.0, told-rejection _ _ _ _ _ _ _ k.2.1 line)
 
 pub returns-clause-told : goal.returns-clause-told
 returns-clause-told g c =
-    λ other told_otherwise. rw (← plain-line _ _ _ _ _ _ _ _ _ c.ending_of-ending.ensures.end other told_otherwise)
+    λ bad refused rejected. rw (← plain-line _ _ _ _ _ _ _ _ _ c.ending_of-ending.ensures.end bad refused rejected)
     (told c.write_text.result _ _ _ _ _ (rw (c.as_bytes.ensures.value, c.line.ensures) at c.write_text.ensures.whole)
     (rw (c.as_bytes.ensures.value, c.line.ensures) at c.write_text.ensures.part) c.write_text.ensures.rose)
 

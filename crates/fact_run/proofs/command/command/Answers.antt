@@ -1,0 +1,8 @@
+use Rattle.std.proofs.lemmas.Result.{IfOk-weaker}
+use Rattle.fact_run.proofs.Words.{with-options}
+use Rattle.fact_run.proofs.command.command.Goals as goal
+
+pub returns : goal.returns
+returns c =
+    IfOk-weaker c.with-5.result _ _ (λ made is. with-options _ _ _ _ _ _ _ _ _ _ _ c.bare_command-bare.ensures c.flag.ensures.rule c.in_ok-with_debug.ensures c.option.ensures.rule c.in_ok-with_fuel.ensures
+    c.flag-2.ensures.rule c.in_ok-with_imports.ensures c.option-2.ensures.rule c.in_ok-with_generate.ensures c.flag-3.ensures.rule is) c.with-5.ensures
