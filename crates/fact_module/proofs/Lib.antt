@@ -1,3 +1,4 @@
+pub mod AdapterImports
 pub mod AddedFunctions
 pub mod Adding
 pub mod AlikeLaws
@@ -13,6 +14,7 @@ pub mod NewNamed
 pub mod Ordered
 pub mod OwnLaws
 pub mod PartLaws
+pub mod PlainAdapters
 pub mod StartsOnce
 pub mod TakeLaws
 pub mod TupleLaws

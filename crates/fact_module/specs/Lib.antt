@@ -1,5 +1,6 @@
 pub mod Adapted
 pub mod Adding
+pub mod Checked
 pub mod Collected
 pub mod Exports
 pub mod Faithful

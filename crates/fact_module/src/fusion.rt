@@ -2,6 +2,7 @@
 
 ghost use Rattle.std.specs.Prelude.{◌≡◌, ◌≤◌, ◌+◌, Some, slice_get, IfErr, IfOk, IfSome, OnOk};
 ghost use Rattle.fact_plan_types.specs.PlanTypes.{AreFaultless, AreTypesOf, told};
+ghost use Rattle.fact_check.specs.Accepted.{IsAccepted};
 ghost use Rattle.fact_checks.specs.FirstFault.{IsFaultlessPlan, IsFirstAt};
 ghost use Rattle.fact_checks.specs.Links.{IsFirstHere};
 ghost use Rattle.fact_module.specs.Fusing.{HasTakenAll, HasTakenTo};
@@ -110,10 +111,12 @@ fn fuse_over(alloc: Global, plan: &FusePlan, types: &PlanTypes) -> Result<Fused,
 /// The module that joins the two sides of each adapter of a plan. Its imports and exports are those of the plan ([`Import`],
 /// each adapter's name, and for an async one between two instances those of its two parts and its callee), and its functions
 /// carry values unchanged; that of an adapter within one instance traps at each call. A plan that has a fault is refused with
-/// its first one, as by `check_plan`.
+/// its first one, as by `check_plan`. The bytes of the module are those of an adapter module, whatever plan it was made for, as `check` of
+/// `fact_check` looks at them.
 pub fn fuse(alloc: Global, plan: &FusePlan) -> Result<Fused, FuseError>
     requires fuel { 1 ≤ plan.now.tunables.fuel }
     ensures fused { IfOk result (λ f. IsFused f plan.now) }
+    ensures accepted { IfOk result (λ f. IsAccepted f.bytes f.module) }
     ensures faultless { OnOk result (IsFaultlessPlan plan.now) }
     ensures refused { IfErr result (λ e. IfSome (told e) (λ x. IsFirstAt plan.now x.0 x.1)) }
 {

@@ -2,6 +2,7 @@
 //! component lifts to the function that another lowers (Component Model, canonical ABI, `canon lift`, `canon lower`).
 #![tactic(auto)]
 
+mod checked;
 mod dfg;
 mod fusion;
 mod linking;
@@ -10,6 +11,7 @@ mod taken;
 mod typed;
 mod worked;
 
+pub use checked::fused_modules_are_accepted;
 pub use dfg::ComponentDfg;
 pub use fact_checks::{Adapter, AdapterOptionsDfg, FuseError, MemoryOption, Place, check_plan};
 pub use fact_emit::tunables::{Tunables, WasmFeatures};
