@@ -1,9 +1,10 @@
 """Makes plans from a seed, which have no fault by how they are made, runs the program on each, and judges the modules.
 
 The types are drawn for the side that a value comes from, and those of the other side are made to agree with them; core types are worked
-out by the canonical ABI's rules of flattening. A module has to have the exports and imports of the plan, with their types, and an
-independent validator has to take it, where there is one. Ends with status 1 at the first plan of which that does not hold, or where a form
-of plans was not drawn, and tells the seed and the plan.
+out by the canonical ABI's rules of flattening. A module has to have the exports and imports of the plan, with their types; the program
+itself has to accept it with --check, with as many functions as it defines; and an independent validator has to take it, where there is
+one. Ends with status 1 at the first plan of which that does not hold, or where a form of plans was not drawn, and tells the seed and the
+plan.
 """
 
 import json
@@ -446,7 +447,8 @@ class Module:
         self.memories, self.imports = [], []
         self.read_imports(sections[2], types)
         read = sections[3]
-        functions = [ty for _, ty in self.imports] + read.items(lambda: types[read.number()])
+        self.defined = read.items(lambda: types[read.number()])
+        functions = [ty for _, ty in self.imports] + self.defined
         read = sections[7]
         self.exports = [(name, functions[number]) for name, _, number in read.items(lambda: (read.name(), read.byte(), read.number()))]
 
@@ -515,10 +517,18 @@ class Runner:
             raise Wrong(f"status {done.returncode}: {done.stderr.decode(errors='replace')}")
         return bytes.fromhex(done.stdout.decode().strip())
 
+    def check(self, module, functions):
+        """Has the program check a module that defines so many functions."""
+        done = subprocess.run([self.program, "--check"], input=module.hex().encode(), capture_output=True)
+        if (done.returncode, done.stdout, done.stderr) != (0, b"ok %d\n" % functions, b""):
+            raise Wrong(f"--check: status {done.returncode}: {(done.stdout + done.stderr).decode(errors='replace')}")
+
     def judge(self, plan, words):
         """Raises Wrong where the plan's module is not as it should be."""
         module = self.module(plan.json, words)
-        judge_types(Module(module), plan.adapters)
+        read = Module(module)
+        judge_types(read, plan.adapters)
+        self.check(module, len(read.defined))
         known = self.known(plan.json)
         if known != plan.json:
             module = self.module(known, words)

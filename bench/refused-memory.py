@@ -24,6 +24,9 @@ PIECE = 100
 EXAMPLES = Path("examples")
 ONE = (EXAMPLES / "one-u32.json").read_bytes()
 
+# The module that factc is expected to print in the gate.
+MODULE = Path("crates/factc/stdout").read_bytes()
+
 # What is run: a name, the words, the input, and the status and the line that the command ends with.
 RUNS = [
     ("one number", [], ONE, 0, b""),
@@ -32,8 +35,11 @@ RUNS = [
     ("a refused plan", [], ONE.replace(b'"func":0', b'"func":1'), 8, b"refused: UnknownIndex at adapter 0\n"),
     ("a bad plan", [], ONE.replace(b'"u32"', b'"u33"'), 7, b"bad plan: OutOfRange at plan.funcs.0.params.0.1\n"),
     ("no JSON text", [], ONE[:-2], 6, b"not json\n"),
-    ("words that are no command", ["--fuel", "0"], ONE, 2, b"usage: factc [--debug] [--fuel N] [--imports] [--generate N]\n"),
+    ("words that are no command", ["--fuel", "0"], ONE, 2, b"usage: factc [--debug] [--fuel N] [--imports] [--generate N] [--check]\n"),
     ("eight generated adapters", ["--generate", "8"], b"", 0, b""),
+    ("a module that is checked", ["--check"], MODULE, 0, b""),
+    ("a module that is rejected", ["--check"], MODULE.replace(b"666c616773", b"666c616778"), 12, b"rejected: NotAdapter at import 0\n"),
+    ("no digits", ["--check"], MODULE[1:], 11, b"not hex\n"),
 ]
 
 

@@ -145,8 +145,9 @@ pub fn add_prefixes(page: &mut String, alloc: Global, plan: &str) -> Result<(), 
     write!(page, "{}", bytes.len())
 }
 
-/// Adds how the command ends for so many spaces and the bytes behind them, which need not be text.
+/// Adds how the command ends for so many spaces and the bytes behind them, which need not be text, and for the words behind both.
 pub fn add_bytes(page: &mut String, alloc: Global, line: &str) -> Result<(), AllocError> {
+    let (line, words) = first_of(line);
     let (spaces, digits) = word_of(line);
     let Ok(bytes) = hex::decode(alloc, digits) else {
         return page.push_str("no bytes");
@@ -155,6 +156,7 @@ pub fn add_bytes(page: &mut String, alloc: Global, line: &str) -> Result<(), All
     input.resize(number_of(spaces) as usize, b' ')?;
     input.extend_from_slice(bytes.as_slice())?;
     let given = Given {
+        words,
         input: input.as_slice(),
         piece: 1 << 20,
         ..plain("")

@@ -14,7 +14,7 @@
 //!     imports EDITS                               the lines that it prints behind the module with `--imports`
 //!     prefixes EDITS                              the same as of `page` for each proper prefix, where it is another than for the one before
 //!     ask PIECE READ WRITE TELL | WORDS | EDITS   the same as of `page` with these words and streams: `command`
-//!     bytes SPACES HEX                            how the command ends for so many spaces and these bytes behind them
+//!     bytes SPACES HEX | WORDS                    the same as of `page` for so many spaces and these bytes behind them, with these words, if any
 //!     shows ..                                    what the module is like, where the table does not have all its bytes: `shown`
 //!     check WHAT | BYTES                          what the check of adapter modules says of these bytes: `checked`
 //!
