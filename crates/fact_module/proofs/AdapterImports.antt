@@ -395,6 +395,12 @@ named_there types ms before (v ∷ ws) (j ∷ is) (suc n) w named e =
     let r = named_there types ms (before ++ v ∷ []) ws is n w named.1 e in
     (r.0, r.1, subst (λ b. IsNamed types ms b w r.0) (append_assoc before (v ∷ []) (take n ws)) r.2)
 
+-- what stands at a place of a list
+item_at : {A : Type 0} (xs : List A) (n : ℕ) → n < length xs → (x : A) × (slice_get xs n ≡ Some x)
+item_at [] n h = absurd (omega arith)
+item_at (x ∷ xs) zero h = (x, refl)
+item_at (x ∷ xs) (suc n) h = item_at xs n (omega arith)
+
 -- something that is among others
 later : {A : Type 0} (xs ys : List A) (y : A) → (k : ℕ) × (slice_get ys k ≡ Some y) → (k : ℕ) × (slice_get (xs ++ ys) k ≡ Some y)
 later [] ys y r = r
@@ -446,14 +452,9 @@ module _ (m : WasmModule) (is : List Import) (adapters : List LinkedAdapter) (na
 
   pub adapter_imports : (n : ℕ) → n < length m.imports → IsAdapterImport m n
   adapter_imports n within =
-      let w = at m.imports n within in
+      let w = item_at m.imports n within in
       let i = named_there m.types (mentions adapters) [] m.imports is n w.0 names.named w.1 in
       record { import = w.0; there = w.1; is_row = row n w.0 w.1 i.0 i.1 i.2 }
-    where
-      at : {A : Type 0} (xs : List A) (n : ℕ) → n < length xs → (x : A) × (slice_get xs n ≡ Some x)
-      at [] n h = absurd (omega arith)
-      at (x ∷ xs) zero h = (x, refl)
-      at (x ∷ xs) (suc n) h = at xs n (omega arith)
 
 -- ---- the module of a plan
 

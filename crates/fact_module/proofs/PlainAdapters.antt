@@ -30,7 +30,7 @@ use Rattle.fact_compound.proofs.WholeFunctions.{address_numbers, flats_numbers, 
 use Rattle.fact_emit.specs.ImportSection.{Callback, Callee, Flags, Mention, PostReturn, Realloc, Role, Storage, adapter_mentions, is_awaited, memory_mention, mention, mentions, side_mentions}
 use Rattle.fact_emit.proofs.Mentions.{giver, in-mentions}
 use Rattle.fact_forms.specs.Sound.{HasUsualPages}
-use Rattle.fact_forms.proofs.Memories.{lift_pages, lower_pages}
+use Rattle.fact_forms.proofs.Memories.{lift_pages as lift_usual, lower_pages as lower_usual}
 use Rattle.fact_check.specs.Imports.{AreNumbers}
 
 -- ---- an adapter
@@ -147,8 +147,8 @@ module _ (p : FusePlan) (k : ℕ) (x : PlanAdapter) (a : LinkedAdapter) (there :
       record {
         lift_instance = small_instance x.lift.instance a.lift.instance instances.lift (λ past. faulty too_large (inr (inl past)));
         lower_instance = small_instance x.lower.instance a.lower.instance instances.lower (λ past. faulty too_large (inr (inr past)));
-        lift_pages = lift_pages a usable;
-        lower_pages = lower_pages a usable;
+        lift_pages = lift_usual a usable;
+        lower_pages = lower_usual a usable;
         lift_numbers = (
           same_numbers a.lift.core_type (lift_side_signature a.lift) lift_same (λ (t : FuncType). t.params) lifts.0,
           same_numbers a.lift.core_type (lift_side_signature a.lift) lift_same (λ (t : FuncType). t.results) lifts.1,
