@@ -57,7 +57,8 @@ impl Status {
     {
         match self {
             Status::Done | Status::BadPlan | Status::Refused | Status::Rejected => "",
-            Status::Usage => "usage: factc [--debug] [--fuel N] [--imports] [--generate N] [--check]\n",
+            Status::Usage =>
+                "usage: factc [--debug] [--fuel N] [--imports] [--generate N] [--check]\n",
             Status::ReadFault => "read fault\n",
             Status::WriteFault => "write fault\n",
             Status::TooLong => "input too long\n",
