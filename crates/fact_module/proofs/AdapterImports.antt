@@ -79,7 +79,7 @@ memories_counted (w ∷ ws) = sum_by-cons (λ (v : WasmImport). cond (is_of a_me
 
 no_more : {A B : Type 0} (f : A → Option B) (xs : List A) → length (filter_map f xs) ≤ length xs
 no_more f [] = omega arith
-no_more f (x ∷ xs) = by (f x) (no_more f xs)
+no_more {B = B} f (x ∷ xs) = by (f x) (no_more f xs)
   where
     by : (o : Option B) → length (filter_map f xs) ≤ length xs → length (cons_option o (filter_map f xs)) ≤ length (x ∷ xs)
     by None h = omega (arith, h)
