@@ -61,7 +61,11 @@ fn shortened(alloc: Global, mut module: WasmModule) -> WasmModule {
 }
 
 /// The module that bytes spell, as the word before them says: itself, a copy of it, or without its last function and its imports.
-pub fn module_of_bytes(alloc: Global, how: &str, parts: &str) -> Result<Option<WasmModule>, AllocError> {
+pub fn module_of_bytes(
+    alloc: Global,
+    how: &str,
+    parts: &str,
+) -> Result<Option<WasmModule>, AllocError> {
     match (module_spelled(alloc, parts)?, how) {
         (Some(module), "copy") => Ok(Some(copy_of(module)?)),
         (Some(module), "shortened") => Ok(Some(shortened(alloc, module))),

@@ -6,7 +6,8 @@ use crate::shown::add_shown;
 use fact_plan_types::{FuseError, PlanTypes};
 use fact_wasm::WasmModule;
 use row_lines::{
-    add_checked, add_lines_of_source, add_of_module, add_of_types, add_run, begins_answer, edited, made_of, word_of,
+    add_checked, add_lines_of_source, add_of_module, add_of_types, add_run, begins_answer, edited,
+    made_of, word_of,
 };
 use std::alloc::{AllocError, Global};
 
