@@ -91,7 +91,8 @@ def examples(program, knows_exceptions, knows_pages):
     """The modules of the examples, each with whether the validator knows all that it needs."""
     for path in sorted(Path("examples").glob("*.json")):
         plan = json.loads(path.read_text())
-        pages = [side["memory"].get("page_size_log2", 16) for adapter in plan["adapters"] for side in (adapter["lift"], adapter["lower"]) if side.get("memory")]
+        sides = [side for adapter in plan["adapters"] for side in (adapter["lift"], adapter["lower"])]
+        pages = [side["memory"].get("page_size_log2", 16) for side in sides if side.get("memory")]
         is_known = (knows_exceptions or not plan.get("tunables", {}).get("exceptions")) and (knows_pages or 0 not in pages)
         done = subprocess.run([program], input=path.read_bytes(), capture_output=True, check=True)
         yield bytes.fromhex(done.stdout.decode().strip()), is_known
