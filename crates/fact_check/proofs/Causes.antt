@@ -16,8 +16,8 @@ use Rattle.fact_wasm.specs.declared.module.WasmImport.{WasmImport}
 use Rattle.fact_wasm.specs.declared.module.WasmFunc.{WasmFunc}
 use Rattle.fact_wasm.specs.declared.module.WasmExport.{WasmExport}
 use Rattle.fact_wasm.specs.declared.module.WasmModule.{WasmModule}
-use Rattle.fact_wasm.specs.Ranges.{HasFunction, AreExportsNamed, InRange}
-use Rattle.fact_wasm.specs.Spelling.{is_function, imported_functions, Spells}
+use Rattle.fact_wasm.specs.Ranges.{HasFunction, AreExportsNamed, InRange, is_function, imported_functions}
+use Rattle.fact_binary.specs.Spelling.{Spells}
 use Rattle.fact_machine.specs.Machine.{func_import}
 use Rattle.fact_machine.specs.Typing.{declares_numbers, function_type, is_memory_type, is_typed_body, is_typed_import, is_typed_export, are_distinct, is_typed_function, typed_function}
 use Rattle.fact_machine.proofs.Tests.{first_of, second_of, both}

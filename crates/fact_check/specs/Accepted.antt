@@ -3,7 +3,7 @@ use Rattle.std.specs.Prelude.{◌≡◌, ◌≢◌, ℕ, ◌<◌, true, false, L
 use Rattle.fact_wasm.specs.declared.module.WasmExport.{WasmExport}
 use Rattle.fact_wasm.specs.declared.module.WasmModule.{WasmModule}
 use Rattle.fact_wasm.specs.Ranges.{InRange}
-use Rattle.fact_wasm.specs.Spelling.{Spells}
+use Rattle.fact_binary.specs.Spelling.{Spells}
 use Rattle.fact_machine.specs.Typing.{typed_function, typed_module}
 use Rattle.fact_check.specs.Imports.{IsAdapterImport}
 use Rattle.fact_check.specs.declared.error.CheckError.{CheckError}

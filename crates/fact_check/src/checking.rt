@@ -15,7 +15,8 @@ use crate::exported::Exported;
 use crate::imports::is_row;
 use crate::section::Section;
 use crate::typing::is_typed_function;
-use fact_wasm::{DecodeError, WasmExport, WasmModule, decode};
+use fact_binary::{DecodeError, decode};
+use fact_wasm::{WasmExport, WasmModule};
 use std::alloc::Global;
 use std::collections::BTreeSet;
 

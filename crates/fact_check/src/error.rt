@@ -18,7 +18,7 @@ pub enum CheckPlace {
 /// Why bytes are no adapter module.
 #[derive(Clone, Copy, Debug, Drop, PartialEq, Eq, Error)]
 pub enum CheckError {
-    /// There was no memory.
+    /// There was no memory, or more bodies stand within one another than [`fact_binary::MAX_NESTING`].
     #[error("out of memory")]
     OutOfMemory,
     /// No module in range is spelled by the bytes.

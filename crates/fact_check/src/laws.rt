@@ -3,7 +3,7 @@
 ghost use Rattle.fact_check.specs.Accepted.{AcceptedHasNoCause};
 ghost use Rattle.fact_check.specs.Soundness.{WellTypedIsNeverStuck};
 
-use fact_wasm::bytes_spell_one_module;
+use fact_binary::bytes_spell_one_module;
 
 /// What well typed modules do. The call does nothing: its contract is the law.
 pub fn laws_of_checked()

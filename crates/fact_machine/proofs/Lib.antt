@@ -1,11 +1,14 @@
 pub mod Answered
+pub mod Asked
 pub mod Bytes
 pub mod Causes
 pub mod Cuts
 pub mod Declared
 pub mod Entries
 pub mod Grows
+pub mod LastTrap
 pub mod Laws
+pub mod Lengths
 pub mod MemoryRows
 pub mod NumericLaws
 pub mod OutsideCalls

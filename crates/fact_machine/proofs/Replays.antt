@@ -90,7 +90,7 @@ does_replays : (p : Plan) (w : World) → IsThere w.state p → Replays w (did_w
 does_replays (Leaps (To vs ls code k)) w h = replays_none w
 does_replays (Leaps (Stops e q)) w h = replays_none w
 does_replays (Sets n v vs ls code k) w h = replays_one w _ w.answers (GlobalSet n v) refl tt
-does_replays (Writes n index memory address value vs ls code k) w h = replays_one w _ w.answers (Stored index address n (value % 256 ^ n)) (written_replays n index address value memory w.state h) tt
+does_replays (Writes n index memory address value vs ls code k) w h = replays_one w _ w.answers (Stored index address n (value % 256 ^ n)) (written_replays n index address value memory w.state h.0) tt
 does_replays (Asks f args vs ls code k) w h = asked_replays f args w w.answers vs ls code k
 
 planned_replays : (w : World) (go : List Answer → List TraceEntry → Did) → Planned w.state go → Replays w (did_world (go w.answers w.trace))

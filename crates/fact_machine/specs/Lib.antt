@@ -1,7 +1,10 @@
+pub mod Asked
 pub mod Causes
 pub mod Cut
 pub mod ExitLaws
 pub mod Exits
+pub mod LastTrap
+pub mod Lengths
 pub mod Machine
 pub mod MemoryLaws
 pub mod Numerics

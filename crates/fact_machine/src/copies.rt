@@ -48,3 +48,12 @@ pub fn copy_answer(answer: &Answer) -> Result<Answer, OutOfMemory>
         Answer::Throws => Ok(Answer::Throws),
     }
 }
+
+impl Answer {
+    /// An equal answer.
+    pub fn try_clone(&self) -> Result<Answer, OutOfMemory>
+        ensures { IfOk result (λ copy. copy ≡ self.now) }
+    {
+        copy_answer(self)
+    }
+}

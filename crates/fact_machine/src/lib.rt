@@ -1,6 +1,7 @@
 //! A machine for the subset of WebAssembly that adapters use.
 #![tactic(auto)]
 
+mod asking;
 mod begin;
 mod branches;
 mod calls;
@@ -24,6 +25,7 @@ mod types;
 mod typing_laws;
 mod values;
 
+pub use asking::Outside;
 pub use exit_laws::laws_of_exits;
 pub use memory_laws::laws_of_memory;
 pub use replay_laws::laws_of_replay;

@@ -16,7 +16,7 @@ use fact_wasm::{FuncName, FuncType, ImportType, Seq, WasmImport, WasmModule};
 use std::alloc::Global;
 
 /// The type index of the nth imported function.
-fn imported_type_index(imports: &[WasmImport], n: u32) -> Option<u32>
+pub fn imported_type_index(imports: &[WasmImport], n: u32) -> Option<u32>
     ensures { result ≡ func_import imports.now n }
 {
     let mut before = n;
@@ -33,7 +33,7 @@ fn imported_type_index(imports: &[WasmImport], n: u32) -> Option<u32>
 }
 
 /// Goes on by an answer that is in the trace already.
-fn follow(run: &mut Running, alloc: Global, answer: &Answer) -> Step
+pub fn follow(run: &mut Running, alloc: Global, answer: &Answer) -> Step
     ensures { IfOk result (λ end. did_of end run.new ≡ at run.old (answering answer.now)) }
 {
     match answer {
@@ -48,7 +48,7 @@ fn follow(run: &mut Running, alloc: Global, answer: &Answer) -> Step
 }
 
 /// A call with these arguments in a state, and its answer.
-fn event_of(
+pub fn event_of(
     func: u32,
     args: Seq<CoreValue>,
     state: &MachineState,

@@ -1,13 +1,15 @@
 //! Runs.
 
-ghost use Rattle.std.specs.Prelude.{◌≡◌, [], ◌∷◌, ◌++◌, IfOk, reverse};
+ghost use Rattle.std.specs.Prelude.{◌≡◌, ◌≢◌, [], ◌∷◌, ◌++◌, IfOk, reverse};
 ghost use Rattle.fact_machine.specs.declared.types.Answer.{Answer};
 ghost use Rattle.fact_machine.specs.Causes.{steps_of, answers_of};
-ghost use Rattle.fact_machine.specs.World.{calls};
+ghost use Rattle.fact_machine.specs.World.{calls, log_of};
+ghost use Rattle.fact_machine.specs.Asked.{DoesAsked, RunsAsked, with_answers, at_with, step_with, exec_with};
 ghost use Rattle.fact_machine.specs.Machine.{At, Bottom, run_of, outcome as outcome_at, begin as begin_of, next, exec, after, at_rest, check, takes as takes_of};
 ghost use Rattle.fact_machine.specs.Running.{world_of, config_of, did_of, at, defined};
 
 use crate::OutOfMemory;
+use crate::asking::{Outside, begin_asked};
 use crate::begin::begin;
 use crate::calls::{call_defined, takes};
 use crate::running::{Running, Step};
@@ -49,6 +51,43 @@ impl Machine {
     {
         let mut run = loaded(alloc, args, state, answers)?;
         match call_and_go_on(&mut run, alloc, module, func, args, steps) {
+            Ok(end) => {
+                let outcome = outcome_of(alloc, run, end)?;
+                Ok(outcome)
+            }
+            Err(error) => {
+                drop(run);
+                Err(error)
+            }
+        }
+    }
+
+    /// Runs the nth function that a module defines, with these arguments, from a state, for at most so many steps, where the
+    /// outside is asked for the answer of each of its calls as they come.
+    ///
+    /// The ends are those of [`Machine::run`], but no answer is lacking. The one error is [`OutOfMemory`], which the outside may
+    /// answer too.
+    pub fn run_with<O: Outside>(
+        alloc: Global,
+        module: &WasmModule,
+        func: u32,
+        args: &[CoreValue],
+        state: &MachineState,
+        outside: &mut O,
+        steps: u64,
+    ) -> Result<Outcome, OutOfMemory>
+        requires { O.lawful outside.old }
+        ensures lawful { O.lawful outside.new }
+        // What stays of the outside at each call stays of it in the run.
+        ensures stays { (first : O) → O.stays first outside.old → O.stays first outside.new }
+        // It is the run that was given the answers of its log.
+        ensures outcome { IfOk result (λ outcome. outcome ≡ run_of «module».now func args.now state.now (answers_of outcome.log) steps) }
+        // The outside answered just the calls of the log.
+        ensures events { IfOk result (λ outcome. O.events outside.new ≡ O.events outside.old ++ outcome.log) }
+        ensures lacks_none { IfOk result (λ outcome. outcome.end ≢ End.Lacks) }
+    {
+        let mut run = loaded(alloc, args, state, &[])?;
+        match call_and_ask(&mut run, alloc, module, func, args, outside, steps) {
             Ok(end) => {
                 let outcome = outcome_of(alloc, run, end)?;
                 Ok(outcome)
@@ -160,6 +199,75 @@ fn advance<'m>(run: &mut Running<'m>, alloc: Global, module: &'m WasmModule) -> 
     let how = settle(run)?;
     match how {
         Settled::Begins => begin(run, alloc, module),
+        Settled::Finished => Ok(Some(End::Returned(results(run, alloc)))),
+        Settled::Breaks => Ok(Some(End::Stuck)),
+    }
+}
+
+/// Calls the nth function that the module defines, where it takes the arguments, and goes on for at most so many steps, with the
+/// outside asked.
+fn call_and_ask<'m, O: Outside>(
+    run: &mut Running<'m>,
+    alloc: Global,
+    module: &'m WasmModule,
+    n: u32,
+    args: &[CoreValue],
+    outside: &mut O,
+    steps: u64,
+) -> Result<End, OutOfMemory>
+    requires none { run.old.answers.now ≡ [] }
+    requires lawful { O.lawful outside.old }
+    ensures lawful { O.lawful outside.new }
+    ensures stays { (first : O) → O.stays first outside.old → O.stays first outside.new }
+    ensures runs { IfOk result (λ end. RunsAsked (λ answers. after (exec «module».now steps) (check (with_answers answers (world_of run.old)) (takes_of «module».now n args.now) (at_with run.old (defined «module».now n) answers))) (O.events outside.old) (O.events outside.new) (log_of (world_of run.old)) end run.new) }
+{
+    if !takes(module, n, args) {
+        return Ok(End::Stuck);
+    }
+    match call_defined(run, alloc, module, n)? {
+        Some(end) => Ok(end),
+        None => go_on_asking(run, alloc, module, outside, steps),
+    }
+}
+
+/// Goes on for at most so many steps, with the outside asked, and answers how that ended.
+fn go_on_asking<'m, O: Outside>(
+    run: &mut Running<'m>,
+    alloc: Global,
+    module: &'m WasmModule,
+    outside: &mut O,
+    steps: u64,
+) -> Result<End, OutOfMemory>
+    requires none { run.old.answers.now ≡ [] }
+    requires lawful { O.lawful outside.old }
+    ensures lawful { O.lawful outside.new }
+    ensures stays { (first : O) → O.stays first outside.old → O.stays first outside.new }
+    ensures runs { IfOk result (λ end. RunsAsked (exec_with «module».now steps run.old) (O.events outside.old) (O.events outside.new) (log_of (world_of run.old)) end run.new) }
+{
+    for _ in 0..steps {
+        if let Some(end) = advance_asking(run, alloc, module, outside)? {
+            return Ok(end);
+        }
+    }
+    rest(run, alloc)
+}
+
+/// One step, with the outside asked.
+fn advance_asking<'m, O: Outside>(
+    run: &mut Running<'m>,
+    alloc: Global,
+    module: &'m WasmModule,
+    outside: &mut O,
+) -> Step
+    requires none { run.old.answers.now ≡ [] }
+    requires lawful { O.lawful outside.old }
+    ensures lawful { O.lawful outside.new }
+    ensures stays { (first : O) → O.stays first outside.old → O.stays first outside.new }
+    ensures does { IfOk result (λ end. DoesAsked (step_with «module».now run.old) (O.events outside.old) (O.events outside.new) (log_of (world_of run.old)) end run.new) }
+{
+    let how = settle(run)?;
+    match how {
+        Settled::Begins => begin_asked(run, alloc, module, outside),
         Settled::Finished => Ok(Some(End::Returned(results(run, alloc)))),
         Settled::Breaks => Ok(Some(End::Stuck)),
     }

@@ -1,6 +1,8 @@
 //! Laws of runs.
 
 ghost use Rattle.fact_machine.specs.RunLaws.{ExecIsReached, RunIsReached, LogIsOfTrace, UntypedIsStuck, EndStays, ReachedStays, OneEnd, NoStep, OneStep, StepsAdd, TraceGrows, LogGrows, TraceKeeps, LogTakesAnswers, NoMoreCalls, MoreAnswers, RunsOnItsAnswers};
+ghost use Rattle.fact_machine.specs.LastTrap.{TrapsAreLast};
+ghost use Rattle.fact_machine.specs.Lengths.{LengthsStay};
 
 /// What holds of runs, whatever their instructions: how outcomes, steps, ends, traces and answers go together. The call does
 /// nothing: its contract is the laws.
@@ -22,4 +24,6 @@ pub fn laws_of_runs()
     ensures no_more_calls { NoMoreCalls }
     ensures more_answers { MoreAnswers }
     ensures runs_on_its_answers { RunsOnItsAnswers }
+    ensures lengths_stay { LengthsStay }
+    ensures traps_are_last { TrapsAreLast }
 {}

@@ -14,8 +14,7 @@ use Rattle.fact_wasm.specs.declared.module.WasmExport.{WasmExport}
 use Rattle.fact_wasm.specs.declared.module.WasmFunc.{WasmFunc}
 use Rattle.fact_wasm.specs.declared.module.WasmImport.{WasmImport}
 use Rattle.fact_wasm.specs.declared.module.WasmModule.{WasmModule}
-use Rattle.fact_wasm.specs.Ranges.{AreBodiesRanged, AreRanged}
-use Rattle.fact_wasm.specs.Spelling.{imported_functions, is_function}
+use Rattle.fact_wasm.specs.Ranges.{AreBodiesRanged, AreRanged, imported_functions, is_function}
 use Rattle.fact_wasm.proofs.Ranged.{all-append}
 use Rattle.fact_machine.specs.Trace.{Grows}
 use Rattle.fact_types.specs.Adapters.{LinkedAdapter}

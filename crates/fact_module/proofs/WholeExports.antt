@@ -11,8 +11,7 @@ use Rattle.fact_wasm.specs.declared.instr.FuncName.TheVariants as func
 use Rattle.fact_wasm.specs.declared.module.WasmExport.{WasmExport}
 use Rattle.fact_wasm.specs.declared.module.WasmFunc.{WasmFunc}
 use Rattle.fact_wasm.specs.declared.types.FuncType.{FuncType}
-use Rattle.fact_wasm.specs.Ranges.{AreExportsNamed, HasFunction}
-use Rattle.fact_wasm.specs.Spelling.{imported_functions}
+use Rattle.fact_wasm.specs.Ranges.{AreExportsNamed, HasFunction, imported_functions}
 use Rattle.fact_types.specs.Adapters.{LinkedAdapter}
 use Rattle.fact_types.specs.declared.import.Import.{Import}
 use Rattle.fact_types.specs.Tables.{Tables}

@@ -1,7 +1,7 @@
 -- The module of a plan, with its bytes and its imports.
 use Rattle.std.specs.Prelude.{ℕ, None, Some, slice_get}
 use Rattle.fact_wasm.specs.Ranges.{InRange}
-use Rattle.fact_wasm.specs.Spelling.{Spells}
+use Rattle.fact_binary.specs.Spelling.{Spells}
 use Rattle.fact_plan.specs.declared.plan.FusePlan.{FusePlan}
 use Rattle.fact_checks.specs.Adapters.{adapters_of}
 use Rattle.fact_plan_types.specs.PlanTypes.{tuple_number}

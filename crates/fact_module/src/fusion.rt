@@ -8,15 +8,16 @@ ghost use Rattle.fact_checks.specs.Links.{IsFirstHere};
 ghost use Rattle.fact_module.specs.Fusing.{HasTakenAll, HasTakenTo};
 ghost use Rattle.fact_module.specs.Fused.{IsFused};
 ghost use Rattle.fact_wasm.specs.Ranges.{InRange};
-ghost use Rattle.fact_wasm.specs.Spelling.{Spells};
+ghost use Rattle.fact_binary.specs.Spelling.{Spells};
 
 use crate::module::Module;
+use fact_binary::encode;
 use fact_checks::{FuseError, candidate_of, linked_adapter};
 use fact_emit::tunables::{Tunables, WasmFeatures};
 use fact_plan::{FusePlan, PlanAdapter};
 use fact_plan_types::PlanTypes;
 use fact_types::Import;
-use fact_wasm::{OutOfMemory, Seq, WasmModule, encode};
+use fact_wasm::{OutOfMemory, Seq, WasmModule};
 use std::alloc::{AllocError, Global};
 
 /// An adapter module: as a tree, as the bytes that spell it, and what its imports are, in the order of its import section.

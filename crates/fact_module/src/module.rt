@@ -2,7 +2,7 @@
 
 ghost use Rattle.std.specs.Prelude.{◌≡◌, ◌↔◌, ◌++◌, ◌∷◌, ◌<◌, ◌≤◌, [], List, true, false, Err, length, IfErr, IfOk, IfSome, IsTrue, OnErr, OnOk};
 ghost use Rattle.fact_wasm.specs.Ranges.{InRange};
-ghost use Rattle.fact_wasm.specs.Spelling.{Spells};
+ghost use Rattle.fact_binary.specs.Spelling.{Spells};
 ghost use Rattle.fact_plan_types.specs.PlanTypes.{told};
 ghost use Rattle.fact_plan_types.specs.declared.error.Place.TheVariants as place_at;
 ghost use Rattle.fact_checks.specs.Linked.{IsLinked, NamesTypesOf};
@@ -23,6 +23,7 @@ use crate::dfg::ComponentDfg;
 use crate::linking::link_adapter;
 use crate::taken::{TakenAdapter, copy_candidate};
 use crate::typed::check_types;
+use fact_binary::encode;
 use fact_builder::ComponentTypesBuilder;
 use fact_checks::{AdapterChecks, Candidate, FuseError};
 use fact_compound::functions::compile;
@@ -31,7 +32,7 @@ use fact_emit::tunables::{Tunables, WasmFeatures};
 use fact_entity::{AdapterId, EntityRef};
 use fact_type_rules::FunctionTypes;
 use fact_types::Import;
-use fact_wasm::{OutOfMemory, Seq, WasmModule, encode};
+use fact_wasm::{OutOfMemory, Seq, WasmModule};
 use std::alloc::{AllocError, Global};
 use std::marker::Model;
 

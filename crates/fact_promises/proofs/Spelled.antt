@@ -2,8 +2,8 @@
 use Rattle.std.proofs.Common.{◌≡◌, ℕ}
 use Rattle.fact_wasm.specs.declared.instr.Instr.{Instr, out-Instr, fold_out-Instr, map-Instr}
 use Rattle.fact_wasm.specs.declared.instr.Instr.TheVariants as I
-use Rattle.fact_wasm.specs.Grammar.{InstrNode, code, instr_node, node}
-use Rattle.fact_wasm.specs.Numbers.{groups, needed, count, unsigned}
+use Rattle.fact_binary.specs.Grammar.{InstrNode, code, instr_node, node}
+use Rattle.fact_binary.specs.Numbers.{groups, needed, count, unsigned}
 use Rattle.fact_promises.specs.Worked.{OneNumberIsSpelled}
 use Rattle.fact_promises.specs.WorkedTexts.{OneTextIsSpelled}
 

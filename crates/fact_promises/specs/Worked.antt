@@ -1,7 +1,7 @@
 -- Worked modules, each with a run of its adapter's function that meets all that the promise on runs asks of one (`Behaves`), so that the
 -- promise says something of it.
 use Rattle.std.specs.Prelude.{◌≡◌, ℕ, ◌+◌, ◌*◌, ◌≤◌, true, false, List, [], ◌∷◌, None, codes}
-use Rattle.fact_wasm.specs.Spelling.{spelling}
+use Rattle.fact_binary.specs.Spelling.{spelling}
 use Rattle.fact_wasm.specs.declared.instr.BlockType.TheVariants.{Empty}
 use Rattle.fact_wasm.specs.declared.instr.FuncName.TheVariants as func
 use Rattle.fact_wasm.specs.declared.instr.Instr.{Instr}

@@ -1,7 +1,7 @@
 -- A worked module of an adapter that takes a list of texts, from UTF-8 to UTF-8, with a run of it that moves one text: what the promise on
 -- runs asks of a run holds of it. Both memories have pages of one byte.
 use Rattle.std.specs.Prelude.{◌≡◌, ℕ, true, false, List, [], ◌∷◌, Option, None, Some, codes}
-use Rattle.fact_wasm.specs.Spelling.{spelling}
+use Rattle.fact_binary.specs.Spelling.{spelling}
 use Rattle.fact_wasm.specs.declared.instr.BlockType.TheVariants.{Empty}
 use Rattle.fact_wasm.specs.declared.instr.FuncName.TheVariants as func
 use Rattle.fact_wasm.specs.declared.instr.Instr.{Instr}

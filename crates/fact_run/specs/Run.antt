@@ -6,7 +6,7 @@ use Rattle.hex.specs.Hex.{encode_lower}
 use Rattle.serde_json.specs.Data.{Data}
 use Rattle.fact_wasm.specs.declared.module.WasmModule.{WasmModule}
 use Rattle.fact_wasm.specs.Ranges.{InRange}
-use Rattle.fact_wasm.specs.Spelling.{Spells}
+use Rattle.fact_binary.specs.Spelling.{Spells}
 use Rattle.fact_io.specs.Faults.{Rose}
 use Rattle.fact_io.specs.Transfers.{AppendsFront, TakesAll}
 use Rattle.fact_plan.specs.declared.plan.FusePlan.{FusePlan}

@@ -14,10 +14,11 @@ ghost use Rattle.fact_run.specs.Run.{HoldsPlan, Prints, configured, limit};
 use crate::command::CommandOptions;
 use crate::page::page_text;
 use crate::refusal::refusal_line;
+use fact_binary::bytes_spell_one_module;
 use fact_io::{InputError, Source, read_all};
 use fact_module::{FuseError, FusePlan, PlanTunables, check_plan, fuse};
 use fact_plan::{PlanFault, fault_line, plan_of, read_value};
-use fact_wasm::{OutOfMemory, bytes_spell_one_module};
+use fact_wasm::OutOfMemory;
 use std::alloc::{AllocError, Global};
 
 /// What a run has to tell.

@@ -4,6 +4,7 @@ ghost use Rattle.std.specs.Prelude.{◌<◌, All, IsTrue, length};
 ghost use Rattle.fact_types.specs.Tables.{IsLive};
 
 use crate::plans::{edited, end_in};
+use fact_binary::encode;
 use fact_builder::ComponentTypesBuilder as Builder;
 use fact_entity::{AdapterId, EntityRef, PushError};
 use fact_making::{make_option, make_tuple};
@@ -14,7 +15,7 @@ use fact_module::{
 use fact_types::{
     InterfaceType, Lookup, ModuleInternedTypeIndex, TypeFunc, TypeFuncIndex, TypeTupleIndex,
 };
-use fact_wasm::{FuncType, Seq, Text, ValType, WasmModule, encode};
+use fact_wasm::{FuncType, Seq, Text, ValType, WasmModule};
 use std::alloc::{AllocError, Global};
 use std::process::Abort;
 use std::test::Fail;

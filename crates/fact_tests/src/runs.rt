@@ -1,7 +1,8 @@
-//! What no row tells of runs: the answers in their logs, and references as arguments.
+//! What no row tells of runs: the answers in their logs, references as arguments, and an outside that is asked.
 
-use fact_machine::{Answer, CoreValue, End, Machine, MachineState, Outcome};
-use fact_wasm::{DecodeError, FuncName, Seq, WasmModule, decode};
+use fact_binary::{DecodeError, decode};
+use fact_machine::{Answer, CoreValue, End, Event, Machine, MachineState, Outcome, Outside};
+use fact_wasm::{FuncName, OutOfMemory, Seq, WasmModule};
 use std::alloc::{AllocError, Global};
 use std::process::Abort;
 use std::test::Fail;
@@ -91,4 +92,88 @@ fn say_given(rt: &impl Abort, alloc: Global, func: FuncName) -> Result<(), Fail>
 fn references_are_given(rt: HostRuntime) -> Result<(), Fail> {
     say_given(&rt, rt.alloc(), FuncName::Defined(0))?;
     say_given(&rt, rt.alloc(), FuncName::Import(0))
+}
+
+/// An outside that gives one answer to each call, and keeps the calls that it answered.
+#[derive(Drop)]
+struct Steady {
+    alloc: Global,
+    answer: Answer,
+    asked: Seq<Event>,
+}
+
+impl Outside for Steady {
+    ghost events = { λ s. s.asked };
+
+    ghost lawful = { λ s. Unit {0} };
+
+    ghost stays = { λ a b. Unit {0} };
+
+    fn answer(
+        &mut self,
+        func: u32,
+        args: &[CoreValue],
+        state: &MachineState,
+    ) -> Result<Answer, OutOfMemory> {
+        let args = Vec::from_slice(self.alloc, args)?;
+        let event = Event {
+            func,
+            args: Seq::from_vec(args),
+            before: state.try_clone()?,
+            answer: self.answer.try_clone()?,
+        };
+        let answer = self.answer.try_clone()?;
+        self.asked.push(event)?;
+        Ok(answer)
+    }
+}
+
+/// Runs the function that calls the imported one, from a global of 3, with an outside that is asked.
+fn run_asking(alloc: Global, outside: &mut Steady) -> Result<Outcome, DecodeError> {
+    let module = module(alloc)?;
+    let state = state_of(alloc, 3)?;
+    let args = [CoreValue::I32(5)];
+    let outcome = Machine::run_with(alloc, &module, 0, &args, &state, outside, 100);
+    drop(module);
+    Ok(outcome?)
+}
+
+/// Whether these are one call, with the argument 5 and from a global of 3, that was answered by 6 and a global of 8.
+fn is_one_call(calls: &[Event]) -> bool {
+    match calls {
+        [call] => {
+            call.func == 0
+                && call.args.as_slice() == [CoreValue::I32(5)].as_slice()
+                && call.before.globals.as_slice() == [CoreValue::I32(3)].as_slice()
+                && is_answer(&call.answer, 6, 8)
+        }
+        _ => false,
+    }
+}
+
+#[test]
+fn outside_is_asked(rt: HostRuntime) -> Result<(), Fail> {
+    let mut outside = Steady {
+        alloc: rt.alloc(),
+        answer: answer_of(rt.alloc(), 6, 8)?,
+        asked: Seq::new(rt.alloc()),
+    };
+    let outcome = run_asking(rt.alloc(), &mut outside)?;
+    assert!(rt; returned(&outcome, CoreValue::I32(6)));
+    assert!(rt; is_one_call(outcome.log.as_slice()));
+    assert!(rt; is_one_call(outside.asked.as_slice()));
+    Ok(())
+}
+
+#[test]
+fn trap_of_the_outside_ends_a_run(rt: HostRuntime) -> Result<(), Fail> {
+    let mut outside = Steady {
+        alloc: rt.alloc(),
+        answer: Answer::Traps,
+        asked: Seq::new(rt.alloc()),
+    };
+    let outcome = run_asking(rt.alloc(), &mut outside)?;
+    assert!(rt; matches!(outcome.end, End::Trapped));
+    assert_eq!(rt; outside.asked.len(), 1);
+    Ok(())
 }

@@ -1,15 +1,8 @@
--- What an instruction is by its outermost layer, at which the definitions compute.
-use Rattle.std.proofs.Common.{◌≡◌, ℕ, List, sym, ap, ◌∙◌}
+-- The points of an instruction by its outermost layer, at which the definitions compute.
+use Rattle.std.proofs.Common.{◌≡◌, List, sym, ap, ◌∙◌}
 use Rattle.fact_wasm.specs.declared.instr.Instr.{Instr, Instr-F, roll-Instr, map-Instr, fold-roll-Instr}
-use Rattle.fact_wasm.specs.Grammar.{InstrNode, instr_node, node, opcode}
 use Rattle.fact_wasm.specs.Ranges.{Point, points, points_row}
 
 module _ (i : Instr) (x : Instr-F Instr) (e : roll-Instr x ≡ i) where
-  pub node-layer : (n : ℕ) → node n i ≡ instr_node n (map-Instr Instr InstrNode (node n) x)
-  node-layer n = ap (node n) (sym e) ∙ fold-roll-Instr InstrNode (instr_node n) x
-
-  pub opcode-layer : (n : ℕ) → opcode (node n i) ≡ opcode (instr_node n (map-Instr Instr InstrNode (node n) x))
-  opcode-layer n = ap opcode (node-layer n)
-
   pub points-layer : points i ≡ points_row (map-Instr Instr (List Point) points x)
   points-layer = ap points (sym e) ∙ fold-roll-Instr (List Point) points_row x

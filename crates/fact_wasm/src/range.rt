@@ -1,9 +1,8 @@
-//! Whether a module is in the range of the binary format.
+//! Whether a module is in range: what it names is there, and its numbers have a place in the binary format.
 
 ghost use Rattle.std.specs.Prelude.{◌≡◌, ◌↔◌, ℕ, ◌<◌, IsTrue, count_by};
 ghost use Rattle.std.specs.List.{AllByRecursion};
-ghost use Rattle.fact_wasm.specs.Ranges.{HasFunction, IsPoint, AreRanged, AreBodiesRanged, AreExportsNamed, InRange, points};
-ghost use Rattle.fact_wasm.specs.Spelling.{is_function};
+ghost use Rattle.fact_wasm.specs.Ranges.{HasFunction, IsPoint, AreRanged, AreBodiesRanged, AreExportsNamed, InRange, is_function, points};
 
 use crate::instr::{FuncName, Instr};
 use crate::module::{ImportType, WasmExport, WasmFunc, WasmImport, WasmModule};

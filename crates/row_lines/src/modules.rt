@@ -11,7 +11,8 @@
 use crate::runs::add_run;
 use crate::trees::add_tree;
 use crate::words::{first_of, number_of};
-use fact_wasm::{DecodeError, FuncName, Seq, WasmModule, decode, encode};
+use fact_binary::{DecodeError, decode, encode};
+use fact_wasm::{FuncName, Seq, WasmModule};
 use std::alloc::{AllocError, Global};
 
 /// Adds a part of bytes, and answers whether it is one.

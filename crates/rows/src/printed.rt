@@ -1,7 +1,8 @@
 //! Modules of blocks: those that the command prints for their plans, and those of their bytes.
 
 use crate::command::{plain, run_on};
-use fact_wasm::{WasmModule, decode};
+use fact_binary::decode;
+use fact_wasm::WasmModule;
 use row_lines::{module_of_bytes, word_of};
 use std::alloc::{AllocError, Global};
 

@@ -3,6 +3,8 @@ use Rattle.fact_machine.proofs.Answered.{log_takes, no_more_calls, more_answers,
 use Rattle.fact_machine.proofs.Laws.{exec_is, run_is, reach_stays, comes_silent, comes_one, comes_on}
 use Rattle.fact_machine.proofs.WholeRuns.{run_untyped, run_stays, run_one_end}
 use Rattle.fact_machine.proofs.Grows.{run_log, run_trace_more, run_log_more, trace_grows}
+use Rattle.fact_machine.proofs.LastTrap.{traps_are_last}
+use Rattle.fact_machine.proofs.Lengths.{lengths_stay}
 use Rattle.fact_machine.proofs.run_laws.laws_of_runs.Goals as goal
 
 pub returns : goal.returns
@@ -24,4 +26,6 @@ returns c = record {
   no_more_calls = no_more_calls;
   more_answers = more_answers;
   runs_on_its_answers = runs_on_its_answers;
+  lengths_stay = lengths_stay;
+  traps_are_last = traps_are_last;
 }

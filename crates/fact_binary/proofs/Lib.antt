@@ -1,0 +1,13 @@
+mod Groups
+mod Items
+mod Layers
+mod Leaves
+mod OneModule
+mod Parts
+mod Read
+mod Rebuilt
+mod Sections
+mod ShortestForms
+mod Signed
+mod Unique
+mod Written

@@ -1,0 +1,9 @@
+pub mod Answers
+pub mod Encode
+pub mod Forms
+pub mod Grammar
+pub mod Numbers
+pub mod Owned
+pub mod Rebuild
+pub mod Spelling
+pub mod Values

@@ -1,5 +1,0 @@
-use Rattle.fact_wasm.proofs.OneModule.{in_range_one}
-use Rattle.fact_wasm.proofs.decoder.bytes_spell_one_module.Goals as goal
-
-pub returns : goal.returns
-returns c = in_range_one
