@@ -553,7 +553,7 @@ def main(program, validator, seed, count):
     forms = Counter()
     for number in range(count):
         plan = Plan(f"{seed} {number}")
-        words = plan.random.choice([[], [], ["--debug"], [f"--fuel={plan.random.randint(1, 1000000)}"]])
+        words = plan.random.choice([[], ["--debug"]]) + plan.random.choice([[], *([f"--fuel={fuel}"] for fuel in (1, 2, 5, 41, 100, plan.random.randint(1, 1000000)))])
         try:
             runner.judge(plan, words)
         except (Wrong, LookupError, ValueError) as wrong:

@@ -1,7 +1,9 @@
 -- The functions of async adapters that move values: their bodies over locals that were added for them, and the module that they are put into.
-use Rattle.std.proofs.Common.{◌≡◌, ℕ, suc, Bool, true, false, List, [], ◌∷◌, ◌++◌, Some, refl, sym, ap, ◌∙◌, subst, arith, append-nil, length, length-append, map, drop, reverse, slice_get, IfOk, Result, Ok, Err}
+use Rattle.std.proofs.Common.{◌≡◌, ◌<◌, ◌+◌, ℕ, suc, Bool, true, false, List, [], ◌∷◌, ◌++◌, Some, refl, sym, ap, ◌∙◌, subst, arith, append-nil, length, length-append, map, drop, reverse, slice_get, IfOk, Result, Ok, Err}
 use Rattle.std.specs.Prelude.{is_some}
+use Rattle.std.specs.List.{AllZip}
 use Rattle.fact_wasm.specs.CoreTypes.{signature}
+use Rattle.fact_wasm.proofs.Ranged.{all-first, all-second}
 use Rattle.fact_wasm.specs.declared.instr.FuncName.TheVariants as func
 use Rattle.fact_wasm.specs.declared.module.WasmFunc.{WasmFunc}
 use Rattle.fact_wasm.specs.declared.module.WasmModule.{WasmModule}
@@ -27,20 +29,27 @@ use Rattle.fact_pieces.specs.Places.{AreHeld, AreLocals, AreUsed}
 use Rattle.fact_pieces.specs.Typed.{OnStack, IsTyped}
 use Rattle.fact_pieces.proofs.TypedShapes.{typed_body}
 use Rattle.fact_emit.specs.Brought.{Brought}
+use Rattle.fact_emit.specs.Asked.{HasHelper, HasHelpers}
 use Rattle.fact_emit.specs.Emits.{Later}
 use Rattle.fact_emit.specs.Imports.{Extended, AreOnce, Serves}
 use Rattle.fact_emit.specs.Places.{AreDistinctSlots}
-use Rattle.fact_emit.specs.States.{ModuleSoFar, HasType, KeepsDefined, export_as, functions_of, globals_of, memories_of, with_callee}
+use Rattle.fact_emit.specs.States.{ModuleSoFar, HasType, KeepsDefined, export_as, functions_of, globals_of, memories_of, with_callee, next_number}
 use Rattle.fact_emit.specs.Writers.{AddedLocal, AreNumberTypes, is_local_in_use, taken_in, types_of_locals, used_local_of}
 use Rattle.fact_emit.specs.declared.writer.Local.{Local}
 use Rattle.fact_emit.specs.declared.writer.Writer.{Writer}
 use Rattle.fact_emit.proofs.BroughtLaws.{brought_between}
+use Rattle.fact_emit.proofs.KnownLaws.{extended_type}
 use Rattle.fact_emit.proofs.DefinedKept.{defined_brought, defined_type, extended_defined}
 use Rattle.fact_emit.proofs.ImportLaws.{extended_on, grown_get, grows_none, grows_on}
 use Rattle.fact_emit.proofs.Locals.{get_map}
 use Rattle.fact_emit.proofs.ServingLaws.{serves_sooner}
+use Rattle.fact_emit.specs.NamedFunctions.{defined_named}
+use Rattle.fact_translate.specs.declared.fuel.Fuel.{Fuel}
+use Rattle.fact_compound.specs.Keys.{IsKeyOfAdapter, part_asks}
+use Rattle.fact_compound.specs.Translated.{IsFullFuel}
+use Rattle.fact_compound.specs.Asks.{AreNewAsked, Having}
 use Rattle.fact_compound.specs.AsyncParts.{PartSlots, callee_name, part_action, part_name, part_type}
-use Rattle.fact_compound.specs.Asyncs.{CompiledAsync, CompiledPart, DoesPartBody, EmitsPart, HasPartLocals, IsPartFunction, PartSignature, WroteBodyOfPart, WrotePart, pointer_types, value_types, values_among}
+use Rattle.fact_compound.specs.Asyncs.{AskingAsync, AskingPart, CompiledPart, DoesPartBody, EmitsPart, HasPartLocals, IsPartFunction, PartSignature, WroteBodyOfPart, WrotePart, pointer_types, value_types, values_among}
 use Rattle.fact_compound.specs.Code.{slot_types}
 use Rattle.fact_compound.specs.Described.{DescribesTransfers, KnowsAdapterData, side_sig}
 use Rattle.fact_compound.specs.Entries.{CompiledEntry}
@@ -54,6 +63,8 @@ use Rattle.fact_compound.proofs.ResultPlaces.{lower_pointer_flat}
 use Rattle.fact_compound.proofs.Runs.{declares_all, numbers_append, numbers_behind, numbers_front}
 use Rattle.fact_compound.proofs.SlotsFrom.{args_held, distinct_from, held_entry, locals_from, same_place, split, used_from, used_types}
 use Rattle.fact_compound.proofs.WholeFunctions.{address_numbers, drop_long, drop_mapped, flats_numbers, once_same, typed_within, unless_numbers}
+use Rattle.fact_compound.proofs.KeyLaws.{part_keys}
+use Rattle.fact_compound.proofs.AsksLaws.{asks_behind, asks_kept, asks_on, asks_same, defined_new, entry_functions, entry_later, entry_new, new_alike, new_on, type_new}
 
 -- ---- the types of their core signatures
 
@@ -124,8 +135,8 @@ return_signature_given t d {x} {lower} {lift} r is l f h =
 
 -- ---- the body
 
-module _ {t : Tables} {d : AdapterData} {debug concurrency : Bool} (x : AsyncPart) {s : Signature} {a0 b c e f : Writer} {l : PartSlots} (no_code : a0.code.items ≡ []) (no_locals : a0.locals.items ≡ [])
-    (x1 : AddedLocals a0 b s.params l.args) (x2 : AddedLocal b c val.I32 l.saved) (x3 : AddedLocals c e s.results l.given) (values : values_among t d x l.args l.values) (y : EmitsPart t d debug concurrency x l e f) where
+module _ {t : Tables} {d : AdapterData} {debug concurrency : Bool} (x : AsyncPart) {s : Signature} {before after : Fuel} {a0 b c e f : Writer} {l : PartSlots} (no_code : a0.code.items ≡ []) (no_locals : a0.locals.items ≡ [])
+    (x1 : AddedLocals a0 b s.params l.args) (x2 : AddedLocal b c val.I32 l.saved) (x3 : AddedLocals c e s.results l.given) (values : values_among t d x l.args l.values) (y : EmitsPart t d debug concurrency x l before after e f) where
   abbrev types : List ValType
   types = s.params ++ val.I32 ∷ s.results
 
@@ -197,11 +208,11 @@ module _ {t : Tables} {d : AdapterData} {debug concurrency : Bool} (x : AsyncPar
               distinct = all_distinct;
             }
 
-    body_does : (M : WasmModule) (p : ImportPlaces) → Serves M p f.imports → KnowsAdapterData M p d a → DoesPartBody x u a M p (types_of_locals f) f.code.items
-    body_does M p serves links =
+    body_does : (M : WasmModule) (p : ImportPlaces) → Serves M p f.imports → HasHelpers M p y.asks → KnowsAdapterData M p d a → DoesPartBody x u a M p (types_of_locals f) f.code.items
+    body_does M p serves has links =
         let g = y.emits u a h on in
         let later : Later f M p (types_of_locals f) = record { serves = serves; begin = grows_none refl } in
-        let m = g.does M p (types_of_locals f) later in
+        let m = g.does M p (types_of_locals f) later has in
         let code : f.code.items ≡ g.grew.added = g.grew.code ∙ ap (λ k. k ++ g.grew.added) (added.code ∙ no_code) in
         let there : l.args ≡ slots_from 0 (part_type x a).params = args_are ∙ ap (slots_from 0) params_are in
         record {
@@ -210,7 +221,7 @@ module _ {t : Tables} {d : AdapterData} {debug concurrency : Bool} (x : AsyncPar
         }
 
   -- The body was written, with its locals.
-  pub wrote_part_body : WroteBodyOfPart t d debug concurrency x s a0 f
+  pub wrote_part_body : WroteBodyOfPart t d debug concurrency x s before a0 f
   wrote_part_body =
       let g = y.grew in
       let body : f.code.items ≡ g.added = g.code ∙ ap (λ k. k ++ g.added) (added.code ∙ no_code) in
@@ -221,12 +232,16 @@ module _ {t : Tables} {d : AdapterData} {debug concurrency : Bool} (x : AsyncPar
         brought = brought_between added.imports refl (subst (Brought e.imports f.imports) (sym body) g.brought);
         params = grows_on first (subst (λ ts. Grows ts (types_of_locals f)) types_are g.locals);
         numbers = λ n. g.numbers (subst (λ ts. AreNumberTypes ts) (sym types_are) (numbers_append s.params (val.I32 ∷ s.results) (numbers_front s.params s.results n) (numbers_append (val.I32 ∷ []) s.results refl (numbers_behind s.params s.results n))));
-        is = λ u a h on is M p serves links. body_does h on is M p serves links;
+        asks = y.asks;
+        asked = asks_same added.imports refl y.asked;
+        named = ap defined_named body ∙ g.calls;
+        keys = λ full u a h. part_keys concurrency x after y.asks y.translated full h;
+        is = λ u a h on is M p serves has links. body_does h on is M p serves has links;
       }
 
 -- ---- the function
 
-module _ {t : Tables} {d : AdapterData} {debug concurrency : Bool} {x : AsyncPart} {s : Signature} {ty : ℕ} {a0 c : Writer} (w : WroteBodyOfPart t d debug concurrency x s a0 c) {old new : ModuleSoFar} (before : a0.imports ≡ old) (after : new ≡ c.imports) (f : WasmFunc)
+module _ {t : Tables} {d : AdapterData} {debug concurrency : Bool} {x : AsyncPart} {s : Signature} {ty : ℕ} {fuel : ℕ} {before_fuel : Fuel} (full : IsFullFuel before_fuel) (same_fuel : before_fuel.initial ≡ fuel) {a0 c : Writer} (w : WroteBodyOfPart t d debug concurrency x s before_fuel a0 c) {old new : ModuleSoFar} (before : a0.imports ≡ old) (after : new ≡ c.imports) (f : WasmFunc)
     (ty_is : f.ty ≡ ty) (body_is : f.body ≡ c.code.items) (locals_are : local_types f.locals ≡ map (λ (l : Local). l.ty) (drop (length s.params) c.locals.items)) where
   declared : local_types f.locals ≡ w.params.more
   declared = locals_are ∙ drop_mapped (λ (l : Local). l.ty) (length s.params) c.locals.items ∙ ap (drop (length s.params)) w.params.is ∙ drop_long s.params w.params.more
@@ -234,9 +249,9 @@ module _ {t : Tables} {d : AdapterData} {debug concurrency : Bool} {x : AsyncPar
   all_types : types_of_locals c ≡ s.params ++ local_types f.locals
   all_types = w.params.is ∙ ap (λ ts. s.params ++ ts) (sym declared)
 
-  module _ {u : AdapterTunables} {a : LinkedAdapter} (h : DescribesTransfers t d debug u a) (on : u.concurrency ≡ concurrency) (is : signature s.params s.results ≡ part_type x a) {M : WasmModule} {p : ImportPlaces} (serves : Serves M p new) (links : KnowsAdapterData M p d a) where
+  module _ {u : AdapterTunables} {a : LinkedAdapter} (h : DescribesTransfers t d debug u a) (on : u.concurrency ≡ concurrency) (is : signature s.params s.results ≡ part_type x a) {M : WasmModule} {p : ImportPlaces} (serves : Serves M p new) (has : HasHelpers M p w.asks) (links : KnowsAdapterData M p d a) where
     body : DoesPartBody x u a M p (types_of_locals c) c.code.items
-    body = w.is u a h on is M p (subst (λ s. Serves M p s) after serves) links
+    body = w.is u a h on is M p (subst (λ s. Serves M p s) after serves) has links
 
     locals_is : types_of_locals c ≡ (part_type x a).params ++ local_types f.locals
     locals_is = all_types ∙ ap (λ (ty : FuncType). ty.params ++ local_types f.locals) is
@@ -260,60 +275,95 @@ module _ {t : Tables} {d : AdapterData} {debug concurrency : Bool} {x : AsyncPar
     }
 
   -- The function of the body was written.
-  pub wrote_part : WrotePart t d debug concurrency x s ty old new f
+  pub wrote_part : WrotePart t d debug concurrency fuel x s ty old new f
   wrote_part = record {
     ty = ty_is;
     imports = subst (λ s. Extended s new) before (subst (λ s. Extended a0.imports s) (sym after) w.imports);
     once = λ o. subst AreOnce (sym after) (w.once (subst AreOnce (sym before) o));
     brought = subst (Brought old new) (sym body_is) (brought_between before (sym after) w.brought);
-    is = λ u a h on is M p serves links. is_function h on is serves links;
+    asks = w.asks;
+    asked = asks_same before (sym after) w.asked;
+    keys = λ u a h. record {
+      named = ap defined_named body_is ∙ w.named;
+      are = subst (λ n. AllZip (IsKeyOfAdapter t d debug concurrency a) w.asks (part_asks x n a)) same_fuel (w.keys full u a h);
+    };
+    is = λ u a h on is M p serves has links. is_function h on is serves has links;
   }
 
 -- ---- the module
 
 -- The function was put into the module.
-pub compiled_part : {t : Tables} {d : AdapterData} {debug concurrency : Bool} (x : AsyncPart) {s : Signature} {s0 s1 s2 s3 s4 : ModuleSoFar} {n k : ℕ} {f : WasmFunc} {name : List ℕ} → PartSignature t d x s → slice_get s1.types n ≡ Some (signature s.params s.results) → HasType s0 s1 (signature s.params s.results) → Extended s0 s1 → (AreOnce s0 → AreOnce s1)
-    → WrotePart t d debug concurrency x s n s1 s2 f → k ≡ length s2.functions → s3 ≡ record s2 { functions = s2.functions ++ f ∷ [] } → name ≡ part_name x d.name → s4 ≡ record s3 { exports = s3.exports ++ export_as name (func.Defined k) ∷ [] } → CompiledPart t d debug concurrency x s0 s4
-compiled_part {d = d} x {s} {s0} {s1} {s2} {s3} {s4} {n} {k} {f} {name} sig place has keeps once w number defined named exported =
+pub compiled_part : {t : Tables} {d : AdapterData} {debug concurrency : Bool} {fuel : ℕ} (x : AsyncPart) {s : Signature} {s0 s1 s2 s3 s4 : ModuleSoFar} {n k : ℕ} {f : WasmFunc} {name : List ℕ} → length s0.functions < s0.numbered → PartSignature t d x s → slice_get s1.types n ≡ Some (signature s.params s.results) → HasType s0 s1 (signature s.params s.results) → Extended s0 s1 → (AreOnce s0 → AreOnce s1)
+    → WrotePart t d debug concurrency fuel x s n s1 s2 f → k ≡ length s2.functions → s3 ≡ record s2 { functions = s2.functions ++ f ∷ [] } → name ≡ part_name x d.name → s4 ≡ record s3 { exports = s3.exports ++ export_as name (func.Defined k) ∷ [] } → AskingPart t d debug concurrency fuel x s0 s4
+compiled_part {d = d} x {s} {s0} {s1} {s2} {s3} {s4} {n} {k} {f} {name} ahead sig place has keeps once w number defined named exported =
     let shown : List ℕ = part_name x d.name in
     let same : s4 ≡ record s2 { functions = s2.functions ++ f ∷ []; exports = s2.exports ++ export_as shown (func.Defined k) ∷ [] } =
     exported ∙ (λ i. record (defined i) { exports = (defined i).exports ++ export_as (named i) (func.Defined k) ∷ [] }) in
     let before : KeepsDefined s0 s1 = defined_type has in
     let kept : KeepsDefined s1 s2 = defined_brought w.brought in
-    let last : Extended s2 s4 = extended_defined (ap (λ (s : ModuleSoFar). s.types) same) (ap (λ (s : ModuleSoFar). s.section) same) (ap (λ (s : ModuleSoFar). s.imports) same) in
+    let last : Extended s2 s4 = extended_defined (ap (λ (s : ModuleSoFar). s.types) same) (ap (λ (s : ModuleSoFar). s.section) same) (ap (λ (s : ModuleSoFar). s.imports) same) (ap (λ (s : ModuleSoFar). s.helpers) same) (ap (λ (s : ModuleSoFar). s.numbered) same) in
     record {
-      function = f;
-      puts = record {
-        ty = signature s.params s.results;
-        declared = s1;
-        declares = has;
-        written = s2;
-        brought = w.brought;
-        is_last = same ∙ ap (λ j. record s2 { functions = s2.functions ++ f ∷ []; exports = s2.exports ++ export_as shown (func.Defined j) ∷ [] }) number;
-        functions = ap (λ (s : ModuleSoFar). s.functions) same ∙ ap (λ fs. fs ++ f ∷ []) (kept.functions ∙ before.functions);
-        imports = extended_on keeps (extended_on w.imports last);
+      asks = w.asks;
+      asked = asks_behind (type_new has) (asks_kept last w.asked
+          (defined_new f (ap (λ (s : ModuleSoFar). s.helpers) same) (ap (λ (s : ModuleSoFar). s.numbered) same) (ap (λ (s : ModuleSoFar). s.functions) same) (omega (arith, ahead, ap length (kept.functions ∙ before.functions), keeps.numbered, w.imports.numbered))));
+      keys = w.keys;
+      compiled = record {
+        function = f;
+        puts = record {
+          ty = signature s.params s.results;
+          declared = s1;
+          declares = has;
+          written = s2;
+          brought = w.brought;
+          is_last = same ∙ ap (λ j. record s2 { functions = s2.functions ++ f ∷ []; exports = s2.exports ++ export_as shown (func.Defined j) ∷ [] }) number;
+          functions = ap (λ (s : ModuleSoFar). s.functions) same ∙ ap (λ fs. fs ++ f ∷ []) (kept.functions ∙ before.functions);
+          imports = extended_on keeps (extended_on w.imports last);
+        };
+        once = λ o. once_same (ap functions_of same) (ap memories_of same) (ap globals_of same) (ap (λ (s : ModuleSoFar). s.types) same) (ap (λ (s : ModuleSoFar). s.section) same) (w.once (once o));
+        typed = λ u a h.
+            let at : slice_get s4.types n ≡ Some (signature s.params s.results) = grown_get last.types n _ (grown_get w.imports.types n _ place) in
+            ap (slice_get s4.types) w.ty ∙ at ∙ ap (λ (ty : FuncType). Some ty) (part_signature_is x sig h);
+        is = λ u a h on M p serves has links. w.is u a h on (part_signature_is x sig h) M p (serves_sooner last serves) has links;
       };
-      once = λ o. once_same (ap functions_of same) (ap memories_of same) (ap globals_of same) (ap (λ (s : ModuleSoFar). s.types) same) (ap (λ (s : ModuleSoFar). s.section) same) (w.once (once o));
-      typed = λ u a h.
-          let at : slice_get s4.types n ≡ Some (signature s.params s.results) = grown_get last.types n _ (grown_get w.imports.types n _ place) in
-          ap (slice_get s4.types) w.ty ∙ at ∙ ap (λ (ty : FuncType). Some ty) (part_signature_is x sig h);
-      is = λ u a h on M p serves links. w.is u a h on (part_signature_is x sig h) M p (serves_sooner last serves) links;
     }
 
 -- ---- all three functions
 
--- They were put into the module, and the callee's export.
-pub compiled_async : {t : Tables} {d : AdapterData} {debug concurrency : Bool} {s0 s1 s2 s3 s4 : ModuleSoFar} {start return : ℕ} → start ≡ length s0.functions → CompiledPart t d debug concurrency part.Start s0 s1 → return ≡ length s1.functions → CompiledPart t d debug concurrency part.Return s1 s2
-    → CompiledEntry t d start return s2 s3 → s4 ≡ with_callee s3 (callee_name d.name) d.callee.number → CompiledAsync t d debug concurrency s0 s4
-compiled_async {t} {d} {s0 = s0} {s1} {s2} {s3} {start = start} {return} first x second y z callee = record {
-  started = s1;
-  returned = s2;
-  entered = s3;
-  start = x;
-  return = y;
-  entry = subst (λ n. CompiledEntry t d (length s0.functions) n s2 s3) (second ∙ ap length x.puts.functions ∙ one s0.functions x.function) (subst (λ n. CompiledEntry t d n return s2 s3) first z);
-  callee = callee;
+-- what a function asks of a module is there where more is
+abbrev pub part_within : {Has All : Having} {t : Tables} {d : AdapterData} {debug concurrency : Bool} {x : AsyncPart} {old new : ModuleSoFar} → ((M : WasmModule) (p : ImportPlaces) → All M p → Has M p) → CompiledPart Has t d debug concurrency x old new → CompiledPart All t d debug concurrency x old new
+part_within has c = record {
+  function = c.function;
+  puts = c.puts;
+  once = c.once;
+  typed = c.typed;
+  is = λ u a h on M p serves all links. c.is u a h on M p serves (has M p all) links;
 }
+
+-- They were put into the module, and the callee's export.
+pub compiled_async : {t : Tables} {d : AdapterData} {debug concurrency : Bool} {fuel : ℕ} {s0 s1 s2 s3 s4 : ModuleSoFar} {start return : ℕ} → length s0.functions + 2 < s0.numbered → start ≡ length s0.functions → AskingPart t d debug concurrency fuel part.Start s0 s1 → return ≡ length s1.functions → AskingPart t d debug concurrency fuel part.Return s1 s2
+    → CompiledEntry t d start return s2 s3 → s4 ≡ with_callee s3 (callee_name d.name) d.callee.number → AskingAsync t d debug concurrency fuel s0 s4
+compiled_async {t} {d} {s0 = s0} {s1} {s2} {s3} {s4} {start = start} {return} ahead first x second y z callee =
+    let last : Extended s3 s4 = extended_defined (ap (λ (s : ModuleSoFar). s.types) callee) (ap (λ (s : ModuleSoFar). s.section) callee) (ap (λ (s : ModuleSoFar). s.imports) callee) (ap (λ (s : ModuleSoFar). s.helpers) callee) (ap (λ (s : ModuleSoFar). s.numbered) callee) in
+    let calls : Extended s2 z.written = extended_on (extended_type z.ty z.declares) z.calls.imports in
+    let same : z.written.functions ≡ s2.functions = entry_functions z in
+    let count : length z.written.functions < z.written.numbered =
+    omega (arith, ahead, ap length same, ap length y.compiled.puts.functions, ap length x.compiled.puts.functions, one s0.functions x.compiled.function, one s1.functions y.compiled.function, x.compiled.puts.imports.numbered, y.compiled.puts.imports.numbered, calls.numbered) in
+    let put : AreNewAsked [] z.written s3 = defined_new z.function (ap (λ (s : ModuleSoFar). s.helpers) z.is_last) (ap (λ (s : ModuleSoFar). s.numbered) z.is_last) (ap (λ (s : ModuleSoFar). s.functions) z.is_last) count in
+    let none : AreNewAsked [] s2 s4 = new_on (entry_new z) (new_on put (new_alike (ap (λ (s : ModuleSoFar). s.helpers) callee) (ap next_number callee))) in
+    record {
+      asks = x.asks ++ y.asks;
+      keys = record { first = x.asks; second = y.asks; is = refl; starts = x.keys; returns = y.keys };
+      asked = asks_kept (extended_on (entry_later z) last) (asks_on y.compiled.puts.imports x.asked y.asked) none;
+      compiled = record {
+        started = s1;
+        returned = s2;
+        entered = s3;
+        start = part_within (λ M p has. all-first (HasHelper M p) x.asks y.asks has) x.compiled;
+        return = part_within (λ M p has. all-second (HasHelper M p) x.asks y.asks has) y.compiled;
+        entry = subst (λ n. CompiledEntry t d (length s0.functions) n s2 s3) (second ∙ ap length x.compiled.puts.functions ∙ one s0.functions x.compiled.function) (subst (λ n. CompiledEntry t d n return s2 s3) first z);
+        callee = callee;
+      };
+    }
   where
     one : {X : Type 0} (xs : List X) (x : X) → length (xs ++ x ∷ []) ≡ suc (length xs)
     one xs x = omega (arith, length-append xs (x ∷ []))

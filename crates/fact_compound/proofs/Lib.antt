@@ -1,8 +1,10 @@
 pub mod AdapterPlaced
 pub mod Addresses
+pub mod AsksLaws
 pub mod AsyncBodies
 pub mod AsyncFunctions
 pub mod CallOptions
+pub mod CompiledAdapters
 pub mod CoreCounts
 pub mod EntryFacts
 pub mod EntryFunctions
@@ -11,7 +13,15 @@ pub mod FlagGuards
 pub mod Flats
 pub mod Fronts
 pub mod FunctionShapes
+pub mod HelperBodies
+pub mod HelperFunctions
+pub mod HelperPlaces
+pub mod HelperUses
+pub mod HelpersThere
+pub mod HelpersUsed
 pub mod KeptLocals
+pub mod KeyLaws
+pub mod KeyPlaces
 pub mod LocalRuns
 pub mod LocalsAdded
 pub mod OptionsImported
@@ -33,5 +43,6 @@ pub mod SyncTyping
 pub mod SyncWritten
 pub mod TupleRooms
 pub mod TuplesWritten
+pub mod WaitingHelpers
 pub mod WholeBodies
 pub mod WholeFunctions

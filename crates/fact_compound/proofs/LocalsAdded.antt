@@ -10,6 +10,7 @@ use Rattle.fact_emit.specs.Places.{slots_of_locals}
 use Rattle.fact_emit.specs.Writers.{used_local_of, AddedLocal}
 use Rattle.fact_emit.specs.declared.places.TypedLocal.{TypedLocal}
 use Rattle.fact_emit.specs.declared.writer.Writer.{Writer}
+use Rattle.fact_translate.specs.declared.fuel.Fuel.{Fuel}
 use Rattle.fact_compound.specs.Code.{slot_types}
 use Rattle.fact_compound.specs.Functions.{slots_from, AddedContext, AddedLocals, AddedSyncLocals, core_slots, places_with, unless_passed}
 use Rattle.fact_compound.specs.Syncs.{EmitsSync}
@@ -108,5 +109,5 @@ pub same_places : {passed : Bool} {args given results : List TypedLocal} {core :
 same_places {passed} params l a c g r = λ i.
     record { passed = passed; args = slots_of_locals (a i); params = params; saved = l.saved; lift_saved = l.lift_saved; core = c i; given = slots_of_locals (g i); results = slots_of_locals (r i); callee_context = l.callee_context; own_context = l.own_context }
 
-pub emits_places : {t : Tables} {d : AdapterData} {debug : Bool} {o : CallOptions} {x y : SyncPlaces} {a b : Writer} → x ≡ y → EmitsSync t d debug o x a b → EmitsSync t d debug o y a b
-emits_places {t} {d} {debug} {o} {a = a} {b} e h = subst (λ places. EmitsSync t d debug o places a b) e h
+pub emits_places : {t : Tables} {d : AdapterData} {debug : Bool} {o : CallOptions} {x y : SyncPlaces} {before after : Fuel} {a b : Writer} → x ≡ y → EmitsSync t d debug o x before after a b → EmitsSync t d debug o y before after a b
+emits_places {t} {d} {debug} {o} {before = before} {after} {a} {b} e h = subst (λ places. EmitsSync t d debug o places before after a b) e h

@@ -42,6 +42,7 @@ use Rattle.fact_compound.specs.SameInstance.{CompiledSameInstance, DescribesLowe
 use Rattle.fact_compound.specs.Syncs.{lower_type_of}
 use Rattle.fact_compound.specs.declared.adapters.AdapterData.{AdapterData}
 use Rattle.fact_compound.proofs.WholeFunctions.{once_same}
+use Rattle.fact_compound.proofs.AsksLaws.{defined_new, new_on, runtime_new, type_new}
 
 -- ---- the function
 
@@ -107,7 +108,7 @@ module _ {t : Tables} {d : AdapterData} {lower : Signature} (side : SideSig) (lo
       let before : KeepsDefined s0 s1 = defined_type has in
       let kept : KeepsDefined s1 s2 = defined_brought brought in
       let count : k ≡ length s0.functions = number ∙ ap length (kept.functions ∙ before.functions) in
-      let last : Extended s2 s4 = extended_defined (ap (λ (s : ModuleSoFar). s.types) same) (ap (λ (s : ModuleSoFar). s.section) same) (ap (λ (s : ModuleSoFar). s.imports) same) in
+      let last : Extended s2 s4 = extended_defined (ap (λ (s : ModuleSoFar). s.types) same) (ap (λ (s : ModuleSoFar). s.section) same) (ap (λ (s : ModuleSoFar). s.imports) same) (ap (λ (s : ModuleSoFar). s.helpers) same) (ap (λ (s : ModuleSoFar). s.numbered) same) in
       record {
         function = f;
         ty = signature lower.params lower.results;
@@ -115,10 +116,14 @@ module _ {t : Tables} {d : AdapterData} {lower : Signature} (side : SideSig) (lo
         declares = has;
         written = s2;
         brought = brought;
+        place = w.place;
+        body = w.body;
         is_last = same ∙ ap (λ j. record s2 { functions = s2.functions ++ f ∷ []; exports = s2.exports ++ export_as d.name (func.Defined j) ∷ [] }) number;
         functions = ap (λ (s : ModuleSoFar). s.functions) same ∙ ap (λ fs. fs ++ f ∷ []) (kept.functions ∙ before.functions);
         exports = ap (λ (s : ModuleSoFar). s.exports) same ∙ ap (λ es. es ++ export_as d.name (func.Defined k) ∷ []) (kept.exports ∙ before.exports) ∙ ap (λ j. s0.exports ++ export_as d.name (func.Defined j) ∷ []) count;
         imports = extended_on keeps (extended_on w.imports last);
+        none_asked = λ ahead. new_on (type_new has) (new_on (runtime_new w.imported)
+            (defined_new f (ap (λ (s : ModuleSoFar). s.helpers) same) (ap (λ (s : ModuleSoFar). s.numbered) same) (ap (λ (s : ModuleSoFar). s.functions) same) (omega (arith, ahead, ap length (kept.functions ∙ before.functions), keeps.numbered, w.imports.numbered))));
         once = λ o. once_same (ap functions_of same) (ap memories_of same) (ap globals_of same) (ap (λ (s : ModuleSoFar). s.types) same) (ap (λ (s : ModuleSoFar). s.section) same) (w.once (once o));
         typed = λ a h.
             let at : slice_get s4.types n ≡ Some (signature lower.params lower.results) = grown_get last.types n _ (grown_get w.imports.types n _ place) in

@@ -107,7 +107,7 @@ args_held vs ts more h = held_from (map some_of vs ++ more) 0 ts vs h (λ i v e.
 
 -- ---- the return pointer
 
-take_long : (xs ys : List Slot) → take (length xs) (xs ++ ys) ≡ xs
+pub take_long : (xs ys : List Slot) → take (length xs) (xs ++ ys) ≡ xs
 take_long [] ys = refl
 take_long (x ∷ xs) ys = ap (λ zs. x ∷ zs) (take_long xs ys)
 

@@ -24,13 +24,15 @@ use Rattle.fact_pieces.specs.Typed.{OnStack, IsTyped}
 use Rattle.fact_pieces.specs.Places.{Slot, AreHeld, AreLocals, AreUsed, KeepsLocals}
 use Rattle.fact_pieces.proofs.ContextSteps.{MayHoldSlotsIf, AreSlotsKeptIf}
 use Rattle.fact_pieces.proofs.Rules.{within}
+use Rattle.fact_emit.specs.Options.{number_if_any}
 use Rattle.fact_emit.specs.Places.{AreDistinctSlots}
 use Rattle.fact_emit.specs.RuntimeCalls.{slots_of}
 use Rattle.fact_emit.specs.declared.context.ContextLocals.{ContextLocals}
 use Rattle.fact_emit.specs.declared.imported.RuntimeFunction.TheVariants as runtime
+use Rattle.fact_translate.specs.declared.fuel.Fuel.{Fuel}
 use Rattle.fact_compound.specs.Code.{SyncParts, pushed_code, sync_code, with_barrier}
 use Rattle.fact_compound.specs.Events.{AreCallOptions, CanFinish, CanReturnPost, KnowsRuntimeIf}
-use Rattle.fact_compound.specs.Described.{DescribesAdapter, KnowsAdapterData, KnowsPostReturn, linear_of, number_if_any}
+use Rattle.fact_compound.specs.Described.{DescribesAdapter, KnowsAdapterData, KnowsPostReturn, linear_of}
 use Rattle.fact_compound.specs.Passing.{tuple_size}
 use Rattle.fact_compound.specs.Syncs.{EmitsSync, EndsAsSync}
 use Rattle.fact_emit.specs.declared.writer.Writer.{Writer}
@@ -380,9 +382,12 @@ module _ {t : Tables} {d : AdapterData} {debug : Bool} {o : CallOptions} {u : Ad
       (typed_sync a s all_imports all_locals parts.3 results_local parts.1 (results_code_typed h.transfers asks.concurrency links l.given l.results l.args result_places lift_size lower_size k.are_steps.returns.moves_results)))
 
 -- what was written for a sync adapter does its action
-pub sync_emits : {t : Tables} {d : AdapterData} {debug : Bool} {o : CallOptions} (l : SyncPlaces) {old new : Writer} → WrittenSync t d debug o l old new → EmitsSync t d debug o l old new
+pub sync_emits : {t : Tables} {d : AdapterData} {debug : Bool} {o : CallOptions} (l : SyncPlaces) {before after : Fuel} {old new : Writer} → WrittenSync t d debug o l before after old new → EmitsSync t d debug o l before after old new
 sync_emits l w = record {
   grew = w.grew;
+  asks = w.asks;
+  translated = w.translated;
+  asked = w.asked;
   emits = λ u a h asks.
       let lower = h.transfers.lower.signature in
       let lift = h.transfers.lift.signature in

@@ -18,10 +18,13 @@ use Rattle.fact_pieces.specs.Context.{read_slots_code, restore_code, CanWriteSlo
 use Rattle.fact_pieces.specs.Places.{Slot}
 use Rattle.fact_emit.specs.Barriers.{WroteBarrier}
 use Rattle.fact_emit.specs.Checks.{Guarded}
-use Rattle.fact_emit.specs.Emits.{Grew, Is, Emits}
+use Rattle.fact_emit.specs.Asked.{AskedHelper}
+use Rattle.fact_emit.specs.Emits.{Grew, Emits, EmitsAsking, GrewAsking}
 use Rattle.fact_emit.specs.RuntimeCalls.{CallsRuntime, ReadsSlots, WritesSlots, slots_of}
 use Rattle.std.specs.Prelude.{IfSome}
 use Rattle.fact_emit.specs.Imports.{Extended}
+use Rattle.fact_emit.specs.Options.{number_if_any}
+use Rattle.fact_emit.specs.Pieces.{Is}
 use Rattle.fact_emit.specs.States.{ModuleSoFar, functions_of}
 use Rattle.fact_emit.proofs.ImportLaws.{extended_none, extended_on}
 use Rattle.fact_emit.specs.Writers.{Began, Ended, Wrote, is_local_in_use, taken_in}
@@ -32,15 +35,19 @@ use Rattle.fact_emit.proofs.BarrierMoves.{barrier_emits, grew_barrier}
 use Rattle.fact_emit.proofs.CheckMoves.{guarded_as}
 use Rattle.fact_emit.proofs.Emitting.{emits_as, emits_before, emits_nothing, emits_then, emits_wrote, wrote_then, grew_on}
 use Rattle.fact_emit.proofs.NamedLaws.{ranged_append}
+use Rattle.fact_compound.specs.Asks.{AsksFor}
 use Rattle.fact_compound.specs.Code.{saved_code, started_code, cleared_code, pushed_code, call_code, enter_code, exit_code, finish_code}
-use Rattle.fact_compound.specs.Described.{CanMoveTuple, linear_of, number_if_any}
+use Rattle.fact_compound.specs.Described.{CanMoveTuple, linear_of}
 use Rattle.fact_compound.specs.Events.{CanFinish, EntersCall, ExitsCall, FinishesCall, KnowsRuntimeIf, ReturnsPost}
-use Rattle.fact_compound.specs.Passed.{ParamsCode, PassedParams, MovesResults, MovedResults}
+use Rattle.fact_translate.specs.declared.fuel.Fuel.{Fuel}
+use Rattle.fact_compound.specs.Keys.{TranslatesSync}
+use Rattle.fact_compound.specs.Passed.{ParamsCode, PassedParams, MovesResults, MovedResults, TranslatesParams, TranslatesResults}
 use Rattle.fact_compound.specs.Passing.{ChecksMayLeave, tuple_size}
 use Rattle.fact_compound.specs.Written.{IsReturnCode, IsStepsCode, IsSyncCode, KnowsUncaught, SyncPlaces, WrittenBarred, WrittenCall, WrittenReturn, WrittenSteps}
 use Rattle.fact_compound.specs.declared.adapters.AdapterData.{AdapterData}
 use Rattle.fact_compound.specs.declared.syncs.CallOptions.{CallOptions}
 use Rattle.fact_compound.proofs.RangedSteps.{back_ranged, call_ranged, constants_ranged, post_ranged, pushed_ranged, saved_ranged, zero_ranged}
+use Rattle.fact_compound.proofs.AsksLaws.{asks_before, asks_behind, asks_kept, asks_on, asks_same, emits_new, new_on, runtime_new}
 
 -- the test whether an instance may be left
 pub may_leave_emits : {a b : Writer} {test : List Instr} (flags saved : ℕ) → test ≡ I.GlobalGet flags ∷ I.LocalTee saved ∷ [] → Emits a b (Guarded test CannotLeaveComponent []) → Emits a b (ChecksMayLeave flags saved)
@@ -118,22 +125,26 @@ record EnterOn (d : AdapterData) (debug : Bool) (o : CallOptions) (l : SyncPlace
   enters : KnowsRuntimeIf o.told M p runtime.EnterSyncCall
   moves_params : ParamsCode l.passed d debug o.concurrency l.params l.core taken ps qs M p locals params
 
-pub written_call : {t : Tables} (d : AdapterData) (debug : Bool) (o : CallOptions) (l : SyncPlaces) {a b c e f g h : Writer} → d.callee.number < length (functions_of a.imports)
+pub written_call : {t : Tables} (d : AdapterData) (debug : Bool) (o : CallOptions) (l : SyncPlaces) {before after : Fuel} {a b c e f g h : Writer} → d.callee.number < length (functions_of a.imports)
     → Emits a b (ChecksMayLeave d.lower.flags.number l.saved) → Emits b c (EntersCall o.told d.lift.instance.number) → Wrote c e (saved_code d.lift.flags.number l.lift_saved) → Wrote e f (zero_code d.lift.flags.number)
-    → PassedParams t d debug o.concurrency l.passed l.params l.core f g → Wrote g h (callee_code d l) → WrittenCall t d debug o l a h
-written_call d debug o l {a} {b} {c} {e} {f} {g} {h} callee x1 x2 x3 x4 x5 x6 =
+    → PassedParams t d debug o.concurrency l.passed l.params l.core before after f g → Wrote g h (callee_code d l) → WrittenCall t d debug o l before after a h
+written_call {t} d debug o l {before} {after} {a} {b} {c} {e} {f} {g} {h} callee x1 x2 x3 x4 x5 x6 =
     let front = emits_wrote (ranged_append 0 0 (saved_code d.lift.flags.number l.lift_saved) (zero_code d.lift.flags.number) (saved_ranged d.lift.flags.number l.lift_saved) (zero_ranged d.lift.flags.number)) (wrote_then x3 x4) in
     let grew_f : Grew a f = grew_on x1.grew (grew_on x2.grew front.grew) in
-    let grew_g : Grew a g = grew_on grew_f x5.grew in
+    let grew_g : GrewAsking x5.asks a g = grew_on grew_f x5.grew in
     let imports : ℕ = length (functions_of g.imports) in
     let there : d.callee.number < imports = omega (arith, callee, ap length grew_g.imports.functions.is, length-append (functions_of a.imports) grew_g.imports.functions.more) in
     let call = emits_before (call_ranged imports d.lift.flags.number l.lift_saved d.callee.number l.core l.given there) x6 in
     let taken_f : taken_in f ≡ taken_in a = λ n. λ i. (grew_f.still i) n in
     record {
       grew = grew_on grew_g call.grew;
+      asks = x5.asks ++ [];
+      translated = λ moved. subst (λ (xs : List AskedHelper). TranslatesParams t d debug o.concurrency before after xs) (sym (append-nil x5.asks)) (x5.translated moved);
+      none = λ passed. (append-nil x5.asks ∙ (x5.none passed).0, (x5.none passed).1);
+      asked = asks_behind (emits_new x1) (asks_behind (emits_new x2) (asks_behind (emits_new front) (asks_before call.grew.imports x5.asked (emits_new call))));
       emits = λ ps rs qs ss hl hf can.
-          let params : Emits f g (ParamsCode l.passed d debug o.concurrency l.params l.core (taken_in a) ps qs) =
-          subst (λ taken. Emits f g (ParamsCode l.passed d debug o.concurrency l.params l.core taken ps qs)) taken_f (x5.emits ps rs qs ss hl hf can) in
+          let params : EmitsAsking x5.asks f g (ParamsCode l.passed d debug o.concurrency l.params l.core (taken_in a) ps qs) =
+          subst (λ taken. EmitsAsking x5.asks f g (ParamsCode l.passed d debug o.concurrency l.params l.core taken ps qs)) taken_f (x5.emits ps rs qs ss hl hf can) in
           emits_then {P = ChecksMayLeave d.lower.flags.number l.saved} {Q = EnterOn d debug o l (taken_in a) ps qs}
           (λ M p locals code more y z. record { may_leave = y.trap; params = z.params; is = λ i. y.is i ++ z.is i; has = y.has; enters = z.enters; moves_params = z.moves_params })
           x1
@@ -165,20 +176,23 @@ record ExitOn (d : AdapterData) (debug : Bool) (o : CallOptions) (l : SyncPlaces
 back_assoc : (flags saved : ℕ) (front results finish : List Instr) → front ++ (zero_code flags ++ (results ++ (back_code flags saved ++ finish))) ≡ front ++ (cleared_code flags saved results ++ finish)
 back_assoc flags saved front results finish = ap (λ c. front ++ I.I32Const 0 ∷ I.GlobalSet flags ∷ c) (sym (append_assoc results (back_code flags saved) finish))
 
-pub written_return : {t : Tables} (d : AdapterData) (debug : Bool) (o : CallOptions) (l : SyncPlaces) {a b c e f g h : Writer} → Emits a b (ReadsSlots o.context l.callee_context) → Emits b c (ExitsCall o.told) → Wrote c e (zero_code d.lower.flags.number)
-    → MovedResults t d debug o.concurrency l.given l.results l.args e f → Wrote f g (back_code d.lower.flags.number l.saved) → Emits g h (FinishesCall d.lift.post_return o.context l.callee_context l.own_context l.given) → WrittenReturn t d debug o l a h
-written_return d debug o l {a} {b} {c} {e} {f} {g} {h} x1 x2 x3 x4 x5 x6 =
+pub written_return : {t : Tables} (d : AdapterData) (debug : Bool) (o : CallOptions) (l : SyncPlaces) {before after : Fuel} {a b c e f g h : Writer} → Emits a b (ReadsSlots o.context l.callee_context) → Emits b c (ExitsCall o.told) → Wrote c e (zero_code d.lower.flags.number)
+    → MovedResults t d debug o.concurrency l.given l.results l.args before after e f → Wrote f g (back_code d.lower.flags.number l.saved) → Emits g h (FinishesCall d.lift.post_return o.context l.callee_context l.own_context l.given) → WrittenReturn t d debug o l before after a h
+written_return {t} d debug o l {before} {after} {a} {b} {c} {e} {f} {g} {h} x1 x2 x3 x4 x5 x6 =
     let zero = emits_wrote (zero_ranged d.lower.flags.number) x3 in
     let back = emits_wrote (back_ranged d.lower.flags.number l.saved) x5 in
     let grew_e : Grew a e = grew_on x1.grew (grew_on x2.grew zero.grew) in
     let taken_e : taken_in e ≡ taken_in a = λ n. λ i. (grew_e.still i) n in
     record {
       grew = grew_on grew_e (grew_on x4.grew (grew_on back.grew x6.grew));
+      asks = x4.asks ++ [];
+      translated = subst (λ (xs : List AskedHelper). TranslatesResults t d debug o.concurrency before after xs) (sym (append-nil x4.asks)) x4.translated;
+      asked = asks_behind (emits_new x1) (asks_behind (emits_new x2) (asks_behind (emits_new zero) (asks_before (grew_on back.grew x6.grew).imports x4.asked (new_on (emits_new back) (emits_new x6)))));
       lift_size = x4.lift_size;
       lower_size = x4.lower_size;
       emits = λ ps rs qs ss hl hf can.
-          let results : Emits e f (MovesResults d debug o.concurrency l.given l.results l.args (taken_in a) ss rs) =
-          subst (λ taken. Emits e f (MovesResults d debug o.concurrency l.given l.results l.args taken ss rs)) taken_e (x4.emits ps rs qs ss hl hf can) in
+          let results : EmitsAsking x4.asks e f (MovesResults d debug o.concurrency l.given l.results l.args (taken_in a) ss rs) =
+          subst (λ taken. EmitsAsking x4.asks e f (MovesResults d debug o.concurrency l.given l.results l.args taken ss rs)) taken_e (x4.emits ps rs qs ss hl hf can) in
           let Last : WasmModule → ImportPlaces → List ValType → List Instr → Type 0 = λ M p locals code.
           (code ≡ back_code d.lower.flags.number l.saved ++ finish_code o.context (number_if_any d.lift.post_return) (slots_of p l.callee_context) (slots_of p l.own_context) l.given) × CanFinish d.lift.post_return o.context l.callee_context l.own_context M p in
           let last : Emits f h Last = emits_then {P = Is (back_code d.lower.flags.number l.saved)} (λ M p locals code more y z. (λ i. y i ++ z.is i, z.can)) back x6 in
@@ -206,51 +220,64 @@ some_there : (o : Option (Id Funcs)) (a b : ModuleSoFar) → Extended a b → If
 some_there None a b x h = tt
 some_there (Some f) a b x h = omega (arith, h, ap length x.functions.is, length-append (functions_of a) x.functions.more)
 
-pub return_there : {t : Tables} {d : AdapterData} {debug : Bool} {o : CallOptions} {l : SyncPlaces} {a b : Writer} (post : Option (Id Funcs)) → WrittenCall t d debug o l a b → IfSome post (λ (f : Id Funcs). f.number < length (functions_of a.imports)) → IfSome post (λ (f : Id Funcs). f.number < length (functions_of b.imports))
+pub return_there : {t : Tables} {d : AdapterData} {debug : Bool} {o : CallOptions} {l : SyncPlaces} {before after : Fuel} {a b : Writer} (post : Option (Id Funcs)) → WrittenCall t d debug o l before after a b → IfSome post (λ (f : Id Funcs). f.number < length (functions_of a.imports)) → IfSome post (λ (f : Id Funcs). f.number < length (functions_of b.imports))
 return_there {a = a} {b} post x h = some_there post a.imports b.imports x.grew.imports h
 
-pub finish_there : {context told : Bool} {c0 : ContextLocals} {a b c e f g : Writer} {xs ys : List Instr} (post : Option (Id Funcs)) → Emits a b (ReadsSlots context c0) → Emits b c (ExitsCall told) → Wrote c e xs → Grew e f → Wrote f g ys
+pub finish_there : {context told : Bool} {c0 : ContextLocals} {a b c e f g : Writer} {xs ys : List Instr} {asks : List AskedHelper} (post : Option (Id Funcs)) → Emits a b (ReadsSlots context c0) → Emits b c (ExitsCall told) → Wrote c e xs → GrewAsking asks e f → Wrote f g ys
     → IfSome post (λ (f : Id Funcs). f.number < length (functions_of a.imports)) → IfSome post (λ (f : Id Funcs). f.number < length (functions_of g.imports))
 finish_there {a = a} {g = g} post x y z r w h = some_there post a.imports g.imports (extended_on x.grew.imports (extended_on y.grew.imports (extended_on (extended_none z.imports) (extended_on r.imports (extended_none w.imports))))) h
 
 -- ---- all steps, and a barrier around them
 
-pub written_steps : {t : Tables} {d : AdapterData} {debug : Bool} {o : CallOptions} {l : SyncPlaces} {a b c : Writer} → WrittenCall t d debug o l a b → WrittenReturn t d debug o l b c → WrittenSteps t d debug o l a c
-written_steps {d = d} {debug} {o} {l} {a} {b} {c} x y =
+pub written_steps : {t : Tables} {d : AdapterData} {debug : Bool} {o : CallOptions} {l : SyncPlaces} {before between after : Fuel} {a b c : Writer} → WrittenCall t d debug o l before between a b → WrittenReturn t d debug o l between after b c → WrittenSteps t d debug o l before after a c
+written_steps {d = d} {debug} {o} {l} {between = between} {a = a} {b} {c} x y =
     let taken_b : taken_in b ≡ taken_in a = λ n. λ i. (x.grew.still i) n in
     record {
       grew = grew_on x.grew y.grew;
+      asks = x.asks ++ y.asks;
+      translated = record { between = between; first = x.asks; second = y.asks; is = refl; params = x.translated; none = x.none; results = y.translated };
+      asked = asks_on y.grew.imports x.asked y.asked;
       lift_size = y.lift_size;
       lower_size = y.lower_size;
       emits = λ ps rs qs ss hl hf can can'.
-          let returns : Emits b c (IsReturnCode d debug o l (taken_in a) rs ss) = subst (λ taken. Emits b c (IsReturnCode d debug o l taken rs ss)) taken_b (y.emits ps rs qs ss hl hf can') in
+          let returns : EmitsAsking y.asks b c (IsReturnCode d debug o l (taken_in a) rs ss) = subst (λ taken. EmitsAsking y.asks b c (IsReturnCode d debug o l taken rs ss)) taken_b (y.emits ps rs qs ss hl hf can') in
           emits_then (λ M p locals code more v w. record { call = code; return = more; is = refl; calls = v; returns = w }) (x.emits ps rs qs ss hl hf can) returns;
     }
 
-pub written_barred : {t : Tables} {d : AdapterData} {debug : Bool} {o : CallOptions} {l : SyncPlaces} {a b c e f : Writer} {out body : List Instr} → Began a b out → WrittenSteps t d debug o l b c → Ended c e out body → WroteBarrier e f body → WrittenBarred t d debug o l a f
-written_barred {d = d} {debug} {o} {l} {a} {b} {c} {e} {f} began x ended barrier =
+pub written_barred : {t : Tables} {d : AdapterData} {debug : Bool} {o : CallOptions} {l : SyncPlaces} {before after : Fuel} {a b c e f : Writer} {out body : List Instr} → Began a b out → WrittenSteps t d debug o l before after b c → Ended c e out body → WroteBarrier e f body → WrittenBarred t d debug o l before after a f
+written_barred {d = d} {debug} {o} {l} {a = a} {b} {c} {e} {f} began x ended barrier =
     let taken_b : taken_in b ≡ taken_in a = ap (λ ls. λ i. is_local_in_use (slice_get ls.items i)) began.locals in
     record {
       grew = grew_barrier began ended barrier x.grew;
+      asks = x.asks;
+      translated = x.translated;
+      asked = asks_same began.imports (sym barrier.wrote.imports)
+          (asks_kept barrier.took.imports (asks_same refl (sym ended.imports) x.asked) (runtime_new barrier.took.imported));
       lift_size = x.lift_size;
       lower_size = x.lower_size;
-      emits = λ ps rs qs ss hl hf can can'. barrier_emits began ended barrier (subst (λ taken. Emits b c (IsStepsCode d debug o l taken ps rs qs ss)) taken_b (x.emits ps rs qs ss hl hf can can'));
+      emits = λ ps rs qs ss hl hf can can'. barrier_emits began ended barrier (subst (λ taken. EmitsAsking x.asks b c (IsStepsCode d debug o l taken ps rs qs ss)) taken_b (x.emits ps rs qs ss hl hf can can'));
     }
 
 -- ---- the whole
 
 -- What was written for a sync adapter: its steps, in a barrier or not, and the results on the stack.
-pub record WrittenSync (t : Tables) (d : AdapterData) (debug : Bool) (o : CallOptions) (l : SyncPlaces) (old new : Writer) : Type 0 where
-  pub grew : Grew old new
+pub record WrittenSync (t : Tables) (d : AdapterData) (debug : Bool) (o : CallOptions) (l : SyncPlaces) (before after : Fuel) (old new : Writer) : Type 0 where
+  pub asks : List AskedHelper
+  pub translated : TranslatesSync t d debug o.concurrency l.passed before after asks
+  pub grew : GrewAsking asks old new
+  pub asked : AsksFor t debug o.concurrency asks old.imports new.imports
   pub lift_size : (qs ss : List Shape) → HasSignature t d.lift.ty qs ss → tuple_size (linear_of d.lift).memory64 ss ≤ 4294967295
   pub lower_size : (ps rs : List Shape) → HasSignature t d.lower.ty ps rs → tuple_size (linear_of d.lower).memory64 rs ≤ 4294967295
-  pub emits : (ps rs qs ss : List Shape) → HasSignature t d.lower.ty ps rs → HasSignature t d.lift.ty qs ss → CanMoveTuple ps qs → CanMoveTuple ss rs → Emits old new (IsSyncCode d debug o l (taken_in old) ps rs qs ss)
+  pub emits : (ps rs qs ss : List Shape) → HasSignature t d.lower.ty ps rs → HasSignature t d.lift.ty qs ss → CanMoveTuple ps qs → CanMoveTuple ss rs → EmitsAsking asks old new (IsSyncCode d debug o l (taken_in old) ps rs qs ss)
 
-pub sync_barred : {t : Tables} {d : AdapterData} {debug : Bool} {o : CallOptions} {l : SyncPlaces} {a b c : Writer} → o.barrier ≡ true → WrittenBarred t d debug o l a b → Wrote b c (pushed_code l.results) → WrittenSync t d debug o l a c
-sync_barred {o = o} {l = l} on x y =
+pub sync_barred : {t : Tables} {d : AdapterData} {debug : Bool} {o : CallOptions} {l : SyncPlaces} {before after : Fuel} {a b c : Writer} → o.barrier ≡ true → WrittenBarred t d debug o l before after a b → Wrote b c (pushed_code l.results) → WrittenSync t d debug o l before after a c
+sync_barred {t} {d} {debug} {o} {l} {before} {after} on x y =
     let back = emits_wrote (pushed_ranged l.results) y in
     record {
       grew = grew_on x.grew back.grew;
+      asks = x.asks ++ [];
+      translated = subst (λ (xs : List AskedHelper). TranslatesSync t d debug o.concurrency l.passed before after xs) (sym (append-nil x.asks)) x.translated;
+      asked = asks_before back.grew.imports x.asked (emits_new back);
       lift_size = x.lift_size;
       lower_size = x.lower_size;
       emits = λ ps rs qs ss hl hf can can'.
@@ -263,11 +290,14 @@ sync_barred {o = o} {l = l} on x y =
           }) (x.emits ps rs qs ss hl hf can can') back;
     }
 
-pub sync_alone : {t : Tables} {d : AdapterData} {debug : Bool} {o : CallOptions} {l : SyncPlaces} {a b c : Writer} → o.barrier ≡ false → WrittenSteps t d debug o l a b → Wrote b c (pushed_code l.results) → WrittenSync t d debug o l a c
-sync_alone {o = o} {l = l} off x y =
+pub sync_alone : {t : Tables} {d : AdapterData} {debug : Bool} {o : CallOptions} {l : SyncPlaces} {before after : Fuel} {a b c : Writer} → o.barrier ≡ false → WrittenSteps t d debug o l before after a b → Wrote b c (pushed_code l.results) → WrittenSync t d debug o l before after a c
+sync_alone {t} {d} {debug} {o} {l} {before} {after} off x y =
     let back = emits_wrote (pushed_ranged l.results) y in
     record {
       grew = grew_on x.grew back.grew;
+      asks = x.asks ++ [];
+      translated = subst (λ (xs : List AskedHelper). TranslatesSync t d debug o.concurrency l.passed before after xs) (sym (append-nil x.asks)) x.translated;
+      asked = asks_before back.grew.imports x.asked (emits_new back);
       lift_size = x.lift_size;
       lower_size = x.lower_size;
       emits = λ ps rs qs ss hl hf can can'.

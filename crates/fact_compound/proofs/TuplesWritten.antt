@@ -16,9 +16,10 @@ use Rattle.fact_moves.specs.Adapters.{lowered_flats}
 use Rattle.fact_pieces.specs.Places.{Slot, From, To}
 use Rattle.fact_emit.specs.Areas.{ChecksArea}
 use Rattle.fact_wasm.specs.declared.instr.Instr.{Instr}
-use Rattle.fact_emit.specs.Emits.{Emits, Piece}
+use Rattle.fact_emit.specs.Emits.{Emits, EmitsAsking}
 use Rattle.fact_emit.specs.NewAreas.{AsksArea}
 use Rattle.fact_emit.specs.Fitting.{MovesTuple}
+use Rattle.fact_emit.specs.Pieces.{Piece}
 use Rattle.fact_emit.specs.Places.{slots_of_locals}
 use Rattle.fact_emit.specs.Writers.{taken_in}
 use Rattle.fact_emit.specs.declared.places.LinearMemory.{LinearMemory}
@@ -27,10 +28,13 @@ use Rattle.fact_emit.specs.declared.places.TypedLocal.{TypedLocal}
 use Rattle.fact_emit.specs.declared.writer.Writer.{Writer}
 use Rattle.fact_emit.proofs.Emitting.{emits_then, emits_nothing, grew_on}
 use Rattle.fact_translate.specs.Moved.{MovedTuple}
+use Rattle.fact_translate.specs.declared.fuel.Fuel.{Fuel}
 use Rattle.fact_compound.specs.Described.{linear_of}
 use Rattle.fact_compound.specs.Passed.{params_sides, results_sides, MovedParams, AskedTuple, CheckedTuple, MovedResults, PassedParams}
 use Rattle.fact_compound.specs.Passing.{last_local, tuple_from, tuple_to, tuple_size, tuple_align, AsksTuple, ChecksTuple}
 use Rattle.fact_compound.specs.declared.adapters.AdapterData.{AdapterData}
+use Rattle.fact_compound.proofs.KeyLaws.{translates_tuple}
+use Rattle.fact_compound.proofs.AsksLaws.{asks_behind, asks_none, asks_of_moves, emits_new, new_none}
 
 pub last_is : (xs : List TypedLocal) (n : ℕ) (d : TypedLocal) → length xs ≡ n + 1 → (get_or xs n d).local ≡ last_local (slots_of_locals xs)
 last_is [] n d e = absurd (omega (arith, e))
@@ -39,12 +43,26 @@ last_is (x ∷ y ∷ ys) n d e =
     let next : n ≡ suc (length ys) = omega (arith, e) in
     ap (λ n. (get_or (x ∷ y ∷ ys) n d).local) next ∙ last_is (y ∷ ys) (length ys) d (omega arith)
 
-pub params_moved_on : {t : Tables} {d : AdapterData} {debug concurrency passed : Bool} {params core : List Slot} {a b : Writer} → passed ≡ false → MovedParams t d debug concurrency params core a b → PassedParams t d debug concurrency passed params core a b
-params_moved_on {t} {d} {debug} {concurrency} {passed} {params} {core} {a} {b} e m = subst (λ p. PassedParams t d debug concurrency p params core a b) (sym e) (record { grew = m.grew; emits = m.emits })
+pub params_moved_on : {t : Tables} {d : AdapterData} {debug concurrency passed : Bool} {params core : List Slot} {before after : Fuel} {a b : Writer} → passed ≡ false → MovedParams t d debug concurrency params core before after a b
+    → PassedParams t d debug concurrency passed params core before after a b
+params_moved_on {t} {d} {debug} {concurrency} {passed} {params} {core} {before} {after} {a} {b} e m = subst (λ p. PassedParams t d debug concurrency p params core before after a b) (sym e) (record {
+  asks = m.asks;
+  translated = λ f. m.translated;
+  none = λ f. absurd (let no : false ≡ true = f in cc);
+  grew = m.grew;
+  asked = m.asked;
+  emits = m.emits;
+})
 
-pub params_passed_on : {t : Tables} {d : AdapterData} {debug concurrency passed : Bool} {params core : List Slot} {a : Writer} → passed ≡ true → PassedParams t d debug concurrency passed params core a a
-params_passed_on {t} {d} {debug} {concurrency} {passed} {params} {core} {a} e =
-    subst (λ p. PassedParams t d debug concurrency p params core a a) (sym e) (record { grew = (emits_nothing {P = λ M p locals code. code ≡ []} (λ M p locals. refl)).grew; emits = λ ps rs qs ss h k can. emits_nothing (λ M p locals. refl) })
+pub params_passed_on : {t : Tables} {d : AdapterData} {debug concurrency passed : Bool} {params core : List Slot} {before : Fuel} {a : Writer} → passed ≡ true → PassedParams t d debug concurrency passed params core before before a a
+params_passed_on {t} {d} {debug} {concurrency} {passed} {params} {core} {before} {a} e = subst (λ p. PassedParams t d debug concurrency p params core before before a a) (sym e) (record {
+  asks = [];
+  translated = λ f. absurd (let no : true ≡ false = f in cc);
+  none = λ f. (refl, refl);
+  grew = (emits_nothing {P = λ M p locals code. code ≡ []} (λ M p locals. refl)).grew;
+  asked = asks_none (new_none refl);
+  emits = λ ps rs qs ss h k can. emits_nothing (λ M p locals. refl);
+})
 
 -- ---- areas
 
@@ -77,6 +95,7 @@ module _ {t : Tables} {tuple : Id TypeTuples} {l : CanonicalAbiInfo} (m : Linear
   pub checked_tuple : {address size align : ℕ} {flat : Bool} {old new : Writer} (wide : Bool) → m.memory64 ≡ wide → flat ≡ false → HasExtent wide l size align → Emits old new (ChecksArea m (taken_in old) address size align) → CheckedTuple t tuple m flat address old new
   checked_tuple {address} {old = old} {new} wide is none e x = record {
     grew = x.grew;
+    none_asked = emits_new x;
     size = area_small;
     emits = λ ss h. subst (λ b. Emits old new (ChecksTuple m (taken_in old) b address (tuple_size m.memory64 ss) (tuple_align m.memory64 ss))) (sym none) (area_written (λ size align. ChecksArea m (taken_in old) address size align) wide is e x ss h);
   }
@@ -85,6 +104,7 @@ module _ {t : Tables} {tuple : Id TypeTuples} {l : CanonicalAbiInfo} (m : Linear
   pub unchecked_tuple : {address : ℕ} {flat : Bool} {old : Writer} → flat ≡ true → CheckedTuple t tuple m flat address old old
   unchecked_tuple {address} {old = old} all = record {
     grew = (emits_nothing {P = λ M p locals code. code ≡ []} (λ M p locals. refl)).grew;
+    none_asked = new_none refl;
     size = area_small;
     emits = λ ss h. subst (λ b. Emits old old (ChecksTuple m (taken_in old) b address (tuple_size m.memory64 ss) (tuple_align m.memory64 ss))) (sym all) (emits_nothing (λ M p locals. refl));
   }
@@ -93,6 +113,7 @@ module _ {t : Tables} {tuple : Id TypeTuples} {l : CanonicalAbiInfo} (m : Linear
       → AskedTuple t tuple concurrency m flat address old new
   asked_tuple {concurrency} {address} {old = old} {new} wide is none e x = record {
     grew = x.grew;
+    none_asked = emits_new x;
     size = area_small;
     emits = λ ss h. subst (λ b. Emits old new (AsksTuple concurrency m (taken_in old) b address (tuple_size m.memory64 ss) (tuple_align m.memory64 ss))) (sym none) (area_written (λ size align. AsksArea concurrency m (taken_in old) address size align) wide is e x ss h);
   }
@@ -100,19 +121,26 @@ module _ {t : Tables} {tuple : Id TypeTuples} {l : CanonicalAbiInfo} (m : Linear
   pub unasked_tuple : {concurrency : Bool} {address : ℕ} {flat : Bool} {old : Writer} → flat ≡ true → AskedTuple t tuple concurrency m flat address old old
   unasked_tuple {concurrency} {address} {old = old} all = record {
     grew = (emits_nothing {P = λ M p locals code. code ≡ []} (λ M p locals. refl)).grew;
+    none_asked = new_none refl;
     size = area_small;
     emits = λ ss h. subst (λ b. Emits old old (AsksTuple concurrency m (taken_in old) b address (tuple_size m.memory64 ss) (tuple_align m.memory64 ss))) (sym all) (emits_nothing (λ M p locals. refl));
   }
 
 -- both checks and the move
-results_by : {t : Tables} (d : AdapterData) (debug concurrency : Bool) (given results args : List Slot) (from to : Id TypeTuples) (address address' : ℕ) {src : From} {dst : To} {lift_flat lower_flat : Bool} {a b c e : Writer} → address ≡ last_local given → address' ≡ last_local args
+results_by : {t : Tables} (d : AdapterData) (debug concurrency : Bool) (given results args : List Slot) (from to : Id TypeTuples) (address address' : ℕ) {src : From} {dst : To} {lift_flat lower_flat : Bool} {before after : Fuel} {a b c e : Writer} → address ≡ last_local given → address' ≡ last_local args
     → src ≡ tuple_from (linear_of d.lift) lift_flat given → dst ≡ tuple_to (linear_of d.lower) lower_flat results args
     → ((memory64 : Bool) (ss : List Shape) → HasShape t (ty.Tuple from) (tuple_of ss) → AreCounted (tuple_members ss) → lift_flat ≡ is_some (flat_values memory64 (lift_results_limit d.lift.options.async_) ss))
     → ((memory64 : Bool) (ss : List Shape) → HasShape t (ty.Tuple to) (tuple_of ss) → AreCounted (tuple_members ss) → lower_flat ≡ is_some (lowered_flats d.lower.options.async_ memory64 ss))
     → ((qs ss : List Shape) → HasSignature t d.lift.ty qs ss → HasShape t (ty.Tuple from) (tuple_of ss)) → ((ps rs : List Shape) → HasSignature t d.lower.ty ps rs → HasShape t (ty.Tuple to) (tuple_of rs))
-    → CheckedTuple t from (linear_of d.lift) lift_flat address a b → CheckedTuple t to (linear_of d.lower) lower_flat address' b c → MovedTuple t (ty.Tuple from) (ty.Tuple to) (results_sides d debug concurrency) src dst c e → MovedResults t d debug concurrency given results args a e
-results_by d debug concurrency given results args from to address address' {src} {dst} {lift_flat} {lower_flat} {a} {b} {c} {e} first second is is' lift lower sx sy x y z = record {
+    → CheckedTuple t from (linear_of d.lift) lift_flat address a b → CheckedTuple t to (linear_of d.lower) lower_flat address' b c → MovedTuple t (ty.Tuple from) (ty.Tuple to) (results_sides d debug concurrency) src dst before after c e → MovedResults t d debug concurrency given results args before after a e
+results_by d debug concurrency given results args from to address address' {src} {dst} {lift_flat} {lower_flat} {before} {after} {a} {b} {c} {e} first second is is' lift lower sx sy x y z = record {
   grew = grew_on x.grew (grew_on y.grew z.grew);
+  asks = z.asks;
+  translated = λ ps rs qs ss h k can.
+      translates_tuple (linear_of d.lift) (linear_of d.lower) given results args (is_some (flat_values (linear_of d.lift).memory64 (lift_results_limit d.lift.options.async_) ss)) (is_some (lowered_flats d.lower.options.async_ (linear_of d.lower).memory64 rs)) ss rs is is'
+      (lift (linear_of d.lift).memory64 ss (sx qs ss k) can.from_counted) (lower (linear_of d.lower).memory64 rs (sy ps rs h) can.to_counted)
+      (z.translated (tuple_of ss) (tuple_of rs) (sx qs ss k) (sy ps rs h) (tt, can.from_counted) (tt, can.to_counted) can.members);
+  asked = asks_behind x.none_asked (asks_behind y.none_asked (asks_of_moves z.asked z.grew));
   lift_size = λ qs ss h. x.size ss (sx qs ss h);
   lower_size = λ ps rs h. y.size rs (sy ps rs h);
   emits = λ ps rs qs ss h k can.
@@ -131,10 +159,10 @@ results_by d debug concurrency given results args from to address address' {src}
       (subst (λ b'. Emits b c (ChecksTuple (linear_of d.lower) (taken_in b) b' address' (tuple_size (linear_of d.lower).memory64 rs) (tuple_align (linear_of d.lower).memory64 rs))) g_is (y.emits rs (sy ps rs h)))) in
       let source : src ≡ tuple_from (linear_of d.lift) f given = is ∙ ap (λ q. tuple_from (linear_of d.lift) q given) f_is in
       let target : dst ≡ tuple_to (linear_of d.lower) g results args = is' ∙ ap (λ q. tuple_to (linear_of d.lower) q results args) g_is in
-      let three : Emits c e (MovesTuple (results_sides d debug concurrency) (tuple_from (linear_of d.lift) f given) (tuple_to (linear_of d.lower) g results args) (taken_in a) (tuple_of ss) (tuple_of rs)) =
-      subst (λ taken. Emits c e (MovesTuple (results_sides d debug concurrency) (tuple_from (linear_of d.lift) f given) (tuple_to (linear_of d.lower) g results args) taken (tuple_of ss) (tuple_of rs))) from_c
-      (subst (λ dst. Emits c e (MovesTuple (results_sides d debug concurrency) (tuple_from (linear_of d.lift) f given) dst (taken_in c) (tuple_of ss) (tuple_of rs))) target
-      (subst (λ src. Emits c e (MovesTuple (results_sides d debug concurrency) src dst (taken_in c) (tuple_of ss) (tuple_of rs))) source
+      let three : EmitsAsking z.asks c e (MovesTuple (results_sides d debug concurrency) (tuple_from (linear_of d.lift) f given) (tuple_to (linear_of d.lower) g results args) (taken_in a) (tuple_of ss) (tuple_of rs)) =
+      subst (λ taken. EmitsAsking z.asks c e (MovesTuple (results_sides d debug concurrency) (tuple_from (linear_of d.lift) f given) (tuple_to (linear_of d.lower) g results args) taken (tuple_of ss) (tuple_of rs))) from_c
+      (subst (λ dst. EmitsAsking z.asks c e (MovesTuple (results_sides d debug concurrency) (tuple_from (linear_of d.lift) f given) dst (taken_in c) (tuple_of ss) (tuple_of rs))) target
+      (subst (λ src. EmitsAsking z.asks c e (MovesTuple (results_sides d debug concurrency) src dst (taken_in c) (tuple_of ss) (tuple_of rs))) source
       (z.emits (tuple_of ss) (tuple_of rs) (sx qs ss k) (sy ps rs h) (tt, can.from_counted) (tt, can.to_counted) can.members))) in
       emits_then
       {P = ChecksTuple (linear_of d.lift) (taken_in a) f (last_local given) (tuple_size (linear_of d.lift).memory64 ss) (tuple_align (linear_of d.lift).memory64 ss)}
@@ -146,25 +174,31 @@ results_by d debug concurrency given results args from to address address' {src}
       (emits_then (λ M p locals c2 c3 q r. (c2, c3, refl, q, r)) two three);
 }
 
-pub moved_results : {t : Tables} (d : AdapterData) (debug concurrency : Bool) {sides : Sides} → sides ≡ results_sides d debug concurrency → (given results args : List Slot) (from to : Id TypeTuples) (address address' : ℕ) {src : From} {dst : To} {lift_flat lower_flat : Bool} {a b c e : Writer} → address ≡ last_local given → address' ≡ last_local args
+pub moved_results : {t : Tables} (d : AdapterData) (debug concurrency : Bool) {sides : Sides} → sides ≡ results_sides d debug concurrency → (given results args : List Slot) (from to : Id TypeTuples) (address address' : ℕ) {src : From} {dst : To} {lift_flat lower_flat : Bool} {before after : Fuel} {a b c e : Writer} → address ≡ last_local given → address' ≡ last_local args
     → src ≡ tuple_from sides.from lift_flat given → dst ≡ tuple_to sides.to lower_flat results args
     → ((memory64 : Bool) (ss : List Shape) → HasShape t (ty.Tuple from) (tuple_of ss) → AreCounted (tuple_members ss) → lift_flat ≡ is_some (flat_values memory64 (lift_results_limit d.lift.options.async_) ss))
     → ((memory64 : Bool) (ss : List Shape) → HasShape t (ty.Tuple to) (tuple_of ss) → AreCounted (tuple_members ss) → lower_flat ≡ is_some (lowered_flats d.lower.options.async_ memory64 ss))
     → ((qs ss : List Shape) → HasSignature t d.lift.ty qs ss → HasShape t (ty.Tuple from) (tuple_of ss)) → ((ps rs : List Shape) → HasSignature t d.lower.ty ps rs → HasShape t (ty.Tuple to) (tuple_of rs))
-    → CheckedTuple t from sides.from lift_flat address a b → CheckedTuple t to sides.to lower_flat address' b c → MovedTuple t (ty.Tuple from) (ty.Tuple to) sides src dst c e → MovedResults t d debug concurrency given results args a e
-moved_results {t} d debug concurrency {sides} same given results args from to address address' {src} {dst} {lift_flat} {lower_flat} {a} {b} {c} {e} first second is is' lift lower sx sy x y z =
+    → CheckedTuple t from sides.from lift_flat address a b → CheckedTuple t to sides.to lower_flat address' b c → MovedTuple t (ty.Tuple from) (ty.Tuple to) sides src dst before after c e → MovedResults t d debug concurrency given results args before after a e
+moved_results {t} d debug concurrency {sides} same given results args from to address address' {src} {dst} {lift_flat} {lower_flat} {before} {after} {a} {b} {c} {e} first second is is' lift lower sx sy x y z =
     results_by d debug concurrency given results args from to address address' first second (subst (λ (s : Sides). src ≡ tuple_from s.from lift_flat given) same is) (subst (λ (s : Sides). dst ≡ tuple_to s.to lower_flat results args) same is')
-    lift lower sx sy (subst (λ (s : Sides). CheckedTuple t from s.from lift_flat address a b) same x) (subst (λ (s : Sides). CheckedTuple t to s.to lower_flat address' b c) same y) (subst (λ s. MovedTuple t (ty.Tuple from) (ty.Tuple to) s src dst c e) same z)
+    lift lower sx sy (subst (λ (s : Sides). CheckedTuple t from s.from lift_flat address a b) same x) (subst (λ (s : Sides). CheckedTuple t to s.to lower_flat address' b c) same y) (subst (λ s. MovedTuple t (ty.Tuple from) (ty.Tuple to) s src dst before after c e) same z)
 
 -- the check, the request and the move of parameters
-params_by : {t : Tables} (d : AdapterData) (debug concurrency : Bool) (params core : List Slot) (from to : Id TypeTuples) (address address' : ℕ) {src : From} {dst : To} {lower_flat lift_flat : Bool} {a b c e : Writer} → address ≡ last_local params → address' ≡ last_local core
+params_by : {t : Tables} (d : AdapterData) (debug concurrency : Bool) (params core : List Slot) (from to : Id TypeTuples) (address address' : ℕ) {src : From} {dst : To} {lower_flat lift_flat : Bool} {before after : Fuel} {a b c e : Writer} → address ≡ last_local params → address' ≡ last_local core
     → src ≡ tuple_from (linear_of d.lower) lower_flat params → dst ≡ tuple_to (linear_of d.lift) lift_flat core core
     → ((memory64 : Bool) (ss : List Shape) → HasShape t (ty.Tuple from) (tuple_of ss) → AreCounted (tuple_members ss) → lower_flat ≡ is_some (flat_values memory64 (lower_limit d.lower.options.async_) ss))
     → ((memory64 : Bool) (ss : List Shape) → HasShape t (ty.Tuple to) (tuple_of ss) → AreCounted (tuple_members ss) → lift_flat ≡ is_some (flat_values memory64 16 ss))
     → ((ps rs : List Shape) → HasSignature t d.lower.ty ps rs → HasShape t (ty.Tuple from) (tuple_of ps)) → ((qs ss : List Shape) → HasSignature t d.lift.ty qs ss → HasShape t (ty.Tuple to) (tuple_of qs))
-    → CheckedTuple t from (linear_of d.lower) lower_flat address a b → AskedTuple t to concurrency (linear_of d.lift) lift_flat address' b c → MovedTuple t (ty.Tuple from) (ty.Tuple to) (params_sides d debug concurrency) src dst c e → MovedParams t d debug concurrency params core a e
-params_by d debug concurrency params core from to address address' {src} {dst} {lower_flat} {lift_flat} {a} {b} {c} {e} first second is is' lower lift sx sy x y z = record {
+    → CheckedTuple t from (linear_of d.lower) lower_flat address a b → AskedTuple t to concurrency (linear_of d.lift) lift_flat address' b c → MovedTuple t (ty.Tuple from) (ty.Tuple to) (params_sides d debug concurrency) src dst before after c e → MovedParams t d debug concurrency params core before after a e
+params_by d debug concurrency params core from to address address' {src} {dst} {lower_flat} {lift_flat} {before} {after} {a} {b} {c} {e} first second is is' lower lift sx sy x y z = record {
   grew = grew_on x.grew (grew_on y.grew z.grew);
+  asks = z.asks;
+  translated = λ ps rs qs ss h k can.
+      translates_tuple (linear_of d.lower) (linear_of d.lift) params core core (is_some (flat_values (linear_of d.lower).memory64 (lower_limit d.lower.options.async_) ps)) (is_some (flat_values (linear_of d.lift).memory64 16 qs)) ps qs is is'
+      (lower (linear_of d.lower).memory64 ps (sx ps rs h) can.from_counted) (lift (linear_of d.lift).memory64 qs (sy qs ss k) can.to_counted)
+      (z.translated (tuple_of ps) (tuple_of qs) (sx ps rs h) (sy qs ss k) (tt, can.from_counted) (tt, can.to_counted) can.members);
+  asked = asks_behind x.none_asked (asks_behind y.none_asked (asks_of_moves z.asked z.grew));
   emits = λ ps rs qs ss h k can.
       let m = linear_of d.lower in
       let m' = linear_of d.lift in
@@ -183,10 +217,10 @@ params_by d debug concurrency params core from to address address' {src} {dst} {
       (subst (λ b'. Emits b c (AsksTuple concurrency m' (taken_in b) b' address' (tuple_size m'.memory64 qs) (tuple_align m'.memory64 qs))) g_is (y.emits qs (sy qs ss k)))) in
       let source : src ≡ tuple_from m f params = is ∙ ap (λ q. tuple_from m q params) f_is in
       let target : dst ≡ tuple_to m' g core core = is' ∙ ap (λ q. tuple_to m' q core core) g_is in
-      let three : Emits c e (MovesTuple (params_sides d debug concurrency) (tuple_from m f params) (tuple_to m' g core core) (taken_in a) (tuple_of ps) (tuple_of qs)) =
-      subst (λ taken. Emits c e (MovesTuple (params_sides d debug concurrency) (tuple_from m f params) (tuple_to m' g core core) taken (tuple_of ps) (tuple_of qs))) from_c
-      (subst (λ dst. Emits c e (MovesTuple (params_sides d debug concurrency) (tuple_from m f params) dst (taken_in c) (tuple_of ps) (tuple_of qs))) target
-      (subst (λ src. Emits c e (MovesTuple (params_sides d debug concurrency) src dst (taken_in c) (tuple_of ps) (tuple_of qs))) source
+      let three : EmitsAsking z.asks c e (MovesTuple (params_sides d debug concurrency) (tuple_from m f params) (tuple_to m' g core core) (taken_in a) (tuple_of ps) (tuple_of qs)) =
+      subst (λ taken. EmitsAsking z.asks c e (MovesTuple (params_sides d debug concurrency) (tuple_from m f params) (tuple_to m' g core core) taken (tuple_of ps) (tuple_of qs))) from_c
+      (subst (λ dst. EmitsAsking z.asks c e (MovesTuple (params_sides d debug concurrency) (tuple_from m f params) dst (taken_in c) (tuple_of ps) (tuple_of qs))) target
+      (subst (λ src. EmitsAsking z.asks c e (MovesTuple (params_sides d debug concurrency) src dst (taken_in c) (tuple_of ps) (tuple_of qs))) source
       (z.emits (tuple_of ps) (tuple_of qs) (sx ps rs h) (sy qs ss k) (tt, can.from_counted) (tt, can.to_counted) can.members))) in
       let small = x.size ps (sx ps rs h) in
       let small' = y.size qs (sy qs ss k) in
@@ -200,12 +234,12 @@ params_by d debug concurrency params core from to address address' {src} {dst} {
       (emits_then (λ M p locals c2 c3 q r. (c2, c3, refl, q, r)) two three);
 }
 
-pub moved_params : {t : Tables} (d : AdapterData) (debug concurrency : Bool) {sides : Sides} → sides ≡ params_sides d debug concurrency → (params core : List Slot) (from to : Id TypeTuples) (address address' : ℕ) {src : From} {dst : To} {lower_flat lift_flat : Bool} {a b c e : Writer} → address ≡ last_local params → address' ≡ last_local core
+pub moved_params : {t : Tables} (d : AdapterData) (debug concurrency : Bool) {sides : Sides} → sides ≡ params_sides d debug concurrency → (params core : List Slot) (from to : Id TypeTuples) (address address' : ℕ) {src : From} {dst : To} {lower_flat lift_flat : Bool} {before after : Fuel} {a b c e : Writer} → address ≡ last_local params → address' ≡ last_local core
     → src ≡ tuple_from sides.from lower_flat params → dst ≡ tuple_to sides.to lift_flat core core
     → ((memory64 : Bool) (ss : List Shape) → HasShape t (ty.Tuple from) (tuple_of ss) → AreCounted (tuple_members ss) → lower_flat ≡ is_some (flat_values memory64 (lower_limit d.lower.options.async_) ss))
     → ((memory64 : Bool) (ss : List Shape) → HasShape t (ty.Tuple to) (tuple_of ss) → AreCounted (tuple_members ss) → lift_flat ≡ is_some (flat_values memory64 16 ss))
     → ((ps rs : List Shape) → HasSignature t d.lower.ty ps rs → HasShape t (ty.Tuple from) (tuple_of ps)) → ((qs ss : List Shape) → HasSignature t d.lift.ty qs ss → HasShape t (ty.Tuple to) (tuple_of qs))
-    → CheckedTuple t from sides.from lower_flat address a b → AskedTuple t to concurrency sides.to lift_flat address' b c → MovedTuple t (ty.Tuple from) (ty.Tuple to) sides src dst c e → MovedParams t d debug concurrency params core a e
-moved_params {t} d debug concurrency {sides} same params core from to address address' {src} {dst} {lower_flat} {lift_flat} {a} {b} {c} {e} first second is is' lower lift sx sy x y z =
+    → CheckedTuple t from sides.from lower_flat address a b → AskedTuple t to concurrency sides.to lift_flat address' b c → MovedTuple t (ty.Tuple from) (ty.Tuple to) sides src dst before after c e → MovedParams t d debug concurrency params core before after a e
+moved_params {t} d debug concurrency {sides} same params core from to address address' {src} {dst} {lower_flat} {lift_flat} {before} {after} {a} {b} {c} {e} first second is is' lower lift sx sy x y z =
     params_by d debug concurrency params core from to address address' first second (subst (λ (s : Sides). src ≡ tuple_from s.from lower_flat params) same is) (subst (λ (s : Sides). dst ≡ tuple_to s.to lift_flat core core) same is')
-    lower lift sx sy (subst (λ (s : Sides). CheckedTuple t from s.from lower_flat address a b) same x) (subst (λ (s : Sides). AskedTuple t to concurrency s.to lift_flat address' b c) same y) (subst (λ s. MovedTuple t (ty.Tuple from) (ty.Tuple to) s src dst c e) same z)
+    lower lift sx sy (subst (λ (s : Sides). CheckedTuple t from s.from lower_flat address a b) same x) (subst (λ (s : Sides). AskedTuple t to concurrency s.to lift_flat address' b c) same y) (subst (λ s. MovedTuple t (ty.Tuple from) (ty.Tuple to) s src dst before after c e) same z)

@@ -14,6 +14,7 @@ use Rattle.fact_moves.specs.Running.{ImportPlaces}
 use Rattle.fact_pieces.specs.Places.{Slot, AreHeld, AreLocals, AreUsed}
 use Rattle.fact_pieces.specs.Typed.{OnStack, IsTyped}
 use Rattle.fact_emit.specs.Brought.{Brought}
+use Rattle.fact_emit.specs.Asked.{HasHelpers}
 use Rattle.fact_emit.specs.Emits.{Later}
 use Rattle.fact_emit.specs.Imports.{Extended, AreOnce, Serves}
 use Rattle.fact_emit.specs.Places.{AreDistinctSlots, slots_of_locals}
@@ -23,6 +24,8 @@ use Rattle.fact_emit.specs.declared.writer.Writer.{Writer}
 use Rattle.fact_emit.proofs.BroughtLaws.{brought_between}
 use Rattle.fact_emit.proofs.ImportLaws.{grown_get, grows_none, grows_on}
 use Rattle.fact_emit.proofs.Locals.{get_map}
+use Rattle.fact_emit.specs.NamedFunctions.{defined_named}
+use Rattle.fact_translate.specs.declared.fuel.Fuel.{Fuel}
 use Rattle.fact_compound.specs.Described.{DescribesAdapter, KnowsAdapterData}
 use Rattle.fact_compound.specs.Functions.{slots_from, AddedSyncLocals, PutBody, DoesBody, WroteBody, places_with, sync_types, added_slots, context_types, unless_passed}
 use Rattle.fact_compound.specs.Events.{AreCallOptions}
@@ -36,6 +39,8 @@ use Rattle.fact_compound.proofs.Runs.{numbers_append, numbers_front, numbers_beh
 use Rattle.fact_compound.specs.declared.adapters.AdapterData.{AdapterData}
 use Rattle.fact_compound.specs.declared.functions.AdapterLocals.{AdapterLocals}
 use Rattle.fact_compound.proofs.SlotsFrom.{same_place, locals_from, used_from, distinct_from, used_types, IsSplit, split}
+use Rattle.fact_compound.proofs.KeyLaws.{sync_keys}
+use Rattle.fact_compound.proofs.AsksLaws.{asks_same}
 
 -- the parameters of a sync lower side
 lower_params_are : (a : LinkedAdapter) → a.lower.async_side ≡ false
@@ -80,7 +85,7 @@ numbers_context b true lower lift h =
     (numbers_append lift.results (two ++ (lower.results ++ two)) (numbers_front lift.results (lower.results ++ []) outs) (numbers_append two (lower.results ++ two) refl (numbers_append lower.results two results refl))))
 
 module _ {t : Tables} {d : AdapterData} {debug : Bool} {o : CallOptions} (passed : Bool) (are : passed ≡ true → (ps rs qs ss : List Shape) → HasSignature t d.lower.ty ps rs → HasSignature t d.lift.ty qs ss → ArePassedOn ps qs)
-    {lower lift : Signature} {a0 b c : Writer} {l : AdapterLocals} (no_code : a0.code.items ≡ []) (no_locals : a0.locals.items ≡ []) (x : AddedSyncLocals passed o.context a0 b lower lift l) (y : PutBody t d debug o passed l b c) where
+    {lower lift : Signature} {before after : Fuel} {a0 b c : Writer} {l : AdapterLocals} (no_code : a0.code.items ≡ []) (no_locals : a0.locals.items ≡ []) (x : AddedSyncLocals passed o.context a0 b lower lift l) (y : PutBody t d debug o passed l before after b c) where
   abbrev types : List ValType
   types = sync_types passed o.context lower lift
 
@@ -130,11 +135,11 @@ module _ {t : Tables} {d : AdapterData} {debug : Bool} {o : CallOptions} (passed
       distinct = all_distinct;
     }
 
-    body_does : (M : WasmModule) (p : ImportPlaces) → Serves M p c.imports → KnowsAdapterData M p d a → DoesBody u a M p (types_of_locals c) c.code.items
-    body_does M p serves links =
+    body_does : (M : WasmModule) (p : ImportPlaces) → Serves M p c.imports → HasHelpers M p y.put.asks → KnowsAdapterData M p d a → DoesBody u a M p (types_of_locals c) c.code.items
+    body_does M p serves has links =
         let e = y.put.emits u a h asks in
         let later : Later c M p (types_of_locals c) = record { serves = serves; begin = grows_none refl } in
-        let m = e.does M p (types_of_locals c) later in
+        let m = e.does M p (types_of_locals c) later has in
         let code : c.code.items ≡ e.grew.added = e.grew.code ∙ ap (λ k. k ++ e.grew.added) (x.added.code ∙ no_code) in
         let there : slots_of_locals l.args.items ≡ slots_from 0 (lower_signature_of a).params = args_are ∙ ap (λ (s : Signature). slots_from 0 s.params) lower_is in
         record {
@@ -143,7 +148,7 @@ module _ {t : Tables} {d : AdapterData} {debug : Bool} {o : CallOptions} (passed
         }
 
   -- The body was written, with its locals.
-  pub wrote_body : WroteBody t d debug o lower lift a0 c
+  pub wrote_body : WroteBody t d debug o lower lift before a0 c
   wrote_body =
       let g = y.put.grew in
       let body : c.code.items ≡ g.added = g.code ∙ ap (λ k. k ++ g.added) (x.added.code ∙ no_code) in
@@ -155,5 +160,9 @@ module _ {t : Tables} {d : AdapterData} {debug : Bool} {o : CallOptions} (passed
         brought = brought_between x.added.imports refl (subst (Brought b.imports c.imports) (sym body) y.put.grew.brought);
         params = grows_on first (grows_on second (subst (λ ts. Grows ts (types_of_locals c)) types_are y.put.grew.locals));
         numbers = λ n. y.put.grew.numbers (subst (λ ts. AreNumberTypes ts) (sym types_are) (numbers_context passed o.context lower lift n));
-        is = λ u a h asks lower_is lift_is M p serves links. body_does h asks lower_is lift_is M p serves links;
+        asks = y.put.asks;
+        asked = asks_same x.added.imports refl y.put.asked;
+        named = ap defined_named body ∙ g.calls;
+        keys = λ full u a h. sync_keys y.put.translated are full h.transfers;
+        is = λ u a h asks lower_is lift_is M p serves has links. body_does h asks lower_is lift_is M p serves has links;
       }

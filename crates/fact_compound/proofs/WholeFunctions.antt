@@ -1,5 +1,5 @@
 -- The function of a sync adapter, and the module that it is put into.
-use Rattle.std.proofs.Common.{◌≡◌, ℕ, zero, suc, Bool, true, false, List, [], ◌∷◌, ◌++◌, Option, Some, None, refl, sym, ap, ◌∙◌, subst, length, map, drop, reverse, slice_get}
+use Rattle.std.proofs.Common.{◌≡◌, ◌<◌, ℕ, zero, suc, Bool, true, false, List, [], ◌∷◌, ◌++◌, Option, Some, None, refl, sym, ap, ◌∙◌, subst, arith, length, map, drop, reverse, slice_get}
 use Rattle.fact_wasm.specs.CoreTypes.{signature}
 use Rattle.fact_wasm.specs.declared.instr.FuncName.TheVariants as func
 use Rattle.fact_wasm.specs.declared.instr.Instr.{Instr}
@@ -24,6 +24,7 @@ use Rattle.fact_types.specs.declared.flats.FlatType.TheVariants as flat_type
 use Rattle.fact_types.specs.declared.signature.SideSig.{SideSig}
 use Rattle.fact_types.specs.declared.signature.Signature.{Signature}
 use Rattle.std.specs.Prelude.{is_some}
+use Rattle.std.specs.List.{AllZip}
 use Rattle.fact_machine.specs.Exits.{entry_locals}
 use Rattle.fact_machine.specs.Machine.{locals_of}
 use Rattle.fact_machine.specs.Typing.{is_number, local_types}
@@ -33,6 +34,7 @@ use Rattle.fact_moves.specs.Running.{ImportPlaces}
 use Rattle.fact_pieces.specs.Does.{held_types}
 use Rattle.fact_pieces.specs.Typed.{OperandsBehind, OnStack, IsTyped}
 use Rattle.fact_pieces.proofs.TypedShapes.{typed_body}
+use Rattle.fact_emit.specs.Asked.{HasHelpers}
 use Rattle.fact_emit.specs.Brought.{Brought}
 use Rattle.fact_emit.specs.Imports.{Extended, HasImport, StandOnce, AreOnce, Serves}
 use Rattle.fact_emit.specs.States.{ModuleSoFar, HasType, KeepsDefined, export_as, functions_of, memories_of, globals_of}
@@ -43,8 +45,13 @@ use Rattle.fact_emit.proofs.BroughtLaws.{brought_between}
 use Rattle.fact_emit.proofs.DefinedKept.{defined_brought, defined_type, extended_defined}
 use Rattle.fact_emit.proofs.ImportLaws.{extended_on, grown_get}
 use Rattle.fact_emit.proofs.ServingLaws.{serves_sooner}
+use Rattle.fact_emit.specs.NamedFunctions.{defined_named}
+use Rattle.fact_translate.specs.declared.fuel.Fuel.{Fuel}
+use Rattle.fact_compound.specs.Keys.{AsksKeys, IsKeyOfAdapter, sync_asks}
+use Rattle.fact_compound.specs.Translated.{IsFullFuel}
+use Rattle.fact_compound.specs.Asks.{AreNewAsked, AsksFor}
 use Rattle.fact_compound.specs.Described.{DescribesAdapter, KnowsAdapterData}
-use Rattle.fact_compound.specs.Functions.{sync_types, DoesBody, WroteBody, WroteFunction, CompiledSync}
+use Rattle.fact_compound.specs.Functions.{sync_types, DoesBody, WroteBody, WroteFunction, AskingSync}
 use Rattle.fact_compound.specs.Events.{AreCallOptions, AsksCalls}
 use Rattle.fact_compound.specs.Syncs.{EndsAsSync, IsSyncFunction, lower_type_of}
 use Rattle.fact_compound.specs.declared.syncs.CallOptions.{CallOptions}
@@ -53,6 +60,7 @@ use Rattle.fact_compound.specs.declared.adapters.AdapterData.{AdapterData}
 use Rattle.fact_compound.proofs.Flats.{are_flat}
 use Rattle.fact_compound.proofs.Runs.{numbers_append, numbers_behind, declares_all}
 use Rattle.fact_compound.proofs.SlotsFrom.{held_entry, args_held}
+use Rattle.fact_compound.proofs.AsksLaws.{asks_behind, asks_kept, asks_same, defined_new, type_new}
 
 -- ---- the types of core signatures are those of numbers
 
@@ -114,7 +122,7 @@ drop_long (x ∷ xs) ys = drop_long xs ys
 pub typed_within : {M : WasmModule} {locals : List ValType} {labels : List (List ValType)} {code : List Instr} {outs : OperandsBehind} → IsTyped M locals [] code [] outs → IsTyped M locals labels code [] outs
 typed_within {labels = labels} x = record { by = λ outer below. x.by (labels ++ outer) below }
 
-module _ {t : Tables} {d : AdapterData} {debug : Bool} {o : CallOptions} {lower lift : Signature} {ty : ℕ} {a0 c : Writer} (w : WroteBody t d debug o lower lift a0 c) {old new : ModuleSoFar} (before : a0.imports ≡ old) (after : new ≡ c.imports) (f : WasmFunc)
+module _ {t : Tables} {d : AdapterData} {debug : Bool} {o : CallOptions} {lower lift : Signature} {ty : ℕ} {fuel : ℕ} {before_fuel : Fuel} (full : IsFullFuel before_fuel) (same_fuel : before_fuel.initial ≡ fuel) {a0 c : Writer} (w : WroteBody t d debug o lower lift before_fuel a0 c) {old new : ModuleSoFar} (before : a0.imports ≡ old) (after : new ≡ c.imports) (f : WasmFunc)
     (ty_is : f.ty ≡ ty) (body_is : f.body ≡ c.code.items) (locals_are : local_types f.locals ≡ map (λ (l : Local). l.ty) (drop (length lower.params) c.locals.items)) where
   declared : local_types f.locals ≡ w.params.more
   declared = locals_are ∙ drop_mapped (λ (l : Local). l.ty) (length lower.params) c.locals.items ∙ ap (drop (length lower.params)) w.params.is ∙ drop_long lower.params w.params.more
@@ -122,9 +130,9 @@ module _ {t : Tables} {d : AdapterData} {debug : Bool} {o : CallOptions} {lower 
   all_types : types_of_locals c ≡ lower.params ++ local_types f.locals
   all_types = w.params.is ∙ ap (λ ts. lower.params ++ ts) (sym declared)
 
-  module _ {u : AdapterTunables} {a : LinkedAdapter} (h : DescribesAdapter t d debug u a) (asks : AreCallOptions o u a) (lower_is : lower ≡ lower_signature_of a) (lift_is : lift ≡ lift_signature_of a) {M : WasmModule} {p : ImportPlaces} (serves : Serves M p new) (links : KnowsAdapterData M p d a) where
+  module _ {u : AdapterTunables} {a : LinkedAdapter} (h : DescribesAdapter t d debug u a) (asks : AreCallOptions o u a) (lower_is : lower ≡ lower_signature_of a) (lift_is : lift ≡ lift_signature_of a) {M : WasmModule} {p : ImportPlaces} (serves : Serves M p new) (has : HasHelpers M p w.asks) (links : KnowsAdapterData M p d a) where
     body : DoesBody u a M p (types_of_locals c) c.code.items
-    body = w.is u a h asks lower_is lift_is M p (subst (λ s. Serves M p s) after serves) links
+    body = w.is u a h asks lower_is lift_is M p (subst (λ s. Serves M p s) after serves) has links
 
     locals_is : types_of_locals c ≡ (lower_signature_of a).params ++ local_types f.locals
     locals_is = all_types ∙ ap (λ (s : Signature). s.params ++ local_types f.locals) lower_is
@@ -151,13 +159,19 @@ module _ {t : Tables} {d : AdapterData} {debug : Bool} {o : CallOptions} {lower 
     }
 
   -- The function of the body was written.
-  pub wrote_function : WroteFunction t d debug o lower lift ty old new f
+  pub wrote_function : WroteFunction t d debug o fuel lower lift ty old new f
   wrote_function = record {
     ty = ty_is;
     imports = subst (λ s. Extended s new) before (subst (λ s. Extended a0.imports s) (sym after) w.imports);
     once = λ o. subst AreOnce (sym after) (w.once (subst AreOnce (sym before) o));
     brought = subst (Brought old new) (sym body_is) (brought_between before (sym after) w.brought);
-    is = λ u a h asks lower_is lift_is M p serves links. is_function h asks lower_is lift_is serves links;
+    asks = w.asks;
+    asked = asks_same before (sym after) w.asked;
+    keys = λ u a h. record {
+      named = ap defined_named body_is ∙ w.named;
+      are = subst (λ n. AllZip (IsKeyOfAdapter t d debug o.concurrency a) w.asks (sync_asks n a)) same_fuel (w.keys full u a h);
+    };
+    is = λ u a h asks lower_is lift_is M p serves has links. is_function h asks lower_is lift_is serves has links;
   }
 
 -- ---- the module
@@ -198,30 +212,36 @@ module _ {t : Tables} {d : AdapterData} {debug : Bool} {lower lift : Signature} 
       lift_are a.lift.params a.lift.results (subst (λ i. HasSignature t i a.lift.params a.lift.results) (sym of_lift.ty_is) h.transfers.lift.signature)
       ∙ (λ i. lift_by (of_lift.sync i) lift_side.callback ((of_lift.wide ∙ sym h.transfers.lift.wide) i) a.lift.params a.lift.results) ∙ sym (lift_is_sync a h.lift_sync)
 
-  pub compiled : {o : CallOptions} {concurrency exceptions : Bool} {s0 s1 s2 s3 s4 : ModuleSoFar} {n k : ℕ} {f : WasmFunc} → slice_get s1.types n ≡ Some (signature lower.params lower.results) → HasType s0 s1 (signature lower.params lower.results) → Extended s0 s1 → (AreOnce s0 → AreOnce s1)
-      → WroteFunction t d debug o lower lift n s1 s2 f → AsksCalls t d concurrency exceptions o → k ≡ length s2.functions → s3 ≡ record s2 { functions = s2.functions ++ f ∷ [] } → s4 ≡ record s3 { exports = s3.exports ++ export_as d.name (func.Defined k) ∷ [] } → CompiledSync t d debug concurrency exceptions s0 s4
-  compiled {o} {concurrency} {exceptions} {s0} {s1} {s2} {s3} {s4} {n} {k} {f} place has keeps once w asks number defined exported =
+  pub compiled : {o : CallOptions} {concurrency exceptions : Bool} {fuel : ℕ} {s0 s1 s2 s3 s4 : ModuleSoFar} {n k : ℕ} {f : WasmFunc} → length s0.functions < s0.numbered → slice_get s1.types n ≡ Some (signature lower.params lower.results) → HasType s0 s1 (signature lower.params lower.results) → Extended s0 s1 → (AreOnce s0 → AreOnce s1)
+      → WroteFunction t d debug o fuel lower lift n s1 s2 f → AsksCalls t d concurrency exceptions o → k ≡ length s2.functions → s3 ≡ record s2 { functions = s2.functions ++ f ∷ [] } → s4 ≡ record s3 { exports = s3.exports ++ export_as d.name (func.Defined k) ∷ [] } → AskingSync t d debug concurrency exceptions fuel s0 s4
+  compiled {o} {concurrency} {exceptions} {fuel} {s0} {s1} {s2} {s3} {s4} {n} {k} {f} ahead place has keeps once w asks number defined exported =
       let same : s4 ≡ record s2 { functions = s2.functions ++ f ∷ []; exports = s2.exports ++ export_as d.name (func.Defined k) ∷ [] } = exported ∙ ap (λ (s : ModuleSoFar). record s { exports = s.exports ++ export_as d.name (func.Defined k) ∷ [] }) defined in
       let before : KeepsDefined s0 s1 = defined_type has in
       let kept : KeepsDefined s1 s2 = defined_brought w.brought in
       let count : k ≡ length s0.functions = number ∙ ap length (kept.functions ∙ before.functions) in
-      let last : Extended s2 s4 = extended_defined (ap (λ (s : ModuleSoFar). s.types) same) (ap (λ (s : ModuleSoFar). s.section) same) (ap (λ (s : ModuleSoFar). s.imports) same) in
+      let last : Extended s2 s4 = extended_defined (ap (λ (s : ModuleSoFar). s.types) same) (ap (λ (s : ModuleSoFar). s.section) same) (ap (λ (s : ModuleSoFar). s.imports) same) (ap (λ (s : ModuleSoFar). s.helpers) same) (ap (λ (s : ModuleSoFar). s.numbered) same) in
+      let none : AreNewAsked [] s2 s4 = defined_new f (ap (λ (s : ModuleSoFar). s.helpers) same) (ap (λ (s : ModuleSoFar). s.numbered) same) (ap (λ (s : ModuleSoFar). s.functions) same) (omega (arith, ahead, ap length (kept.functions ∙ before.functions), keeps.numbered, w.imports.numbered)) in
       record {
-        function = f;
-        ty = signature lower.params lower.results;
-        declared = s1;
-        declares = has;
-        written = s2;
-        brought = w.brought;
-        is_last = same ∙ ap (λ j. record s2 { functions = s2.functions ++ f ∷ []; exports = s2.exports ++ export_as d.name (func.Defined j) ∷ [] }) number;
-        functions = ap (λ (s : ModuleSoFar). s.functions) same ∙ ap (λ fs. fs ++ f ∷ []) (kept.functions ∙ before.functions);
-        exports = ap (λ (s : ModuleSoFar). s.exports) same ∙ ap (λ es. es ++ export_as d.name (func.Defined k) ∷ []) (kept.exports ∙ before.exports) ∙ ap (λ j. s0.exports ++ export_as d.name (func.Defined j) ∷ []) count;
-        once = λ o. once_same (ap functions_of same) (ap memories_of same) (ap globals_of same) (ap (λ (s : ModuleSoFar). s.types) same) (ap (λ (s : ModuleSoFar). s.section) same) (w.once (once o));
-        typed = λ u a h.
-            let at : slice_get s4.types n ≡ Some (signature lower.params lower.results) = grown_get last.types n _ (grown_get w.imports.types n _ place) in
-            ap (slice_get s4.types) w.ty ∙ at ∙ ap (λ (s : Signature). Some (signature s.params s.results)) (lower_of h);
-        writes = record {
-          imports = extended_on keeps (extended_on w.imports last);
-          is = λ u a h set M p serves links. w.is u a h (asks_calls asks h set) (lower_of h) (lift_of h) M p (serves_sooner last serves) links;
+        asks = w.asks;
+        asked = subst (λ c. AsksFor t debug c w.asks s0 s4) asks.same_concurrency (asks_behind (type_new has) (asks_kept last w.asked none));
+        keys = λ u a h. subst (λ c. AsksKeys t d debug c a w.asks f (sync_asks fuel a)) asks.same_concurrency (w.keys u a h);
+        compiled = record {
+          function = f;
+          ty = signature lower.params lower.results;
+          declared = s1;
+          declares = has;
+          written = s2;
+          brought = w.brought;
+          is_last = same ∙ ap (λ j. record s2 { functions = s2.functions ++ f ∷ []; exports = s2.exports ++ export_as d.name (func.Defined j) ∷ [] }) number;
+          functions = ap (λ (s : ModuleSoFar). s.functions) same ∙ ap (λ fs. fs ++ f ∷ []) (kept.functions ∙ before.functions);
+          exports = ap (λ (s : ModuleSoFar). s.exports) same ∙ ap (λ es. es ++ export_as d.name (func.Defined k) ∷ []) (kept.exports ∙ before.exports) ∙ ap (λ j. s0.exports ++ export_as d.name (func.Defined j) ∷ []) count;
+          once = λ o. once_same (ap functions_of same) (ap memories_of same) (ap globals_of same) (ap (λ (s : ModuleSoFar). s.types) same) (ap (λ (s : ModuleSoFar). s.section) same) (w.once (once o));
+          typed = λ u a h.
+              let at : slice_get s4.types n ≡ Some (signature lower.params lower.results) = grown_get last.types n _ (grown_get w.imports.types n _ place) in
+              ap (slice_get s4.types) w.ty ∙ at ∙ ap (λ (s : Signature). Some (signature s.params s.results)) (lower_of h);
+          writes = record {
+            imports = extended_on keeps (extended_on w.imports last);
+            is = λ u a h set M p serves has links. w.is u a h (asks_calls asks h set) (lower_of h) (lift_of h) M p (serves_sooner last serves) has links;
+          };
         };
       }

@@ -1,5 +1,6 @@
 -- What is said of the functions of async adapters between two instances.
-use Rattle.std.specs.Prelude.{◌≡◌, ℕ, suc, Bool, true, List, [], ◌∷◌, ◌++◌, Some, is_some, length, reverse, slice_get}
+use Rattle.std.specs.Prelude.{◌≡◌, ℕ, suc, Bool, true, List, [], ◌∷◌, ◌++◌, Some, is_some, length, map, reverse, slice_get}
+use Rattle.std.specs.List.{AllZip}
 use Rattle.fact_wasm.specs.CoreTypes.{signature}
 use Rattle.fact_wasm.specs.declared.instr.Instr.{Instr}
 use Rattle.fact_wasm.specs.declared.module.WasmFunc.{WasmFunc}
@@ -26,18 +27,24 @@ use Rattle.fact_pieces.specs.PieceLaws.{HaveResultTypes}
 use Rattle.fact_pieces.specs.Places.{AreHeld, AreLocals, AreUsed, Slot}
 use Rattle.fact_pieces.specs.Typed.{OnStack, IsTyped}
 use Rattle.fact_emit.specs.Brought.{Brought}
-use Rattle.fact_emit.specs.Emits.{Emits, Grew}
+use Rattle.fact_emit.specs.Asked.{AskedHelper, HasHelpers}
+use Rattle.fact_emit.specs.Emits.{EmitsAsking, GrewAsking}
 use Rattle.fact_emit.specs.Imports.{AreOnce, Extended, Serves}
 use Rattle.fact_emit.specs.Places.{AreDistinctSlots}
 use Rattle.fact_emit.specs.States.{ModuleSoFar, with_callee}
 use Rattle.fact_emit.specs.Writers.{AreNumberTypes, taken_in, types_of_locals}
 use Rattle.fact_emit.specs.declared.writer.Writer.{Writer}
+use Rattle.fact_emit.specs.NamedFunctions.{defined_named}
+use Rattle.fact_translate.specs.declared.fuel.Fuel.{Fuel}
+use Rattle.fact_compound.specs.Asks.{AsksFor, Having}
 use Rattle.fact_compound.specs.AsyncParts.{PartSlots, callee_name, part_action, part_name, part_type}
 use Rattle.fact_compound.specs.Code.{slot_types}
 use Rattle.fact_compound.specs.Described.{DescribesTransfers, KnowsAdapterData, side_sig}
 use Rattle.fact_compound.specs.Entries.{CompiledEntry}
 use Rattle.fact_compound.specs.Functions.{params_among, slots_from}
+use Rattle.fact_compound.specs.Keys.{AsksKeys, IsKeyOfAdapter, PartsAskKeys, TranslatesPart, part_asks}
 use Rattle.fact_compound.specs.Puts.{PutsFunction}
+use Rattle.fact_compound.specs.Translated.{IsFullFuel}
 use Rattle.fact_compound.specs.declared.adapters.AdapterData.{AdapterData}
 use Rattle.fact_compound.specs.declared.asyncs.AsyncPart.{AsyncPart}
 use Rattle.fact_compound.specs.declared.asyncs.AsyncPart.TheVariants as part
@@ -92,9 +99,12 @@ pub record DoesPart (x : AsyncPart) (u : AdapterTunables) (a : LinkedAdapter) (d
   pub typed : KnowsAdapterData M p d a → HasPartLocals x a l taken locals → IsTyped M locals [] code [] (OnStack (reverse (part_type x a).results))
 
 -- Code was written that does so, for every adapter whose transfers the data describe, with concurrency on or off.
-pub record EmitsPart (t : Tables) (d : AdapterData) (debug concurrency : Bool) (x : AsyncPart) (l : PartSlots) (old new : Writer) : Type 0 where
-  pub grew : Grew old new
-  pub emits : (u : AdapterTunables) (a : LinkedAdapter) → DescribesTransfers t d debug u a → u.concurrency ≡ concurrency → Emits old new (DoesPart x u a d l (taken_in old))
+pub record EmitsPart (t : Tables) (d : AdapterData) (debug concurrency : Bool) (x : AsyncPart) (l : PartSlots) (before after : Fuel) (old new : Writer) : Type 0 where
+  pub asks : List AskedHelper
+  pub translated : TranslatesPart x t d debug concurrency before after asks
+  pub grew : GrewAsking asks old new
+  pub asked : AsksFor t debug concurrency asks old.imports new.imports
+  pub emits : (u : AdapterTunables) (a : LinkedAdapter) → DescribesTransfers t d debug u a → u.concurrency ≡ concurrency → EmitsAsking asks old new (DoesPart x u a d l (taken_in old))
 
 -- ---- the function as it is written
 
@@ -112,42 +122,66 @@ pub record DoesPartBody (x : AsyncPart) (u : AdapterTunables) (a : LinkedAdapter
   pub typed : IsTyped M locals [] code [] (OnStack (reverse (part_type x a).results))
 
 -- The body of a function was written, with its locals, by its core signature.
-pub record WroteBodyOfPart (t : Tables) (d : AdapterData) (debug concurrency : Bool) (x : AsyncPart) (s : Signature) (old new : Writer) : Type 0 where
+pub record WroteBodyOfPart (t : Tables) (d : AdapterData) (debug concurrency : Bool) (x : AsyncPart) (s : Signature) (before : Fuel) (old new : Writer) : Type 0 where
   pub imports : Extended old.imports new.imports
   pub once : AreOnce old.imports → AreOnce new.imports
   pub brought : Brought old.imports new.imports new.code.items
   pub params : Grows s.params (types_of_locals new)
   pub numbers : AreNumberTypes (s.params ++ s.results) → AreNumberTypes (types_of_locals new)
+  pub asks : List AskedHelper
+  pub asked : AsksFor t debug concurrency asks old.imports new.imports
+  pub named : defined_named new.code.items ≡ map (λ (a : AskedHelper). a.number) asks
+  pub keys : IsFullFuel before → (u : AdapterTunables) (a : LinkedAdapter) → DescribesTransfers t d debug u a → AllZip (IsKeyOfAdapter t d debug concurrency a) asks (part_asks x before.initial a)
   pub is : (u : AdapterTunables) (a : LinkedAdapter) → DescribesTransfers t d debug u a → u.concurrency ≡ concurrency → signature s.params s.results ≡ part_type x a
-      → (M : WasmModule) (p : ImportPlaces) → Serves M p new.imports → KnowsAdapterData M p d a → DoesPartBody x u a M p (types_of_locals new) new.code.items
+      → (M : WasmModule) (p : ImportPlaces) → Serves M p new.imports → HasHelpers M p asks → KnowsAdapterData M p d a → DoesPartBody x u a M p (types_of_locals new) new.code.items
 
 -- A function of this type was written.
-pub record WrotePart (t : Tables) (d : AdapterData) (debug concurrency : Bool) (x : AsyncPart) (s : Signature) (type_at : ℕ) (old new : ModuleSoFar) (f : WasmFunc) : Type 0 where
+pub record WrotePart (t : Tables) (d : AdapterData) (debug concurrency : Bool) (fuel : ℕ) (x : AsyncPart) (s : Signature) (type_at : ℕ) (old new : ModuleSoFar) (f : WasmFunc) : Type 0 where
   pub ty : f.ty ≡ type_at
   pub imports : Extended old new
   pub once : AreOnce old → AreOnce new
   pub brought : Brought old new f.body
+  pub asks : List AskedHelper
+  pub asked : AsksFor t debug concurrency asks old new
+  pub keys : (u : AdapterTunables) (a : LinkedAdapter) → DescribesTransfers t d debug u a → AsksKeys t d debug concurrency a asks f (part_asks x fuel a)
   pub is : (u : AdapterTunables) (a : LinkedAdapter) → DescribesTransfers t d debug u a → u.concurrency ≡ concurrency → signature s.params s.results ≡ part_type x a
-      → (M : WasmModule) (p : ImportPlaces) → Serves M p new → KnowsAdapterData M p d a → IsPartFunction x u a M p f
+      → (M : WasmModule) (p : ImportPlaces) → Serves M p new → HasHelpers M p asks → KnowsAdapterData M p d a → IsPartFunction x u a M p f
 
 -- It was put into a module, under its name. It has the core type of every adapter whose transfers the data describe, and is its function in
--- every later module that has what was imported so far and in which the adapter's own parts have their places.
-pub record CompiledPart (t : Tables) (d : AdapterData) (debug concurrency : Bool) (x : AsyncPart) (old new : ModuleSoFar) : Type 0 where
+-- every later module that has what was imported so far, and what else its code wants, and in which the adapter's own parts have their places.
+pub record CompiledPart (Has : Having) (t : Tables) (d : AdapterData) (debug concurrency : Bool) (x : AsyncPart) (old new : ModuleSoFar) : Type 0 where
   pub function : WasmFunc
   pub puts : PutsFunction (part_name x d.name) old new function
   pub once : AreOnce old → AreOnce new
   pub typed : (u : AdapterTunables) (a : LinkedAdapter) → DescribesTransfers t d debug u a → slice_get new.types function.ty ≡ Some (part_type x a)
-  pub is : (u : AdapterTunables) (a : LinkedAdapter) → DescribesTransfers t d debug u a → u.concurrency ≡ concurrency → (M : WasmModule) (p : ImportPlaces) → Serves M p new → KnowsAdapterData M p d a → IsPartFunction x u a M p function
+  pub is : (u : AdapterTunables) (a : LinkedAdapter) → DescribesTransfers t d debug u a → u.concurrency ≡ concurrency → (M : WasmModule) (p : ImportPlaces) → Serves M p new → Has M p → KnowsAdapterData M p d a → IsPartFunction x u a M p function
 
 -- ---- all three functions
 
 -- The three functions of an async adapter stand behind the module's functions, in this order, their exports behind the exports, and that of
 -- the callee behind those of callees.
-pub record CompiledAsync (t : Tables) (d : AdapterData) (debug concurrency : Bool) (old new : ModuleSoFar) : Type 0 where
+pub record CompiledAsync (Has : Having) (t : Tables) (d : AdapterData) (debug concurrency : Bool) (old new : ModuleSoFar) : Type 0 where
   pub started : ModuleSoFar
   pub returned : ModuleSoFar
   pub entered : ModuleSoFar
-  pub start : CompiledPart t d debug concurrency part.Start old started
-  pub return : CompiledPart t d debug concurrency part.Return started returned
+  pub start : CompiledPart Has t d debug concurrency part.Start old started
+  pub return : CompiledPart Has t d debug concurrency part.Return started returned
   pub entry : CompiledEntry t d (length old.functions) (suc (length old.functions)) returned entered
   pub callee : new ≡ with_callee entered (callee_name d.name) d.callee.number
+
+-- ---- with the helpers that they ask for
+
+-- A function that moves values, whose code asks for helpers, in modules that have these. With such fuel it asks for those that the translation of these values
+-- asks for.
+pub record AskingPart (t : Tables) (d : AdapterData) (debug concurrency : Bool) (fuel : ℕ) (x : AsyncPart) (old new : ModuleSoFar) : Type 0 where
+  pub asks : List AskedHelper
+  pub asked : AsksFor t debug concurrency asks old new
+  pub compiled : CompiledPart (λ M p. HasHelpers M p asks) t d debug concurrency x old new
+  pub keys : (u : AdapterTunables) (a : LinkedAdapter) → DescribesTransfers t d debug u a → AsksKeys t d debug concurrency a asks compiled.function (part_asks x fuel a)
+
+-- All three.
+pub record AskingAsync (t : Tables) (d : AdapterData) (debug concurrency : Bool) (fuel : ℕ) (old new : ModuleSoFar) : Type 0 where
+  pub asks : List AskedHelper
+  pub asked : AsksFor t debug concurrency asks old new
+  pub compiled : CompiledAsync (λ M p. HasHelpers M p asks) t d debug concurrency old new
+  pub keys : PartsAskKeys t d debug concurrency fuel asks compiled.start.function compiled.return.function

@@ -1,11 +1,10 @@
 -- What the data that a sync adapter's code is written by say of the adapter, and what that code asks of a module.
-use Rattle.std.specs.Prelude.{◌≡◌, ℕ, Bool, true, false, ◌||◌, List, [], Option, Some, None, is_some, option_map, slice_get}
+use Rattle.std.specs.Prelude.{◌≡◌, Bool, true, false, ◌||◌, List, [], Option, Some, None, is_some, slice_get}
 use Rattle.std.specs.List.{AllByRecursion}
 use Rattle.fact_wasm.specs.declared.module.WasmModule.{WasmModule}
 use Rattle.fact_wasm.specs.declared.types.ValType.{ValType}
 use Rattle.fact_entity.specs.declared.id.Id.{Id}
 use Rattle.fact_entity.specs.declared.table.Funcs.{Funcs}
-use Rattle.fact_entity.specs.declared.table.Memories.{Memories}
 use Rattle.fact_entity.specs.declared.table.TypeFuncs.{TypeFuncs}
 use Rattle.fact_types.specs.Adapters.{Side, LinkedAdapter, is_wide}
 use Rattle.fact_types.specs.FlatShapes.{AreCounted}
@@ -24,36 +23,20 @@ use Rattle.fact_moves.specs.Running.{ImportPlaces}
 use Rattle.fact_moves.specs.Sides.{LiftLowerOptions, options_of}
 use Rattle.fact_pieces.specs.Knows.{KnowsFunction, KnowsFlags}
 use Rattle.fact_emit.specs.Areas.{IsLinearMemoryOf}
-use Rattle.fact_emit.specs.ImportSection.{custom_page_size}
+use Rattle.fact_emit.specs.Movable.{CanMoveFields}
+use Rattle.fact_emit.specs.Options.{linear_of_options}
 use Rattle.fact_emit.specs.declared.places.LinearMemory.{LinearMemory}
 use Rattle.fact_emit.specs.Requests.{IsReallocImported, IsReallocOf, ServesLists}
 use Rattle.fact_emit.specs.StringPieces.{IsMemoryImported, IsMemoryWide}
 use Rattle.fact_emit.specs.States.{ModuleSoFar}
-use Rattle.fact_translate.specs.Movable.{CanMoveFields}
 use Rattle.fact_compound.specs.declared.adapters.AdapterOptions.{AdapterOptions}
 use Rattle.fact_compound.specs.declared.adapters.AdapterData.{AdapterData}
 
 -- ---- memories
 
--- the place of a memory among the imported memories, or 0 where there is none
-abbrev pub memory_place : Option (Id Memories) → ℕ
-memory_place None = 0
-memory_place (Some m) = m.number
-
--- the place of what is imported, where there is some
-abbrev pub number_if_any : {T : Type 0} → Option (Id T) → Option ℕ
-number_if_any place = option_map (λ i. i.number) place
-
 -- a side's memory as code uses it
 abbrev pub linear_of : AdapterOptions → LinearMemory
-linear_of o = record {
-  has_memory = is_some o.options.linear.memory;
-  memory = memory_place o.options.linear.memory;
-  memory64 = o.options.linear.memory64;
-  page_size_log2 = custom_page_size o.options.linear.page_size_log2;
-  realloc = number_if_any o.options.linear.realloc;
-  encoding = o.options.string_encoding;
-}
+linear_of o = linear_of_options o.options
 
 -- The memories of both sides, where they have some, have addresses of the widths of the data.
 pub record AreOptionsWide (d : AdapterData) (s : ModuleSoFar) : Type 0 where

@@ -17,12 +17,12 @@ use Rattle.fact_moves.specs.Adapters.{AdapterTunables, enters}
 use Rattle.fact_moves.specs.Running.{ImportPlaces}
 use Rattle.fact_pieces.specs.Context.{CanReadSlotsIf, CanWriteSlotsIf}
 use Rattle.fact_pieces.specs.Places.{Slot}
+use Rattle.fact_emit.specs.Options.{number_if_any}
 use Rattle.fact_emit.specs.RuntimeCalls.{KnowsRuntime, slots_of}
 use Rattle.fact_emit.specs.declared.context.ContextLocals.{ContextLocals}
 use Rattle.fact_emit.specs.declared.imported.RuntimeFunction.{RuntimeFunction}
 use Rattle.fact_emit.specs.declared.imported.RuntimeFunction.TheVariants as runtime
 use Rattle.fact_compound.specs.Code.{enter_code, exit_code, finish_code}
-use Rattle.fact_compound.specs.Described.{number_if_any}
 use Rattle.fact_compound.specs.declared.adapters.AdapterData.{AdapterData}
 use Rattle.fact_compound.specs.declared.syncs.CallOptions.{CallOptions}
 

@@ -1,5 +1,6 @@
 -- Whole functions of adapters, as they are put into a module.
 use Rattle.std.specs.Prelude.{◌≡◌, ℕ, suc, ◌-◌, Bool, true, false, List, [], ◌∷◌, ◌++◌, is_some, length, map, reverse, take, Some, slice_get}
+use Rattle.std.specs.List.{AllZip}
 use Rattle.fact_wasm.specs.declared.instr.FuncName.TheVariants as func
 use Rattle.fact_wasm.specs.declared.instr.Instr.{Instr}
 use Rattle.fact_wasm.specs.declared.module.WasmFunc.{WasmFunc}
@@ -22,15 +23,21 @@ use Rattle.fact_types.specs.declared.signature.Signature.{Signature}
 use Rattle.fact_pieces.specs.Does.{Locals, held_types}
 use Rattle.fact_pieces.specs.Places.{Slot, AreHeld}
 use Rattle.fact_pieces.specs.Typed.{OnStack, IsTyped}
+use Rattle.fact_emit.specs.Asked.{AskedHelper, HasHelpers}
 use Rattle.fact_emit.specs.Brought.{Brought}
 use Rattle.fact_emit.specs.Imports.{Extended, AreOnce, Serves}
 use Rattle.fact_emit.specs.Places.{slots_of_locals}
 use Rattle.fact_emit.specs.States.{HasType, ModuleSoFar, export_as, with_exported}
 use Rattle.fact_emit.specs.Writers.{AreNumberTypes, types_of_locals, used_local_of}
 use Rattle.fact_emit.specs.declared.writer.Writer.{Writer}
+use Rattle.fact_emit.specs.NamedFunctions.{defined_named}
+use Rattle.fact_translate.specs.declared.fuel.Fuel.{Fuel}
+use Rattle.fact_compound.specs.Asks.{AsksFor, Having}
 use Rattle.fact_compound.specs.Code.{slot_types}
 use Rattle.fact_compound.specs.Described.{DescribesAdapter, KnowsAdapterData}
 use Rattle.fact_compound.specs.Events.{AreCallOptions}
+use Rattle.fact_compound.specs.Keys.{AsksKeys, IsKeyOfAdapter, sync_asks}
+use Rattle.fact_compound.specs.Translated.{IsFullFuel}
 use Rattle.fact_compound.specs.Syncs.{IsSyncFunction, EmitsSync, EndsAsSync, WritesSync, lower_type_of}
 use Rattle.fact_compound.specs.Written.{SyncPlaces, context_slots}
 use Rattle.fact_compound.specs.declared.adapters.AdapterData.{AdapterData}
@@ -108,9 +115,9 @@ params_among true args = args
 params_among false args = take (length args - 1) args
 
 -- The code of a sync adapter was written over these locals, whatever the results of the lower side are.
-pub record PutBody (t : Tables) (d : AdapterData) (debug : Bool) (o : CallOptions) (passed : Bool) (l : AdapterLocals) (old new : Writer) : Type 0 where
+pub record PutBody (t : Tables) (d : AdapterData) (debug : Bool) (o : CallOptions) (passed : Bool) (l : AdapterLocals) (before after : Fuel) (old new : Writer) : Type 0 where
   pub params : List Slot
-  pub put : EmitsSync t d debug o (places_with passed l params) old new
+  pub put : EmitsSync t d debug o (places_with passed l params) before after old new
   pub split : (ps rs : List Shape) → HasSignature t d.lower.ty ps rs → AreCounted (tuple_members rs) → (memory64 : Bool) → params ≡ params_among (is_some (flat_values memory64 1 rs)) (slots_of_locals l.args.items)
 
 -- ---- the body
@@ -122,30 +129,37 @@ pub record DoesBody (u : AdapterTunables) (a : LinkedAdapter) (M : WasmModule) (
 
 -- The body of a function was written, with its locals, by the core signatures of the two sides: it is that of every adapter that
 -- the data describe and that has these signatures and asks for these calls.
-pub record WroteBody (t : Tables) (d : AdapterData) (debug : Bool) (o : CallOptions) (lower lift : Signature) (old new : Writer) : Type 0 where
+pub record WroteBody (t : Tables) (d : AdapterData) (debug : Bool) (o : CallOptions) (lower lift : Signature) (before : Fuel) (old new : Writer) : Type 0 where
   pub imports : Extended old.imports new.imports
   pub once : AreOnce old.imports → AreOnce new.imports
   pub brought : Brought old.imports new.imports new.code.items
   pub params : Grows lower.params (types_of_locals new)
   pub numbers : AreNumberTypes (sync_types false false lower lift) → AreNumberTypes (types_of_locals new)
+  pub asks : List AskedHelper
+  pub asked : AsksFor t debug o.concurrency asks old.imports new.imports
+  pub named : defined_named new.code.items ≡ map (λ (x : AskedHelper). x.number) asks
+  pub keys : IsFullFuel before → (u : AdapterTunables) (a : LinkedAdapter) → DescribesAdapter t d debug u a → AllZip (IsKeyOfAdapter t d debug o.concurrency a) asks (sync_asks before.initial a)
   pub is : (u : AdapterTunables) (a : LinkedAdapter) → DescribesAdapter t d debug u a → AreCallOptions o u a → lower ≡ lower_signature_of a → lift ≡ lift_signature_of a
-      → (M : WasmModule) (p : ImportPlaces) → Serves M p new.imports → KnowsAdapterData M p d a → DoesBody u a M p (types_of_locals new) new.code.items
+      → (M : WasmModule) (p : ImportPlaces) → Serves M p new.imports → HasHelpers M p asks → KnowsAdapterData M p d a → DoesBody u a M p (types_of_locals new) new.code.items
 
 -- ---- the function
 
 -- A function of this type was written.
-pub record WroteFunction (t : Tables) (d : AdapterData) (debug : Bool) (o : CallOptions) (lower lift : Signature) (type_at : ℕ) (old new : ModuleSoFar) (f : WasmFunc) : Type 0 where
+pub record WroteFunction (t : Tables) (d : AdapterData) (debug : Bool) (o : CallOptions) (fuel : ℕ) (lower lift : Signature) (type_at : ℕ) (old new : ModuleSoFar) (f : WasmFunc) : Type 0 where
   pub ty : f.ty ≡ type_at
   pub imports : Extended old new
   pub once : AreOnce old → AreOnce new
   pub brought : Brought old new f.body
+  pub asks : List AskedHelper
+  pub asked : AsksFor t debug o.concurrency asks old new
+  pub keys : (u : AdapterTunables) (a : LinkedAdapter) → DescribesAdapter t d debug u a → AsksKeys t d debug o.concurrency a asks f (sync_asks fuel a)
   pub is : (u : AdapterTunables) (a : LinkedAdapter) → DescribesAdapter t d debug u a → AreCallOptions o u a → lower ≡ lower_signature_of a → lift ≡ lift_signature_of a
-      → (M : WasmModule) (p : ImportPlaces) → Serves M p new → KnowsAdapterData M p d a → IsSyncFunction u a M p f
+      → (M : WasmModule) (p : ImportPlaces) → Serves M p new → HasHelpers M p asks → KnowsAdapterData M p d a → IsSyncFunction u a M p f
 
 -- The function of a sync adapter stands behind the module's functions, and its export, under the adapter's name, behind the
 -- exports. Before that its type was declared, and its code brought in functions of the runtime. It has the core type of every adapter that the data
 -- describe, and is its function.
-pub record CompiledSync (t : Tables) (d : AdapterData) (debug concurrency exceptions : Bool) (old new : ModuleSoFar) : Type 0 where
+pub record CompiledSync (Has : Having) (t : Tables) (d : AdapterData) (debug concurrency exceptions : Bool) (old new : ModuleSoFar) : Type 0 where
   pub function : WasmFunc
   pub ty : FuncType
   pub declared : ModuleSoFar
@@ -157,4 +171,11 @@ pub record CompiledSync (t : Tables) (d : AdapterData) (debug concurrency except
   pub exports : new.exports ≡ old.exports ++ export_as d.name (func.Defined (length old.functions)) ∷ []
   pub once : AreOnce old → AreOnce new
   pub typed : (u : AdapterTunables) (a : LinkedAdapter) → DescribesAdapter t d debug u a → slice_get new.types function.ty ≡ Some (lower_type_of a)
-  pub writes : WritesSync t d debug concurrency exceptions old new function
+  pub writes : WritesSync Has t d debug concurrency exceptions old new function
+
+-- The same, of code that asks for helpers, in modules that have these. With such fuel it asks for those that the adapter's translation asks for.
+pub record AskingSync (t : Tables) (d : AdapterData) (debug concurrency exceptions : Bool) (fuel : ℕ) (old new : ModuleSoFar) : Type 0 where
+  pub asks : List AskedHelper
+  pub asked : AsksFor t debug concurrency asks old new
+  pub compiled : CompiledSync (λ M p. HasHelpers M p asks) t d debug concurrency exceptions old new
+  pub keys : (u : AdapterTunables) (a : LinkedAdapter) → DescribesAdapter t d debug u a → AsksKeys t d debug concurrency a asks compiled.function (sync_asks fuel a)

@@ -1,3 +1,4 @@
+pub mod Asks
 pub mod AsyncParts
 pub mod Asyncs
 pub mod Code
@@ -6,6 +7,8 @@ pub mod Described
 pub mod Entries
 pub mod Events
 pub mod Functions
+pub mod Helpers
+pub mod Keys
 pub mod Passed
 pub mod PassedOn
 pub mod Passing
@@ -13,4 +16,5 @@ pub mod Placed
 pub mod Puts
 pub mod SameInstance
 pub mod Syncs
+pub mod Translated
 pub mod Written

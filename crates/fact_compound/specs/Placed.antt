@@ -9,7 +9,8 @@ use Rattle.fact_types.specs.declared.outside.MemoryOption.{MemoryOption}
 use Rattle.fact_moves.specs.Adapters.{flat_results}
 use Rattle.fact_emit.specs.AdapterLinks.{AdapterLinks, SideLinks}
 use Rattle.fact_emit.specs.ImportSection.{custom_page_size}
-use Rattle.fact_compound.specs.Described.{linear_of, number_if_any}
+use Rattle.fact_emit.specs.Options.{number_if_any}
+use Rattle.fact_compound.specs.Described.{linear_of}
 use Rattle.fact_compound.specs.declared.adapters.AdapterOptions.{AdapterOptions}
 use Rattle.fact_compound.specs.declared.adapters.AdapterData.{AdapterData}
 

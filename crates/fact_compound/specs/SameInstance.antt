@@ -1,5 +1,5 @@
 -- The functions of adapters within one instance.
-use Rattle.std.specs.Prelude.{◌≡◌, ℕ, true, List, [], ◌∷◌, ◌++◌, Some, length, reverse, slice_get}
+use Rattle.std.specs.Prelude.{◌≡◌, ◌<◌, ℕ, true, List, [], ◌∷◌, ◌++◌, Some, length, reverse, slice_get}
 use Rattle.fact_wasm.specs.declared.instr.FuncName.TheVariants as func
 use Rattle.fact_wasm.specs.declared.module.WasmFunc.{WasmFunc}
 use Rattle.fact_wasm.specs.declared.module.WasmModule.{WasmModule}
@@ -18,6 +18,7 @@ use Rattle.fact_pieces.specs.Code.{trap_code}
 use Rattle.fact_pieces.specs.Does.{Onward, Does}
 use Rattle.fact_pieces.specs.PieceLaws.{HaveResultTypes}
 use Rattle.fact_emit.specs.Brought.{Brought}
+use Rattle.fact_compound.specs.Asks.{AreNewAsked}
 use Rattle.fact_emit.specs.Imports.{AreOnce, Extended, Serves}
 use Rattle.fact_emit.specs.States.{HasType, IsTrapImported, ModuleSoFar, export_as, with_exported}
 use Rattle.fact_compound.specs.Syncs.{lower_type_of}
@@ -51,7 +52,7 @@ pub record TrapFunction (type_at : ℕ) (old new : ModuleSoFar) (f : WasmFunc) :
   pub body : f.body ≡ trap_code place
 
 -- The function stands behind the module's functions, and its export, under the adapter's name, behind the exports. Before that its
--- type was declared and its trap imported. It has the core type of every adapter whose lower side the data describe.
+-- type was declared and its trap imported, which alone it calls. It has the core type of every adapter whose lower side the data describe.
 pub record CompiledSameInstance (t : Tables) (d : AdapterData) (old new : ModuleSoFar) : Type 0 where
   pub function : WasmFunc
   pub ty : FuncType
@@ -59,10 +60,13 @@ pub record CompiledSameInstance (t : Tables) (d : AdapterData) (old new : Module
   pub declares : HasType old declared ty
   pub written : ModuleSoFar
   pub brought : Brought declared written function.body
+  pub place : ℕ
+  pub body : function.body ≡ trap_code place
   pub is_last : new ≡ with_exported written d.name function
   pub functions : new.functions ≡ old.functions ++ function ∷ []
   pub exports : new.exports ≡ old.exports ++ export_as d.name (func.Defined (length old.functions)) ∷ []
   pub imports : Extended old new
+  pub none_asked : length old.functions < old.numbered → AreNewAsked [] old new
   pub once : AreOnce old → AreOnce new
   pub typed : (a : LinkedAdapter) → DescribesLower t d a → slice_get new.types function.ty ≡ Some (lower_type_of a)
   pub is : (a : LinkedAdapter) → DescribesLower t d a → (M : WasmModule) (p : ImportPlaces) → Serves M p new → IsSameInstanceFunction a M p function

@@ -19,12 +19,16 @@ use Rattle.fact_pieces.specs.Places.{AreHeld}
 use Rattle.fact_pieces.specs.PieceLaws.{HaveResultTypes}
 use Rattle.fact_wasm.specs.declared.instr.Instr.{Instr}
 use Rattle.fact_wasm.specs.declared.types.ValType.{ValType}
-use Rattle.fact_emit.specs.Emits.{Grew, Emits}
+use Rattle.fact_emit.specs.Asked.{AskedHelper}
+use Rattle.fact_emit.specs.Emits.{EmitsAsking, GrewAsking}
 use Rattle.fact_emit.specs.Writers.{taken_in}
 use Rattle.fact_emit.specs.declared.writer.Writer.{Writer}
 use Rattle.fact_compound.specs.Written.{SyncPlaces, HasLocals}
 use Rattle.fact_emit.specs.Imports.{Extended, Serves}
 use Rattle.fact_emit.specs.States.{ModuleSoFar}
+use Rattle.fact_translate.specs.declared.fuel.Fuel.{Fuel}
+use Rattle.fact_compound.specs.Asks.{AsksFor, Having}
+use Rattle.fact_compound.specs.Keys.{TranslatesSync}
 use Rattle.fact_compound.specs.Described.{DescribesAdapter, KnowsAdapterData}
 use Rattle.fact_compound.specs.Events.{AreCallOptions, AreSetTo}
 use Rattle.fact_compound.specs.declared.adapters.AdapterData.{AdapterData}
@@ -45,10 +49,10 @@ pub record IsSyncFunction (u : AdapterTunables) (a : LinkedAdapter) (M : WasmMod
   pub typed : slice_get M.types f.ty ≡ Some (lower_type_of a) → is_typed_function M f ≡ true
 
 -- A function was written, and what it asks for was imported: it is that of every adapter that the data describe, with the tunables set so, in every later
--- module that has what was imported so far and in which the adapter's own parts have their places.
-pub record WritesSync (t : Tables) (d : AdapterData) (debug concurrency exceptions : Bool) (old new : ModuleSoFar) (f : WasmFunc) : Type 0 where
+-- module that has what was imported so far, and what else its code wants, and in which the adapter's own parts have their places.
+pub record WritesSync (Has : Having) (t : Tables) (d : AdapterData) (debug concurrency exceptions : Bool) (old new : ModuleSoFar) (f : WasmFunc) : Type 0 where
   pub imports : Extended old new
-  pub is : (u : AdapterTunables) (a : LinkedAdapter) → DescribesAdapter t d debug u a → AreSetTo concurrency exceptions u → (M : WasmModule) (p : ImportPlaces) → Serves M p new → KnowsAdapterData M p d a → IsSyncFunction u a M p f
+  pub is : (u : AdapterTunables) (a : LinkedAdapter) → DescribesAdapter t d debug u a → AreSetTo concurrency exceptions u → (M : WasmModule) (p : ImportPlaces) → Serves M p new → Has M p → KnowsAdapterData M p d a → IsSyncFunction u a M p f
 
 -- ---- the body as it is written
 
@@ -60,6 +64,9 @@ pub record DoesSync (u : AdapterTunables) (a : LinkedAdapter) (d : AdapterData) 
   pub typed : KnowsAdapterData M p d a → HasLocals a o.context l taken locals → IsTyped M locals [] code [] (OnStack (reverse (lower_signature_of a).results))
 
 -- Code was written that does so, for every adapter that the data describe and that asks for these calls.
-pub record EmitsSync (t : Tables) (d : AdapterData) (debug : Bool) (o : CallOptions) (l : SyncPlaces) (old new : Writer) : Type 0 where
-  pub grew : Grew old new
-  pub emits : (u : AdapterTunables) (a : LinkedAdapter) → DescribesAdapter t d debug u a → AreCallOptions o u a → Emits old new (DoesSync u a d o l (taken_in old))
+pub record EmitsSync (t : Tables) (d : AdapterData) (debug : Bool) (o : CallOptions) (l : SyncPlaces) (before after : Fuel) (old new : Writer) : Type 0 where
+  pub asks : List AskedHelper
+  pub translated : TranslatesSync t d debug o.concurrency l.passed before after asks
+  pub grew : GrewAsking asks old new
+  pub asked : AsksFor t debug o.concurrency asks old.imports new.imports
+  pub emits : (u : AdapterTunables) (a : LinkedAdapter) → DescribesAdapter t d debug u a → AreCallOptions o u a → EmitsAsking asks old new (DoesSync u a d o l (taken_in old))

@@ -18,17 +18,23 @@ use Rattle.fact_pieces.specs.Knows.{KnowsFunction}
 use Rattle.fact_pieces.specs.Context.{CanReadSlotsIf}
 use Rattle.fact_pieces.specs.Places.{Slot, AreLocals, AreUsed}
 use Rattle.fact_emit.specs.Barriers.{Barred}
-use Rattle.fact_emit.specs.Emits.{Grew, Emits, Piece}
+use Rattle.fact_emit.specs.Asked.{AskedHelper}
+use Rattle.fact_emit.specs.Emits.{EmitsAsking, GrewAsking}
+use Rattle.fact_emit.specs.Options.{number_if_any}
+use Rattle.fact_emit.specs.Pieces.{Piece}
 use Rattle.fact_emit.specs.RuntimeCalls.{slots_of}
 use Rattle.fact_emit.specs.declared.context.ContextLocals.{ContextLocals}
 use Rattle.fact_emit.specs.declared.imported.RuntimeFunction.TheVariants as runtime
 use Rattle.fact_emit.specs.Places.{slots_of_locals}
 use Rattle.fact_emit.specs.Writers.{taken_in}
 use Rattle.fact_emit.specs.declared.writer.Writer.{Writer}
+use Rattle.fact_compound.specs.Asks.{AsksFor}
 use Rattle.fact_compound.specs.Code.{SyncParts, call_steps_code, pushed_code, return_steps_code, slot_types, with_barrier}
 use Rattle.fact_compound.specs.Events.{CanFinish, KnowsRuntimeIf}
-use Rattle.fact_compound.specs.Described.{CanMoveTuple, linear_of, number_if_any}
-use Rattle.fact_compound.specs.Passed.{ParamsCode, MovesResults}
+use Rattle.fact_compound.specs.Described.{CanMoveTuple, linear_of}
+use Rattle.fact_translate.specs.declared.fuel.Fuel.{Fuel}
+use Rattle.fact_compound.specs.Keys.{TranslatesSync}
+use Rattle.fact_compound.specs.Passed.{ParamsCode, MovesResults, TranslatesParams, TranslatesResults}
 use Rattle.fact_compound.specs.PassedOn.{ArePassedOn}
 use Rattle.fact_compound.specs.Passing.{tuple_size}
 use Rattle.fact_compound.specs.declared.adapters.AdapterData.{AdapterData}
@@ -126,28 +132,38 @@ pub record IsSyncCode (d : AdapterData) (debug : Bool) (o : CallOptions) (l : Sy
   pub are_steps : IsStepsCode d debug o l taken ps rs qs ss M p locals steps
 
 -- They were written, whatever the parameters and results of the lower and the lift side are that can be moved.
-pub record WrittenCall (t : Tables) (d : AdapterData) (debug : Bool) (o : CallOptions) (l : SyncPlaces) (old new : Writer) : Type 0 where
-  pub grew : Grew old new
-  pub emits : (ps rs qs ss : List Shape) → HasSignature t d.lower.ty ps rs → HasSignature t d.lift.ty qs ss → CanMoveTuple ps qs → Emits old new (IsCallCode d debug o l (taken_in old) ps qs)
+pub record WrittenCall (t : Tables) (d : AdapterData) (debug : Bool) (o : CallOptions) (l : SyncPlaces) (before after : Fuel) (old new : Writer) : Type 0 where
+  pub asks : List AskedHelper
+  pub translated : l.passed ≡ false → TranslatesParams t d debug o.concurrency before after asks
+  pub none : l.passed ≡ true → (asks ≡ []) × (after ≡ before)
+  pub grew : GrewAsking asks old new
+  pub asked : AsksFor t debug o.concurrency asks old.imports new.imports
+  pub emits : (ps rs qs ss : List Shape) → HasSignature t d.lower.ty ps rs → HasSignature t d.lift.ty qs ss → CanMoveTuple ps qs → EmitsAsking asks old new (IsCallCode d debug o l (taken_in old) ps qs)
 
-pub record WrittenReturn (t : Tables) (d : AdapterData) (debug : Bool) (o : CallOptions) (l : SyncPlaces) (old new : Writer) : Type 0 where
-  pub grew : Grew old new
+pub record WrittenReturn (t : Tables) (d : AdapterData) (debug : Bool) (o : CallOptions) (l : SyncPlaces) (before after : Fuel) (old new : Writer) : Type 0 where
+  pub asks : List AskedHelper
+  pub translated : TranslatesResults t d debug o.concurrency before after asks
+  pub grew : GrewAsking asks old new
   pub lift_size : (qs ss : List Shape) → HasSignature t d.lift.ty qs ss → tuple_size (linear_of d.lift).memory64 ss ≤ 4294967295
   pub lower_size : (ps rs : List Shape) → HasSignature t d.lower.ty ps rs → tuple_size (linear_of d.lower).memory64 rs ≤ 4294967295
-  pub emits : (ps rs qs ss : List Shape) → HasSignature t d.lower.ty ps rs → HasSignature t d.lift.ty qs ss → CanMoveTuple ss rs → Emits old new (IsReturnCode d debug o l (taken_in old) rs ss)
+  pub asked : AsksFor t debug o.concurrency asks old.imports new.imports
+  pub emits : (ps rs qs ss : List Shape) → HasSignature t d.lower.ty ps rs → HasSignature t d.lift.ty qs ss → CanMoveTuple ss rs → EmitsAsking asks old new (IsReturnCode d debug o l (taken_in old) rs ss)
 
 -- of these steps with something around them
-pub record WrittenAs (Around : Piece → Piece) (t : Tables) (d : AdapterData) (debug : Bool) (o : CallOptions) (l : SyncPlaces) (old new : Writer) : Type 0 where
-  pub grew : Grew old new
+pub record WrittenAs (Around : Piece → Piece) (t : Tables) (d : AdapterData) (debug : Bool) (o : CallOptions) (l : SyncPlaces) (before after : Fuel) (old new : Writer) : Type 0 where
+  pub asks : List AskedHelper
+  pub translated : TranslatesSync t d debug o.concurrency l.passed before after asks
+  pub grew : GrewAsking asks old new
   pub lift_size : (qs ss : List Shape) → HasSignature t d.lift.ty qs ss → tuple_size (linear_of d.lift).memory64 ss ≤ 4294967295
   pub lower_size : (ps rs : List Shape) → HasSignature t d.lower.ty ps rs → tuple_size (linear_of d.lower).memory64 rs ≤ 4294967295
-  pub emits : (ps rs qs ss : List Shape) → HasSignature t d.lower.ty ps rs → HasSignature t d.lift.ty qs ss → CanMoveTuple ps qs → CanMoveTuple ss rs → Emits old new (Around (IsStepsCode d debug o l (taken_in old) ps rs qs ss))
+  pub asked : AsksFor t debug o.concurrency asks old.imports new.imports
+  pub emits : (ps rs qs ss : List Shape) → HasSignature t d.lower.ty ps rs → HasSignature t d.lift.ty qs ss → CanMoveTuple ps qs → CanMoveTuple ss rs → EmitsAsking asks old new (Around (IsStepsCode d debug o l (taken_in old) ps rs qs ss))
 
-abbrev pub WrittenSteps : Tables → AdapterData → (debug : Bool) → CallOptions → SyncPlaces → (old new : Writer) → Type 0
-WrittenSteps t d debug o l old new = WrittenAs (λ P. P) t d debug o l old new
+abbrev pub WrittenSteps : Tables → AdapterData → (debug : Bool) → CallOptions → SyncPlaces → (before after : Fuel) → (old new : Writer) → Type 0
+WrittenSteps t d debug o l before after old new = WrittenAs (λ P. P) t d debug o l before after old new
 
-abbrev pub WrittenBarred : Tables → AdapterData → (debug : Bool) → CallOptions → SyncPlaces → (old new : Writer) → Type 0
-WrittenBarred t d debug o l old new = WrittenAs Barred t d debug o l old new
+abbrev pub WrittenBarred : Tables → AdapterData → (debug : Bool) → CallOptions → SyncPlaces → (before after : Fuel) → (old new : Writer) → Type 0
+WrittenBarred t d debug o l before after old new = WrittenAs Barred t d debug o l before after old new
 
 -- ---- the locals
 

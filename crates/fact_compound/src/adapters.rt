@@ -2,37 +2,13 @@
 
 ghost use Rattle.std.specs.Prelude.{◌≡◌};
 ghost use Rattle.fact_compound.specs.Passed.{params_sides as sides_of_params, results_sides as sides_of_results};
-ghost use Rattle.fact_compound.specs.Described.{linear_of as linear_of_side, memory_place as place_of_memory, number_if_any as number_of, side_sig as sig_of_side};
+ghost use Rattle.fact_compound.specs.Described.{linear_of as linear_of_side, side_sig as sig_of_side};
 
-use fact_emit::linking::custom_page_size;
+pub use fact_emit::options::{LinearMemoryOptions, Options};
 use fact_emit::places::{LinearMemory, Sides};
-use fact_entity::{
-    FuncIndex, GlobalIndex, MemoryIndex, ModuleInternedTypeIndex, RuntimeComponentInstanceIndex,
-    TypeFuncIndex,
-};
-use fact_types::{SideSig, StringEncoding};
+use fact_entity::{FuncIndex, GlobalIndex, RuntimeComponentInstanceIndex, TypeFuncIndex};
+use fact_types::SideSig;
 use fact_wasm::Text;
-
-/// How a side keeps values in memory: the place of its memory among the imported memories, where it has one; whether addresses
-/// have 64 bits, which they have not without a memory; the exponent of the page size in bytes; and the place of its realloc among
-/// the imported functions.
-#[derive(Clone, Copy, PartialEq, Eq, Hash)]
-pub struct LinearMemoryOptions {
-    pub memory: Option<MemoryIndex>,
-    pub memory64: bool,
-    pub page_size_log2: u8,
-    pub realloc: Option<FuncIndex>,
-}
-
-/// The canonical options of a side (canonical ABI, "Canonical ABI options"), with the places of what they name among the imports.
-#[derive(Clone, Copy, PartialEq, Eq, Hash)]
-pub struct Options {
-    pub string_encoding: StringEncoding,
-    pub linear: LinearMemoryOptions,
-    pub callback: Option<FuncIndex>,
-    pub async_: bool,
-    pub core_type: ModuleInternedTypeIndex,
-}
 
 /// One side of an adapter: its instance, its function type, the place of the instance's flags among the imported globals, and its
 /// options.
@@ -56,26 +32,6 @@ pub struct AdapterData {
     pub transparent: bool,
 }
 
-/// The place of a memory, or 0 where there is none.
-fn memory_place(memory: Option<MemoryIndex>) -> u32
-    ensures { result ≡ place_of_memory memory }
-{
-    match memory {
-        Some(memory) => memory.number,
-        None => 0,
-    }
-}
-
-/// The place of a realloc, where there is one.
-fn realloc_place(realloc: Option<FuncIndex>) -> Option<u32>
-    ensures { result ≡ number_of realloc }
-{
-    match realloc {
-        Some(realloc) => Some(realloc.number),
-        None => None,
-    }
-}
-
 impl AdapterOptions {
     /// What the core signature of the side hangs on.
     pub fn side_sig(&self) -> SideSig
@@ -93,15 +49,7 @@ impl AdapterOptions {
     pub fn linear(&self) -> LinearMemory
         ensures { result ≡ linear_of_side self.now }
     {
-        let linear = self.options.linear;
-        LinearMemory {
-            has_memory: linear.memory.is_some(),
-            memory: memory_place(linear.memory),
-            memory64: linear.memory64,
-            page_size_log2: custom_page_size(linear.page_size_log2),
-            realloc: realloc_place(linear.realloc),
-            encoding: self.options.string_encoding,
-        }
+        self.options.linear()
     }
 }
 

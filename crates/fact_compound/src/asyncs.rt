@@ -1,11 +1,11 @@
 //! The functions of async adapters between two instances. The runtime calls two of them, which move the parameters and the results; the
 //! third has the adapter's name, and hands the call to the runtime.
 
-ghost use Rattle.std.specs.Prelude.{IfOk, OnOk, ◌≡◌, ◌<◌, [], length, string_bytes};
+ghost use Rattle.std.specs.Prelude.{IfOk, OnOk, ◌≡◌, ◌+◌, ◌<◌, [], length, string_bytes};
 ghost use Rattle.fact_emit.specs.Places.{slots_of_locals};
 ghost use Rattle.fact_emit.specs.States.{with_callee};
 ghost use Rattle.fact_compound.specs.AsyncParts.{callee_name, part_locals, part_name as name_of_part};
-ghost use Rattle.fact_compound.specs.Asyncs.{CompiledAsync, CompiledPart, EmitsPart, PartSignature, WroteBodyOfPart, WrotePart, part_flags as flags_of_part, values_among};
+ghost use Rattle.fact_compound.specs.Asyncs.{AskingAsync, AskingPart, EmitsPart, PartSignature, WroteBodyOfPart, WrotePart, part_flags as flags_of_part, values_among};
 ghost use Rattle.fact_compound.specs.Described.{AreOptionsImported};
 ghost use Rattle.fact_compound.specs.Passed.{MovedPart};
 
@@ -18,6 +18,7 @@ use fact_builder::ComponentTypesBuilder;
 use fact_emit::places::TypedLocal;
 use fact_emit::state::ModuleSections;
 use fact_emit::writer::Writer;
+use fact_translate::fuel::Fuel;
 use fact_types::{ComponentTypes, Signature};
 use fact_wasm::{FuncName, OutOfMemory, ValType, WasmFunc};
 use std::alloc::Global;
@@ -102,7 +103,9 @@ fn part_values<'a>(
 /// Moves the values.
 fn move_part(
     types: &ComponentTypes,
+    builder: &ComponentTypesBuilder,
     w: &mut Writer,
+    fuel: &mut Fuel,
     adapter: &AdapterData,
     debug: bool,
     concurrency: bool,
@@ -112,15 +115,37 @@ fn move_part(
     requires lower_live { adapter.now.lower.ty.number < length types.now.functions }
     requires lift_live { adapter.now.lift.ty.number < length types.now.functions }
     requires options_imported { AreOptionsImported adapter.now w.old.imports }
-    ensures { OnOk result (MovedPart types.now adapter.now debug concurrency part (part_locals locals.entry) w.old w.new) }
+    requires tables { builder.now.tables ≡ types.now }
+    ensures { OnOk result (MovedPart types.now adapter.now debug concurrency part (part_locals locals.entry) fuel.old fuel.new w.old w.new) }
 {
     let values = locals.values;
     let given = locals.given;
     match part {
-        AsyncPart::Start => move_params(types, w, adapter, debug, concurrency, values, given),
+        AsyncPart::Start => move_params(
+            types,
+            builder,
+            w,
+            fuel,
+            adapter,
+            debug,
+            concurrency,
+            values,
+            given,
+        ),
         AsyncPart::Return => {
             let args = locals.args;
-            move_results(types, w, adapter, debug, concurrency, values, given, args)
+            move_results(
+                types,
+                builder,
+                w,
+                fuel,
+                adapter,
+                debug,
+                concurrency,
+                values,
+                given,
+                args,
+            )
         }
     }
 }
@@ -128,7 +153,9 @@ fn move_part(
 /// Writes what such a function does, and leaves what it gives on the operand stack.
 fn put_part(
     types: &ComponentTypes,
+    builder: &ComponentTypesBuilder,
     w: &mut Writer,
+    fuel: &mut Fuel,
     adapter: &AdapterData,
     debug: bool,
     concurrency: bool,
@@ -138,12 +165,23 @@ fn put_part(
     requires lower_live { adapter.now.lower.ty.number < length types.now.functions }
     requires lift_live { adapter.now.lift.ty.number < length types.now.functions }
     requires options_imported { AreOptionsImported adapter.now w.old.imports }
-    ensures { OnOk result (EmitsPart types.now adapter.now debug concurrency part (part_locals locals.entry) w.old w.new) }
+    requires tables { builder.now.tables ≡ types.now }
+    ensures { OnOk result (EmitsPart types.now adapter.now debug concurrency part (part_locals locals.entry) fuel.old fuel.new w.old w.new) }
 {
     let flags = part_flags(adapter, part);
     save_flags(w, flags, locals.saved)?;
     clear_flags(w, flags)?;
-    move_part(types, w, adapter, debug, concurrency, part, locals)?;
+    move_part(
+        types,
+        builder,
+        w,
+        fuel,
+        adapter,
+        debug,
+        concurrency,
+        part,
+        locals,
+    )?;
     restore_flags(w, flags, locals.saved)?;
     push_locals(w, locals.given)?;
     Ok(())
@@ -152,7 +190,9 @@ fn put_part(
 /// Writes the body of such a function, with its locals, in a writer without locals and code.
 fn write_part_body(
     types: &ComponentTypes,
+    builder: &ComponentTypesBuilder,
     w: &mut Writer,
+    fuel: &mut Fuel,
     adapter: &AdapterData,
     debug: bool,
     concurrency: bool,
@@ -164,7 +204,8 @@ fn write_part_body(
     requires options_imported { AreOptionsImported adapter.now w.old.imports }
     requires no_code { w.old.code.items ≡ [] }
     requires no_locals { w.old.locals.items ≡ [] }
-    ensures { OnOk result (WroteBodyOfPart types.now adapter.now debug concurrency part signature.now w.old w.new) }
+    requires tables { builder.now.tables ≡ types.now }
+    ensures { OnOk result (WroteBodyOfPart types.now adapter.now debug concurrency part signature.now fuel.old w.old w.new) }
 {
     let args = add_locals(w, signature.params.as_slice())?;
     let saved = w.add_local(ValType::I32)?;
@@ -177,13 +218,24 @@ fn write_part_body(
         saved,
         given: given.as_slice(),
     };
-    put_part(types, w, adapter, debug, concurrency, part, locals)?;
+    put_part(
+        types,
+        builder,
+        w,
+        fuel,
+        adapter,
+        debug,
+        concurrency,
+        part,
+        locals,
+    )?;
     Ok(())
 }
 
 /// Writes such a function, of the type of a number, over a module, to which it may add imports of functions of the runtime.
 fn write_part(
     types: &ComponentTypes,
+    builder: &ComponentTypesBuilder,
     sections: &mut ModuleSections,
     adapter: &AdapterData,
     debug: bool,
@@ -191,15 +243,28 @@ fn write_part(
     part: AsyncPart,
     signature: &Signature,
     ty: u32,
+    fuel: u32,
 ) -> Result<WasmFunc, OutOfMemory>
     requires lower_live { adapter.now.lower.ty.number < length types.now.functions }
     requires lift_live { adapter.now.lift.ty.number < length types.now.functions }
     requires options_imported { AreOptionsImported adapter.now sections.old }
-    ensures { IfOk result (λ f. WrotePart types.now adapter.now debug concurrency part signature.now ty sections.old sections.new f) }
+    requires tables { builder.now.tables ≡ types.now }
+    ensures { IfOk result (λ f. WrotePart types.now adapter.now debug concurrency fuel part signature.now ty sections.old sections.new f) }
 {
     let alloc = sections.alloc();
     let mut w = Writer::over(alloc, mem::replace(sections, ModuleSections::new(alloc)));
-    let said = write_part_body(types, &mut w, adapter, debug, concurrency, part, signature);
+    let mut fuel = Fuel::full(fuel);
+    let said = write_part_body(
+        types,
+        builder,
+        &mut w,
+        &mut fuel,
+        adapter,
+        debug,
+        concurrency,
+        part,
+        signature,
+    );
     let (imports, code, locals) = w.into_parts();
     drop(mem::replace(sections, imports));
     match said {
@@ -223,18 +288,21 @@ fn compile_part(
     debug: bool,
     concurrency: bool,
     part: AsyncPart,
+    fuel: u32,
 ) -> Result<u32, OutOfMemory>
     requires lower_live { adapter.now.lower.ty.number < length types.now.tables.functions }
     requires lift_live { adapter.now.lift.ty.number < length types.now.tables.functions }
     requires options_imported { AreOptionsImported adapter.now sections.old }
+    requires ahead { length sections.old.functions < sections.old.numbered }
     ensures number { IfOk result (λ n. n ≡ length sections.old.functions) }
-    ensures compiled { OnOk result (CompiledPart types.now.tables adapter.now debug concurrency part sections.old sections.new) }
+    ensures compiled { OnOk result (AskingPart types.now.tables adapter.now debug concurrency fuel part sections.old sections.new) }
 {
     let signature = part_signature(types, adapter, part)?;
     let ty = sections.function(signature.params.as_slice(), signature.results.as_slice())?;
     let tables = types.component_types();
     let function = write_part(
         tables,
+        types,
         sections,
         adapter,
         debug,
@@ -242,6 +310,7 @@ fn compile_part(
         part,
         &signature,
         ty,
+        fuel,
     )?;
     let number = sections.define(function)?;
     let name = part_name(sections.alloc(), part, adapter.name.as_str())?;
@@ -266,11 +335,13 @@ pub fn compile_async(
     adapter: &AdapterData,
     debug: bool,
     concurrency: bool,
+    fuel: u32,
 ) -> Result<(), OutOfMemory>
     requires lower_live { adapter.now.lower.ty.number < length types.now.tables.functions }
     requires lift_live { adapter.now.lift.ty.number < length types.now.tables.functions }
     requires options_imported { AreOptionsImported adapter.now sections.old }
-    ensures { OnOk result (CompiledAsync types.now.tables adapter.now debug concurrency sections.old sections.new) }
+    requires ahead { length sections.old.functions + 2 < sections.old.numbered }
+    ensures { OnOk result (AskingAsync types.now.tables adapter.now debug concurrency fuel sections.old sections.new) }
 {
     let start = compile_part(
         types,
@@ -279,6 +350,7 @@ pub fn compile_async(
         debug,
         concurrency,
         AsyncPart::Start,
+        fuel,
     )?;
     let return_ = compile_part(
         types,
@@ -287,6 +359,7 @@ pub fn compile_async(
         debug,
         concurrency,
         AsyncPart::Return,
+        fuel,
     )?;
     compile_entry(types, sections, adapter, start, return_)?;
     export_callee(sections, adapter)?;

@@ -7,13 +7,15 @@ ghost use Rattle.fact_emit.specs.Settings.{OnlySectionsChanged};
 ghost use Rattle.fact_emit.specs.States.{functions_of};
 ghost use Rattle.fact_emit.specs.declared.writer.Local as local_is;
 ghost use Rattle.fact_entity.specs.declared.id.Id as id;
-ghost use Rattle.fact_compound.specs.Compiled.{Compiled};
+ghost use Rattle.fact_compound.specs.Compiled.{Compiled, CompiledOwn};
 ghost use Rattle.fact_compound.specs.Described.{AreOptionsImported, is_async_data, is_marked_type};
 ghost use Rattle.fact_compound.specs.Events.{AsksCalls};
-ghost use Rattle.fact_compound.specs.Functions.{AddedContext, AddedLocals, AddedSyncLocals, core_slots, unless_passed, PutBody, WroteBody, WroteFunction, CompiledSync, params_among};
+ghost use Rattle.fact_compound.specs.Helpers.{HelpersAreThere};
+ghost use Rattle.fact_compound.specs.Functions.{AddedContext, AddedLocals, AddedSyncLocals, core_slots, unless_passed, PutBody, WroteBody, WroteFunction, AskingSync, params_among};
 
 use crate::adapters::{AdapterData, AdapterOptions};
 use crate::asyncs::compile_async;
+use crate::helpers::compile_helpers;
 use crate::passing::are_passed_on;
 use crate::same_instance::compile_same_instance;
 use crate::syncs::{CallOptions, SyncLocals, put_sync};
@@ -23,6 +25,7 @@ use fact_emit::context::ContextLocals;
 use fact_emit::places::TypedLocal;
 use fact_emit::state::{ModuleSections, ModuleState};
 use fact_emit::writer::{Local, Writer};
+use fact_translate::fuel::Fuel;
 use fact_types::{ComponentTypes, InterfaceType, SideSig, Signature, TypeFuncIndex};
 use fact_wasm::{FuncName, Instr, OutOfMemory, Seq, ValType, WasmFunc};
 use std::alloc::Global;
@@ -130,7 +133,9 @@ fn core_of<'a>(passed: bool, params: &'a [TypedLocal], core: &'a [TypedLocal]) -
 /// Writes the code of a sync adapter over its locals.
 fn put_body(
     types: &ComponentTypes,
+    builder: &ComponentTypesBuilder,
     w: &mut Writer,
+    fuel: &mut Fuel,
     adapter: &AdapterData,
     debug: bool,
     options: CallOptions,
@@ -142,7 +147,8 @@ fn put_body(
     requires callee { adapter.now.callee.number < length (functions_of w.old.imports) }
     requires options_imported { AreOptionsImported adapter.now w.old.imports }
     requires post_return { IfSome adapter.now.lift.post_return (λ (f : id.Id _). f.number < length (functions_of w.old.imports)) }
-    ensures { OnOk result (PutBody types.now adapter.now debug options passed locals.now w.old w.new) }
+    requires tables { builder.now.tables ≡ types.now }
+    ensures { OnOk result (PutBody types.now adapter.now debug options passed locals.now fuel.old fuel.new w.old w.new) }
 {
     let (_, results) = tuples_of(types, adapter.lower.ty);
     let flat = are_flat_results(types, results, false);
@@ -159,14 +165,16 @@ fn put_body(
         callee_context: locals.callee_context,
         own_context: locals.own_context,
     };
-    put_sync(types, w, adapter, debug, options, places)?;
+    put_sync(types, builder, w, fuel, adapter, debug, options, places)?;
     Ok(())
 }
 
 /// Writes the body of a sync adapter, with its locals, in a writer without locals and code.
 fn write_body(
     types: &ComponentTypes,
+    builder: &ComponentTypesBuilder,
     w: &mut Writer,
+    fuel: &mut Fuel,
     adapter: &AdapterData,
     debug: bool,
     options: CallOptions,
@@ -180,11 +188,14 @@ fn write_body(
     requires post_return { IfSome adapter.now.lift.post_return (λ (f : id.Id _). f.number < length (functions_of w.old.imports)) }
     requires no_code { w.old.code.items ≡ [] }
     requires no_locals { w.old.locals.items ≡ [] }
-    ensures { OnOk result (WroteBody types.now adapter.now debug options lower.now lift.now w.old w.new) }
+    requires tables { builder.now.tables ≡ types.now }
+    ensures { OnOk result (WroteBody types.now adapter.now debug options lower.now lift.now fuel.old w.old w.new) }
 {
     let passed = are_passed_on(types, adapter.lower.ty, adapter.lift.ty);
     let locals = add_sync_locals(w, lower, lift, passed, options.context)?;
-    put_body(types, w, adapter, debug, options, passed, &locals)?;
+    put_body(
+        types, builder, w, fuel, adapter, debug, options, passed, &locals,
+    )?;
     Ok(())
 }
 
@@ -253,6 +264,7 @@ pub(crate) fn function_of(
 /// Writes the function of a sync adapter, of the type of a number, over a module, to which it may add imports of functions of the runtime.
 fn write_function(
     types: &ComponentTypes,
+    builder: &ComponentTypesBuilder,
     sections: &mut ModuleSections,
     adapter: &AdapterData,
     debug: bool,
@@ -260,17 +272,22 @@ fn write_function(
     lower: &Signature,
     lift: &Signature,
     ty: u32,
+    fuel: u32,
 ) -> Result<WasmFunc, OutOfMemory>
     requires lower_live { adapter.now.lower.ty.number < length types.now.functions }
     requires lift_live { adapter.now.lift.ty.number < length types.now.functions }
     requires callee { adapter.now.callee.number < length (functions_of sections.old) }
     requires options_imported { AreOptionsImported adapter.now sections.old }
     requires post_return { IfSome adapter.now.lift.post_return (λ (f : id.Id _). f.number < length (functions_of sections.old)) }
-    ensures { IfOk result (λ f. WroteFunction types.now adapter.now debug options lower.now lift.now ty sections.old sections.new f) }
+    requires tables { builder.now.tables ≡ types.now }
+    ensures { IfOk result (λ f. WroteFunction types.now adapter.now debug options fuel lower.now lift.now ty sections.old sections.new f) }
 {
     let alloc = sections.alloc();
     let mut w = Writer::over(alloc, mem::replace(sections, ModuleSections::new(alloc)));
-    let said = write_body(types, &mut w, adapter, debug, options, lower, lift);
+    let mut fuel = Fuel::full(fuel);
+    let said = write_body(
+        types, builder, &mut w, &mut fuel, adapter, debug, options, lower, lift,
+    );
     let (imports, code, locals) = w.into_parts();
     drop(mem::replace(sections, imports));
     match said {
@@ -345,20 +362,24 @@ fn compile_sync(
     debug: bool,
     concurrency: bool,
     exceptions: bool,
+    fuel: u32,
 ) -> Result<(), OutOfMemory>
     requires lower_live { adapter.now.lower.ty.number < length types.now.tables.functions }
     requires lift_live { adapter.now.lift.ty.number < length types.now.tables.functions }
     requires callee { adapter.now.callee.number < length (functions_of sections.old) }
     requires options_imported { AreOptionsImported adapter.now sections.old }
     requires post_return { IfSome adapter.now.lift.post_return (λ (f : id.Id _). f.number < length (functions_of sections.old)) }
-    ensures { OnOk result (CompiledSync types.now.tables adapter.now debug concurrency exceptions sections.old sections.new) }
+    requires ahead { length sections.old.functions < sections.old.numbered }
+    ensures { OnOk result (AskingSync types.now.tables adapter.now debug concurrency exceptions fuel sections.old sections.new) }
 {
     let lower = types.lower_signature(&sync_side(&adapter.lower))?;
     let lift = types.lift_signature(&sync_side(&adapter.lift))?;
     let ty = sections.function(lower.params.as_slice(), lower.results.as_slice())?;
     let tables = types.component_types();
     let options = call_options(types, adapter, concurrency, exceptions);
-    let function = write_function(tables, sections, adapter, debug, options, &lower, &lift, ty)?;
+    let function = write_function(
+        tables, types, sections, adapter, debug, options, &lower, &lift, ty, fuel,
+    )?;
     let number = sections.define(function)?;
     sections.export(adapter.name.as_str(), FuncName::Defined(number))?;
     Ok(())
@@ -387,32 +408,69 @@ fn is_async(types: &ComponentTypes, adapter: &AdapterData) -> bool
     either(sides, marks)
 }
 
-/// Compiles an adapter over the types, the tunables and the features of a module: its functions come behind those of the module, their
-/// exports behind the exports, and the functions of the runtime that they call behind the imports, where they are new. An adapter
-/// within one instance traps at each call. Any other one has one function where it is sync, and three where it is async: two move the
-/// parameters and the results when the runtime calls them, and the one that has the adapter's name hands the call to the runtime. The
-/// types are live, and the data's numbers are those of imports of the module. After a want of memory the module may have types, imports
-/// and functions that nothing uses, and a function without its export.
-pub fn compile(state: &mut ModuleState<'_>, adapter: &AdapterData) -> Result<(), OutOfMemory>
+/// Compiles an adapter's own functions, which are numbered before they are written.
+fn compile_own(state: &mut ModuleState<'_>, adapter: &AdapterData) -> Result<(), OutOfMemory>
     requires lower_live { adapter.now.lower.ty.number < length state.old.builder.now.tables.functions }
     requires lift_live { adapter.now.lift.ty.number < length state.old.builder.now.tables.functions }
     requires callee { adapter.now.callee.number < length (functions_of state.old.sections) }
     requires options_imported { AreOptionsImported adapter.now state.old.sections }
     requires post_return { IfSome adapter.now.lift.post_return (λ (f : id.Id _). f.number < length (functions_of state.old.sections)) }
-    ensures compiled { OnOk result (Compiled state.old.builder.now.tables adapter.now state.old.tunables.now.debug_adapter_modules state.old.tunables.now.concurrency_support state.old.features.exceptions state.old.sections state.new.sections) }
+    ensures own { OnOk result (CompiledOwn state.old.builder.now.tables adapter.now state.old.tunables.now.debug_adapter_modules state.old.tunables.now.concurrency_support state.old.features.exceptions state.old.tunables.now.fuel state.old.sections state.new.sections) }
     ensures keeps { OnlySectionsChanged state.old state.new }
 {
     let types = state.builder;
     let debug = state.tunables.debug_adapter_modules;
     let concurrency = state.tunables.concurrency_support;
     let exceptions = state.features.exceptions;
+    let fuel = state.tunables.fuel;
     let sections = &mut state.sections;
     if adapter.lift.instance == adapter.lower.instance {
+        sections.number_functions(1)?;
         compile_same_instance(types, sections, adapter)?;
-    } else if is_async(types.component_types(), adapter) {
-        compile_async(types, sections, adapter, debug, concurrency)?;
-    } else {
-        compile_sync(types, sections, adapter, debug, concurrency, exceptions)?;
+        return Ok(());
     }
+    if is_async(types.component_types(), adapter) {
+        sections.number_functions(3)?;
+        compile_async(types, sections, adapter, debug, concurrency, fuel)?;
+        return Ok(());
+    }
+    sections.number_functions(1)?;
+    compile_sync(
+        types,
+        sections,
+        adapter,
+        debug,
+        concurrency,
+        exceptions,
+        fuel,
+    )?;
+    Ok(())
+}
+
+/// Compiles an adapter over the types, the tunables and the features of a module: its functions come behind those of the module, their
+/// exports behind the exports, and the functions of the runtime that they call behind the imports, where they are new. An adapter
+/// within one instance traps at each call. Any other one has one function where it is sync, and three where it is async: two move the
+/// parameters and the results when the runtime calls them, and the one that has the adapter's name hands the call to the runtime. What the
+/// fuel of a function does not cover it leaves to helpers; those that no function asked for before come behind the adapter's own functions. The
+/// types are live, and the data's numbers are those of imports of the module. After a want of memory the module may have types, imports
+/// and functions that nothing uses, a function without its export, and helpers without functions.
+pub fn compile(state: &mut ModuleState<'_>, adapter: &AdapterData) -> Result<(), OutOfMemory>
+    requires lower_live { adapter.now.lower.ty.number < length state.old.builder.now.tables.functions }
+    requires lift_live { adapter.now.lift.ty.number < length state.old.builder.now.tables.functions }
+    requires callee { adapter.now.callee.number < length (functions_of state.old.sections) }
+    requires options_imported { AreOptionsImported adapter.now state.old.sections }
+    requires post_return { IfSome adapter.now.lift.post_return (λ (f : id.Id _). f.number < length (functions_of state.old.sections)) }
+    requires helpers { HelpersAreThere state.old.builder.now.tables state.old.tunables.now.debug_adapter_modules state.old.tunables.now.concurrency_support state.old.tunables.now.fuel state.old.sections }
+    ensures compiled { OnOk result (Compiled state.old.builder.now.tables adapter.now state.old.tunables.now.debug_adapter_modules state.old.tunables.now.concurrency_support state.old.features.exceptions state.old.tunables.now.fuel state.old.sections state.new.sections) }
+    ensures keeps { OnlySectionsChanged state.old state.new }
+{
+    let types = state.builder;
+    let debug = state.tunables.debug_adapter_modules;
+    let concurrency = state.tunables.concurrency_support;
+    let fuel = state.tunables.fuel;
+    let helpers = state.sections.helper_count();
+    compile_own(state, adapter)?;
+    let sections = &mut state.sections;
+    compile_helpers(types, sections, helpers, debug, concurrency, fuel)?;
     Ok(())
 }

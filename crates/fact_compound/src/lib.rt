@@ -6,6 +6,7 @@ pub mod adapters;
 pub mod asyncs;
 pub mod entries;
 pub mod functions;
+pub mod helpers;
 pub mod passing;
 pub mod same_instance;
 pub mod steps;

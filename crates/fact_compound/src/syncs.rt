@@ -1,6 +1,6 @@
 //! The code of sync adapters between two instances.
 
-ghost use Rattle.std.specs.Prelude.{OnOk, IfSome, ◌<◌, length};
+ghost use Rattle.std.specs.Prelude.{OnOk, IfSome, ◌≡◌, ◌<◌, length};
 ghost use Rattle.fact_entity.specs.declared.id.Id as id;
 ghost use Rattle.fact_emit.specs.States.{functions_of};
 ghost use Rattle.fact_compound.specs.Described.{AreOptionsImported};
@@ -13,10 +13,12 @@ use crate::steps::{
     restore_flags, save_flags,
 };
 use crate::tuples::{move_results, pass_params};
+use fact_builder::ComponentTypesBuilder;
 use fact_emit::barriers::put_barrier;
 use fact_emit::context::{ContextLocals, read_context};
 use fact_emit::places::TypedLocal;
 use fact_emit::writer::Writer;
+use fact_translate::fuel::Fuel;
 use fact_types::ComponentTypes;
 use fact_wasm::OutOfMemory;
 
@@ -51,7 +53,9 @@ pub struct SyncLocals<'a> {
 /// Writes the steps of a sync adapter up to the call of its callee, which is imported.
 fn put_call(
     types: &ComponentTypes,
+    builder: &ComponentTypesBuilder,
     w: &mut Writer,
+    fuel: &mut Fuel,
     adapter: &AdapterData,
     debug: bool,
     options: CallOptions,
@@ -61,7 +65,8 @@ fn put_call(
     requires lift_live { adapter.now.lift.ty.number < length types.now.functions }
     requires callee { adapter.now.callee.number < length (functions_of w.old.imports) }
     requires options_imported { AreOptionsImported adapter.now w.old.imports }
-    ensures { OnOk result (WrittenCall types.now adapter.now debug options (sync_places locals.entry) w.old w.new) }
+    requires tables { builder.now.tables ≡ types.now }
+    ensures { OnOk result (WrittenCall types.now adapter.now debug options (sync_places locals.entry) fuel.old fuel.new w.old w.new) }
 {
     check_may_leave(w, adapter.lower.flags.number, locals.saved)?;
     enter_call(w, options.told, adapter.lift.instance.number)?;
@@ -69,7 +74,9 @@ fn put_call(
     clear_flags(w, adapter.lift.flags.number)?;
     pass_params(
         types,
+        builder,
         w,
+        fuel,
         adapter,
         debug,
         options.concurrency,
@@ -91,7 +98,9 @@ fn put_call(
 /// Writes the steps behind that call. The results stay in their locals.
 fn put_return(
     types: &ComponentTypes,
+    builder: &ComponentTypesBuilder,
     w: &mut Writer,
+    fuel: &mut Fuel,
     adapter: &AdapterData,
     debug: bool,
     options: CallOptions,
@@ -101,7 +110,8 @@ fn put_return(
     requires lift_live { adapter.now.lift.ty.number < length types.now.functions }
     requires options_imported { AreOptionsImported adapter.now w.old.imports }
     requires post_return { IfSome adapter.now.lift.post_return (λ (f : id.Id _). f.number < length (functions_of w.old.imports)) }
-    ensures { OnOk result (WrittenReturn types.now adapter.now debug options (sync_places locals.entry) w.old w.new) }
+    requires tables { builder.now.tables ≡ types.now }
+    ensures { OnOk result (WrittenReturn types.now adapter.now debug options (sync_places locals.entry) fuel.old fuel.new w.old w.new) }
 {
     let post_return = adapter.lift.post_return;
     let callee = locals.callee_context;
@@ -111,7 +121,9 @@ fn put_return(
     clear_flags(w, adapter.lower.flags.number)?;
     move_results(
         types,
+        builder,
         w,
+        fuel,
         adapter,
         debug,
         options.concurrency,
@@ -127,7 +139,9 @@ fn put_return(
 /// Writes all steps of a sync adapter, whose callee and post-return are imported.
 fn put_steps(
     types: &ComponentTypes,
+    builder: &ComponentTypesBuilder,
     w: &mut Writer,
+    fuel: &mut Fuel,
     adapter: &AdapterData,
     debug: bool,
     options: CallOptions,
@@ -138,17 +152,20 @@ fn put_steps(
     requires callee { adapter.now.callee.number < length (functions_of w.old.imports) }
     requires options_imported { AreOptionsImported adapter.now w.old.imports }
     requires post_return { IfSome adapter.now.lift.post_return (λ (f : id.Id _). f.number < length (functions_of w.old.imports)) }
-    ensures { OnOk result (WrittenSteps types.now adapter.now debug options (sync_places locals.entry) w.old w.new) }
+    requires tables { builder.now.tables ≡ types.now }
+    ensures { OnOk result (WrittenSteps types.now adapter.now debug options (sync_places locals.entry) fuel.old fuel.new w.old w.new) }
 {
-    put_call(types, w, adapter, debug, options, locals)?;
-    put_return(types, w, adapter, debug, options, locals)?;
+    put_call(types, builder, w, fuel, adapter, debug, options, locals)?;
+    put_return(types, builder, w, fuel, adapter, debug, options, locals)?;
     Ok(())
 }
 
 /// Writes all steps, in a barrier.
 fn put_barred(
     types: &ComponentTypes,
+    builder: &ComponentTypesBuilder,
     w: &mut Writer,
+    fuel: &mut Fuel,
     adapter: &AdapterData,
     debug: bool,
     options: CallOptions,
@@ -159,10 +176,11 @@ fn put_barred(
     requires callee { adapter.now.callee.number < length (functions_of w.old.imports) }
     requires options_imported { AreOptionsImported adapter.now w.old.imports }
     requires post_return { IfSome adapter.now.lift.post_return (λ (f : id.Id _). f.number < length (functions_of w.old.imports)) }
-    ensures { OnOk result (WrittenBarred types.now adapter.now debug options (sync_places locals.entry) w.old w.new) }
+    requires tables { builder.now.tables ≡ types.now }
+    ensures { OnOk result (WrittenBarred types.now adapter.now debug options (sync_places locals.entry) fuel.old fuel.new w.old w.new) }
 {
     let before = w.begin();
-    let said = put_steps(types, w, adapter, debug, options, locals);
+    let said = put_steps(types, builder, w, fuel, adapter, debug, options, locals);
     let body = w.end(before);
     match said {
         Ok(()) => put_barrier(w, body)?,
@@ -177,7 +195,9 @@ fn put_barred(
 /// Writes what a sync adapter does, whose callee and post-return are imported, and leaves its results on the operand stack.
 pub fn put_sync(
     types: &ComponentTypes,
+    builder: &ComponentTypesBuilder,
     w: &mut Writer,
+    fuel: &mut Fuel,
     adapter: &AdapterData,
     debug: bool,
     options: CallOptions,
@@ -188,12 +208,13 @@ pub fn put_sync(
     requires callee { adapter.now.callee.number < length (functions_of w.old.imports) }
     requires options_imported { AreOptionsImported adapter.now w.old.imports }
     requires post_return { IfSome adapter.now.lift.post_return (λ (f : id.Id _). f.number < length (functions_of w.old.imports)) }
-    ensures { OnOk result (EmitsSync types.now adapter.now debug options (sync_places locals.entry) w.old w.new) }
+    requires tables { builder.now.tables ≡ types.now }
+    ensures { OnOk result (EmitsSync types.now adapter.now debug options (sync_places locals.entry) fuel.old fuel.new w.old w.new) }
 {
     if options.barrier {
-        put_barred(types, w, adapter, debug, options, locals)?;
+        put_barred(types, builder, w, fuel, adapter, debug, options, locals)?;
     } else {
-        put_steps(types, w, adapter, debug, options, locals)?;
+        put_steps(types, builder, w, fuel, adapter, debug, options, locals)?;
     }
     push_locals(w, locals.results)?;
     Ok(())

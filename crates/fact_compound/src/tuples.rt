@@ -17,11 +17,13 @@ ghost use Rattle.fact_compound.specs.Passing.{last_local, tuple_from, tuple_to};
 ghost use Rattle.fact_compound.specs.Passed.{MovedParams, PassedParams, AskedTuple, CheckedTuple, MovedResults, params_sides as sides_of_params, results_sides as sides_of_results};
 
 use crate::adapters::AdapterData;
+use fact_builder::ComponentTypesBuilder;
 use fact_emit::places::{Address, LinearMemory, SourcePlace, TargetPlace, TypedLocal};
 use fact_emit::pointers::check_area;
 use fact_emit::requests::ask_area;
 use fact_emit::writer::Writer;
 use fact_entity::{TypeFuncIndex, TypeTupleIndex};
+use fact_translate::fuel::Fuel;
 use fact_translate::products::move_tuple;
 use fact_types::{ComponentTypes, InterfaceType};
 use fact_wasm::OutOfMemory;
@@ -115,7 +117,9 @@ fn last_of(locals: &[TypedLocal]) -> u32
 /// there.
 pub fn move_params(
     types: &ComponentTypes,
+    builder: &ComponentTypesBuilder,
     w: &mut Writer,
+    fuel: &mut Fuel,
     adapter: &AdapterData,
     debug: bool,
     concurrency: bool,
@@ -125,7 +129,8 @@ pub fn move_params(
     requires lower_live { adapter.now.lower.ty.number < length types.now.functions }
     requires lift_live { adapter.now.lift.ty.number < length types.now.functions }
     requires sides { AreSidesImported (sides_of_params adapter.now debug concurrency) w.old.imports }
-    ensures { OnOk result (MovedParams types.now adapter.now debug concurrency (slots_of_locals params.now) (slots_of_locals core.now) w.old w.new) }
+    requires tables { builder.now.tables ≡ types.now }
+    ensures { OnOk result (MovedParams types.now adapter.now debug concurrency (slots_of_locals params.now) (slots_of_locals core.now) fuel.old fuel.new w.old w.new) }
 {
     let sides = adapter.params_sides(debug, concurrency);
     let (from, _) = tuples_of(types, adapter.lower.ty);
@@ -136,14 +141,16 @@ pub fn move_params(
     let target = tuple_target(flat, core, core);
     check_tuple_area(types, w, sides.from, from, given_flat, last_of(params))?;
     ask_tuple_area(types, w, concurrency, sides.to, to, flat, last_of(core))?;
-    move_tuple(types, w, sides, from, to, source, target)?;
+    move_tuple(types, builder, w, fuel, sides, from, to, source, target)?;
     Ok(())
 }
 
 /// Moves parameters, where they are not handed on as they are.
 pub fn pass_params(
     types: &ComponentTypes,
+    builder: &ComponentTypesBuilder,
     w: &mut Writer,
+    fuel: &mut Fuel,
     adapter: &AdapterData,
     debug: bool,
     concurrency: bool,
@@ -154,10 +161,21 @@ pub fn pass_params(
     requires lower_live { adapter.now.lower.ty.number < length types.now.functions }
     requires lift_live { adapter.now.lift.ty.number < length types.now.functions }
     requires sides { AreSidesImported (sides_of_params adapter.now debug concurrency) w.old.imports }
-    ensures { OnOk result (PassedParams types.now adapter.now debug concurrency passed (slots_of_locals params.now) (slots_of_locals core.now) w.old w.new) }
+    requires tables { builder.now.tables ≡ types.now }
+    ensures { OnOk result (PassedParams types.now adapter.now debug concurrency passed (slots_of_locals params.now) (slots_of_locals core.now) fuel.old fuel.new w.old w.new) }
 {
     if !passed {
-        move_params(types, w, adapter, debug, concurrency, params, core)?;
+        move_params(
+            types,
+            builder,
+            w,
+            fuel,
+            adapter,
+            debug,
+            concurrency,
+            params,
+            core,
+        )?;
     }
     Ok(())
 }
@@ -211,7 +229,7 @@ fn ask_tuple_area(
 }
 
 /// Where the values of a tuple stand.
-fn tuple_source<'a>(flat: bool, given: &'a [TypedLocal]) -> SourcePlace<'a>
+pub(crate) fn tuple_source<'a>(flat: bool, given: &'a [TypedLocal]) -> SourcePlace<'a>
     ensures { (m : linear.LinearMemory) → from_of m result ≡ tuple_from m flat (slots_of_locals given.now) }
 {
     if flat {
@@ -225,7 +243,11 @@ fn tuple_source<'a>(flat: bool, given: &'a [TypedLocal]) -> SourcePlace<'a>
 }
 
 /// Where the values of a tuple go.
-fn tuple_target<'a>(flat: bool, results: &'a [TypedLocal], args: &[TypedLocal]) -> TargetPlace<'a>
+pub(crate) fn tuple_target<'a>(
+    flat: bool,
+    results: &'a [TypedLocal],
+    args: &[TypedLocal],
+) -> TargetPlace<'a>
     ensures { (m : linear.LinearMemory) → to_of m result ≡ tuple_to m flat (slots_of_locals results.now) (slots_of_locals args.now) }
 {
     if flat {
@@ -241,7 +263,9 @@ fn tuple_target<'a>(flat: bool, results: &'a [TypedLocal], args: &[TypedLocal]) 
 /// Moves results, behind the checks of the areas that they are passed through.
 pub fn move_results(
     types: &ComponentTypes,
+    builder: &ComponentTypesBuilder,
     w: &mut Writer,
+    fuel: &mut Fuel,
     adapter: &AdapterData,
     debug: bool,
     concurrency: bool,
@@ -252,7 +276,8 @@ pub fn move_results(
     requires lower_live { adapter.now.lower.ty.number < length types.now.functions }
     requires lift_live { adapter.now.lift.ty.number < length types.now.functions }
     requires sides { AreSidesImported (sides_of_results adapter.now debug concurrency) w.old.imports }
-    ensures { OnOk result (MovedResults types.now adapter.now debug concurrency (slots_of_locals given.now) (slots_of_locals results.now) (slots_of_locals args.now) w.old w.new) }
+    requires tables { builder.now.tables ≡ types.now }
+    ensures { OnOk result (MovedResults types.now adapter.now debug concurrency (slots_of_locals given.now) (slots_of_locals results.now) (slots_of_locals args.now) fuel.old fuel.new w.old w.new) }
 {
     let sides = adapter.results_sides(debug, concurrency);
     let (_, from) = tuples_of(types, adapter.lift.ty);
@@ -263,6 +288,6 @@ pub fn move_results(
     let target = tuple_target(flat, results, args);
     check_tuple_area(types, w, sides.from, from, given_flat, last_of(given))?;
     check_tuple_area(types, w, sides.to, to, flat, last_of(args))?;
-    move_tuple(types, w, sides, from, to, source, target)?;
+    move_tuple(types, builder, w, fuel, sides, from, to, source, target)?;
     Ok(())
 }

@@ -35,7 +35,8 @@ use Rattle.fact_emit.specs.declared.pointers.AreaLocals.{AreaLocals}
 use Rattle.fact_emit.specs.declared.writer.Writer.{Writer}
 use Rattle.fact_emit.specs.Areas.{widened_code, AreaCode, IsLinearMemoryOf, ChecksArea}
 use Rattle.fact_emit.specs.Checks.{ChecksRegion}
-use Rattle.fact_emit.specs.Emits.{Is, Emits}
+use Rattle.fact_emit.specs.Emits.{Emits}
+use Rattle.fact_emit.specs.Pieces.{Is}
 use Rattle.fact_emit.specs.Writers.{taken_in, Wrote, Took, Freed}
 use Rattle.fact_emit.proofs.Emitting.{emits_then, emits_wrote, emits_around, wrote_then, IsLocal}
 use Rattle.fact_emit.proofs.NamedLaws.{ranged_append}

@@ -26,8 +26,9 @@ use Rattle.fact_emit.specs.declared.places.TargetPlace.TheVariants as target
 use Rattle.fact_emit.specs.declared.places.TypedLocal.{TypedLocal}
 use Rattle.fact_emit.specs.declared.writer.Writer.{Writer}
 use Rattle.fact_emit.specs.Checks.{Guarded, ChecksUpper, ChecksAddress, ChecksFrom, ChecksTo, ChecksPlaces, ChecksAligned, ChecksRegion}
-use Rattle.fact_emit.specs.Emits.{Is, Emits}
+use Rattle.fact_emit.specs.Emits.{Emits}
 use Rattle.fact_emit.specs.NamedFunctions.{imported_named}
+use Rattle.fact_emit.specs.Pieces.{Is}
 use Rattle.fact_emit.specs.Places.{checks_at, from_of, to_of}
 use Rattle.fact_emit.specs.Writers.{Wrote, TookTrap}
 use Rattle.fact_emit.proofs.Emitting.{emits_then, emits_as, emits_wrote, emits_taking, emits_nothing, wrote_then}

@@ -1,11 +1,11 @@
 -- The functions that a module defines, and its exports, stay as they are where something is imported.
-use Rattle.std.proofs.Common.{◌≡◌, ℕ, ◌⊎◌, inl, inr, List, ◌∷◌, [], ap, ◌∙◌, Contains}
+use Rattle.std.proofs.Common.{◌≡◌, ℕ, ◌⊎◌, inl, inr, List, ◌∷◌, [], ap, ◌∙◌, arith, Contains}
 use Rattle.fact_wasm.specs.declared.instr.Instr.{Instr}
 use Rattle.fact_wasm.specs.declared.types.FuncType.{FuncType}
 use Rattle.fact_wasm.specs.declared.module.WasmImport.{WasmImport}
 use Rattle.fact_types.specs.declared.import.Import.{Import}
 use Rattle.fact_emit.specs.declared.imported.RuntimeFunction.{RuntimeFunction}
-use Rattle.fact_emit.specs.Brought.{AreCalledImported, Brought, CalledFunction, IsCalledImported, Runtime, Transcoding}
+use Rattle.fact_emit.specs.Brought.{AreCalledImported, Brought, CalledFunction, IsCalledImported, Runtime, Transcoding, Helping}
 use Rattle.fact_emit.specs.ImportSection.{a_function, a_memory, a_global, imports_of, sort_of}
 use Rattle.fact_emit.specs.Imports.{Extended}
 use Rattle.fact_emit.specs.States.{ModuleSoFar, HasType, IsImported, IsRuntimeImported, KeepsDefined, with_import}
@@ -34,6 +34,10 @@ defined_runtime h = defined_on (defined_type h.types) (defined_import h.imported
 defined_called : (f : CalledFunction) (a b : ModuleSoFar) (place : ℕ) → IsCalledImported a b f place → KeepsDefined a b
 defined_called (Runtime f) a b place h = defined_runtime h
 defined_called (Transcoding t) a b place h = defined_on (defined_type h.types) (defined_import h.imported)
+defined_called (Helping key) a b place h = elim h.step [
+  | inl same ↦ defined_same same
+  | inr anew ↦ record { functions = ap (λ (s : ModuleSoFar). s.functions) anew.0; exports = ap (λ (s : ModuleSoFar). s.exports) anew.0; callees = ap (λ (s : ModuleSoFar). s.callees) anew.0 }
+]
 
 pub defined_all : (fs : List CalledFunction) {a b : ModuleSoFar} → AreCalledImported a b fs → KeepsDefined a b
 defined_all [] e = defined_same e
@@ -43,12 +47,14 @@ pub defined_brought : {a b : ModuleSoFar} {code : List Instr} → Brought a b co
 defined_brought x = defined_all x.called x.imported
 
 -- a module that defines and exports more imports the same
-pub extended_defined : {a b : ModuleSoFar} → b.types ≡ a.types → b.section ≡ a.section → b.imports ≡ a.imports → Extended a b
-extended_defined {a} {b} t s i = record {
+pub extended_defined : {a b : ModuleSoFar} → b.types ≡ a.types → b.section ≡ a.section → b.imports ≡ a.imports → b.helpers ≡ a.helpers → b.numbered ≡ a.numbered → Extended a b
+extended_defined {a} {b} t s i h n = record {
   types = grows_none t;
   section = grows_none s;
   imports = grows_none i;
   functions = grows_none (λ j. imports_of a_function (s j) (i j));
   memories = grows_none (λ j. imports_of a_memory (s j) (i j));
   globals = grows_none (λ j. imports_of a_global (s j) (i j));
+  helpers = grows_none h;
+  numbered = omega (arith, n);
 }

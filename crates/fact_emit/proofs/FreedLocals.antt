@@ -12,8 +12,10 @@ use Rattle.fact_machine.specs.Trace.{Grows}
 use Rattle.fact_moves.specs.Running.{ImportPlaces}
 use Rattle.fact_pieces.specs.Places.{Slot, AreLocals, IsNone}
 use Rattle.fact_emit.specs.declared.writer.Writer.{Writer}
-use Rattle.fact_emit.specs.Emits.{Grew, Piece, Later, Emits}
+use Rattle.fact_emit.specs.Asked.{AskedHelper}
+use Rattle.fact_emit.specs.Emits.{GrewAsking, Later, EmitsAsking}
 use Rattle.fact_emit.specs.Imports.{AreOnce}
+use Rattle.fact_emit.specs.Pieces.{Piece}
 use Rattle.fact_emit.specs.Places.{AreDistinctSlots}
 use Rattle.fact_emit.specs.Writers.{taken_in, AreDistinctNumbers, IsNoneOf, TookAll, Freed, FreedAll}
 use Rattle.fact_emit.proofs.BroughtLaws.{brought_between}
@@ -103,10 +105,11 @@ pub all_distinct : (ss : List Slot) → AreDistinctSlots ss → AreDistinctNumbe
 all_distinct [] h = tt
 all_distinct (s ∷ ss) h = (none_number s.0 ss h.0, all_distinct ss h.1)
 
-pub grew_around_all : {a b c d : Writer} {ss : List Slot} → TookAll a b ss → Grew b c → FreedAll c d (numbers_of ss) → Grew a d
-grew_around_all {a} {b} {c} {d} {ss} took x freed = record {
+pub grew_around_all : {asks : List AskedHelper} {a b c d : Writer} {ss : List Slot} → TookAll a b ss → GrewAsking asks b c → FreedAll c d (numbers_of ss) → GrewAsking asks a d
+grew_around_all {a = a} {b} {c} {d} {ss} took x freed = record {
   added = x.added;
   code = freed.code ∙ x.code ∙ ap (λ l. l ++ x.added) took.code;
+  calls = x.calls;
   brought = brought_between took.imports (sym freed.imports) x.brought;
   imports = extended_on (extended_none took.imports) (extended_on x.imports (extended_none freed.imports));
   once = λ o. subst AreOnce (sym freed.imports) (x.once (subst AreOnce (sym took.imports) o));
@@ -123,25 +126,25 @@ locals_later : {xs ys : List ValType} (ss : List Slot) → Grows xs ys → AreLo
 locals_later [] g h = tt
 locals_later (s ∷ ss) g h = (grown_get g s.0 s.1 h.0, locals_later ss g h.1)
 
-pub emits_around_all : {P Q : Piece} {a b c d : Writer} {ss : List Slot}
+pub emits_around_all : {asks : List AskedHelper} {P Q : Piece} {a b c d : Writer} {ss : List Slot}
     → ((M : WasmModule) (p : ImportPlaces) (locals : List ValType) (x : List Instr) → AreLocals locals ss → P M p locals x → Q M p locals x)
-    → TookAll a b ss → Emits b c P → FreedAll c d (numbers_of ss) → Emits a d Q
+    → TookAll a b ss → EmitsAsking asks b c P → FreedAll c d (numbers_of ss) → EmitsAsking asks a d Q
 unfolding grew_around_all
 emits_around_all {a = a} {b} {c} {d} {ss} f took x freed = record {
   grew = grew_around_all took x.grew freed;
-  does = λ M p locals l.
+  does = λ M p locals l h.
       let before : Later c M p locals = sooner (extended_none freed.imports) (grows_none freed.types) l in
-      f M p locals x.grew.added (locals_later ss (grows_on x.grew.locals (grows_on (grows_none freed.types) l.begin)) took.typed) (x.does M p locals before);
+      f M p locals x.grew.added (locals_later ss (grows_on x.grew.locals (grows_on (grows_none freed.types) l.begin)) took.typed) (x.does M p locals before h);
 }
 
 -- locals in use before are in use behind code that was written with these taken
-pub inside_taken : {a b c : Writer} {ss : List Slot} (d : Writer) → TookAll a b ss → Grew b c → ((i : ℕ) → taken_in d i ≡ taken_in c i) → (i : ℕ) → taken_in a i ≡ true → taken_in d i ≡ true
-inside_taken {a} {ss = ss} d took grew same i u = same i ∙ grew.still i ∙ took.others i (not_free a i u ss took.were_free) ∙ u
+pub inside_taken : {asks : List AskedHelper} {a b c : Writer} {ss : List Slot} (d : Writer) → TookAll a b ss → GrewAsking asks b c → ((i : ℕ) → taken_in d i ≡ taken_in c i) → (i : ℕ) → taken_in a i ≡ true → taken_in d i ≡ true
+inside_taken {a = a} {ss = ss} d took grew same i u = same i ∙ grew.still i ∙ took.others i (not_free a i u ss took.were_free) ∙ u
 
 still_all : (b d : Writer) (ss : List Slot) → ((i : ℕ) → taken_in d i ≡ taken_in b i) → AllByRecursion (λ s. taken_in b s.0 ≡ true) ss → AllByRecursion (λ s. taken_in d s.0 ≡ true) ss
 still_all b d [] still h = tt
 still_all b d (s ∷ ss) still h = (still s.0 ∙ h.0, still_all b d ss still h.1)
 
 -- and so are these
-pub all_inside : {a b c : Writer} {ss : List Slot} (d : Writer) → TookAll a b ss → Grew b c → ((i : ℕ) → taken_in d i ≡ taken_in c i) → AllByRecursion (λ s. taken_in d s.0 ≡ true) ss
+pub all_inside : {asks : List AskedHelper} {a b c : Writer} {ss : List Slot} (d : Writer) → TookAll a b ss → GrewAsking asks b c → ((i : ℕ) → taken_in d i ≡ taken_in c i) → AllByRecursion (λ s. taken_in d s.0 ≡ true) ss
 all_inside {b = b} {ss = ss} d took grew same = still_all b d ss (λ i. same i ∙ grew.still i) took.taken

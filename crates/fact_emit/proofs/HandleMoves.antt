@@ -15,10 +15,11 @@ use Rattle.fact_pieces.proofs.Handles.{handle_code, moves_handle}
 use Rattle.fact_emit.specs.declared.handles.HandleTransfer.{HandleTransfer}
 use Rattle.fact_emit.specs.declared.places.Sides.{Sides}
 use Rattle.fact_emit.specs.declared.writer.Writer.{Writer}
-use Rattle.fact_emit.specs.Emits.{Is, Emits}
+use Rattle.fact_emit.specs.Emits.{Emits}
 use Rattle.fact_emit.specs.Handles.{IsTransfer, handle_moves, handle_transfer}
 use Rattle.fact_emit.specs.MovesValue.{MovesValue}
 use Rattle.fact_emit.specs.Numbers.{FitsUnchecked, HasUpperAt, ReadsNumber}
+use Rattle.fact_emit.specs.Pieces.{Is}
 use Rattle.fact_emit.specs.Places.{checks_at, setting_of}
 use Rattle.fact_emit.specs.Runtime.{import_of, transfer_type}
 use Rattle.fact_emit.specs.RuntimeCalls.{CallsRuntime, runtime_call}

@@ -1,5 +1,5 @@
 -- What a module imports it imports too once more stands behind it.
-use Rattle.std.proofs.Common.{◌≡◌, ℕ, zero, suc, Bool, true, List, [], ◌∷◌, ◌++◌, Option, Some, refl, sym, ap, ◌∙◌, append_assoc, append-nil, slice_get}
+use Rattle.std.proofs.Common.{◌≡◌, ℕ, zero, suc, Bool, true, List, [], ◌∷◌, ◌++◌, Option, Some, refl, sym, ap, ◌∙◌, arith, append_assoc, append-nil, slice_get}
 use Rattle.std.specs.List.{filter_map}
 use Rattle.std.proofs.lemmas.List.Elements.{filter_map-append}
 use Rattle.fact_wasm.specs.declared.types.ValType.{ValType}
@@ -43,6 +43,8 @@ extended_on x y = record {
   functions = grows_on x.functions y.functions;
   memories = grows_on x.memories y.memories;
   globals = grows_on x.globals y.globals;
+  helpers = grows_on x.helpers y.helpers;
+  numbered = omega (arith, x.numbered, y.numbered);
 }
 
 pub extended_none : {a b : ModuleSoFar} → b ≡ a → Extended a b
@@ -53,6 +55,8 @@ extended_none e = record {
   functions = grows_none (ap functions_of e);
   memories = grows_none (ap memories_of e);
   globals = grows_none (ap globals_of e);
+  helpers = grows_none (ap (λ (s : ModuleSoFar). s.helpers) e);
+  numbered = omega (arith, ap (λ (s : ModuleSoFar). s.numbered) e);
 }
 
 -- ---- what is imported

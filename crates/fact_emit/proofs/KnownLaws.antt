@@ -1,5 +1,5 @@
 -- Imports are known by their roles, whatever is imported behind them.
-use Rattle.std.proofs.Common.{◌≡◌, ℕ, List, [], ◌∷◌, ◌++◌, Contains, Option, Some, None, refl, sym, ap, subst, length, append_assoc, append-nil, slice_get, inl, inr}
+use Rattle.std.proofs.Common.{◌≡◌, ℕ, List, [], ◌∷◌, ◌++◌, Contains, Option, Some, None, refl, sym, ap, subst, length, append_assoc, append-nil, slice_get, inl, inr, arith}
 use Rattle.std.proofs.lemmas.List.Elements.{Contains-push}
 use Rattle.fact_wasm.specs.declared.types.FuncType.{FuncType}
 use Rattle.fact_wasm.specs.declared.module.ImportType.TheVariants as import
@@ -119,6 +119,8 @@ extended_type {old} ty (inr anew) = subst (Extended old) (sym anew.1) (record {
   functions = grows_none refl;
   memories = grows_none refl;
   globals = grows_none refl;
+  helpers = grows_none refl;
+  numbered = omega arith;
 })
 
 extended_type_if_any : (old new : ModuleSoFar) (o : Option FuncType) → HasTypeIfAny old new o → Extended old new

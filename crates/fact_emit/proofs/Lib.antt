@@ -7,9 +7,11 @@ pub mod ChosenBodies
 pub mod ChunkBodies
 pub mod DefinedKept
 pub mod Emitting
+pub mod ExactHelpers
 pub mod ExactItems
 pub mod FreedLocals
 pub mod HandleMoves
+pub mod HelperLaws
 pub mod ImportLaws
 pub mod ImportLists
 pub mod KnownLaws

@@ -13,15 +13,16 @@ use Rattle.fact_types.specs.Adapters.{LinkedAdapter}
 use Rattle.fact_types.specs.declared.outside.CoreDef.{CoreDef}
 use Rattle.fact_types.specs.declared.import.Import.{Import}
 use Rattle.fact_types.specs.declared.import.Import.TheVariants as known
+use Rattle.fact_emit.specs.declared.helpers.Helper.{Helper}
 use Rattle.fact_emit.specs.declared.imported.RuntimeFunction.{RuntimeFunction}
 use Rattle.fact_emit.specs.declared.transcoders.Transcoder.{Transcoder}
-use Rattle.fact_emit.specs.Brought.{AreCalledImported, CalledFunction, IsCalledImported, Runtime, Transcoding}
+use Rattle.fact_emit.specs.Brought.{AreCalledImported, CalledFunction, IsCalledImported, Runtime, Transcoding, Helping}
 use Rattle.fact_emit.specs.ImportSection.{AreNamed, AreTaskCallsNamed, AreTranscodersNamed, Callback, Callee, Flags, IsNamed, IsNamedIfTranscoder, Mention, PostReturn, Realloc, Role, Sort, StandsFor, Storage, a_function, a_global, a_memory, def_of, imports_of, is_awaited, is_made_once, is_mentioned, sort_of, with_mention, with_mentions}
 use Rattle.fact_emit.specs.Known.{AreUsedAlike, IsUsedAlike, memory_of_role}
 use Rattle.fact_emit.specs.Linked.{HasTypeIfAny, IsDefLinked, type_of_role}
 use Rattle.fact_emit.specs.Listed.{AreLinkedInTurn, ListsMentions}
 use Rattle.fact_emit.specs.Runtime.{import_of, name_of_runtime, origin_of_runtime}
-use Rattle.fact_emit.specs.States.{HasType, IsImported, IsRuntimeImported, IsTranscoderImported, ModuleSoFar, import_as, memories_of, with_import}
+use Rattle.fact_emit.specs.States.{HasType, IsImported, IsRuntimeImported, IsTranscoderImported, ModuleSoFar, import_as, memories_of, with_helper, with_import}
 use Rattle.fact_emit.proofs.ExactItems.{runtime-made-once}
 use Rattle.fact_emit.proofs.ImportLists.{get-map, get-there, map-push, there-get, unmap}
 use Rattle.fact_emit.proofs.RuntimeNamed.{runtime-defines-none, runtime-named}
@@ -133,9 +134,17 @@ listed_runtime old new ms adapters f place h lists =
 listed_transcoder : (old new : ModuleSoFar) (ms : List Mention) (adapters : List LinkedAdapter) (t : Transcoder) (place : ℕ) → IsTranscoderImported old new t place → ListsMentions old ms adapters → ListsMentions new ms adapters
 listed_transcoder old new ms adapters t place h lists = import_function h.typed new ms adapters _ _ place refl refl h.ty_there (transcoder-as h) h.imported (listed_type old h.typed ms adapters _ h.types lists)
 
+-- what a module asked for of helpers is not looked at
+listed_helper : (old : ModuleSoFar) (key : Helper) {ms : List Mention} {adapters : List LinkedAdapter} → ListsMentions old ms adapters → ListsMentions (with_helper old key) ms adapters
+listed_helper old key h = record { defs = h.defs; named = h.named; transcoders = h.transcoders; task_calls = h.task_calls; once = h.once; signatures = h.signatures }
+
 listed_one : (old new : ModuleSoFar) (ms : List Mention) (adapters : List LinkedAdapter) (f : CalledFunction) (place : ℕ) → IsCalledImported old new f place → ListsMentions old ms adapters → ListsMentions new ms adapters
 listed_one old new ms adapters (Runtime f) place h lists = listed_runtime old new ms adapters f place h lists
 listed_one old new ms adapters (Transcoding t) place h lists = listed_transcoder old new ms adapters t place h lists
+listed_one old new ms adapters (Helping key) place h lists = elim h.step [
+  | inl same ↦ subst (λ s. ListsMentions s ms adapters) (sym same) lists
+  | inr anew ↦ subst (λ s. ListsMentions s ms adapters) (sym anew.0) (listed_helper old key lists)
+]
 
 -- Functions of the runtime that code brought in.
 pub listed_called : (fs : List CalledFunction) (old new : ModuleSoFar) (ms : List Mention) (adapters : List LinkedAdapter) → AreCalledImported old new fs → ListsMentions old ms adapters → ListsMentions new ms adapters

@@ -14,7 +14,7 @@ use Rattle.fact_wasm.specs.declared.instr.Instr.{Instr}
 use Rattle.fact_wasm.specs.declared.instr.Instr.TheVariants as I
 use Rattle.fact_wasm.specs.Ranges.{AreRanged, IsPoint, Named, Otherwise, Placed, Point, body_points, points}
 use Rattle.fact_wasm.proofs.Ranged.{all-append, apart, together, points-block, points-else, points-if, points-loop, points-try_table}
-use Rattle.fact_emit.specs.NamedFunctions.{all_added_once, imported_named, imported_place, name_at}
+use Rattle.fact_emit.specs.NamedFunctions.{all_added_once, defined_named, defined_place, functions_named, imported_named, imported_place, name_at}
 
 -- ---- numbers, each once
 
@@ -65,11 +65,14 @@ pub points_append : (a b : List Instr) → body_points (a ++ b) ≡ body_points 
 points_append [] b = refl
 points_append (x ∷ a) b = ap (λ l. points x ++ l) (points_append a b) ∙ sym (append_assoc (points x) (body_points a) (body_points b))
 
-names_append : (ps qs : List Point) → filter_map imported_place (filter_map name_at (ps ++ qs)) ≡ filter_map imported_place (filter_map name_at ps) ++ filter_map imported_place (filter_map name_at qs)
-names_append ps qs = ap (filter_map imported_place) (filter_map-append name_at ps qs) ∙ filter_map-append imported_place (filter_map name_at ps) (filter_map name_at qs)
+pub named_append : (a b : List Instr) → functions_named (a ++ b) ≡ functions_named a ++ functions_named b
+named_append a b = ap (filter_map name_at) (points_append a b) ∙ filter_map-append name_at (body_points a) (body_points b)
 
-pub named_append : (a b : List Instr) → imported_named (a ++ b) ≡ imported_named a ++ imported_named b
-named_append a b = ap (λ ps. filter_map imported_place (filter_map name_at ps)) (points_append a b) ∙ names_append (body_points a) (body_points b)
+pub imported_append : (a b : List Instr) → imported_named (a ++ b) ≡ imported_named a ++ imported_named b
+imported_append a b = ap (filter_map imported_place) (named_append a b) ∙ filter_map-append imported_place (functions_named a) (functions_named b)
+
+pub defined_append : (a b : List Instr) → defined_named (a ++ b) ≡ defined_named a ++ defined_named b
+defined_append a b = ap (filter_map defined_place) (named_append a b) ∙ filter_map-append defined_place (functions_named a) (functions_named b)
 
 -- ---- code in range
 
@@ -77,38 +80,61 @@ pub ranged_append : (imports funcs : ℕ) (a b : List Instr) → AreRanged impor
 ranged_append imports funcs a b = all-append (λ i. AllByRecursion (IsPoint imports funcs) (points i)) a b
 
 -- Code in range names functions that there are.
-points_named : (n : ℕ) (ps : List Point) → AllByRecursion (IsPoint n 0) ps → AllByRecursion (λ k. k < n) (filter_map imported_place (filter_map name_at ps))
-points_named n [] h = tt
-points_named n (Named (func.Import k) ∷ ps) h = (h.0, points_named n ps h.1)
-points_named n (Named (func.Defined k) ∷ ps) h = points_named n ps h.1
-points_named n (Placed m ∷ ps) h = points_named n ps h.1
-points_named n (Otherwise m ∷ ps) h = points_named n ps h.1
+points_imported : (n m : ℕ) (ps : List Point) → AllByRecursion (IsPoint n m) ps → AllByRecursion (λ k. k < n) (filter_map imported_place (filter_map name_at ps))
+points_imported n m [] h = tt
+points_imported n m (Named (func.Import k) ∷ ps) h = (h.0, points_imported n m ps h.1)
+points_imported n m (Named (func.Defined k) ∷ ps) h = points_imported n m ps h.1
+points_imported n m (Placed k ∷ ps) h = points_imported n m ps h.1
+points_imported n m (Otherwise k ∷ ps) h = points_imported n m ps h.1
 
-pub ranged_named : (n : ℕ) (code : List Instr) → AreRanged n 0 code → AllByRecursion (λ k. k < n) (imported_named code)
-ranged_named n code h = points_named n (body_points code) (together (IsPoint n 0) code h)
+points_defined : (n m : ℕ) (ps : List Point) → AllByRecursion (IsPoint n m) ps → AllByRecursion (λ k. k < m) (filter_map defined_place (filter_map name_at ps))
+points_defined n m [] h = tt
+points_defined n m (Named (func.Import k) ∷ ps) h = points_defined n m ps h.1
+points_defined n m (Named (func.Defined k) ∷ ps) h = (h.0, points_defined n m ps h.1)
+points_defined n m (Placed k ∷ ps) h = points_defined n m ps h.1
+points_defined n m (Otherwise k ∷ ps) h = points_defined n m ps h.1
+
+pub ranged_named : (n m : ℕ) (code : List Instr) → AreRanged n m code → AllByRecursion (λ k. k < n) (imported_named code)
+ranged_named n m code h = points_imported n m (body_points code) (together (IsPoint n m) code h)
+
+pub ranged_defined : (n m : ℕ) (code : List Instr) → AreRanged n m code → AllByRecursion (λ k. k < m) (defined_named code)
+ranged_defined n m code h = points_defined n m (body_points code) (together (IsPoint n m) code h)
 
 -- Where there are none it names none.
 below_zero : (ks : List ℕ) → AllByRecursion (λ k. k < 0) ks → ks ≡ []
 below_zero [] h = refl
 below_zero (k ∷ ks) h = absurd (omega (arith, h.0))
 
-pub names_none : (code : List Instr) → AreRanged 0 0 code → imported_named code ≡ []
-names_none code h = below_zero (imported_named code) (ranged_named 0 code h)
+pub defined_none : (n : ℕ) (code : List Instr) → AreRanged n 0 code → defined_named code ≡ []
+defined_none n code h = below_zero (defined_named code) (ranged_defined n 0 code h)
+
+points_none : (ps : List Point) → AllByRecursion (IsPoint 0 0) ps → filter_map name_at ps ≡ []
+points_none [] h = refl
+points_none (Named (func.Import k) ∷ ps) h = absurd (omega (arith, h.0))
+points_none (Named (func.Defined k) ∷ ps) h = absurd (omega (arith, h.0))
+points_none (Placed k ∷ ps) h = points_none ps h.1
+points_none (Otherwise k ∷ ps) h = points_none ps h.1
+
+pub names_none : (code : List Instr) → AreRanged 0 0 code → functions_named code ≡ []
+names_none code h = points_none (body_points code) (together (IsPoint 0 0) code h)
 
 -- with more functions
-point_more : (m n : ℕ) → m ≤ n → (p : Point) → IsPoint m 0 p → IsPoint n 0 p
-point_more m n le (Named (func.Import k)) h = omega (arith, le, h)
-point_more m n le (Named (func.Defined k)) h = h
-point_more m n le (Placed a) h = h
-point_more m n le (Otherwise k) h = h
+point_more : (m n k l : ℕ) → m ≤ n → k ≤ l → (p : Point) → IsPoint m k p → IsPoint n l p
+point_more m n k l le le' (Named (func.Import i)) h = omega (arith, le, h)
+point_more m n k l le le' (Named (func.Defined i)) h = omega (arith, le', h)
+point_more m n k l le le' (Placed a) h = h
+point_more m n k l le le' (Otherwise i) h = h
 
-points_more : (m n : ℕ) → m ≤ n → (ps : List Point) → AllByRecursion (IsPoint m 0) ps → AllByRecursion (IsPoint n 0) ps
-points_more m n le [] h = tt
-points_more m n le (p ∷ ps) h = (point_more m n le p h.0, points_more m n le ps h.1)
+points_more : (m n k l : ℕ) → m ≤ n → k ≤ l → (ps : List Point) → AllByRecursion (IsPoint m k) ps → AllByRecursion (IsPoint n l) ps
+points_more m n k l le le' [] h = tt
+points_more m n k l le le' (p ∷ ps) h = (point_more m n k l le le' p h.0, points_more m n k l le le' ps h.1)
+
+pub ranged_in : (m n k l : ℕ) → m ≤ n → k ≤ l → (code : List Instr) → AreRanged m k code → AreRanged n l code
+ranged_in m n k l le le' [] h = tt
+ranged_in m n k l le le' (i ∷ is) h = (points_more m n k l le le' (points i) h.0, ranged_in m n k l le le' is h.1)
 
 pub ranged_more : (m n : ℕ) → m ≤ n → (code : List Instr) → AreRanged m 0 code → AreRanged n 0 code
-ranged_more m n le [] h = tt
-ranged_more m n le (i ∷ is) h = (points_more m n le (points i) h.0, ranged_more m n le is h.1)
+ranged_more m n le code h = ranged_in m n 0 0 le (omega arith) code h
 
 -- code without such points
 pub ranged_none : (imports funcs : ℕ) (code : List Instr) → body_points code ≡ [] → AreRanged imports funcs code
@@ -116,38 +142,38 @@ ranged_none imports funcs code e = apart (IsPoint imports funcs) code (subst (Al
 
 -- ---- a body within an instruction
 
-one_instruction : (i : Instr) {ps : List Point} → points i ≡ ps → imported_named (i ∷ []) ≡ filter_map imported_place (filter_map name_at ps)
-one_instruction i e = ap (λ ps. filter_map imported_place (filter_map name_at ps)) (append-nil (points i) ∙ e)
+one_instruction : (i : Instr) {ps : List Point} → points i ≡ ps → functions_named (i ∷ []) ≡ filter_map name_at ps
+one_instruction i e = ap (filter_map name_at) (append-nil (points i) ∙ e)
 
 ranged_body : (imports funcs : ℕ) (i : Instr) (body : List Instr) → points i ≡ body_points body → AreRanged imports funcs body → AreRanged imports funcs (i ∷ [])
 ranged_body imports funcs i body e h = (subst (AllByRecursion (IsPoint imports funcs)) (sym e) (together (IsPoint imports funcs) body h), tt)
 
-pub named_block : (t : BlockType) (body : List Instr) → imported_named (I.Block t body ∷ []) ≡ imported_named body
+pub named_block : (t : BlockType) (body : List Instr) → functions_named (I.Block t body ∷ []) ≡ functions_named body
 named_block t body = one_instruction (I.Block t body) (points-block t body)
 
 pub ranged_block : (imports funcs : ℕ) (t : BlockType) (body : List Instr) → AreRanged imports funcs body → AreRanged imports funcs (I.Block t body ∷ [])
 ranged_block imports funcs t body = ranged_body imports funcs (I.Block t body) body (points-block t body)
 
-pub named_loop : (t : BlockType) (body : List Instr) → imported_named (I.Loop t body ∷ []) ≡ imported_named body
+pub named_loop : (t : BlockType) (body : List Instr) → functions_named (I.Loop t body ∷ []) ≡ functions_named body
 named_loop t body = one_instruction (I.Loop t body) (points-loop t body)
 
 pub ranged_loop : (imports funcs : ℕ) (t : BlockType) (body : List Instr) → AreRanged imports funcs body → AreRanged imports funcs (I.Loop t body ∷ [])
 ranged_loop imports funcs t body = ranged_body imports funcs (I.Loop t body) body (points-loop t body)
 
-pub named_try_table : (t : BlockType) (labels : List ℕ) (body : List Instr) → imported_named (I.TryTable t labels body ∷ []) ≡ imported_named body
+pub named_try_table : (t : BlockType) (labels : List ℕ) (body : List Instr) → functions_named (I.TryTable t labels body ∷ []) ≡ functions_named body
 named_try_table t labels body = one_instruction (I.TryTable t labels body) (points-try_table t labels body)
 
 pub ranged_try_table : (imports funcs : ℕ) (t : BlockType) (labels : List ℕ) (body : List Instr) → AreRanged imports funcs body → AreRanged imports funcs (I.TryTable t labels body ∷ [])
 ranged_try_table imports funcs t labels body = ranged_body imports funcs (I.TryTable t labels body) body (points-try_table t labels body)
 
-pub named_if : (t : BlockType) (body : List Instr) → imported_named (I.If t body None ∷ []) ≡ imported_named body
+pub named_if : (t : BlockType) (body : List Instr) → functions_named (I.If t body None ∷ []) ≡ functions_named body
 named_if t body = one_instruction (I.If t body None) (points-if t body)
 
 pub ranged_if : (imports funcs : ℕ) (t : BlockType) (body : List Instr) → AreRanged imports funcs body → AreRanged imports funcs (I.If t body None ∷ [])
 ranged_if imports funcs t body = ranged_body imports funcs (I.If t body None) body (points-if t body)
 
-pub named_else : (t : BlockType) (body other : List Instr) → imported_named (I.If t body (Some other) ∷ []) ≡ imported_named body ++ imported_named other
-named_else t body other = one_instruction (I.If t body (Some other)) (points-else t body other) ∙ names_append (body_points body) (body_points other)
+pub named_else : (t : BlockType) (body other : List Instr) → functions_named (I.If t body (Some other) ∷ []) ≡ functions_named body ++ functions_named other
+named_else t body other = one_instruction (I.If t body (Some other)) (points-else t body other) ∙ filter_map-append name_at (body_points body) (body_points other)
 
 pub ranged_else : (imports funcs : ℕ) (t : BlockType) (body other : List Instr) → 0 < length other → AreRanged imports funcs body → AreRanged imports funcs other → AreRanged imports funcs (I.If t body (Some other) ∷ [])
 ranged_else imports funcs t body other some x y =

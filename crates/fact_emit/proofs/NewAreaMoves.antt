@@ -49,8 +49,9 @@ use Rattle.fact_emit.specs.declared.pointers.AreaLocals.{AreaLocals}
 use Rattle.fact_emit.specs.declared.requests.NewRegion.{NewRegion}
 use Rattle.fact_emit.specs.declared.writer.Writer.{Writer}
 use Rattle.fact_emit.specs.Areas.{IsLinearMemoryOf}
-use Rattle.fact_emit.specs.Emits.{Is, Piece, Emits}
+use Rattle.fact_emit.specs.Emits.{Emits}
 use Rattle.fact_emit.specs.NewAreas.{NewAreaCode, HoldsArea, AsksArea}
+use Rattle.fact_emit.specs.Pieces.{Is, Piece}
 use Rattle.fact_emit.specs.Places.{AreDistinctSlots}
 use Rattle.fact_emit.specs.Requests.{AsksRegion, IsReallocOf, request_code}
 use Rattle.fact_emit.specs.RuntimeCalls.{slots_of}

@@ -28,9 +28,10 @@ use Rattle.fact_emit.specs.declared.scalars.NumberTest.{NumberTest}
 use Rattle.fact_emit.specs.declared.scalars.NumberTest.TheVariants.{ScalarValue, CaseBelow}
 use Rattle.fact_emit.specs.declared.writer.Writer.{Writer}
 use Rattle.fact_emit.specs.Checks.{Guarded, ChecksUpper, ReadsPointer}
-use Rattle.fact_emit.specs.Emits.{Is, Emits}
+use Rattle.fact_emit.specs.Emits.{Emits}
 use Rattle.fact_emit.specs.MovesValue.{MovesValue, except, HasLocal}
 use Rattle.fact_emit.specs.Numbers.{HasUpperAt, ReadsNumber, FitsUnchecked}
+use Rattle.fact_emit.specs.Pieces.{Is}
 use Rattle.fact_emit.specs.Places.{checks_at, setting_of, from_of, slots_of_locals}
 use Rattle.fact_emit.specs.Scalars.{canonical_code, canonical_of, IsCanonicalFor, number_moves, tested_moves, passes_test, code_of_test, trap_of_test}
 use Rattle.fact_emit.specs.Writers.{taken_in, Wrote}

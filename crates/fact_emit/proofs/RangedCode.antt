@@ -1,5 +1,6 @@
 -- The pieces of code that writing functions put together are in range, and name no function but those of traps.
-use Rattle.std.proofs.Common.{◌≡◌, ℕ, suc, Bool, true, false, List, [], ◌∷◌, ◌++◌, Option, ◌∙◌, arith}
+use Rattle.std.proofs.Common.{◌≡◌, ℕ, suc, Bool, true, false, List, [], ◌∷◌, ◌++◌, Option, ap, ◌∙◌, arith}
+use Rattle.std.specs.List.{filter_map}
 use Rattle.fact_wasm.specs.declared.instr.BlockType.TheVariants.{Empty}
 use Rattle.fact_wasm.specs.declared.instr.Instr.{Instr, the_lemmas}
 use Rattle.fact_wasm.specs.declared.instr.Instr.TheVariants as I
@@ -15,7 +16,7 @@ use Rattle.fact_emit.specs.declared.scalars.Canonical.TheVariants.{AsIs, Truth, 
 use Rattle.fact_emit.specs.declared.scalars.NumberTest.{NumberTest}
 use Rattle.fact_emit.specs.declared.scalars.NumberTest.TheVariants.{ScalarValue, CaseBelow}
 use Rattle.fact_emit.specs.Areas.{widened_code}
-use Rattle.fact_emit.specs.NamedFunctions.{imported_named}
+use Rattle.fact_emit.specs.NamedFunctions.{functions_named, imported_named, imported_place}
 use Rattle.fact_emit.specs.Scalars.{canonical_code, code_of_test}
 use Rattle.fact_emit.proofs.NamedLaws.{named_append, named_block, names_none, ranged_append, ranged_block, ranged_more, ranged_none}
 
@@ -163,7 +164,9 @@ trap_ranged place = (simp the_lemmas tt, (simp the_lemmas (omega arith, tt), (si
 
 module _ (test : List Instr) (place : ℕ) (ranged : AreRanged 0 0 test) where
   pub guard_named : imported_named (I.Block Empty (test ++ I.BrIf 0 ∷ trap_code place) ∷ []) ≡ place ∷ []
-  guard_named = named_block Empty (test ++ I.BrIf 0 ∷ trap_code place) ∙ named_append test (I.BrIf 0 ∷ trap_code place) ∙ (λ i. names_none test ranged i ++ trap_named place i)
+  guard_named =
+      ap (filter_map imported_place) (named_block Empty (test ++ I.BrIf 0 ∷ trap_code place) ∙ named_append test (I.BrIf 0 ∷ trap_code place) ∙ ap (λ ns. ns ++ functions_named (I.BrIf 0 ∷ trap_code place)) (names_none test ranged))
+      ∙ trap_named place
 
   pub guard_ranged : AreRanged (suc place) 0 (I.Block Empty (test ++ I.BrIf 0 ∷ trap_code place) ∷ [])
   guard_ranged =

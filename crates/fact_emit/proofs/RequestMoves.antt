@@ -18,7 +18,8 @@ use Rattle.fact_emit.specs.declared.places.LinearMemory.{LinearMemory}
 use Rattle.fact_emit.specs.declared.requests.NewRegion.{NewRegion}
 use Rattle.fact_emit.specs.declared.writer.Writer.{Writer}
 use Rattle.fact_emit.specs.Checks.{ChecksRegion}
-use Rattle.fact_emit.specs.Emits.{Is, Emits}
+use Rattle.fact_emit.specs.Emits.{Emits}
+use Rattle.fact_emit.specs.Pieces.{Is}
 use Rattle.fact_emit.specs.Requests.{IsReallocImported, ask_code_if, AsksRegion, CallsRealloc}
 use Rattle.fact_emit.specs.RuntimeCalls.{slots_of, SavesSlots, WritesSlots}
 use Rattle.fact_emit.specs.Writers.{Wrote}

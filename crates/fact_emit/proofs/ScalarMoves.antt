@@ -25,7 +25,8 @@ use Rattle.fact_emit.specs.Fitting.{number_for_flat, IsSlotFor, bytes_of_shape, 
 use Rattle.fact_emit.specs.MovesValue.{Act, MovesValue}
 use Rattle.fact_emit.specs.Numbers.{FitsUnchecked}
 use Rattle.fact_emit.specs.Places.{setting_of}
-use Rattle.fact_emit.specs.Scalars.{canonical_of, number_moves, tested_moves, size_of_type, canonical_for, is_scalar}
+use Rattle.fact_emit.specs.Movable.{is_scalar}
+use Rattle.fact_emit.specs.Scalars.{canonical_of, number_moves, tested_moves, size_of_type, canonical_for}
 use Rattle.fact_emit.specs.Writers.{taken_in}
 use Rattle.fact_emit.proofs.Emitting.{emits_as}
 

@@ -1,6 +1,7 @@
 -- One more import of a kind, over the lists by which the imports are found.
 use Rattle.std.proofs.Common.{◌≡◌, ℕ, Bool, true, false, ◌+◌, ◌<◌, ◌^◌, List, [], ◌∷◌, ◌++◌, Option, Some, None, Contains, refl, sym, ap, ◌∙◌, subst, arith, length, map, slice_get, length-append, append-nil, ◌⊎◌, inl, inr}
-use Rattle.std.specs.Prelude.{Err, IfOk, IsFalse, IsTrue, Ok, OnOk, Result, cond, count_by, not}
+use Rattle.std.specs.Prelude.{Err, IfOk, IsFalse, IsTrue, Ok, OnOk, Result, cond, count_by, max, not}
+use Rattle.std.specs.List.{AllByRecursion}
 use Rattle.std.proofs.lemmas.List.{length-map}
 use Rattle.std.proofs.lemmas.Option.{slice_get_within}
 use Rattle.fact_wasm.specs.CoreTypes.{IsOnlyPlaceOfType}
@@ -15,6 +16,7 @@ use Rattle.fact_machine.specs.Trace.{Grows}
 use Rattle.fact_types.specs.declared.outside.CoreDef.{CoreDef}
 use Rattle.fact_types.specs.declared.import.Import.{Import}
 use Rattle.fact_types.specs.declared.import.Import.TheVariants as known
+use Rattle.fact_emit.specs.declared.helpers.Helper.{Helper}
 use Rattle.fact_emit.specs.declared.imported.ImportedItem.{ImportedItem}
 use Rattle.fact_emit.specs.declared.imported.ImportedItem.TheVariants as item
 use Rattle.fact_emit.specs.declared.imported.PrepareCallItem.{PrepareCallItem}
@@ -25,7 +27,7 @@ use Rattle.fact_emit.specs.Imports.{AreOnce, Extended, HasImport, HasTranscoder,
 use Rattle.fact_emit.specs.State.{IsAdded, IsIndexed, IsItemOf, IsKept, by_sort}
 use Rattle.fact_emit.specs.TaskCalls.{IsItemImported, IsItemThere}
 use Rattle.fact_emit.specs.TaskTypes.{start_call_type}
-use Rattle.fact_emit.specs.States.{HasType, MayImport, ModuleSoFar, functions_of, known_as, memories_of, type_of_item, type_of_transcoder, with_import}
+use Rattle.fact_emit.specs.States.{HasType, MayImport, ModuleSoFar, functions_of, known_as, memories_of, next_number, type_of_item, type_of_transcoder, with_import}
 use Rattle.fact_emit.proofs.ImportLaws.{extended_none, grown_get, grows_none, later_import}
 use Rattle.fact_emit.proofs.ImportLists.{count-of, func-last, get-last, get-there, imports-append, last-or-before, map-push, there-get}
 use Rattle.fact_emit.proofs.Once.{once_more}
@@ -80,6 +82,8 @@ module _ (s : ModuleSoFar) (same : length s.section ≡ length s.imports) (w : W
     functions = grown-of a_function;
     memories = grown-of a_memory;
     globals = grown-of a_global;
+    helpers = grows_none refl;
+    numbered = omega arith;
   }
 
   module _ (absent : is_made_once i ≡ true → Contains (imports_of (sort_of w.ty) s.section s.imports) i → ⊥) where
@@ -105,7 +109,7 @@ module _ (s : ModuleSoFar) (gs ms fs : List ImportedItem) (h : IsIndexed s gs ms
     abbrev new : ModuleSoFar
     new = with_import s w (known_as x)
 
-    module _ (gs' ms' fs' : List ImportedItem) (items : (q : Sort) → by_sort gs' ms' fs' q ≡ by_sort gs ms fs q ++ if_of q (sort_of w.ty) x) (room : length fs' + length s.functions < 2 ^ 32) where
+    module _ (gs' ms' fs' : List ImportedItem) (items : (q : Sort) → by_sort gs' ms' fs' q ≡ by_sort gs ms fs q ++ if_of q (sort_of w.ty) x) (room : length fs' + next_number s < 2 ^ 32) where
       list-added : (q : Sort) → imports_of q new.section new.imports ≡ map known_as (by_sort gs' ms' fs' q)
       list-added q =
           more s h.same_length w (known_as x) q ∙ go (same_sort q (sort_of w.ty)) ∙ ap (map known_as) (sym (items q))
@@ -164,6 +168,7 @@ module _ (s : ModuleSoFar) (gs ms fs : List ImportedItem) (h : IsIndexed s gs ms
         lists = list-added;
         memory_defs = memory-added;
         numbered = room;
+        helpers_below = h.helpers_below;
         typed = typed-added;
         prepared = prepared-added;
       }
@@ -211,7 +216,7 @@ module _ (v : ModuleSoFar) (xs xs' : List ImportedItem) (G M F : List ImportedIt
     (fresh_start : (Contains xs x → ⊥) → (c : StartCallItem) → x ≡ item.StartCall c → Contains (F xs) (item.StartCall c) → ⊥)
     (items : (q : Sort) → by_sort (G (xs ++ x ∷ [])) (M (xs ++ x ∷ [])) (F (xs ++ x ∷ [])) q ≡ by_sort (G xs) (M xs) (F xs) q ++ if_of q (sort_of w.ty) x)
     (of : (ys : List ImportedItem) → by_sort (G ys) (M ys) (F ys) (sort_of w.ty) ≡ ys)
-    (Room : Type 0) (room : Room → length (F (xs ++ x ∷ [])) + length v.functions < 2 ^ 32)
+    (Room : Type 0) (room : Room → length (F (xs ++ x ∷ [])) + next_number v < 2 ^ 32)
     (step : IsKept v.section section' v.imports imports' xs xs' ⊎ (Room × IsAdded v.section section' v.imports imports' xs xs' x w)) where
   abbrev after : ModuleSoFar
   after = record v { section = section'; imports = imports' }
@@ -287,7 +292,7 @@ module _ (v t : ModuleSoFar) (same : v ≡ t) (gs ms fs : List ImportedItem) (h 
   seen : {new : ModuleSoFar} {gs' ms' fs' : List ImportedItem} → Leaves v new gs' ms' fs' xs' w x → Leaves t new gs' ms' fs' xs' w' x
   seen {new} {gs'} {ms'} {fs'} l = subst (λ (u : ModuleSoFar). Leaves u new gs' ms' fs' xs' w' x) same (subst (λ (y : WasmImport). Leaves v new gs' ms' fs' xs' y x) is_w l)
 
-  pub leaves-function : (k : ℕ) → w.ty ≡ import.Func k → (full : Bool) → (IsFalse full → length (functions_of t) + length t.functions + 1 < 2 ^ 32)
+  pub leaves-function : (k : ℕ) → w.ty ≡ import.Func k → (full : Bool) → (IsFalse full → length (functions_of t) + next_number t + 1 < 2 ^ 32)
       → IsKept v.section section' v.imports imports' fs xs' ⊎ (IsTrue (not full) × IsAdded v.section section' v.imports imports' fs xs' x w)
       → Leaves t (record v { section = section'; imports = imports' }) gs ms xs' xs' w' x
   leaves-function k is full room step =
@@ -298,8 +303,8 @@ module _ (v t : ModuleSoFar) (same : v ≡ t) (gs ms fs : List ImportedItem) (h 
       is-false false e = refl
       is-false true e = cc
 
-      fits : IsTrue (not full) → length (fs ++ x ∷ []) + length v.functions < 2 ^ 32
-      fits free = omega (arith, length-append fs (x ∷ []), length-map fs known_as, ap length (h.lists a_function), subst (λ (u : ModuleSoFar). length (functions_of u) + length u.functions + 1 < 2 ^ 32) (sym same) (room (is-false full free)))
+      fits : IsTrue (not full) → length (fs ++ x ∷ []) + next_number v < 2 ^ 32
+      fits free = omega (arith, length-append fs (x ∷ []), length-map fs known_as, ap length (h.lists a_function), subst (λ (u : ModuleSoFar). length (functions_of u) + next_number u + 1 < 2 ^ 32) (sym same) (room (is-false full free)))
 
   pub leaves-memory : (least : ℕ) (wide : Bool) (page : Option ℕ) → w.ty ≡ import.Memory least wide page
       → IsKept v.section section' v.imports imports' ms xs' ⊎ (IsTrue true × IsAdded v.section section' v.imports imports' ms xs' x w)
@@ -364,6 +369,7 @@ typed-indexed v types gs ms fs h keeps = record {
   lists = h.lists;
   memory_defs = h.memory_defs;
   numbered = h.numbered;
+  helpers_below = h.helpers_below;
   typed = λ n y ty e at. let i = h.typed n y ty e at in record { there = i.there; type_at = i.type_at; imported = i.imported; type_is = keeps i.type_at _ i.type_is };
   prepared = h.prepared;
 }
@@ -392,12 +398,13 @@ typed-once v t same types gs ms fs h keeps once = record { functions = o.functio
 
 -- A function was defined, or one was exported.
 module _ (v : ModuleSoFar) (gs ms fs : List ImportedItem) (h : IsIndexed v gs ms fs) where
-  pub defined-indexed : (t : ModuleSoFar) → v ≡ t → (f : WasmFunc) (functions : List WasmFunc) → functions ≡ v.functions ++ f ∷ [] → length (functions_of t) + length t.functions + 1 < 2 ^ 32 → IsIndexed (record v { functions = functions }) gs ms fs
+  pub defined-indexed : (t : ModuleSoFar) → v ≡ t → (f : WasmFunc) (functions : List WasmFunc) → functions ≡ v.functions ++ f ∷ [] → length (functions_of t) + max t.numbered (length t.functions + 1) < 2 ^ 32 → IsIndexed (record v { functions = functions }) gs ms fs
   defined-indexed t same f functions is room = record {
     same_length = h.same_length;
     lists = h.lists;
     memory_defs = h.memory_defs;
-    numbered = omega (arith, ap length is, length-append v.functions (f ∷ []), length-map fs known_as, ap length (h.lists a_function), subst (λ (u : ModuleSoFar). length (functions_of u) + length u.functions + 1 < 2 ^ 32) (sym same) room);
+    numbered = omega (arith, ap length is, length-append v.functions (f ∷ []), length-map fs known_as, ap length (h.lists a_function), subst (λ (u : ModuleSoFar). length (functions_of u) + max u.numbered (length u.functions + 1) < 2 ^ 32) (sym same) room);
+    helpers_below = h.helpers_below;
     typed = λ n y ty e at. let i = h.typed n y ty e at in record { there = i.there; type_at = i.type_at; imported = i.imported; type_is = i.type_is };
     prepared = h.prepared;
   }
@@ -408,6 +415,7 @@ module _ (v : ModuleSoFar) (gs ms fs : List ImportedItem) (h : IsIndexed v gs ms
     lists = h.lists;
     memory_defs = h.memory_defs;
     numbered = h.numbered;
+    helpers_below = h.helpers_below;
     typed = λ n y ty e at. let i = h.typed n y ty e at in record { there = i.there; type_at = i.type_at; imported = i.imported; type_is = i.type_is };
     prepared = h.prepared;
   }
@@ -418,9 +426,23 @@ module _ (v : ModuleSoFar) (gs ms fs : List ImportedItem) (h : IsIndexed v gs ms
     lists = h.lists;
     memory_defs = h.memory_defs;
     numbered = h.numbered;
+    helpers_below = h.helpers_below;
     typed = λ n y ty e at. let i = h.typed n y ty e at in record { there = i.there; type_at = i.type_at; imported = i.imported; type_is = i.type_is };
     prepared = h.prepared;
   }
+
+-- Helpers were asked for, or functions were numbered ahead.
+pub helped-indexed : (v : ModuleSoFar) (gs ms fs : List ImportedItem) → IsIndexed v gs ms fs → (helpers : List (Helper × ℕ)) (numbered : ℕ) → length fs + max numbered (length v.functions) < 2 ^ 32
+    → AllByRecursion (λ e. e.1 < numbered) helpers → IsIndexed (record v { helpers = helpers; numbered = numbered }) gs ms fs
+helped-indexed v gs ms fs h helpers numbered room below = record {
+  same_length = h.same_length;
+  lists = h.lists;
+  memory_defs = h.memory_defs;
+  numbered = room;
+  helpers_below = below;
+  typed = λ n y ty e at. let i = h.typed n y ty e at in record { there = i.there; type_at = i.type_at; imported = i.imported; type_is = i.type_is };
+  prepared = h.prepared;
+}
 
 -- A list to which a type came, or in which it was, has it at one place.
 has-type : (s : ModuleSoFar) (types : List FuncType) (ty : FuncType) (place : ℕ) → IsOnlyPlaceOfType types ty place

@@ -30,8 +30,9 @@ use Rattle.fact_emit.specs.declared.string_locals.StringLocals.{StringLocals}
 use Rattle.fact_emit.specs.declared.transcoders.Transcoder.{Transcoder}
 use Rattle.fact_emit.specs.declared.writer.Writer.{Writer}
 use Rattle.fact_emit.specs.Checks.{ChecksRegion, Guarded}
-use Rattle.fact_emit.specs.Emits.{Emits, Is, Piece}
+use Rattle.fact_emit.specs.Emits.{Emits}
 use Rattle.fact_emit.specs.NamedFunctions.{imported_named}
+use Rattle.fact_emit.specs.Pieces.{Is, Piece}
 use Rattle.fact_emit.specs.Places.{checks_at}
 use Rattle.fact_emit.specs.RuntimeCalls.{SavesSlots, WritesSlots}
 use Rattle.fact_emit.specs.States.{AreMemoriesImported, HaveMemoryWidths, ModuleSoFar, functions_of}

@@ -1,5 +1,6 @@
 -- The code of paths and of whole texts, as it was written.
 use Rattle.std.proofs.Common.{◌≡◌, ℕ, Bool, List, [], ◌∷◌, ◌++◌, refl, sym, ap, ◌∙◌, subst, append_assoc, append-nil}
+use Rattle.std.specs.List.{filter_map}
 use Rattle.fact_wasm.specs.declared.instr.Instr.{Instr}
 use Rattle.fact_wasm.specs.declared.instr.Instr.TheVariants as I
 use Rattle.fact_wasm.specs.Ranges.{AreRanged}
@@ -22,7 +23,7 @@ use Rattle.fact_emit.specs.Bodies.{code_of_bodies}
 use Rattle.fact_emit.specs.Checks.{ChecksRegion}
 use Rattle.fact_emit.specs.Emits.{Emits, Grew, GrewAside, Later}
 use Rattle.fact_emit.specs.Imports.{AreOnce}
-use Rattle.fact_emit.specs.NamedFunctions.{imported_named}
+use Rattle.fact_emit.specs.NamedFunctions.{defined_place, functions_named}
 use Rattle.fact_emit.specs.Pairs.{ReadsPair, length_from, put_pair_code}
 use Rattle.fact_emit.specs.Places.{checks_at}
 use Rattle.fact_emit.specs.StringPieces.{IsPart, NeedsBoth, NeedsTrapIf, StringPiece, WroteString}
@@ -52,17 +53,18 @@ two_bodies other one = ap (λ c. other ++ c) (append-nil one)
 
 -- `one` is run where the test gives no 0, and else `other`.
 module _ (test one other : List Instr) (ranged : AreRanged 0 0 test) where
-  either_named : imported_named (either_code test one other) ≡ imported_named (other ++ one)
-  either_named = table_named test ranged 1 (other ∷ one ∷ []) ∙ ap imported_named (two_bodies other one)
+  either_named : functions_named (either_code test one other) ≡ functions_named (other ++ one)
+  either_named = table_named test ranged 1 (other ∷ one ∷ []) ∙ ap functions_named (two_bodies other one)
 
-  either_ranged : (n : ℕ) → AreRanged n 0 (other ++ one) → AreRanged n 0 (either_code test one other)
-  either_ranged n h = table_ranged test ranged n 1 (other ∷ one ∷ []) (subst (AreRanged n 0) (sym (two_bodies other one)) h)
+  either_ranged : (n k : ℕ) → AreRanged n k (other ++ one) → AreRanged n k (either_code test one other)
+  either_ranged n k h = table_ranged test ranged n k 1 (other ∷ one ∷ []) (subst (AreRanged n k) (sym (two_bodies other one)) h)
 
   -- Two bodies were written aside, first the one that is run where the test gives 0, and then the choice.
   pub either_grew : {a b c d : Writer} → Wrote a b [] → GrewAside b c (other ++ one) → Wrote c d (either_code test one other) → Grew a d
   either_grew {a} {b} {c} {d} tested aside chosen = record {
     added = either_code test one other;
     code = chosen.code ∙ ap (λ code. code ++ either_code test one other) (aside.code ∙ tested.code ∙ append-nil a.code.items);
+    calls = ap (filter_map defined_place) either_named ∙ aside.calls;
     brought = brought_as either_named either_ranged (brought_between tested.imports (sym chosen.imports) aside.brought);
     imports = extended_on (extended_none tested.imports) (extended_on aside.imports (extended_none chosen.imports));
     once = λ o. subst AreOnce (sym chosen.imports) (aside.once (subst AreOnce (sym tested.imports) o));
@@ -81,11 +83,11 @@ module _ {sides : Sides} {l : StringLocals} where
       let second = aside_grew began' ended' one_put.grew in
       record {
         grew = either_grew test one other ranged tested (aside_on (aside_grew began ended other_put.grew) second) chosen;
-        does = λ M p locals later.
+        does = λ M p locals later none.
             let last : Later h M p locals = sooner {a = h} (extended_none chosen.imports) (same_locals h i chosen.locals) later in
             let before : Later e M p locals = sooner {a = e} second.imports second.locals last in
-            let y = aside_does began' ended' one_put M p locals last in
-            let z = aside_does began ended other_put M p locals before in
+            let y = aside_does began' ended' one_put M p locals last none in
+            let z = aside_does began ended other_put M p locals before none in
             record {
               is = λ d e h. (λ j. either_code (is.is p d e j) (y.is d e h j) (z.is d e h j));
               has = λ d e h. (y.has d e h, z.has d e h);

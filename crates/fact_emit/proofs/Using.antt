@@ -6,7 +6,8 @@ use Rattle.fact_wasm.specs.declared.types.ValType.{ValType}
 use Rattle.fact_pieces.specs.Places.{From, To, ToLocals, ToMemory, Slot, AreUsed, Setting}
 use Rattle.fact_emit.specs.declared.places.Sides.{Sides}
 use Rattle.fact_emit.specs.declared.writer.Writer.{Writer}
-use Rattle.fact_emit.specs.Emits.{Emits}
+use Rattle.fact_emit.specs.Asked.{AskedHelper}
+use Rattle.fact_emit.specs.Emits.{EmitsAsking}
 use Rattle.fact_emit.specs.MovesValue.{Act, MovesValue, except, HasLocal}
 use Rattle.fact_emit.specs.Places.{TargetTaken, Using}
 use Rattle.fact_emit.specs.Writers.{taken_in, Took, Freed}
@@ -43,8 +44,8 @@ free_except {i} u {used} x = go (used i) refl
     go false e = e
 
 -- A local was taken, code was written that may change it, and it was freed.
-pub moves_around : {a b c d : Writer} {t : ValType} {i : ℕ} {sides : Sides} {src : From} {dst : To} {spare : ℕ} {Fit : Setting → Type 0} {act : Act}
-    → Took a b t i → Emits b c (MovesValue sides src dst (except i (taken_in b)) spare (λ S. Fit S × HasLocal i t S) act) → Freed c d i → Emits a d (MovesValue sides src dst (taken_in a) spare Fit act)
+pub moves_around : {asks : List AskedHelper} {a b c d : Writer} {t : ValType} {i : ℕ} {sides : Sides} {src : From} {dst : To} {spare : ℕ} {Fit : Setting → Type 0} {act : Act}
+    → Took a b t i → EmitsAsking asks b c (MovesValue sides src dst (except i (taken_in b)) spare (λ S. Fit S × HasLocal i t S) act) → Freed c d i → EmitsAsking asks a d (MovesValue sides src dst (taken_in a) spare Fit act)
 moves_around {a} {b} {i = i} took x freed =
     emits_around (λ M p locals code h m. record { moves = λ o o' rooms used using fit. m.moves o o' rooms used (using_more more using) (fit, h) }) took x freed
   where

@@ -9,7 +9,7 @@ use Rattle.fact_moves.specs.Running.{ImportPlaces}
 use Rattle.fact_pieces.specs.Code.{barrier_code}
 use Rattle.fact_pieces.specs.Knows.{KnowsFunction}
 use Rattle.fact_emit.specs.declared.writer.Writer.{Writer}
-use Rattle.fact_emit.specs.Emits.{Piece}
+use Rattle.fact_emit.specs.Pieces.{Piece}
 use Rattle.fact_emit.specs.Writers.{Wrote, TookTrap}
 
 -- A barrier around a body was put behind the code. Before that its trap was imported.

@@ -18,8 +18,8 @@ use Rattle.fact_moves.specs.Running.{ImportPlaces}
 use Rattle.fact_moves.specs.Sides.{LiftLowerOptions, width_of_side}
 use Rattle.fact_pieces.specs.Places.{Slot, From, InLocals, InMemory, To, ToLocals, ToMemory, Number, N32, N64, SideMemory, AreLocals, Rooms, Setting}
 use Rattle.fact_emit.specs.declared.places.Sides.{Sides}
-use Rattle.fact_emit.specs.Emits.{Piece}
 use Rattle.fact_emit.specs.MovesValue.{Act, MovesValue}
+use Rattle.fact_emit.specs.Pieces.{Piece}
 use Rattle.fact_emit.specs.Requests.{ServesLists}
 
 -- ---- room
@@ -134,7 +134,3 @@ MovesTuple sides src dst taken t u = MovesValue sides src dst taken 900 (λ S. F
 -- Code that moves the fields of a record that are left.
 abbrev pub MovesFields : Sides → From → To → (ℕ → Bool) → Members → Members → ℕ → Piece
 MovesFields sides src dst taken ms ns end = MovesValue sides src dst taken 0 (λ S. FitsFields sides S ms ns end src dst) (field_moves ms ns end)
-
--- The same of fields of which at least one is left, so that 500 of the steps of its weight are left too.
-abbrev pub MovesPaidFields : Sides → From → To → (ℕ → Bool) → Members → Members → ℕ → Piece
-MovesPaidFields sides src dst taken ms ns end = MovesValue sides src dst taken 500 (λ S. FitsFields sides S ms ns end src dst) (field_moves ms ns end)

@@ -1,5 +1,5 @@
 -- What a module that is being made imports, and the later modules that import it too.
-use Rattle.std.specs.Prelude.{◌≡◌, ℕ, Bool, true, List, Option, Some, slice_get}
+use Rattle.std.specs.Prelude.{◌≡◌, ◌≤◌, ℕ, Bool, true, List, Option, Some, slice_get}
 use Rattle.fact_wasm.specs.declared.types.ValType.{ValType}
 use Rattle.fact_wasm.specs.declared.types.ValType.TheVariants as val
 use Rattle.fact_wasm.specs.declared.module.WasmModule.{WasmModule}
@@ -41,7 +41,7 @@ pub record HasFlags (s : ModuleSoFar) (instance place : ℕ) : Type 0 where
   pub there : slice_get (globals_of s) place ≡ Some (known.CoreDef (def.InstanceFlags (record { table = _; number = instance })))
   pub imported : global_import s.section place ≡ Some (val.I32, true)
 
--- more was imported behind what was there
+-- More was imported behind what was there, more helpers were asked for, and more functions are numbered.
 pub record Extended (old new : ModuleSoFar) : Type 0 where
   pub types : Grows old.types new.types
   pub section : Grows old.section new.section
@@ -49,6 +49,8 @@ pub record Extended (old new : ModuleSoFar) : Type 0 where
   pub functions : Grows (functions_of old) (functions_of new)
   pub memories : Grows (memories_of old) (memories_of new)
   pub globals : Grows (globals_of old) (globals_of new)
+  pub helpers : Grows old.helpers new.helpers
+  pub numbered : old.numbered ≤ new.numbered
 
 -- none that is made once stands at two places
 pub record StandOnce (is : List Import) : Type 0 where

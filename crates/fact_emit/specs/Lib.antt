@@ -1,5 +1,6 @@
 pub mod AdapterLinks
 pub mod Areas
+pub mod Asked
 pub mod Barriers
 pub mod Bodies
 pub mod Brought
@@ -14,12 +15,15 @@ pub mod Known
 pub mod KnownAdapters
 pub mod Linked
 pub mod Listed
+pub mod Movable
 pub mod MovesValue
 pub mod NamedFunctions
 pub mod NewAreas
 pub mod Numbers
+pub mod Options
 pub mod Pairs
 pub mod Parts
+pub mod Pieces
 pub mod Places
 pub mod PlacesOf
 pub mod Requests

@@ -31,6 +31,14 @@ abbrev pub imported_place : FuncName → Option ℕ
 imported_place (func.Import k) = Some k
 imported_place (func.Defined k) = None
 
+abbrev pub defined_place : FuncName → Option ℕ
+defined_place (func.Import k) = None
+defined_place (func.Defined k) = Some k
+
 -- the imported ones among them, by their numbers
 abbrev pub imported_named : List Instr → List ℕ
 imported_named code = filter_map imported_place (functions_named code)
+
+-- and those that the module defines
+abbrev pub defined_named : List Instr → List ℕ
+defined_named code = filter_map defined_place (functions_named code)

@@ -1,5 +1,5 @@
 -- Numbers that are made canonical, and numbers that are tested; moves of scalars.
-use Rattle.std.specs.Prelude.{◌≡◌, ◌≢◌, ℕ, ◌-◌, ◌%◌, ◌^◌, ◌≤◌, nat_lt, Bool, List, [], ◌∷◌, true, false}
+use Rattle.std.specs.Prelude.{◌≡◌, ◌≢◌, ℕ, ◌-◌, ◌%◌, ◌^◌, ◌≤◌, nat_lt, Bool, List, [], ◌∷◌, true}
 use Rattle.fact_wasm.specs.declared.instr.Instr.{Instr}
 use Rattle.fact_wasm.specs.declared.instr.Instr.TheVariants as I
 use Rattle.fact_types.specs.declared.interface.InterfaceType.{InterfaceType}
@@ -21,6 +21,7 @@ use Rattle.fact_emit.specs.declared.scalars.NumberTest.TheVariants.{ScalarValue,
 use Rattle.fact_emit.specs.declared.writer.Writer.{Writer}
 use Rattle.fact_emit.specs.Emits.{Grew, Emits}
 use Rattle.fact_emit.specs.Fitting.{MovesNode}
+use Rattle.fact_emit.specs.Movable.{is_scalar}
 use Rattle.fact_emit.specs.MovesValue.{Act}
 use Rattle.fact_emit.specs.Writers.{taken_in}
 
@@ -90,22 +91,6 @@ canonical_for ty.U8 = Low 8
 canonical_for ty.S16 = Signed16
 canonical_for ty.U16 = Low 16
 canonical_for _ = AsIs
-
--- a type of one number
-abbrev pub is_scalar : InterfaceType → Bool
-is_scalar ty.Bool = true
-is_scalar ty.S8 = true
-is_scalar ty.U8 = true
-is_scalar ty.S16 = true
-is_scalar ty.U16 = true
-is_scalar ty.S32 = true
-is_scalar ty.U32 = true
-is_scalar ty.S64 = true
-is_scalar ty.U64 = true
-is_scalar ty.Float32 = true
-is_scalar ty.Float64 = true
-is_scalar ty.Char = true
-is_scalar _ = false
 
 -- Code was written that moves values of a type behind the checks of their places, where it is a scalar.
 pub record MovedScalar (a : InterfaceType) (sides : Sides) (src : From) (dst : To) (old new : Writer) : Type 0 where

@@ -1,6 +1,7 @@
 -- Cited by private clauses alone.
 -- What the imports of a module that is being made are found by.
 use Rattle.std.specs.Prelude.{◌≡◌, ℕ, ◌+◌, ◌<◌, ◌^◌, List, [], ◌∷◌, ◌++◌, Contains, Option, None, Some, map, length, slice_get}
+use Rattle.std.specs.List.{AllByRecursion}
 use Rattle.fact_wasm.specs.declared.types.FuncType.{FuncType}
 use Rattle.fact_wasm.specs.declared.types.ValType.{ValType}
 use Rattle.fact_wasm.specs.declared.module.WasmImport.{WasmImport}
@@ -16,7 +17,7 @@ use Rattle.fact_emit.specs.declared.task_calls.StartCall.{StartCall}
 use Rattle.fact_emit.specs.declared.transcoders.Transcoder.{Transcoder}
 use Rattle.fact_emit.specs.ImportSection.{Sort, a_function, a_memory, a_global, imports_of}
 use Rattle.fact_emit.specs.Imports.{HasImport}
-use Rattle.fact_emit.specs.States.{ModuleSoFar, functions_of, known_as, memories_of, type_of_item}
+use Rattle.fact_emit.specs.States.{ModuleSoFar, functions_of, known_as, memories_of, next_number, type_of_item}
 use Rattle.fact_emit.specs.TaskCalls.{IsFunctionThere, IsMemoryThere}
 
 -- the items of a kind, where these are the globals, the memories and the functions
@@ -31,7 +32,8 @@ pub record IsIndexed (s : ModuleSoFar) (globals memories functions : List Import
   pub same_length : length s.section ≡ length s.imports
   pub lists : (sort : Sort) → imports_of sort s.section s.imports ≡ map known_as (by_sort globals memories functions sort)
   pub memory_defs : (n : ℕ) (x : ImportedItem) → slice_get memories n ≡ Some x → type_of_item x ≡ None
-  pub numbered : length functions + length s.functions < 2 ^ 32
+  pub numbered : length functions + next_number s < 2 ^ 32
+  pub helpers_below : AllByRecursion (λ e. e.1 < s.numbered) s.helpers
   pub typed : (n : ℕ) (x : ImportedItem) (ty : FuncType) → type_of_item x ≡ Some ty → slice_get functions n ≡ Some x → HasImport s (known_as x) n ty.params ty.results
   pub prepared : (n : ℕ) (c : PrepareCallItem) → slice_get functions n ≡ Some (item.PrepareCall c) → c.place ≡ n
 

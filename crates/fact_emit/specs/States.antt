@@ -1,5 +1,5 @@
 -- The parts of a module that is being made, and what the calls on them change.
-use Rattle.std.specs.Prelude.{◌≡◌, ℕ, ◌⊎◌, ◌<◌, List, [], ◌∷◌, ◌++◌, Option, Some, None, Contains, codes, length, slice_get}
+use Rattle.std.specs.Prelude.{◌≡◌, ℕ, ◌⊎◌, ◌+◌, ◌<◌, max, List, [], ◌∷◌, ◌++◌, Option, Some, None, Contains, codes, length, slice_get}
 use Rattle.fact_wasm.specs.declared.types.FuncType.{FuncType}
 use Rattle.fact_wasm.specs.declared.module.ImportType.{ImportType}
 use Rattle.fact_wasm.specs.declared.module.ImportType.TheVariants as import
@@ -14,6 +14,7 @@ use Rattle.fact_types.specs.declared.outside.Trap.{Trap}
 use Rattle.fact_types.specs.declared.import.Import.{Import}
 use Rattle.fact_types.specs.declared.import.Import.TheVariants as known
 use Rattle.fact_pieces.specs.StringCode.{transcoder_type}
+use Rattle.fact_emit.specs.declared.helpers.Helper.{Helper}
 use Rattle.fact_emit.specs.declared.imported.ImportedItem.{ImportedItem}
 use Rattle.fact_emit.specs.declared.imported.ImportedItem.TheVariants as item
 use Rattle.fact_emit.specs.declared.imported.PrepareCallItem.{PrepareCallItem}
@@ -25,7 +26,8 @@ use Rattle.fact_emit.specs.Runtime.{import_of, name_of_runtime, origin_of_runtim
 use Rattle.fact_emit.specs.TaskTypes.{prepare_call_type, start_call_type}
 use Rattle.fact_emit.specs.TranscoderNames.{transcoder_name}
 
--- The sections of a module so far, and what its imports are. The exports of imported functions stand behind the others.
+-- The sections of a module so far, and what its imports are. The exports of imported functions stand behind the others. Each helper that code asked for
+-- stands beside the number of its function. Functions below a number may be numbered ahead, before there is code of them.
 pub record ModuleSoFar : Type 0 where
   pub types : List FuncType
   pub section : List WasmImport
@@ -33,9 +35,11 @@ pub record ModuleSoFar : Type 0 where
   pub functions : List WasmFunc
   pub exports : List WasmExport
   pub callees : List WasmExport
+  pub helpers : List (Helper × ℕ)
+  pub numbered : ℕ
 
 abbrev pub nothing_so_far : ModuleSoFar
-nothing_so_far = record { types = []; section = []; imports = []; functions = []; exports = []; callees = [] }
+nothing_so_far = record { types = []; section = []; imports = []; functions = []; exports = []; callees = []; helpers = []; numbered = 0 }
 
 abbrev pub module_of : ModuleSoFar → WasmModule
 module_of s = record { types = s.types; imports = s.section; funcs = s.functions; exports = s.exports ++ s.callees }
@@ -104,6 +108,24 @@ with_callee s name place = record s { callees = s.callees ++ export_as name (fun
 
 abbrev pub with_import : ModuleSoFar → WasmImport → Import → ModuleSoFar
 with_import s w i = record s { section = s.section ++ w ∷ []; imports = s.imports ++ i ∷ [] }
+
+-- the number of the next function, behind those that are defined and those that are numbered ahead
+abbrev pub next_number : ModuleSoFar → ℕ
+next_number s = max s.numbered (length s.functions)
+
+-- so many functions more are numbered ahead
+abbrev pub with_numbered : ModuleSoFar → (count : ℕ) → ModuleSoFar
+with_numbered s count = record s { numbered = next_number s + count }
+
+-- one helper more, whose function has the next number
+abbrev pub with_helper : ModuleSoFar → Helper → ModuleSoFar
+with_helper s key = record s { helpers = s.helpers ++ (key, next_number s) ∷ []; numbered = next_number s + 1 }
+
+-- A helper is there, as it was before, or anew behind the others, and its function has this number.
+pub record IsHelperAsked (old new : ModuleSoFar) (key : Helper) (number : ℕ) : Type 0 where
+  pub there : Contains new.helpers (key, number)
+  pub below : number < new.numbered
+  pub step : (new ≡ old) ⊎ ((new ≡ with_helper old key) × (number ≡ next_number old) × ((n : ℕ) → Contains old.helpers (key, n) → ⊥))
 
 -- Something is imported, as it was before among the imports of its kind, or anew behind the others, and has this place among
 -- the imports of its kind.

@@ -6,6 +6,7 @@ ghost use Rattle.fact_emit.specs.Parts.{from_behind, to_behind, offset_on};
 ghost use Rattle.fact_emit.specs.declared.places.LinearMemory as linear;
 ghost use Rattle.fact_emit.specs.Places.{from_of, to_of};
 
+use crate::options::Options;
 use fact_types::StringEncoding;
 use fact_wasm::ValType;
 
@@ -39,7 +40,7 @@ pub enum TargetPlace<'a> {
 
 /// A side's memory: whether there is one, its place among the imported memories, whether its addresses have 64 bits, the exponent of
 /// its page size where that is a custom one, the place of its realloc among the imported functions where it has one, and how texts
-/// stand in it. A side without a memory has addresses of 32 bits.
+/// stand in it. All this is told by the canonical options of the side. A side without a memory has addresses of 32 bits.
 #[derive(Clone, Copy)]
 pub struct LinearMemory {
     pub has_memory: bool,
@@ -48,6 +49,7 @@ pub struct LinearMemory {
     pub page_size_log2: Option<u32>,
     pub realloc: Option<u32>,
     pub encoding: StringEncoding,
+    pub options: Options,
 }
 
 /// Values go from the one side to the other, with debug checks or without them. With concurrency on, the slots of the context are

@@ -1,6 +1,6 @@
 //! A module that is being made: its sections, and what it is made with.
 
-ghost use Rattle.std.specs.Prelude.{◌≡◌, ◌⊎◌, ◌+◌, ◌++◌, ◌∷◌, [], ◌<◌, ◌≤◌, ◌^◌, Contains, IsTrue, None, Some, position, slice_get, length, IfOk, IfSome, IsFalse, OnErr, OnOk, count_by};
+ghost use Rattle.std.specs.Prelude.{◌≡◌, ◌⊎◌, ◌+◌, ◌++◌, ◌∷◌, [], ◌<◌, ◌≤◌, ◌^◌, max, Contains, IsTrue, None, Some, position, slice_get, length, IfOk, IfSome, IsFalse, OnErr, OnOk, count_by};
 ghost use Rattle.fact_wasm.specs.CoreTypes.{signature};
 ghost use Rattle.fact_types.specs.declared.import.Import.TheVariants as known;
 ghost use Rattle.fact_wasm.specs.declared.instr.FuncName.TheVariants as func_named;
@@ -9,9 +9,10 @@ ghost use Rattle.fact_emit.specs.ImportSection.{a_function, a_memory, imported_t
 ghost use Rattle.fact_emit.specs.Imports.{AreOnce, Extended, HasImport};
 ghost use Rattle.fact_emit.specs.Settings.{OnlySectionsChanged};
 ghost use Rattle.fact_emit.specs.State.{IsAdded, IsKept};
-ghost use Rattle.fact_emit.specs.States.{HasNoOtherType, HasType, IsImported, IsTypeThere, MayImport, export_as, functions_of, import_as, known_as, memories_of, module_of, nothing_so_far, type_of_item, type_of_transcoder};
+ghost use Rattle.fact_emit.specs.States.{HasNoOtherType, HasType, IsHelperAsked, IsImported, IsTypeThere, MayImport, export_as, functions_of, import_as, known_as, memories_of, module_of, next_number as number_behind, nothing_so_far, type_of_item, type_of_transcoder, with_numbered};
 ghost use Rattle.fact_emit.specs.TaskCalls.{IsItemImported};
 
+use crate::helpers::Helper;
 use crate::imported::ImportedItem;
 use crate::transcoders::Transcoder;
 use crate::tunables::{Tunables, WasmFeatures};
@@ -22,6 +23,7 @@ use fact_wasm::{
     CoreTypes, FuncName, ImportType, OutOfMemory, Seq, Text, ValType, WasmExport, WasmFunc,
     WasmImport, WasmModule,
 };
+use indexmap::IndexMap;
 use std::alloc::{AllocError, Global};
 use std::marker::Model;
 use std::mem;
@@ -45,6 +47,10 @@ pub struct ModuleSections {
     imports: Seq<Import>,
     // The exports of imported functions, which stand behind those of the functions that the module defines.
     callees: Seq<WasmExport>,
+    // The helpers that code asked for, in that order, with the numbers of their functions.
+    helpers: IndexMap<Helper, u32>,
+    // The functions below this number are numbered, be there code of them or not yet.
+    numbered: usize,
 }
 
 impl Model for ModuleSections {
@@ -57,9 +63,9 @@ impl Model for ModuleSections {
 
     ghost coded = { Prim.hlevel (coded_as, instr.the_row.coded) };
 
-    ghost view = { λ s. record { types = s.types; section = s.module.imports; imports = s.imports; functions = s.module.funcs; exports = s.module.exports; callees = s.callees } };
+    ghost view = { λ s. record { types = s.types; section = s.module.imports; imports = s.imports; functions = s.module.funcs; exports = s.module.exports; callees = s.callees; helpers = s.helpers.entries; numbered = s.numbered } };
 
-    ghost invariant = { λ s. IsIndexed (record { types = s.types; section = s.module.imports; imports = s.imports; functions = s.module.funcs; exports = s.module.exports; callees = s.callees }) s.globals s.memories s.functions };
+    ghost invariant = { λ s. IsIndexed (record { types = s.types; section = s.module.imports; imports = s.imports; functions = s.module.funcs; exports = s.module.exports; callees = s.callees; helpers = s.helpers.entries; numbered = s.numbered }) s.globals s.memories s.functions };
 }
 
 /// An import by its two names.
@@ -194,6 +200,8 @@ impl ModuleSections {
             },
             imports: Seq::new(alloc),
             callees: Seq::new(alloc),
+            helpers: IndexMap::new(alloc),
+            numbered: 0,
         }
     }
 
@@ -335,14 +343,14 @@ impl ModuleSections {
         Ok(place)
     }
 
-    /// Puts a function behind the others that the module defines, and answers its number among them. More functions than have
-    /// numbers are a want of memory.
+    /// Puts a function behind the others that the module defines, and answers its number among them, also where it was numbered
+    /// ahead. More functions than have numbers are a want of memory.
     pub fn define(&mut self, func: WasmFunc) -> Result<u32, OutOfMemory>
         ensures number { IfOk result (λ n. n ≡ length self.old.functions) }
         ensures defined { OnOk result (self.new ≡ record self.old { functions = self.old.functions ++ func ∷ [] }) }
         ensures refused { OnErr result (self.new ≡ self.old) }
     {
-        if self.is_full() {
+        if !self.may_define() {
             drop(func);
             return Err(AllocError);
         }
@@ -407,8 +415,10 @@ impl ModuleSections {
             module,
             imports,
             callees,
+            helpers,
             ..
         } = self;
+        drop(helpers);
         drop(globals);
         drop(memories);
         drop(functions);
@@ -438,11 +448,80 @@ impl ModuleSections {
         }
     }
 
+    /// The number of the next function, behind those that are defined and those that are numbered ahead.
+    fn next_number(&self) -> usize
+        ensures { result ≡ number_behind self.now }
+    {
+        self.numbered.max(self.module.funcs.len())
+    }
+
     /// Whether no further function has a number.
     fn is_full(&self) -> bool
-        ensures { IsFalse result → length (functions_of self.now) + length self.now.functions + 1 < 2 ^ 32 }
+        ensures { IsFalse result → length (functions_of self.now) + number_behind self.now + 1 < 2 ^ 32 }
     {
-        self.functions.len() + self.module.funcs.len() >= MOST_FUNCTIONS
+        self.functions.len() + self.next_number() >= MOST_FUNCTIONS
+    }
+
+    /// Whether one more function can be defined: it is numbered ahead, or there is a number for it.
+    fn may_define(&self) -> bool
+        ensures { IsTrue result → length (functions_of self.now) + max self.now.numbered (length self.now.functions + 1) < 2 ^ 32 }
+    {
+        let defined = self.module.funcs.len();
+        if defined < self.numbered {
+            return true;
+        }
+        !self.is_full()
+    }
+
+    /// Numbers so many functions ahead, behind those that are defined or numbered: they are defined in the order of their numbers.
+    pub fn number_functions(&mut self, count: usize) -> Result<(), OutOfMemory>
+        ensures numbered { OnOk result (self.new ≡ with_numbered self.old count) }
+        ensures keeps { Extended self.old self.new }
+        ensures once { AreOnce self.old → AreOnce self.new }
+        ensures refused { OnErr result (self.new ≡ self.old) }
+    {
+        let number = self.next_number();
+        if count > MOST_FUNCTIONS - self.functions.len() - number {
+            return Err(AllocError);
+        }
+        self.numbered = number + count;
+        Ok(())
+    }
+
+    /// How many helpers code asked for.
+    pub fn helper_count(&self) -> usize
+        ensures { result ≡ length self.now.helpers }
+    {
+        self.helpers.len()
+    }
+
+    /// The helper of a place, in the order in which they were asked for, with the number of its function.
+    pub fn helper_at(&self, place: usize) -> Option<(Helper, u32)>
+        ensures { result ≡ slice_get self.now.helpers place }
+    {
+        match self.helpers.get_index(place) {
+            Some((helper, number)) => Some((*helper, *number)),
+            None => None,
+        }
+    }
+
+    /// The number of the function of a helper. One that no code asked for before gets the next number.
+    pub fn helper(&mut self, helper: Helper) -> Result<u32, OutOfMemory>
+        ensures asked { IfOk result (λ number. IsHelperAsked self.old self.new helper number) }
+        ensures keeps { Extended self.old self.new }
+        ensures once { AreOnce self.old → AreOnce self.new }
+        ensures refused { OnErr result (self.new ≡ self.old) }
+    {
+        if let Some(number) = self.helpers.get(&helper).copied() {
+            return Ok(number);
+        }
+        if self.is_full() {
+            return Err(AllocError);
+        }
+        let number = self.next_number();
+        self.helpers.insert(helper, number as u32)?;
+        self.numbered = number + 1;
+        Ok(number as u32)
     }
 
     /// The place of an item among the imports of its kind. A new one is imported last, under these names, with this type. A function

@@ -19,7 +19,7 @@ use Rattle.fact_types.specs.declared.widths.MemoryWidth.TheVariants.{Memory32, M
 use Rattle.fact_types.specs.Tuples.{members_from, tuple_members}
 use Rattle.fact_types.specs.Valid.{AreDistinct, FollowsRules, IsValid}
 use Rattle.fact_types.proofs.PlaceLaws.{ends_within}
-use Rattle.fact_types.proofs.ValidLaws.{valid_counted}
+use Rattle.fact_types.proofs.ValidLaws.{valid_counted, valid_takes_bytes}
 use Rattle.fact_values.specs.Canonical.{ThereIs}
 use Rattle.fact_values.specs.Limits.{CaseType, case_type}
 use Rattle.fact_values.specs.Numbers.{plain_of}
@@ -33,8 +33,7 @@ use Rattle.fact_carry.proofs.Membered.{fields_agree, members_formed, members_val
 use Rattle.fact_carry.proofs.Theorem.{AreValid, case_valid, members_valid, places_names, valid_found}
 use Rattle.fact_carry.proofs.Tuples.{places_fields}
 use Rattle.fact_carry.proofs.Variants.{case_formed}
-use Rattle.fact_emit.specs.Scalars.{is_scalar}
-use Rattle.fact_translate.specs.Movable.{CanMove, CanMovePlain, CanMoveFields, CanMoveCase, CanMoveCases, CanMoveElements, CanMoveFlags}
+use Rattle.fact_emit.specs.Movable.{CanMove, CanMoveMember, CanMovePlain, CanMoveFields, CanMoveCase, CanMoveCases, CanMoveElements, CanMoveFlags, is_scalar}
 use Rattle.fact_compound.specs.Described.{CanMoveTuple}
 
 -- ---- one type
@@ -143,17 +142,21 @@ node_moves k t ns a r v w f g go case = absurd a
 
 -- the source member that a destination member is moved from
 field_there : (x : List ℕ) (ms : Members) (u : Shape) (q : Option Shape) → named x ms ≡ q → BothThere q (λ s. Agrees s u) → AreValid ms → AreWellFormed ms
-    → ((s : Shape) → Agrees s u → IsValid s → IsWellFormed s → CanMove s u) → ThereIs (field_of x ms) (λ f. CanMove f.shape u)
+    → ((s : Shape) → Agrees s u → IsValid s → IsWellFormed s → CanMoveMember s u) → ThereIs (field_of x ms) (λ f. CanMoveMember f.shape u)
 field_there x ms u None e a v f go = absurd a
 field_there x ms u (Some s) e a v f go =
     let found = found_named x ms 0 0 0 s e in
-    subst (λ o. ThereIs o (λ f. CanMove f.shape u)) (sym found.is)
+    subst (λ o. ThereIs o (λ f. CanMoveMember f.shape u)) (sym found.is)
     (go found.field.shape (subst (λ s. Agrees s u) (sym found.shape) a) (valid_found x ms 0 0 0 found.field v found.is) (formed_found x ms 0 0 0 found.field f found.is))
 
 -- the payload of a source's case that one of a destination is moved from
-payload_there : (o : Option Shape) (u : Shape) → BothThere o (λ s. Agrees s u) → ((p : Shape) → o ≡ Some p → IsValid p × IsWellFormed p) → ((s : Shape) → Agrees s u → IsValid s → IsWellFormed s → CanMove s u) → ThereIs o (λ p. CanMove p u)
+payload_there : (o : Option Shape) (u : Shape) → BothThere o (λ s. Agrees s u) → ((p : Shape) → o ≡ Some p → IsValid p × IsWellFormed p) → ((s : Shape) → Agrees s u → IsValid s → IsWellFormed s → CanMoveMember s u) → ThereIs o (λ p. CanMoveMember p u)
 payload_there None u a f go = absurd a
 payload_there (Some p) u a f go = go p a (f p refl).0 (f p refl).1
+
+-- valid types take bytes
+member_moves : (t u : Shape) → IsValid t → IsValid u → CanMove t u → CanMoveMember t u
+member_moves t u v w m = record { moves = m; from_bytes = valid_takes_bytes t v; to_bytes = valid_takes_bytes u w }
 
 chosen_as : (b : Bool) (A B C D : Type 0) → (A → C) → (B → D) → chosen b A B → chosen b C D
 chosen_as true A B C D f g x = f x
@@ -170,14 +173,14 @@ mutual
   fields_move no_members ms a v w f g = tt
   fields_move (bare x ns) ms a v w f g = fields_move ns ms a v w f g
   fields_move (typed x u ns) ms a v w f g =
-      (field_there x ms u (named x ms) refl a.0 v f (λ s agree valid formed. moves u s agree valid w.0 formed g.0), fields_move ns ms a.1 v w.1 f g.1)
+      (field_there x ms u (named x ms) refl a.0 v f (λ s agree valid formed. member_moves s u valid w.0 (moves u s agree valid w.0 formed g.0)), fields_move ns ms a.1 v w.1 f g.1)
 
   case_moves : (ns : Members) (c : CaseType) → AgreesCase c.name c.payload ns → IsSoundPayload c → AreValid ns → AreWellFormed ns → CanMoveCase c ns
   case_moves no_members c a f w g = absurd a
   case_moves (bare x ns) c a f w g = chosen_as (bytes_eq x c.name) (c.payload ≡ None) (AgreesCase c.name c.payload ns) (c.payload ≡ None) (CanMoveCase c ns) (λ e. e) (λ later. case_moves ns c later f w g) a
   case_moves (typed x u ns) c a f w g =
-      chosen_as (bytes_eq x c.name) (BothThere c.payload (λ s. Agrees s u)) (AgreesCase c.name c.payload ns) (ThereIs c.payload (λ p. CanMove p u)) (CanMoveCase c ns)
-      (λ here. payload_there c.payload u here f (λ s agree valid formed. moves u s agree valid w.0 formed g.0)) (λ later. case_moves ns c later f w.1 g.1) a
+      chosen_as (bytes_eq x c.name) (BothThere c.payload (λ s. Agrees s u)) (AgreesCase c.name c.payload ns) (ThereIs c.payload (λ p. CanMoveMember p u)) (CanMoveCase c ns)
+      (λ here. payload_there c.payload u here f (λ s agree valid formed. member_moves s u valid w.0 (moves u s agree valid w.0 formed g.0))) (λ later. case_moves ns c later f w.1 g.1) a
 
 -- ---- tuples
 

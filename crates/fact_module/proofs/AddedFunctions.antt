@@ -1,5 +1,5 @@
 -- What an adapter's functions add to what a module defines and exports: they stand behind the others, and their exports behind the exports.
-use Rattle.std.proofs.Common.{◌≡◌, ℕ, ◌+◌, true, false, List, [], ◌∷◌, ◌++◌, Option, refl, sym, ap, ◌∙◌, subst, arith, length, length-append, append-nil, append_assoc, inl, inr}
+use Rattle.std.proofs.Common.{◌≡◌, ℕ, ◌+◌, Bool, true, false, List, [], ◌∷◌, ◌++◌, Option, refl, sym, ap, ◌∙◌, subst, arith, length, length-append, append-nil, append_assoc, inl, inr}
 use Rattle.fact_wasm.specs.declared.instr.FuncName.TheVariants as func
 use Rattle.fact_wasm.specs.declared.module.WasmExport.{WasmExport}
 use Rattle.fact_wasm.specs.declared.module.WasmFunc.{WasmFunc}
@@ -10,12 +10,13 @@ use Rattle.fact_types.specs.Adapters.{LinkedAdapter}
 use Rattle.fact_types.specs.Tables.{Tables}
 use Rattle.fact_moves.specs.Adapters.{AdapterTunables}
 use Rattle.fact_emit.specs.ImportSection.{is_awaited}
-use Rattle.fact_emit.specs.States.{KeepsDefined, ModuleSoFar, export_as, with_callee, with_exported}
+use Rattle.fact_emit.specs.States.{KeepsDefined, ModuleSoFar, export_as, with_callee, with_exported, with_numbered}
 use Rattle.fact_emit.specs.TaskCalls.{IsPrepareCallImported, IsStartCallImported}
 use Rattle.fact_emit.specs.declared.task_calls.StartCall.{StartCall}
 use Rattle.fact_emit.proofs.DefinedKept.{defined_brought, defined_on, defined_same, defined_type}
 use Rattle.fact_compound.specs.AsyncParts.{callee_name, part_name}
 use Rattle.fact_compound.specs.Entries.{CompiledEntry}
+use Rattle.fact_compound.specs.Helpers.{CompiledHelpers}
 use Rattle.fact_compound.specs.Puts.{PutsFunction}
 use Rattle.fact_compound.specs.declared.adapters.AdapterData.{AdapterData}
 use Rattle.fact_compound.specs.declared.asyncs.AsyncPart.TheVariants as part
@@ -82,7 +83,7 @@ entry-behind d c = one-behind d.name c.function (defined_on (defined_type c.decl
 -- ---- an adapter
 
 -- the callees that it exports
-abbrev pub own_callees : {t : Tables} {d : AdapterData} {u : AdapterTunables} {a : LinkedAdapter} {old new : ModuleSoFar} → CompiledAs t d u a old new → List WasmExport
+abbrev pub own_callees : {end : ModuleSoFar} {t : Tables} {d : AdapterData} {u : AdapterTunables} {a : LinkedAdapter} {old new : ModuleSoFar} → CompiledAs end t d u a old new → List WasmExport
 own_callees (AsTrap within c) = []
 own_callees (AsSync crosses sync c) = []
 own_callees {d = d} {a = a} (AsParts awaited c) = export_as (callee_name a.name) (func.Import d.callee.number) ∷ []
@@ -93,7 +94,7 @@ single-name a none = rw none refl
 three-names : (a : LinkedAdapter) → is_awaited a ≡ true → part_name part.Start a.name ∷ part_name part.Return a.name ∷ a.name ∷ [] ≡ own_names a
 three-names a awaited = rw awaited refl
 
-pub compiled-behind : {t : Tables} {d : AdapterData} {u : AdapterTunables} {a : LinkedAdapter} {old new : ModuleSoFar} → d.name ≡ a.name → (c : CompiledAs t d u a old new) → AddsBehind old new (own_functions c) (own_names a) (own_callees c)
+pub compiled-behind : {end : ModuleSoFar} {t : Tables} {d : AdapterData} {u : AdapterTunables} {a : LinkedAdapter} {old new : ModuleSoFar} → d.name ≡ a.name → (c : CompiledAs end t d u a old new) → AddsBehind old new (own_functions c) (own_names a) (own_callees c)
 compiled-behind {d = d} {a = a} {old} {new} name (AsTrap within c) =
     subst (λ xs. AddsBehind old new (c.function ∷ []) xs []) (single-name a (not-awaited-within a within))
     (subst (λ n. AddsBehind old new (c.function ∷ []) (n ∷ []) []) name (one-behind d.name c.function (defined_on (defined_type c.declares) (defined_brought c.brought)) c.is_last))
@@ -108,3 +109,18 @@ compiled-behind {d = d} {a = a} {old} {new} name (AsParts awaited c) =
     behind-on refl all (callee-behind (callee_name d.name) d.callee.number c.callee) in
     subst (λ xs. AddsBehind old new own xs (export_as (callee_name a.name) (func.Import d.callee.number) ∷ [])) (three-names a awaited)
     (subst (λ n. AddsBehind old new own (part_name part.Start n ∷ part_name part.Return n ∷ n ∷ []) (export_as (callee_name n) (func.Import d.callee.number) ∷ [])) name whole)
+
+-- ---- helpers
+
+-- numbers that are taken ahead change nothing of it
+pub numbers-kept : (s : ModuleSoFar) (count : ℕ) → KeepsDefined s (with_numbered s count)
+numbers-kept s count = record { functions = refl; exports = refl; callees = refl }
+
+-- the helpers stand behind an adapter's own functions
+pub helpers-behind : {t : Tables} {debug concurrency : Bool} {fuel first : ℕ} {old own new : ModuleSoFar} {fs : List WasmFunc} {names : List (List ℕ)} {callees : List WasmExport}
+    → AddsBehind old own fs names callees → (h : CompiledHelpers t debug concurrency fuel first own new) → AddsBehind old new (fs ++ h.written) names callees
+helpers-behind {old = old} {fs = fs} x h = record {
+  functions = ap (λ (s : ModuleSoFar). s.functions) h.is ∙ ap (λ gs. gs ++ h.written) (h.wrote.kept.functions ∙ x.functions) ∙ append_assoc old.functions fs h.written;
+  exports = ap (λ (s : ModuleSoFar). s.exports) h.is ∙ h.wrote.kept.exports ∙ x.exports;
+  callees_are = ap (λ (s : ModuleSoFar). s.callees) h.is ∙ h.wrote.kept.callees ∙ x.callees_are;
+}

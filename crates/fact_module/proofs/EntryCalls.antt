@@ -29,6 +29,7 @@ use Rattle.fact_emit.proofs.BroughtLaws.{IsEven, even_all, even_type}
 use Rattle.fact_emit.proofs.ImportLaws.{extended_on, grown_get, later_import}
 use Rattle.fact_emit.proofs.ImportLists.{get-last}
 use Rattle.fact_emit.proofs.ListedCalls.{function-unique, memory-unique}
+use Rattle.fact_compound.specs.Asks.{Having}
 use Rattle.fact_compound.specs.Asyncs.{CompiledAsync}
 use Rattle.fact_compound.specs.Entries.{ImportsCalls, NamesLift}
 use Rattle.fact_compound.specs.Puts.{PutsFunction}
@@ -165,5 +166,5 @@ module _ {d : AdapterData} {lower : Signature} {start return : ℕ} {old new : M
 even-put : {name : List ℕ} {old new : ModuleSoFar} {f : WasmFunc} → PutsFunction name old new f → IsEven old → IsEven new
 even-put x even = subst IsEven (sym x.is_last) (even_all x.brought.called _ _ x.brought.imported (even_type x.declares even))
 
-pub even-returned : {t : Tables} {d : AdapterData} {debug concurrency : Bool} {old new : ModuleSoFar} (c : CompiledAsync t d debug concurrency old new) → IsEven old → IsEven c.entry.declared
+pub even-returned : {Has : Having} {t : Tables} {d : AdapterData} {debug concurrency : Bool} {old new : ModuleSoFar} (c : CompiledAsync Has t d debug concurrency old new) → IsEven old → IsEven c.entry.declared
 even-returned c even = even_type c.entry.declares (even-put c.return.puts (even-put c.start.puts even))

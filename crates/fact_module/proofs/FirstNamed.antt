@@ -1,24 +1,20 @@
 -- The imported functions that code is the first to name, by their numbers: those of core definitions left out.
-use Rattle.std.proofs.Common.{◌≡◌, ℕ, suc, ◌+◌, ◌<◌, Bool, true, false, List, [], ◌∷◌, ◌++◌, Some, None, refl, sym, ap, ◌∙◌, subst, arith, get_or, length, slice_get, append-nil, nat_eq}
-use Rattle.std.specs.Prelude.{cond, filter, nat_le, not, ◌||◌}
-use Rattle.std.specs.List.{AllByRecursion, cons_option, filter_map, flat_map, list_any, range_with_len}
-use Rattle.std.proofs.lemmas.Bool.{eq-eqb, eqb-true, lt-leb, true≢false}
-use Rattle.std.proofs.lemmas.List.Elements.{filter-append, filter_map-append}
+use Rattle.std.proofs.Common.{◌≡◌, ℕ, suc, ◌+◌, ◌<◌, Bool, true, false, List, [], ◌∷◌, ◌++◌, Some, None, refl, sym, ap, ◌∙◌, arith, get_or, length, slice_get, append-nil, nat_eq}
+use Rattle.std.specs.Prelude.{cond, filter, not, ◌||◌}
+use Rattle.std.specs.List.{AllByRecursion, cons_option, list_any, range_with_len}
+use Rattle.std.proofs.lemmas.Bool.{eq-eqb, eqb-true, true≢false}
+use Rattle.std.proofs.lemmas.List.Elements.{filter-append}
 use Rattle.std.proofs.lemmas.List.Folds.{list_any-append, list_any_at}
 use Rattle.std.proofs.lemmas.List.FromFn.{get_or-range_with_len, length-range_with_len}
 use Rattle.fact_wasm.specs.declared.types.FuncType.{FuncType}
-use Rattle.fact_wasm.specs.declared.instr.FuncName.TheVariants as func
-use Rattle.fact_wasm.specs.declared.module.WasmFunc.{WasmFunc}
 use Rattle.fact_wasm.specs.declared.module.WasmImport.{WasmImport}
-use Rattle.fact_wasm.specs.Ranges.{AreBodiesRanged, IsPoint, Named, Otherwise, Placed, Point, body_points}
-use Rattle.fact_wasm.proofs.Ranged.{all-append, together}
 use Rattle.fact_types.specs.declared.import.Import.{Import}
 use Rattle.fact_types.specs.declared.import.Import.TheVariants as known
 use Rattle.fact_emit.specs.ImportSection.{AreNamed, IsNamed, Mention, a_function, imported_type, imports_of, is_of, same_sort}
-use Rattle.fact_emit.specs.NamedFunctions.{added_once, all_added_once, name_at}
+use Rattle.fact_emit.specs.NamedFunctions.{added_once, all_added_once}
 use Rattle.fact_emit.proofs.Named.{function-sort}
 use Rattle.fact_emit.proofs.NamedLaws.{added_on}
-use Rattle.fact_module.specs.Order.{defined_place, is_definition, is_prepare_call, item_of, items, names, newly_asked, prepare_calls_last}
+use Rattle.fact_module.specs.Order.{is_definition, is_prepare_call, item_of, items, prepare_calls_last}
 use Rattle.fact_module.proofs.Ordered.{numbers_of, other_number}
 
 -- ---- numbers that pass a test
@@ -172,27 +168,3 @@ all_filtered p P (n ∷ ns) h = step (p n) (all_filtered p P ns h.1)
     step : (b : Bool) → AllByRecursion P (filter p ns) → AllByRecursion P (cond b (n ∷ filter p ns) (filter p ns))
     step true rest = (h.0, rest)
     step false rest = rest
-
--- ---- defined functions that are named stand below a bound
-
-defined_points : (m n : ℕ) (ps : List Point) → AllByRecursion (IsPoint m n) ps → AllByRecursion (λ k. k < n) (filter_map defined_place (filter_map name_at ps))
-defined_points m n [] h = tt
-defined_points m n (Named (func.Import k) ∷ ps) h = defined_points m n ps h.1
-defined_points m n (Named (func.Defined k) ∷ ps) h = (h.0, defined_points m n ps h.1)
-defined_points m n (Placed a ∷ ps) h = defined_points m n ps h.1
-defined_points m n (Otherwise k ∷ ps) h = defined_points m n ps h.1
-
-defined_below : (m n : ℕ) (fs : List WasmFunc) → AreBodiesRanged m n fs → AllByRecursion (λ k. k < n) (filter_map defined_place (flat_map names fs))
-defined_below m n [] h = tt
-defined_below m n (f ∷ fs) h =
-    subst (AllByRecursion (λ k. k < n)) (sym (filter_map-append defined_place (names f) (flat_map names fs)))
-    (all-append (λ k. k < n) (filter_map defined_place (names f)) (filter_map defined_place (flat_map names fs))
-    (defined_points m n (body_points f.body) (together (IsPoint m n) f.body h.0)) (defined_below m n fs h.1))
-
-none_from : (n : ℕ) (ks : List ℕ) → AllByRecursion (λ k. k < n) ks → filter (nat_le n) ks ≡ []
-none_from n [] h = refl
-none_from n (k ∷ ks) h = rw (lt-leb n k h.0) (none_from n ks h.1)
-
--- Functions whose bodies are in range ask for none behind them.
-pub asks_none : (m n : ℕ) (fs : List WasmFunc) → AreBodiesRanged m n fs → newly_asked n fs ≡ []
-asks_none m n fs h = ap (all_added_once []) (none_from n (filter_map defined_place (flat_map names fs)) (defined_below m n fs h))

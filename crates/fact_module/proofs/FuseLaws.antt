@@ -182,6 +182,7 @@ promised-by m is t f adapters numbers tuples same h = record {
         (h.faithful.hands_over place a start return callee k at awaited start_as return_as callee_as own_as);
   };
   order = h.order;
+  outlined = h.outlined;
   typed = h.typed;
 }
 

@@ -15,26 +15,26 @@ use Rattle.fact_emit.specs.ImportSection.{Callback, Callee, Mention, PostReturn,
 use Rattle.fact_emit.specs.Imports.{Extended}
 use Rattle.fact_emit.specs.Known.{AreKnown}
 use Rattle.fact_emit.specs.Linked.{IsDefLinked}
+use Rattle.fact_emit.specs.Options.{number_if_any}
 use Rattle.fact_emit.specs.States.{ModuleSoFar, functions_of, memories_of}
 use Rattle.fact_emit.specs.TaskCalls.{IsFunctionThere, IsMemoryThere}
 use Rattle.fact_emit.proofs.ImportLaws.{extended_none, extended_on, grown_get}
 use Rattle.fact_emit.proofs.KnownLaws.{extended_link, known_link, linked_at}
 use Rattle.fact_emit.proofs.Named.{sort_for}
-use Rattle.fact_compound.specs.Described.{number_if_any}
 use Rattle.fact_compound.specs.Entries.{NamesLift}
 use Rattle.fact_compound.specs.declared.adapters.AdapterData.{AdapterData}
-use Rattle.fact_module.specs.Adding.{Adds}
+use Rattle.fact_module.specs.Adding.{Adds, Given}
 
 -- ---- what stands at a place still does in a later module
 
 module _ {s later : ModuleSoFar} (grown : Extended s later) where
-  function-later : (f : Option (Id Funcs)) (d : Option CoreDef) → IsFunctionThere s f d → IsFunctionThere later f d
+  pub function-later : (f : Option (Id Funcs)) (d : Option CoreDef) → IsFunctionThere s f d → IsFunctionThere later f d
   function-later None None h = tt
   function-later None (Some d) h = absurd h
   function-later (Some f) None h = absurd h
   function-later (Some f) (Some d) h = grown_get grown.functions f.number (known.CoreDef d) h
 
-  memory-later : (m : Option (Id Memories)) (d : Option CoreDef) → IsMemoryThere s m d → IsMemoryThere later m d
+  pub memory-later : (m : Option (Id Memories)) (d : Option CoreDef) → IsMemoryThere s m d → IsMemoryThere later m d
   memory-later None None h = tt
   memory-later None (Some d) h = absurd h
   memory-later (Some m) None h = absurd h
@@ -52,7 +52,7 @@ module _ {s later : ModuleSoFar} (grown : Extended s later) where
 same-number : (m n : ℕ) → Some m ≡ Some n → n ≡ m
 same-number m n e = cc
 
-function-linked : (old new : ModuleSoFar) (role : Role) (o : Option CoreDef) (f : Option (Id Funcs)) → sort_for role ≡ a_function → IsLinkedIfAny old new role o (number_if_any f) → IsFunctionThere new f o
+pub function-linked : (old new : ModuleSoFar) (role : Role) (o : Option CoreDef) (f : Option (Id Funcs)) → sort_for role ≡ a_function → IsLinkedIfAny old new role o (number_if_any f) → IsFunctionThere new f o
 function-linked old new role None None is l = tt
 function-linked old new role None (Some f) is l = absurd (let no : Some f.number ≡ None = l.1 in cc)
 function-linked old new role (Some d) None is l = absurd (let no : None ≡ Some l.number = l.place_is in cc)
@@ -60,7 +60,7 @@ function-linked old new role (Some d) (Some f) is l =
     let there = subst (λ q. slice_get (imports_of q new.section new.imports) l.number ≡ Some (known.CoreDef d)) is (linked_at role l.linked) in
     ap (slice_get (functions_of new)) (sym (same-number f.number l.number l.place_is)) ∙ there
 
-memory-linked : (old new : ModuleSoFar) (o : Option MemoryOption) (m : Option (Id Memories)) → IsMemoryLinked old new o (number_if_any m)
+pub memory-linked : (old new : ModuleSoFar) (o : Option MemoryOption) (m : Option (Id Memories)) → IsMemoryLinked old new o (number_if_any m)
     → IsMemoryThere new m (elim o as (λ (x : Option MemoryOption). Option CoreDef) [ None ↦ None | Some k ↦ Some k.def ])
 memory-linked old new None None l = tt
 memory-linked old new None (Some m) l = absurd (let no : Some m.number ≡ None = l.1 in cc)
@@ -95,19 +95,23 @@ later-on x y = record { grown = extended_on x.grown y.grown; mentioned = y.menti
 
 -- what a side names, behind its memory
 module _ (old new : ModuleSoFar) (s : Side) (at : SideLinks) (ms : List Mention) (known : AreKnown old ms) (l : IsSideLinked old new s at) where
-  stored : IsLater old l.stored
+  pub stored : IsLater old l.stored
   stored =
       let flagged = later-def old l.flagged _ _ at.flags ms known l.flags in
       later-on flagged (later-memory l.flagged l.stored s.memory at.memory flagged.mentioned flagged.known l.memory)
 
-  from-stored : IsLater l.stored new
-  from-stored =
-      let supplied = later-any l.stored l.supplied _ s.realloc at.realloc stored.mentioned stored.known l.realloc in
-      later-on supplied (later-any l.supplied new Callback s.callback at.callback supplied.mentioned supplied.known l.callback)
+  supplied : IsLater l.stored l.supplied
+  supplied = later-any l.stored l.supplied _ s.realloc at.realloc stored.mentioned stored.known l.realloc
+
+  pub from-supplied : IsLater l.supplied new
+  from-supplied = later-any l.supplied new Callback s.callback at.callback supplied.mentioned supplied.known l.callback
+
+  pub from-stored : IsLater l.stored new
+  from-stored = later-on supplied from-supplied
 
 -- ---- an adapter
 
-module _ {t : Tables} {u : AdapterTunables} {old new : ModuleSoFar} {a : LinkedAdapter} {tuple : ℕ} (add : Adds t u old new a tuple) (ms : List Mention) (are_known : AreKnown old ms) where
+module _ {t : Tables} {u : AdapterTunables} {given : Given} {old new : ModuleSoFar} {a : LinkedAdapter} {tuple : ℕ} (add : Adds t u given old new a tuple) (ms : List Mention) (are_known : AreKnown old ms) where
   lift-stored : IsLater add.links.lift.stored add.links.lifted
   lift-stored = from-stored old add.links.lifted a.lift _ ms are_known add.links.lift
 
@@ -118,12 +122,19 @@ module _ {t : Tables} {u : AdapterTunables} {old new : ModuleSoFar} {a : LinkedA
       let called = later-def add.links.lowered add.links.called _ a.callee _ lowered.mentioned lowered.known add.links.callee in
       later-on lower-stored (later-on lowered (later-on called (later-any add.links.called add.linked _ a.lift.post_return _ called.mentioned called.known add.links.post_return)))
 
-  lifted : IsLater old add.links.lifted
+  pub lifted : IsLater old add.links.lifted
   lifted = later-on (stored old add.links.lifted a.lift _ ms are_known add.links.lift) lift-stored
 
   -- What was there before it is there still.
   pub linked-grown : Extended old add.linked
   linked-grown = extended_on lifted.grown from-lifted.grown
+
+  -- So is what was there when both sides were linked.
+  pub from-lowered : IsLater add.links.lowered add.linked
+  from-lowered =
+      let lowered = later-on (stored add.links.lifted add.links.lowered a.lower _ lifted.mentioned lifted.known add.links.lower) (from-stored add.links.lifted add.links.lowered a.lower _ lifted.mentioned lifted.known add.links.lower) in
+      let called = later-def add.links.lowered add.links.called _ a.callee _ lowered.mentioned lowered.known add.links.callee in
+      later-on called (later-any add.links.called add.linked _ a.lift.post_return _ called.mentioned called.known add.links.post_return)
 
   -- The callee stands at its place.
   pub callee-linked : slice_get (functions_of add.linked) add.«data».callee.number ≡ Some (known.CoreDef a.callee)

@@ -1,5 +1,5 @@
 -- What is linked for an adapter, by what is linked for the options of its sides, and the data that say where.
-use Rattle.std.proofs.Common.{◌≡◌, ◌<◌, ℕ, Bool, true, false, List, Option, None, Some, refl, sym, ap, ◌∙◌, subst, arith, length, slice_get}
+use Rattle.std.proofs.Common.{◌≡◌, ◌<◌, ◌-◌, ℕ, Bool, true, false, List, Option, None, Some, refl, sym, ap, ◌∙◌, subst, arith, length, length-append, slice_get}
 use Rattle.std.specs.Prelude.{is_some}
 use Rattle.std.proofs.lemmas.Bool.{false≢true}
 use Rattle.std.proofs.lemmas.Option.{slice_get_within}
@@ -24,19 +24,23 @@ use Rattle.fact_emit.specs.AdapterLinks.{AdapterLinks, IsAdapterLinked, IsLinked
 use Rattle.fact_emit.specs.ImportSection.{Callee, HasMemoryWidth, PostReturn, Realloc, Storage}
 use Rattle.fact_emit.specs.Imports.{Extended}
 use Rattle.fact_emit.specs.Linked.{IsDefLinked}
-use Rattle.fact_emit.specs.States.{ModuleSoFar, functions_of, memories_of}
+use Rattle.fact_emit.specs.Options.{memory_place, number_if_any}
+use Rattle.fact_emit.specs.States.{ModuleSoFar, functions_of, memories_of, with_numbered}
 use Rattle.fact_emit.specs.StringPieces.{IsMemoryWide}
 use Rattle.fact_emit.proofs.ImportLaws.{grown_get}
 use Rattle.fact_emit.proofs.KnownLaws.{linked_at}
 use Rattle.fact_emit.proofs.MemoryWidths.{IsSideWide, sides_wide}
-use Rattle.fact_compound.specs.Described.{AreOptionsWide, is_marked_type, linear_of, memory_place, number_if_any}
+use Rattle.fact_compound.specs.Described.{AreOptionsWide, is_marked_type, linear_of}
 use Rattle.fact_compound.specs.Compiled.{Compiled}
 use Rattle.fact_compound.specs.Entries.{tuple_of_results}
 use Rattle.fact_compound.specs.declared.adapters.AdapterData.{AdapterData}
 use Rattle.fact_compound.specs.declared.adapters.AdapterOptions.{AdapterOptions}
-use Rattle.fact_module.specs.Adding.{Adds, HasSideData}
+use Rattle.fact_compound.specs.Asks.{AsksFor}
+use Rattle.fact_module.specs.Adding.{Adds, HasSideData, own_functions}
+use Rattle.fact_module.specs.Exports.{exported_functions_of}
 use Rattle.fact_module.specs.Links.{CanBeLinked, IsDataOfCandidate, IsDataOfSide, NamesOf, links_of, page_size_log2_of, side_links_of}
-use Rattle.fact_module.proofs.CompiledLaws.{compiled-as}
+use Rattle.fact_module.proofs.AddedFunctions.{compiled-behind}
+use Rattle.fact_module.proofs.CompiledLaws.{compiled-as, own-count}
 
 -- ---- a side
 
@@ -46,7 +50,7 @@ names-of h = record { instance = h.instance; memory = h.memory; realloc = h.real
 mark_of : Option TypeFunc → Bool
 mark_of found = elim found [ None ↦ false | Some f ↦ f.async_ ]
 
-side-data : {b : Builder} {ty : Id TypeFuncs} {o : AdapterOptionsDfg} {s : Side} {d : AdapterOptions} → IsSideOf b ty o s → IsDataOfSide ty o d → HasSideData b.tables s d
+side-data : {b : Builder} {ty : Id TypeFuncs} {o : AdapterOptionsDfg} {s : Side} {d : AdapterOptions} → IsSideOf b ty o s → IsDataOfSide ty o d → HasSideData b.tables b.module_types s d
 unfolding mark_of
 side-data {b} {s = s} h fits = record {
   instance = ap (λ i. i.number) fits.instance ∙ sym h.instance;
@@ -56,6 +60,7 @@ side-data {b} {s = s} h fits = record {
   encoding = fits.encoding ∙ sym h.encoding;
   memory64 = fits.memory64 ∙ ap is_wide (sym h.memory);
   page_size_log2 = fits.page_size_log2 ∙ ap page_size_log2_of (sym h.memory);
+  core_type = ap (λ i. slice_get b.module_types i.number) fits.core_type ∙ h.core_type;
 }
 
 -- ---- an adapter
@@ -114,11 +119,14 @@ module _ {b : Builder} {c : Candidate} {a : LinkedAdapter} (is : IsLinked b c a)
       }
 
   -- A module with all that an adapter names, and then with the functions that its data ask for, has the adapter added.
-  pub adapter-added : (u : AdapterTunables) {old linked new : ModuleSoFar} (d : AdapterData) → IsDataOfCandidate c d → IsAdapterLinked old linked a (links_of d)
-      → Compiled b.tables d u.debug u.concurrency u.exceptions linked new → Adds b.tables u old new a (tuple_of_results b.tables c.adapter.now.lift_ty)
+  pub adapter-added : (u : AdapterTunables) {fuel : ℕ} {old linked new : ModuleSoFar} (d : AdapterData) → IsDataOfCandidate c d → IsAdapterLinked old linked a (links_of d)
+      → Compiled b.tables d u.debug u.concurrency u.exceptions fuel linked new → Adds b.tables u (record { fuel = fuel; cores = b.module_types }) old new a (tuple_of_results b.tables c.adapter.now.lift_ty)
   adapter-added u {linked = linked} {new} d fits links compiled =
       let lift = side-data is.sides.lift fits.lift in
       let lower = side-data is.sides.lower fits.lower in
+      let made = compiled-as u d a lift lower compiled in
+      let count : length compiled.own.functions - length linked.functions ≡ length (exported_functions_of a) =
+      omega (arith, ap length (compiled-behind (fits.name ∙ sym is.name) made.0).functions, length-append linked.functions (own_functions made.0), own-count made.0) in
       record {
         «data» = d;
         name = fits.name ∙ sym is.name;
@@ -128,7 +136,13 @@ module _ {b : Builder} {c : Candidate} {a : LinkedAdapter} (is : IsLinked b c a)
         lower = lower;
         linked = linked;
         links = links;
-        compiled = compiled-as u d a lift lower compiled;
+        own = compiled.own;
+        compiled = made.0;
+        asks = compiled.asks;
+        asked = subst (λ n. AsksFor b.tables u.debug u.concurrency compiled.asks (with_numbered linked n) compiled.own) count compiled.asked;
+        keys = made.1;
+        helpers = compiled.helpers;
+        there = compiled.there;
       }
 
 -- ---- the widths of memories

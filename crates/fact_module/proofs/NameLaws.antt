@@ -20,7 +20,7 @@ use Rattle.fact_emit.proofs.ImportLists.{get-map}
 use Rattle.fact_compound.specs.AsyncParts.{callee_name, part_name}
 use Rattle.fact_compound.specs.declared.asyncs.AsyncPart.TheVariants as part
 use Rattle.fact_module.specs.Exports.{Callee, IsExportOf, callee_of, exported_as}
-use Rattle.fact_module.specs.Holding.{first_function, named_from, own_names}
+use Rattle.fact_module.specs.Holding.{counts_behind, first_count, first_function, named_from, numbered, own_names}
 use Rattle.fact_module.proofs.WholeExports.{found-export, names-counted}
 
 -- ---- how often a name stands in a list
@@ -129,31 +129,47 @@ named-get n (suc q) (y ∷ xs) x e =
     let sum : suc n + q ≡ n + suc q = omega arith in
     named-get (suc n) q xs x e ∙ ap (λ m. Some (record { name = x; func = func.Defined m })) sum
 
--- from 0 on
-pub named-zero : (q : ℕ) (xs : List (List ℕ)) (x : List ℕ) → slice_get xs q ≡ Some x → slice_get (named_from 0 xs) q ≡ Some (record { name = x; func = func.Defined q })
-named-zero q xs x e =
-    let sum : 0 + q ≡ q = omega arith in
-    named-get 0 q xs x e ∙ ap (λ m. Some (record { name = x; func = func.Defined m })) sum
-
 names-from : (n : ℕ) (xs : List (List ℕ)) → map (λ (e : WasmExport). e.name) (named_from n xs) ≡ xs
 names-from n [] = refl
 names-from n (x ∷ xs) = ap (λ ys. x ∷ ys) (names-from (suc n) xs)
+
+named-length : (n : ℕ) (xs : List (List ℕ)) → length (named_from n xs) ≡ length xs
+named-length n [] = refl
+named-length n (x ∷ xs) = ap suc (named-length (suc n) xs)
 
 pub get-behind : {X : Type 0} (xs ys : List X) (m : ℕ) → slice_get (xs ++ ys) (length xs + m) ≡ slice_get ys m
 get-behind {X} [] ys m = let none : length {A = X} [] + m ≡ m = omega arith in ap (slice_get ys) none
 get-behind (x ∷ xs) ys m = let more : length (x ∷ xs) + m ≡ suc (length xs + m) = omega arith in ap (slice_get (x ∷ xs ++ ys)) more ∙ get-behind xs ys m
 
--- the place of an adapter's own name among all
-pub own-name-at : (adapters : List LinkedAdapter) (j i : ℕ) (a : LinkedAdapter) (x : List ℕ) → slice_get adapters j ≡ Some a → slice_get (own_names a) i ≡ Some x → slice_get (flat_map own_names adapters) (first_function adapters j + i) ≡ Some x
-own-name-at [] j i a x e g = cc
-own-name-at (b ∷ adapters) zero i a x e g =
+-- the names of all adapters
+names-numbered : (n : ℕ) (counts : List ℕ) (adapters : List LinkedAdapter) → map (λ (e : WasmExport). e.name) (numbered n counts adapters) ≡ flat_map own_names adapters
+names-numbered n counts [] = refl
+names-numbered n counts (a ∷ adapters) =
+    map-append (λ (e : WasmExport). e.name) (named_from n (own_names a)) (numbered (n + length (own_names a) + first_count counts) (counts_behind counts) adapters)
+    ∙ (λ k. names-from n (own_names a) k ++ names-numbered (n + length (own_names a) + first_count counts) (counts_behind counts) adapters k)
+
+-- Under an adapter's own name stands its function. Its place among the names is its number where there are no helpers.
+pub numbered-at : (n : ℕ) (counts : List ℕ) (adapters : List LinkedAdapter) (j i : ℕ) (a : LinkedAdapter) (x : List ℕ) → slice_get adapters j ≡ Some a → slice_get (own_names a) i ≡ Some x
+    → slice_get (numbered n counts adapters) (first_function [] adapters j + i) ≡ Some (record { name = x; func = func.Defined (n + first_function counts adapters j + i) })
+numbered-at n counts [] j i a x e g = cc
+numbered-at n counts (b ∷ adapters) zero i a x e g =
     let same : b ≡ a = cc in
-    let place : first_function (b ∷ adapters) 0 + i ≡ i = omega arith in
-    ap (slice_get (own_names b ++ flat_map own_names adapters)) place ∙ get_append (own_names b) (flat_map own_names adapters) i x (ap (λ (c : LinkedAdapter). slice_get (own_names c) i) same ∙ g)
-own-name-at (b ∷ adapters) (suc j) i a x e g =
+    let place : first_function [] (b ∷ adapters) 0 + i ≡ i = omega arith in
+    let number : n + i ≡ n + first_function counts (b ∷ adapters) 0 + i = omega arith in
+    let rest : List WasmExport = numbered (n + length (own_names b) + first_count counts) (counts_behind counts) adapters in
+    ap (slice_get (named_from n (own_names b) ++ rest)) place
+    ∙ get_append (named_from n (own_names b)) rest i _ (named-get n i (own_names b) x (ap (λ (c : LinkedAdapter). slice_get (own_names c) i) same ∙ g))
+    ∙ ap (λ m. Some (record { name = x; func = func.Defined m })) number
+numbered-at n counts (b ∷ adapters) (suc j) i a x e g =
     let counted = names-counted b in
-    let sum : first_function (b ∷ adapters) (suc j) + i ≡ length (own_names b) + (first_function adapters j + i) = omega (arith, counted) in
-    ap (slice_get (own_names b ++ flat_map own_names adapters)) sum ∙ get-behind (own_names b) (flat_map own_names adapters) (first_function adapters j + i) ∙ own-name-at adapters j i a x e g
+    let next : ℕ = n + length (own_names b) + first_count counts in
+    let many : length (named_from n (own_names b)) ≡ length (own_names b) = named-length n (own_names b) in
+    let place : first_function [] (b ∷ adapters) (suc j) + i ≡ length (named_from n (own_names b)) + (first_function [] adapters j + i) = omega (arith, counted, many) in
+    let number : next + first_function (counts_behind counts) adapters j + i ≡ n + first_function counts (b ∷ adapters) (suc j) + i = omega (arith, counted) in
+    ap (slice_get (named_from n (own_names b) ++ numbered next (counts_behind counts) adapters)) place
+    ∙ get-behind (named_from n (own_names b)) (numbered next (counts_behind counts) adapters) (first_function [] adapters j + i)
+    ∙ numbered-at next (counts_behind counts) adapters j i a x e g
+    ∙ ap (λ m. Some (record { name = x; func = func.Defined m })) number
 
 module _ (m : WasmModule) (is : List Import) where
   -- the callees' exports have their names
@@ -172,12 +188,12 @@ module _ (m : WasmModule) (is : List Import) where
       by true [] h rest = absurd h
       by true (e ∷ es) h rest = let named = h.0.0 in λ k. named k ∷ rest es h.1 k
 
-  module _ (exports callees : List WasmExport) (adapters : List LinkedAdapter) (distinct : AllPairs (λ x y. x ≢ y) (flat_map export_names adapters)) (own : exports ≡ named_from 0 (flat_map own_names adapters))
+  module _ (exports callees : List WasmExport) (counts : List ℕ) (adapters : List LinkedAdapter) (distinct : AllPairs (λ x y. x ≢ y) (flat_map export_names adapters)) (own : exports ≡ numbered 0 counts adapters)
       (rest : AllZip (IsExportOf m is) callees (flat_map callee_of adapters)) where
     names-are : map (λ (e : WasmExport). e.name) (exports ++ callees) ≡ flat_map own_names adapters ++ flat_map callee_names adapters
     names-are =
         map-append (λ (e : WasmExport). e.name) exports callees
-        ∙ (λ k. (ap (map (λ (e : WasmExport). e.name)) own ∙ names-from 0 (flat_map own_names adapters)) k ++ callees-named callees adapters rest k)
+        ∙ (λ k. (ap (map (λ (e : WasmExport). e.name)) own ∙ names-numbered 0 counts adapters) k ++ callees-named callees adapters rest k)
 
     -- No name is exported twice.
     pub named-once : (x : List ℕ) → times x (map (λ (e : WasmExport). e.name) (exports ++ callees)) ≤ 1
@@ -200,14 +216,19 @@ module _ (m : WasmModule) (is : List Import) where
         let is : x ≡ e = cc in
         sym is_f ∙ ap (λ (y : WasmExport). y.func) is
 
-    -- Under the name of a function of an adapter that function is exported.
+    -- A function of an adapter is exported under its name, at this place,
+    pub own-there : (j i : ℕ) (a : LinkedAdapter) (x : List ℕ) → slice_get adapters j ≡ Some a → slice_get (own_names a) i ≡ Some x
+        → slice_get (exports ++ callees) (first_function [] adapters j + i) ≡ Some (record { name = x; func = func.Defined (first_function counts adapters j + i) })
+    own-there j i a x at here =
+        let number : 0 + first_function counts adapters j + i ≡ first_function counts adapters j + i = omega arith in
+        get_append exports callees (first_function [] adapters j + i) _ (ap (λ es. slice_get es (first_function [] adapters j + i)) own ∙ numbered-at 0 counts adapters j i a x at here)
+        ∙ ap (λ m. Some (record { name = x; func = func.Defined m })) number
+
+    -- and found there.
     pub exported-own : (j i : ℕ) (a : LinkedAdapter) (x : List ℕ) → slice_get adapters j ≡ Some a → slice_get (own_names a) i ≡ Some x
-        → (f : FuncName) → exported_as x (exports ++ callees) ≡ Some f → f ≡ func.Defined (first_function adapters j + i)
+        → (f : FuncName) → exported_as x (exports ++ callees) ≡ Some f → f ≡ func.Defined (first_function counts adapters j + i)
     exported-own j i a x at here f found =
-        let q = first_function adapters j + i in
-        let place = own-name-at adapters j i a x at here in
-        let there = get_append exports callees q _ (ap (λ es. slice_get es q) own ∙ named-zero q (flat_map own_names adapters) x place) in
-        exported-at q (record { name = x; func = func.Defined q }) f there found
+        exported-at (first_function [] adapters j + i) (record { name = x; func = func.Defined (first_function counts adapters j + i) }) f (own-there j i a x at here) found
 
 -- ---- what is exported stays so
 

@@ -19,7 +19,8 @@ use Rattle.fact_types.specs.declared.import.Import.{Import}
 use Rattle.fact_types.specs.declared.import.Import.TheVariants as known
 use Rattle.fact_types.specs.declared.outside.CoreDef.{CoreDef}
 use Rattle.fact_plan_types.proofs.HandleLaws.{there as get-within}
-use Rattle.fact_emit.specs.Brought.{AreCalledImported, Brought, CalledFunction, IsCalledImported, Runtime, Transcoding}
+use Rattle.fact_emit.specs.Brought.{AreCalledImported, Brought, CalledFunction, IsCalledImported, Runtime, Transcoding, Helping}
+use Rattle.fact_emit.specs.declared.helpers.Helper.{Helper}
 use Rattle.fact_emit.specs.declared.imported.RuntimeFunction.{RuntimeFunction}
 use Rattle.fact_emit.specs.declared.imported.RuntimeFunction.TheVariants as runtime
 use Rattle.fact_emit.specs.declared.task_calls.StartCall.{StartCall}
@@ -28,10 +29,10 @@ use Rattle.fact_emit.specs.ImportSection.{Mention, a_function, imported_type, im
 use Rattle.fact_emit.specs.Known.{AreKnown}
 use Rattle.fact_emit.specs.NamedFunctions.{all_added_once, imported_named}
 use Rattle.fact_emit.specs.Runtime.{import_of}
-use Rattle.fact_emit.specs.States.{HasType, IsImported, ModuleSoFar, functions_of, import_as, with_import}
+use Rattle.fact_emit.specs.States.{HasType, IsHelperAsked, IsImported, ModuleSoFar, functions_of, import_as, next_number, with_helper, with_import}
 use Rattle.fact_emit.specs.TaskCalls.{HasStartCall, IsPrepareCallImported, IsStartCallImported}
 use Rattle.fact_emit.specs.TaskTypes.{prepare_call_name, start_call_name, start_call_type}
-use Rattle.fact_emit.proofs.BroughtLaws.{IsEven, even_type}
+use Rattle.fact_emit.proofs.BroughtLaws.{IsEven, even_type, helper_functions}
 use Rattle.fact_emit.proofs.ExactItems.{runtime-made-once}
 use Rattle.fact_emit.proofs.ImportLaws.{grown_get, grows_none, grows_on, later_import}
 use Rattle.fact_emit.proofs.ImportLists.{imports-append, last-or-before}
@@ -115,9 +116,20 @@ runtime_item n runtime.EnterSyncCall = refl
 runtime_item n runtime.ExitSyncCall = refl
 runtime_item n (runtime.UnsafeIntrinsic s) = refl
 
+-- helpers are no imports
+others-helper : {old new : ModuleSoFar} {key : Helper} {number : ℕ} → IsEven old → IsHelperAsked old new key number → AddsOthers old new
+others-helper {old} {key = key} e h = elim h.step [
+  | inl same ↦ others-none e same
+  | inr anew ↦ subst (AddsOthers old) (sym anew.0) (helped (others-none {old = old} e refl))
+]
+  where
+    helped : AddsOthers old old → AddsOthers old (with_helper old key)
+    helped x = record { others = x.others; items_are = x.items_are; grows = x.grows; even = x.even }
+
 others-call : (f : CalledFunction) (old new : ModuleSoFar) (place : ℕ) → IsEven old → IsCalledImported old new f place → AddsOthers old new
 others-call (Runtime f) old new place e h = others-on (others-type e h.types) (others-import (import_of f) (λ n. runtime_item n f) (even_type h.types e) h.imported)
 others-call (Transcoding t) old new place e h = others-on (others-type e h.types) (others-import _ (λ n. refl) (even_type h.types e) h.imported)
+others-call (Helping key) old new place e h = others-helper e h
 
 others-calls : (fs : List CalledFunction) (old new : ModuleSoFar) → IsEven old → AreCalledImported old new fs → AddsOthers old new
 others-calls [] old new e h = others-none e h
@@ -151,6 +163,7 @@ prepares-type types k i prepares at = ap (λ fs. slice_get fs k) (sym (functions
 prepares-call : (f : CalledFunction) (old new : ModuleSoFar) (place : ℕ) → IsEven old → IsCalledImported old new f place → KeepsPrepares old new
 prepares-call (Runtime f) old new place e h k i prepares at = prepares-type h.types k i prepares (prepares-import (import_of f) (runtime-made-once f) (even_type h.types e) h.imported k i prepares at)
 prepares-call (Transcoding t) old new place e h k i prepares at = prepares-type h.types k i prepares (prepares-import _ refl (even_type h.types e) h.imported k i prepares at)
+prepares-call (Helping key) old new place e h k i prepares at = ap (λ fs. slice_get fs k) (sym (helper_functions h)) ∙ at
 
 prepares-calls : (fs : List CalledFunction) (old new : ModuleSoFar) → IsEven old → AreCalledImported old new fs → KeepsPrepares old new
 prepares-calls [] old new e h k i prepares at = ap (λ s. slice_get (functions_of s) k) (sym h) ∙ at
@@ -270,6 +283,21 @@ first-same {old} {new} {last} {fs} section imports x = record {
     functions : functions_of last ≡ functions_of new
     functions = λ k. imports_of a_function (section k) (imports k)
 
+-- and of one that imported the same before
+pub first-before : {first old new : ModuleSoFar} {fs : List WasmFunc} → old.section ≡ first.section → old.imports ≡ first.imports → AreFirstNamed old new fs → AreFirstNamed first new fs
+first-before {first} {old} {new} {fs} section imports x = record {
+  adds = record {
+    others = x.adds.others;
+    items_are = x.adds.items_are ∙ ap (λ l. l ++ map Other x.adds.others) shown;
+    grows = record { more = x.adds.grows.more; is = x.adds.grows.is ∙ (λ k. imports_of a_function (section k) (imports k) ++ x.adds.grows.more) };
+    even = x.adds.even;
+  };
+  in_order = λ more. subst (λ ns. all_added_once ns (flat_map (others_named (functions_of new ++ more)) fs) ≡ ns ++ x.adds.others) (ap numbers_of shown) (x.in_order more);
+}
+  where
+    shown : items_so_far old ≡ items_so_far first
+    shown = λ k. items 0 (section k) (imports k)
+
 -- ---- numbers of functions that are no core definitions
 
 module _ (ms : List Mention) {old new : ModuleSoFar} (old_known : AreKnown old ms) (new_known : AreKnown new ms) (adds : AddsOthers old new) (all : List Import) (g : Grows (functions_of new) all) where
@@ -319,7 +347,7 @@ first-brought ms {old} {new} f old_known new_known b = record { adds = adds; in_
         let ns : List ℕ = numbers_of (items_so_far old) in
         let there = all_filtered (is_other all) (λ k. is_prepare_call (slice_get all k) ≡ true → list_any (λ x. nat_eq x k) ns ≡ true) (imported_named f.body)
         (all_with (λ k. k < length (functions_of new)) (λ k. is_prepare_call (slice_get all k) ≡ true → list_any (λ x. nat_eq x k) ns ≡ true)
-        (prepare-in ms old_known new_known adds all g (prepares-calls b.called old new even b.imported)) (imported_named f.body) (ranged_named (length (functions_of new)) f.body b.ranged)) in
+        (prepare-in ms old_known new_known adds all g (prepares-calls b.called old new even b.imported)) (imported_named f.body) (ranged_named (length (functions_of new)) (next_number new) f.body b.ranged)) in
         ap (all_added_once ns) (append-nil (others_named all f))
         ∙ calls_in_order all ns (others_among all (names f)) there
         ∙ new-numbers ms old_known new_known adds all g (imported_named f.body) (b.order even)

@@ -1,10 +1,12 @@
 -- One adapter more in a module that is being made: what it mentions is imported, its functions are put behind the others with what their code
 -- names, and its callee is exported.
-use Rattle.std.proofs.Common.{◌≡◌, ℕ, suc, ◌+◌, ◌≤◌, Bool, true, false, List, [], ◌∷◌, ◌++◌, Some, None, Option, refl, sym, ap, ◌∙◌, subst, arith, length, length-append, map, slice_get, append-nil, append_assoc, inl, inr}
+use Rattle.std.proofs.Common.{◌≡◌, ℕ, suc, ◌+◌, ◌-◌, ◌≤◌, Bool, true, false, List, [], ◌∷◌, ◌++◌, Some, None, Option, refl, sym, ap, ◌∙◌, subst, arith, length, length-append, map, slice_get, append-nil, append_assoc, inl, inr}
 use Rattle.std.specs.Prelude.{cond, count_by}
-use Rattle.std.specs.List.{AllZip, cons_option, filter_map, flat_map, range_with_len}
-use Rattle.std.proofs.lemmas.List.{map-append}
+use Rattle.std.specs.List.{AllByRecursion, AllZip, cons_option, filter_map, flat_map, range_with_len}
+use Rattle.std.proofs.lemmas.List.{length-map, map-append}
 use Rattle.std.proofs.lemmas.List.Elements.{filter_map-append}
+use Rattle.std.proofs.lemmas.List.FromFn.{length-range_with_len}
+use Rattle.std.proofs.lemmas.Option.{slice_get_within}
 use Rattle.fact_wasm.specs.declared.types.FuncType.{FuncType}
 use Rattle.fact_wasm.specs.declared.instr.FuncName.{FuncName}
 use Rattle.fact_wasm.specs.declared.instr.FuncName.TheVariants as func
@@ -21,47 +23,40 @@ use Rattle.fact_types.specs.Adapters.{LinkedAdapter}
 use Rattle.fact_types.specs.Tables.{Tables}
 use Rattle.fact_types.specs.declared.import.Import.{Import}
 use Rattle.fact_types.specs.declared.import.Import.TheVariants as known
-use Rattle.fact_plan_types.proofs.HandleLaws.{zip_map}
+use Rattle.fact_plan_types.proofs.HandleLaws.{there as get-within, zip_map}
 use Rattle.fact_moves.specs.Adapters.{AdapterTunables}
 use Rattle.fact_emit.specs.ImportSection.{Mention, NamesImports, a_function, adapter_mentions, imported_function, is_awaited, is_of, mentions, same_sort, sort_of, with_mention, with_mentions}
 use Rattle.fact_emit.specs.Imports.{Extended}
 use Rattle.fact_emit.specs.Known.{AreUsedAlike}
 use Rattle.fact_emit.specs.Linked.{HasTypeIfAny}
 use Rattle.fact_emit.specs.Listed.{AreLinkedInTurn, ListsMentions}
-use Rattle.fact_emit.specs.NamedFunctions.{all_added_once}
-use Rattle.fact_emit.specs.States.{KeepsDefined, ModuleSoFar, functions_of, module_of, nothing_so_far}
+use Rattle.fact_emit.specs.NamedFunctions.{all_added_once, defined_place}
+use Rattle.fact_emit.specs.States.{ModuleSoFar, functions_of, module_of, next_number, nothing_so_far}
 use Rattle.fact_emit.proofs.BroughtLaws.{IsEven, even_type}
-use Rattle.fact_emit.proofs.DefinedKept.{defined_import, defined_on, defined_same, defined_type}
-use Rattle.fact_emit.proofs.ImportLaws.{grown_get, grows_on}
+use Rattle.fact_emit.proofs.DefinedKept.{extended_defined}
+use Rattle.fact_emit.proofs.ImportLaws.{extended_on, grown_get, grows_on}
 use Rattle.fact_emit.proofs.ImportLists.{count-of}
 use Rattle.fact_emit.proofs.ListedLaws.{IsMentionStep, alike_first, alike_more, linked_step, listed_all, listed_even, listed_linked}
 use Rattle.fact_emit.proofs.Mentions.{mentions-push}
 use Rattle.fact_emit.proofs.TaskCallsNamed.{calls-nothing}
 use Rattle.fact_compound.specs.AsyncParts.{callee_name}
+use Rattle.fact_compound.specs.Helpers.{HelpersAreThere}
+use Rattle.fact_compound.proofs.CompiledAdapters.{get_back, numbered_later}
 use Rattle.fact_forms.specs.Sound.{IsSoundAdapter}
-use Rattle.fact_module.specs.Adding.{Adds, AsParts, AsSync, AsTrap, CompiledAs, own_functions}
-use Rattle.fact_module.specs.Exports.{Callee, Exported, IsExportOf, Own, callee_of, defined_type as type_defined, type_of_function}
+use Rattle.fact_module.specs.Adding.{Adds, AsParts, AsSync, AsTrap, CompiledAs, Given, helper_functions, numbered_for, own_functions}
+use Rattle.fact_module.specs.Exports.{Callee, Exported, IsExportOf, Own, callee_of, exported_functions_of, defined_type as type_defined, type_of_function}
 use Rattle.fact_module.specs.Holding.{named_from, own_names}
 use Rattle.fact_module.specs.InParts.{IsInParts}
-use Rattle.fact_module.specs.Order.{AreParts, AreWritten, Definition, IsOrdered, Item, ModulePart, NoneWaits, Other, defined_place, functions_in, items_in, newly_asked, others_named}
-use Rattle.fact_module.proofs.AddedFunctions.{AddsBehind, own_callees}
-use Rattle.fact_module.proofs.CompiledLaws.{describes-entry, not-awaited-sync, not-awaited-within, own-count}
-use Rattle.fact_module.proofs.FirstNamed.{asks_none}
+use Rattle.fact_module.specs.Order.{AreParts, AreWritten, Definition, IsOrdered, Item, ModulePart, Other, functions_in, items_in, newly_asked, others_named}
+use Rattle.fact_module.proofs.AddedFunctions.{AddsBehind, compiled-behind, helpers-behind, own_callees}
+use Rattle.fact_module.proofs.CompiledLaws.{compiled-extended, describes-entry, helpers-extended, not-awaited-sync, not-awaited-within, own-count}
+use Rattle.fact_module.proofs.FirstAsked.{AreFirstAsked, newly-are}
+use Rattle.fact_module.proofs.HelperParts.{first-turns, functions-written, keeps-linked, kept_linked, listed-turns, number_of, numbers-range, written-in-turn}
 use Rattle.fact_module.proofs.LiftNamed.{callee-linked, linked-grown, names-lift}
-use Rattle.fact_module.proofs.NewNamed.{AreFirstNamed, items_so_far, items_type, one_more}
+use Rattle.fact_module.proofs.NewNamed.{AreFirstNamed, first-before, first-on, first-same, items_so_far, items_type, one_more}
 use Rattle.fact_module.proofs.Ordered.{defs_in, flat_map-push, numbers-defs, numbers-parts, numbers_of, other_number, others_in, own-push, parts-mention, parts-push}
 use Rattle.fact_module.proofs.WholeExports.{names-counted, zip-behind}
-use Rattle.fact_module.proofs.OwnLaws.{IsReadyFor, bodies_more, first_own, known_of, listed_own, ranged_own}
-
--- ---- the functions and exports stay
-
-kept_if_any : (old new : ModuleSoFar) (ty : Option FuncType) → HasTypeIfAny old new ty → KeepsDefined old new
-kept_if_any old new None same = defined_same same
-kept_if_any old new (Some ty) has = defined_type has
-
-pub kept_linked : (rs : List Mention) (old new : ModuleSoFar) → AreLinkedInTurn old new rs → KeepsDefined old new
-kept_linked [] old new l = defined_same l
-kept_linked (r ∷ rs) old new l = defined_on (kept_if_any old l.2.typed _ l.2.types) (defined_on (defined_import l.2.imported) (kept_linked rs l.0 new l.3))
+use Rattle.fact_module.proofs.OwnLaws.{IsReadyFor, asked_own, bodies_more, body_more, counts_own, first_own, known_of, listed_own, listed_same, more_functions, ranged_own, ready_later}
 
 -- ---- core definitions
 
@@ -98,6 +93,12 @@ defines_all (r ∷ rs) old new ms adapters l alike h =
           ∙ append_assoc (items_so_far old) (as_items one.defs) (as_items rest.defs) ∙ ap (λ l. items_so_far old ++ l) (sym (map-append (λ (q : Mention). Definition q.def) one.defs rest.defs));
     }
 
+-- ---- elements
+
+all-by-places : {X : Type 0} (P : X → Type 0) (xs : List X) → ((i : ℕ) (x : X) → slice_get xs i ≡ Some x → P x) → AllByRecursion P xs
+all-by-places P [] each = tt
+all-by-places P (x ∷ xs) each = (each 0 x refl, all-by-places P xs (λ i y e. each (suc i) y e))
+
 -- ---- what is exported
 
 type_still : (old new : ModuleSoFar) → Extended old new → Grows old.functions new.functions → (f : FuncName) (ty : FuncType) → type_defined (module_of old) f ≡ Some ty → type_defined (module_of new) f ≡ Some ty
@@ -123,9 +124,9 @@ named_places : (n : ℕ) (names : List (List ℕ)) → filter_map (λ (e : WasmE
 named_places n [] = refl
 named_places n (x ∷ names) = let next : suc n ≡ n + 1 = omega arith in ap (λ ks. n ∷ ks) (named_places (suc n) names ∙ ap (λ k. range_with_len k (length names)) next)
 
-module _ (t : Tables) (u : AdapterTunables) (old new : ModuleSoFar) (adapters : List LinkedAdapter) (a : LinkedAdapter) (tuple : ℕ) (lists : ListsMentions old (mentions adapters) adapters) (add : Adds t u old new a tuple)
+module _ (t : Tables) (u : AdapterTunables) (given : Given) (old new : ModuleSoFar) (adapters : List LinkedAdapter) (a : LinkedAdapter) (tuple : ℕ) (lists : ListsMentions old (mentions adapters) adapters) (add : Adds t u given old new a tuple)
     (in-turn : AreLinkedInTurn old add.linked (adapter_mentions a)) (alike : AreUsedAlike (mentions adapters ++ adapter_mentions a)) (sound : IsSoundAdapter a)
-    (added : AddsBehind old new (own_functions add.compiled) (own_names a) (own_callees add.compiled)) where
+    (added : AddsBehind old new (own_functions add.compiled ++ helper_functions add) (own_names a) (own_callees add.compiled)) (helped : HelpersAreThere t u.debug u.concurrency given.fuel old) where
   all_mentions : List Mention
   all_mentions = with_mentions (mentions adapters) (adapter_mentions a)
 
@@ -136,6 +137,27 @@ module _ (t : Tables) (u : AdapterTunables) (old new : ModuleSoFar) (adapters : 
   to_linked : Extended old add.linked
   to_linked = linked-grown add (mentions adapters) (known_of lists)
 
+  -- its own functions are numbered ahead
+  abbrev ahead : ModuleSoFar
+  ahead = numbered_for a add.linked
+
+  lists_ahead : ListsMentions ahead all_mentions adapters
+  unfolding all_mentions
+  lists_ahead = listed_same {old = add.linked} refl refl refl lists_linked
+
+  -- no number was taken ahead before
+  ahead_numbers : ahead.numbered ≡ length ahead.functions + length (own_functions add.compiled)
+  ahead_numbers =
+      let kept = kept_linked (adapter_mentions a) old add.linked in-turn in
+      let keeps = keeps-linked (adapter_mentions a) old add.linked in-turn in
+      omega (arith, own-count add.compiled, helped.numbered, ap length kept.functions, keeps.numbered)
+
+  own_count : length add.own.functions ≡ ahead.numbered
+  own_count = omega (arith, ahead_numbers, ap length (compiled-behind add.name add.compiled).functions, length-append ahead.functions (own_functions add.compiled))
+
+  abbrev order : List (ℕ × WasmFunc)
+  order = add.helpers.wrote.order
+
   ready : IsReadyFor t add.«data» a add.linked
   ready = record {
     name = add.name;
@@ -145,30 +167,105 @@ module _ (t : Tables) (u : AdapterTunables) (old new : ModuleSoFar) (adapters : 
     callee = callee-linked add (mentions adapters) (known_of lists);
   }
 
+  ready_ahead : IsReadyFor t add.«data» a ahead
+  ready_ahead = ready_later (numbered_later add.linked (length (exported_functions_of a))) ready
+
   -- The imports of the module are those that the adapters mention, functions of the runtime, and the calls of async adapters.
   pub listed_adapter : ListsMentions new (mentions (adapters ++ a ∷ [])) (adapters ++ a ∷ [])
   unfolding all_mentions
-  listed_adapter = subst (λ ms. ListsMentions new ms (adapters ++ a ∷ [])) (sym (mentions-push adapters a)) (listed_own add.compiled all_mentions adapters ready lists_linked)
+  listed_adapter =
+      let own : ListsMentions add.own all_mentions (adapters ++ a ∷ []) = listed_own add.compiled all_mentions adapters ready_ahead lists_ahead in
+      let last = listed-turns all_mentions (adapters ++ a ∷ []) add.helpers.wrote.in_turn own in
+      subst (λ ms. ListsMentions new ms (adapters ++ a ∷ [])) (sym (mentions-push adapters a))
+      (listed_same {old = add.helpers.last} (ap (λ (s : ModuleSoFar). s.types) add.helpers.is) (ap (λ (s : ModuleSoFar). s.section) add.helpers.is) (ap (λ (s : ModuleSoFar). s.imports) add.helpers.is) last)
 
   defines : DefinesMentions old add.linked (mentions adapters) (adapter_mentions a)
   defines = defines_all (adapter_mentions a) old add.linked (mentions adapters) adapters in-turn alike lists
 
-  first : AreFirstNamed add.linked new (own_functions add.compiled)
-  first = first_own add.compiled all_mentions adapters ready lists_linked
+  -- its own functions and then the helpers, as they were written
+  first : AreFirstNamed add.linked new (own_functions add.compiled ++ functions-written order)
+  first =
+      let own : ListsMentions add.own all_mentions (adapters ++ a ∷ []) = listed_own add.compiled all_mentions adapters ready_ahead lists_ahead in
+      first-before {old = ahead} refl refl
+      (first-same {new = add.helpers.last} (ap (λ (s : ModuleSoFar). s.section) add.helpers.is) (ap (λ (s : ModuleSoFar). s.imports) add.helpers.is)
+      (first-on {fs = own_functions add.compiled} (first_own add.compiled all_mentions adapters ready_ahead lists_ahead) (first-turns all_mentions (adapters ++ a ∷ []) add.helpers.wrote.in_turn own)))
 
-  ranged : AreBodiesRanged (length (functions_of new)) (length new.functions) (own_functions add.compiled)
-  ranged = ranged_own add.compiled all_mentions adapters ready lists_linked (added.functions ∙ ap (λ fs. fs ++ own_functions add.compiled) (sym (kept_linked (adapter_mentions a) old add.linked in-turn).functions))
+  asked : AreFirstAsked ahead add.own (own_functions add.compiled)
+  asked = asked_own add.compiled all_mentions adapters ready_ahead lists_ahead ahead_numbers
+
+  ranged_of_own : AreBodiesRanged (length (functions_of new)) (length new.functions) (own_functions add.compiled)
+  ranged_of_own =
+      let imports = more_functions (helpers-extended add.helpers) in
+      let later = helpers-extended add.helpers in
+      let functions = (helpers-behind (compiled-behind add.name add.compiled) add.helpers).functions in
+      bodies_more (length (functions_of add.own)) (length (functions_of new)) (length new.functions) (length new.functions) imports (omega arith) (own_functions add.compiled)
+      (ranged_own add.compiled all_mentions adapters ready_ahead lists_ahead (length new.functions) (omega (arith, later.numbered, add.there.numbered))
+      (omega (arith, ap length functions, length-append ahead.functions (own_functions add.compiled ++ helper_functions add), length-append (own_functions add.compiled) (helper_functions add), own_count, ahead_numbers))
+      (compiled-behind add.name add.compiled).functions)
+
+  -- each helper is the one of its place
+  helper_ranged : (i : ℕ) (f : WasmFunc) → slice_get (helper_functions add) i ≡ Some f → AreRanged (length (functions_of new)) (length new.functions) f.body
+  helper_ranged i f e =
+      let start : ℕ = length add.linked.helpers in
+      let last : ModuleSoFar = add.helpers.last in
+      let within = slice_get_within (helper_functions add) i f e in
+      let (k, at) = get-within last.helpers (start + i) (omega (arith, within, add.helpers.wrote.count)) in
+      let (g, there, was) = add.helpers.wrote.all (start + i) k (omega arith) at in
+      let place : start + i - start ≡ i = omega arith in
+      let both : Some g ≡ Some f = sym there ∙ ap (slice_get (helper_functions add)) place ∙ e in
+      let same : g ≡ f = cc in
+      let later : Extended was.written new = extended_on was.later (extended_defined (ap (λ (s : ModuleSoFar). s.types) add.helpers.is) (ap (λ (s : ModuleSoFar). s.section) add.helpers.is) (ap (λ (s : ModuleSoFar). s.imports) add.helpers.is)
+      (ap (λ (s : ModuleSoFar). s.helpers) add.helpers.is) (ap (λ (s : ModuleSoFar). s.numbered) add.helpers.is)) in
+      let last_functions = ap (λ (s : ModuleSoFar). length s.functions) add.helpers.is in
+      let below : next_number was.written ≤ length new.functions = omega (arith, later.numbered, add.there.numbered, ap length was.kept.functions, last_functions, length-append last.functions (helper_functions add)) in
+      subst (λ (h : WasmFunc). AreRanged (length (functions_of new)) (length new.functions) h.body) same
+      (body_more (length (functions_of was.written)) (length (functions_of new)) (next_number was.written) (length new.functions) (more_functions later) below g.body was.wrote.brought.ranged)
+
+  ranged : AreBodiesRanged (length (functions_of new)) (length new.functions) (own_functions add.compiled ++ helper_functions add)
+  ranged =
+      all-append (λ (f : WasmFunc). AreRanged (length (functions_of new)) (length new.functions) f.body) (own_functions add.compiled) (helper_functions add) ranged_of_own
+      (all-by-places (λ (f : WasmFunc). AreRanged (length (functions_of new)) (length new.functions) f.body) (helper_functions add) helper_ranged)
 
   -- ---- its part
 
   part_of_adapter : ModulePart
-  part_of_adapter = record { defs = defines.defs; others = first.adds.others; own = own_functions add.compiled; helpers = [] }
+  part_of_adapter = record { defs = defines.defs; others = first.adds.others; own = own_functions add.compiled; helpers = helper_functions add }
+
+  -- The helpers were written in turn: those that its own functions ask for wait, and their numbers follow one another.
+  helpers_written : AreWritten new.functions (newly_asked (length add.own.functions) (own_functions add.compiled)) (length add.own.functions + length (newly_asked (length add.own.functions) (own_functions add.compiled))) (functions-written order)
+  helpers_written =
+      let own : List WasmFunc = own_functions add.compiled in
+      let start : ℕ = length add.linked.helpers in
+      let base : ℕ = length add.own.functions in
+      let count : ℕ = length add.own.helpers - start in
+      let grown = ap length (compiled-extended add.compiled).helpers.is ∙ length-append add.linked.helpers (compiled-extended add.compiled).helpers.more in
+      let counts = counts_own add.compiled all_mentions adapters ready_ahead lists_ahead ahead_numbers in
+      let ahead_next : next_number ahead ≡ base = omega (arith, own_count, ahead_numbers) in
+      let more : next_number add.own - next_number ahead ≡ count = omega (arith, counts, grown, asked.numbers) in
+      let newly : newly_asked base own ≡ range_with_len base count = ap (λ n. newly_asked n own) (sym ahead_next) ∙ newly-are asked ∙ (λ k. range_with_len (ahead_next k) (more k)) in
+      let starts : base + (start - start) ≡ base = omega arith in
+      let waits : map (number_of start base) (range_with_len start count) ≡ newly_asked base own = numbers-range start base start count (omega arith) ∙ ap (λ n. range_with_len n count) starts ∙ sym newly in
+      let next : next_number add.own ≡ base + (length add.own.helpers - start) = omega (arith, more, ahead_next, asked.numbers) in
+      let last : next_number add.own ≡ base + length (newly_asked base own) = omega (arith, next, ap length newly, length-range_with_len base count) in
+      let functions = (helpers-behind (compiled-behind add.name add.compiled) add.helpers).functions ∙ sym (append_assoc ahead.functions own (helper_functions add)) in
+      let behind : new.functions ≡ add.own.functions ++ helper_functions add = functions ∙ ap (λ fs. fs ++ helper_functions add) (sym (compiled-behind add.name add.compiled).functions) in
+      subst (λ n. AreWritten new.functions (newly_asked base own) n (functions-written order)) last
+      (subst (λ ks. AreWritten new.functions ks (next_number add.own) (functions-written order)) waits
+      (written-in-turn start base new.functions add.helpers.wrote.in_turn (omega (arith, grown)) next (in_place behind order add.helpers.wrote.placed)))
+    where
+      in_place : new.functions ≡ add.own.functions ++ helper_functions add → (es : List (ℕ × WasmFunc)) → AllByRecursion (λ (e : ℕ × WasmFunc). slice_get (helper_functions add) (e.0 - length add.linked.helpers) ≡ Some e.1) es
+          → AllByRecursion (λ (e : ℕ × WasmFunc). slice_get new.functions (length add.own.functions + (e.0 - length add.linked.helpers)) ≡ Some e.1) es
+      in_place behind [] h = tt
+      in_place behind (e ∷ es) h =
+          (ap (λ fs. slice_get fs (length add.own.functions + (e.0 - length add.linked.helpers))) behind ∙ get_back add.own.functions (helper_functions add) (e.0 - length add.linked.helpers) e.1 h.0, in_place behind es h.1)
 
   -- The sections of the module stand adapter by adapter.
   pub in_parts_adapter : ((more : List Import) → IsInParts old more adapters) → (more : List Import) → IsInParts new more (adapters ++ a ∷ [])
   unfolding part_of_adapter
   in_parts_adapter in_parts more =
       let own : List WasmFunc = own_functions add.compiled in
+      let helpers : List WasmFunc = helper_functions add in
+      let written : List WasmFunc = functions-written order in
       let grown : Grows (functions_of old) (functions_of new) = grows_on to_linked.functions first.adds.grows in
       let imported : functions_of new ++ more ≡ functions_of old ++ (grown.more ++ more) = ap (λ l. l ++ more) grown.is ∙ append_assoc (functions_of old) grown.more more in
       let was = in_parts (grown.more ++ more) in
@@ -178,10 +275,9 @@ module _ (t : Tables) (u : AdapterTunables) (old new : ModuleSoFar) (adapters : 
       let before : items_so_far add.linked ≡ flat_map items_in was.parts ++ as_items = defines.items_are ∙ ap (λ l. l ++ as_items) was.imports in
       let numbers : numbers_of (items_so_far add.linked) ≡ flat_map others_in was.parts =
       ap numbers_of before ∙ filter_map-append other_number (flat_map items_in was.parts) as_items ∙ (λ k. numbers-parts was.parts k ++ numbers-defs defines.defs k) ∙ append-nil (flat_map others_in was.parts) in
-      let functions : new.functions ≡ flat_map functions_in was.parts ++ own = added.functions ∙ ap (λ fs. fs ++ own) was.functions in
+      let functions : new.functions ≡ flat_map functions_in was.parts ++ (own ++ helpers) = added.functions ∙ ap (λ fs. fs ++ (own ++ helpers)) was.functions in
       let next : ℕ = length (flat_map functions_in was.parts) + length own in
-      let count : length new.functions ≡ next = ap length functions ∙ length-append (flat_map functions_in was.parts) own in
-      let waiting : newly_asked next own ≡ [] = asks_none (length (functions_of new)) next own (subst (λ n. AreBodiesRanged (length (functions_of new)) n own) count ranged) in
+      let own_last : next ≡ length add.own.functions = omega (arith, ap length was.functions, own_count, ahead_numbers, ap length (kept_linked (adapter_mentions a) old add.linked in-turn).functions) in
       let stand : length old.functions ≡ 0 + length (flat_map functions_in was.parts) = let same = ap length was.functions in omega (arith, same) in
       let named : length (own_names a) ≡ length own = names-counted a ∙ sym (own-count add.compiled) in
       let places : filter_map (λ (e : WasmExport). defined_place e.func) (named_from (length old.functions) (own_names a)) ≡ range_with_len (0 + length (flat_map functions_in was.parts)) (length own) =
@@ -193,15 +289,15 @@ module _ (t : Tables) (u : AdapterTunables) (old new : ModuleSoFar) (adapters : 
           own = own-count add.compiled;
           next = next;
           next_is = refl;
-          written = [];
-          are_written = subst (λ ks. AreWritten (flat_map functions_in was.parts ++ (own ++ [])) ks (next + length ks) []) (sym waiting) (NoneWaits (next + 0));
-          all_written = refl;
-          others = ap (λ fs. all_added_once (flat_map others_in was.parts) (flat_map (others_named (functions_of new ++ more)) fs)) (append-nil own)
-              ∙ subst (λ ns. all_added_once ns (flat_map (others_named (functions_of new ++ more)) own) ≡ ns ++ first.adds.others) numbers (first.in_order more);
+          written = written;
+          are_written = subst (λ n. AreWritten (flat_map functions_in was.parts ++ (own ++ helpers)) (newly_asked n own) (n + length (newly_asked n own)) written) (sym own_last)
+              (subst (λ fs. AreWritten fs (newly_asked (length add.own.functions) own) (length add.own.functions + length (newly_asked (length add.own.functions) own)) written) functions helpers_written);
+          all_written = length-map order (λ (e : ℕ × WasmFunc). e.1) ∙ add.helpers.wrote.as_many;
+          others = subst (λ ns. all_added_once ns (flat_map (others_named (functions_of new ++ more)) (own ++ written)) ≡ ns ++ first.adds.others) numbers (first.in_order more);
         });
         imports = first.adds.items_are ∙ ap (λ l. l ++ map Other first.adds.others) before ∙ append_assoc (flat_map items_in was.parts) as_items (map Other first.adds.others)
             ∙ sym (flat_map-push items_in was.parts part_of_adapter);
-        functions = functions ∙ ap (λ fs. flat_map functions_in was.parts ++ fs) (sym (append-nil own)) ∙ sym (flat_map-push functions_in was.parts part_of_adapter);
+        functions = functions ∙ sym (flat_map-push functions_in was.parts part_of_adapter);
         exports = ap (filter_map (λ (e : WasmExport). defined_place e.func)) added.exports
             ∙ filter_map-append (λ (e : WasmExport). defined_place e.func) old.exports (named_from (length old.functions) (own_names a))
             ∙ (λ k. was.exports k ++ places k)
@@ -213,9 +309,9 @@ module _ (t : Tables) (u : AdapterTunables) (old new : ModuleSoFar) (adapters : 
   bodies_adapter h =
       let imports : length (functions_of old) ≤ length (functions_of new) =
       (let grown = grows_on to_linked.functions first.adds.grows in omega (arith, ap length grown.is, length-append (functions_of old) grown.more)) in
-      let functions : length old.functions ≤ length new.functions = omega (arith, ap length added.functions, length-append old.functions (own_functions add.compiled)) in
+      let functions : length old.functions ≤ length new.functions = omega (arith, ap length added.functions, length-append old.functions (own_functions add.compiled ++ helper_functions add)) in
       subst (AreBodiesRanged (length (functions_of new)) (length new.functions)) (sym added.functions)
-      (all-append (λ (f : WasmFunc). AreRanged (length (functions_of new)) (length new.functions) f.body) old.functions (own_functions add.compiled)
+      (all-append (λ (f : WasmFunc). AreRanged (length (functions_of new)) (length new.functions) f.body) old.functions (own_functions add.compiled ++ helper_functions add)
       (bodies_more (length (functions_of old)) (length (functions_of new)) (length old.functions) (length new.functions) imports functions old.functions h) ranged)
 
   -- ---- its callee
@@ -223,7 +319,7 @@ module _ (t : Tables) (u : AdapterTunables) (old new : ModuleSoFar) (adapters : 
   callee_there : slice_get (functions_of new) add.«data».callee.number ≡ Some (known.CoreDef a.callee)
   callee_there = grown_get first.adds.grows add.«data».callee.number (known.CoreDef a.callee) ready.callee
 
-  own_callee_exported : (c : CompiledAs t add.«data» u a add.linked new) → AllZip (IsExportOf (module_of new) new.imports) (own_callees c) (callee_of a)
+  own_callee_exported : (c : CompiledAs new t add.«data» u a ahead add.own) → AllZip (IsExportOf (module_of new) new.imports) (own_callees c) (callee_of a)
   own_callee_exported (AsTrap within c) = let none = not-awaited-within a within in rw none tt
   own_callee_exported (AsSync crosses sync c) = let none = not-awaited-sync a sync in rw none tt
   own_callee_exported (AsParts awaited c) = rw awaited ((refl, callee_there), tt)
@@ -231,7 +327,7 @@ module _ (t : Tables) (u : AdapterTunables) (old new : ModuleSoFar) (adapters : 
   -- What was exported is exported still, and so is its callee.
   pub callees_adapter : Extended old new → AllZip (IsExportOf (module_of old) old.imports) old.callees (flat_map callee_of adapters) → AllZip (IsExportOf (module_of new) new.imports) new.callees (flat_map callee_of (adapters ++ a ∷ []))
   callees_adapter grown h =
-      let still = zip_map (IsExportOf (module_of old) old.imports) (IsExportOf (module_of new) new.imports) (exported_still old new grown (record { more = own_functions add.compiled; is = added.functions })) old.callees
+      let still = zip_map (IsExportOf (module_of old) old.imports) (IsExportOf (module_of new) new.imports) (exported_still old new grown (record { more = own_functions add.compiled ++ helper_functions add; is = added.functions })) old.callees
       (flat_map callee_of adapters) h in
       subst (λ es. AllZip (IsExportOf (module_of new) new.imports) es (flat_map callee_of (adapters ++ a ∷ []))) (sym added.callees_are)
       (subst (AllZip (IsExportOf (module_of new) new.imports) (old.callees ++ own_callees add.compiled)) (sym (flat_map-push callee_of adapters a))

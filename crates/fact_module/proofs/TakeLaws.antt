@@ -1,6 +1,6 @@
 -- A module that takes one adapter more.
-use Rattle.std.proofs.Common.{◌≡◌, ◌≢◌, ℕ, suc, ◌+◌, ◌<◌, ◌^◌, AllPairs, Bool, true, List, [], ◌∷◌, ◌++◌, Some, refl, sym, ap, ◌∙◌, subst, arith, length, slice_get}
-use Rattle.std.specs.Prelude.{All, Err, IfOk, IfSome, None, Ok, Option, Result}
+use Rattle.std.proofs.Common.{◌≡◌, ◌≢◌, ℕ, suc, ◌+◌, ◌<◌, ◌^◌, AllPairs, Bool, true, false, List, [], ◌∷◌, ◌++◌, Some, refl, sym, ap, ◌∙◌, subst, arith, inl, inr, length, slice_get}
+use Rattle.std.specs.Prelude.{All, Err, IfOk, IfSome, IsSomeAnd, None, Ok, Option, Result}
 use Rattle.fact_plan_types.specs.declared.error.Place.{Place}
 use Rattle.fact_plan_types.specs.declared.error.Place.TheVariants.{Adapter as at_adapter}
 use Rattle.std.specs.List.{AllZip, flat_map}
@@ -17,21 +17,21 @@ use Rattle.fact_builder.specs.Builder.{Builder}
 use Rattle.fact_builder.proofs.HandleLaws.{tuple_live}
 use Rattle.fact_uses.proofs.BindingLaws.{AreConsistent-covered, Covers-nothing}
 use Rattle.fact_uses.specs.Bindings.{AreConsistent}
-use Rattle.fact_plan_types.specs.Faults.{Fault}
+use Rattle.fact_plan_types.specs.Faults.{Fault, bad_memory}
 use Rattle.fact_plan_types.proofs.ShapeLists.{all-more}
 use Rattle.fact_plan_types.proofs.HandleLaws.{there as get-within}
 use Rattle.fact_checks.specs.declared.adapter.Adapter.{Adapter}
 use Rattle.fact_checks.specs.declared.adapter.AdapterOptionsDfg.{AdapterOptionsDfg}
 use Rattle.fact_checks.specs.declared.sides.Candidate.{Candidate}
 use Rattle.fact_types.specs.Adapters.{LinkedAdapter, Side}
-use Rattle.fact_checks.specs.AdapterRules.{LinkedHas, uses_of}
+use Rattle.fact_checks.specs.AdapterRules.{IsOdd, LinkedHas, uses_of}
 use Rattle.fact_checks.specs.Checked.{AreBound, Checks, IsFirstOf, IsSoundNext}
 use Rattle.fact_checks.specs.Linked.{HasSides, IsLinked, IsSideOf, NamesTypesOf}
 use Rattle.fact_types.specs.declared.import.Import.{Import}
 use Rattle.fact_module.specs.declared.taken.TakenAdapter.{TakenAdapter}
 use Rattle.fact_emit.specs.declared.tunables.Tunables.{Tunables}
 use Rattle.fact_emit.specs.declared.tunables.WasmFeatures.{WasmFeatures}
-use Rattle.fact_module.specs.Collected.{AreTaken, Collected, IsStateOf, Extends, IsMade, IsTakenAs, KeepsPromises, no_tree, result_tuple_of, taken_of}
+use Rattle.fact_module.specs.Collected.{AreTaken, Collected, IsStateOf, Extends, IsMade, IsTakenAs, KeepsPromises, given_of, no_tree, result_tuple_of, taken_of}
 use Rattle.fact_emit.specs.ImportSection.{mentions}
 use Rattle.fact_emit.specs.Imports.{Extended}
 use Rattle.fact_emit.proofs.ImportLaws.{grown_get}
@@ -40,10 +40,11 @@ use Rattle.fact_emit.specs.States.{ModuleSoFar, functions_of, module_of, nothing
 use Rattle.fact_forms.specs.Sound.{HasValidSides, IsSoundAdapter}
 use Rattle.fact_forms.proofs.Passed.{passed_are_sound}
 use Rattle.fact_compound.specs.Entries.{tuple_of_results}
-use Rattle.fact_module.specs.Adding.{Adds, own_functions}
+use Rattle.fact_compound.specs.Helpers.{HelpersAreThere}
+use Rattle.fact_module.specs.Adding.{Adds, helper_functions, own_functions}
 use Rattle.fact_module.specs.Exports.{exported_as}
 use Rattle.fact_module.specs.Faithful.{Promised, adapter_tunables}
-use Rattle.fact_module.specs.Holding.{Holds}
+use Rattle.fact_module.specs.Holding.{HasNoSharedMemory, HoldTypesOnce, Holds}
 use Rattle.fact_module.specs.Links.{CanBeLinked}
 use Rattle.fact_module.specs.Taking.{HasFaultBehind, IsFirstBehind}
 use Rattle.fact_module.proofs.AlikeLaws.{alike_next}
@@ -174,6 +175,17 @@ module _ (old : Collected) (checks checks' : Checks) (s s' : ModuleSoFar) (candi
   sound-here before a taken h =
       passed_are_sound old.builder candidate.adapter.now old.tunables.concurrency_support before a (record { sides = h.sides; types = valid a h; faultless = sound-behind before a taken h })
 
+  -- and none of its memories is shared
+  unshared-here : (before : List LinkedAdapter) (a : LinkedAdapter) → AreTaken old before → IsLinked old.builder candidate a → HasNoSharedMemory a
+  unshared-here before a taken h = record {
+    lift = λ m is. by m.shared refl (λ shared. sound-behind before a taken h bad_memory (inl (inr (inl (inr (subst (λ o. IsSomeAnd o IsOdd) (sym is) (inl shared)))))));
+    lower = λ m is. by m.shared refl (λ shared. sound-behind before a taken h bad_memory (inl (inr (inr (inr (subst (λ o. IsSomeAnd o IsOdd) (sym is) (inl shared)))))));
+  }
+    where
+      by : (b : Bool) → {c : Bool} → c ≡ b → (c ≡ true → ⊥) → c ≡ false
+      by false is none = is
+      by true is none = absurd (none is)
+
   consistent-here : (before : List LinkedAdapter) (a : LinkedAdapter) → AreTaken old before → IsLinked old.builder candidate a → AreConsistent (flat_map uses_of (before ++ a ∷ []))
   consistent-here before a taken h = AreConsistent-covered _ _ (bound-behind before a taken h).uses
 
@@ -192,7 +204,7 @@ module _ (old : Collected) (checks checks' : Checks) (s s' : ModuleSoFar) (candi
 
   -- with one adapter more its tree is extended
   pub extends-more : (before now : Collected) → before.tree ≡ module_of s → before.imports ≡ s.imports → now.tree ≡ module_of s' → now.imports ≡ s'.imports
-      → ((a : LinkedAdapter) → IsLinked old.builder candidate a → Adds old.builder.tables (adapter_tunables old.tunables old.features) s s' a (tuple_of_results old.builder.tables candidate.adapter.now.lift_ty)) → Extends before now
+      → ((a : LinkedAdapter) → IsLinked old.builder candidate a → Adds old.builder.tables (adapter_tunables old.tunables old.features) (given_of old.builder old.tunables) s s' a (tuple_of_results old.builder.tables candidate.adapter.now.lift_ty)) → Extends before now
   unfolding linked some
   extends-more before now tree imports tree' imports' adds =
       let h = (linked-of old.builder sound candidate typed).1 in
@@ -201,19 +213,20 @@ module _ (old : Collected) (checks checks' : Checks) (s s' : ModuleSoFar) (candi
       let holds = (made.covers whole some made.some.1).holds in
       let t = old.builder.tables in
       let u = adapter_tunables old.tunables old.features in
+      let given = given_of old.builder old.tunables in
       let bound = bound-behind some linked made.some.1 h in
-      let g : Extended s s' = grown-adds t u s s' some linked (result_tuple_of old) consistent holds add in
+      let g : Extended s s' = grown-adds t u given s s' some linked (result_tuple_of old) consistent holds add in
       record {
         types = record { more = g.types.more; is = ap (λ (m : WasmModule). m.types) tree' ∙ g.types.is ∙ ap (λ (m : WasmModule). m.types ++ g.types.more) (sym tree) };
         section = record { more = g.section.more; is = ap (λ (m : WasmModule). m.imports) tree' ∙ g.section.is ∙ ap (λ (m : WasmModule). m.imports ++ g.section.more) (sym tree) };
         imports = record { more = g.imports.more; is = imports' ∙ g.imports.is ∙ ap (λ is. is ++ g.imports.more) (sym imports) };
         functions = record {
-          more = own_functions add.compiled;
-          is = ap (λ (m : WasmModule). m.funcs) tree' ∙ functions-more t u s s' some linked (result_tuple_of old) consistent holds add ∙ ap (λ (m : WasmModule). m.funcs ++ own_functions add.compiled) (sym tree);
+          more = own_functions add.compiled ++ helper_functions add;
+          is = ap (λ (m : WasmModule). m.funcs) tree' ∙ functions-more t u given s s' some linked (result_tuple_of old) consistent holds add ∙ ap (λ (m : WasmModule). m.funcs ++ (own_functions add.compiled ++ helper_functions add)) (sym tree);
         };
         exports = λ name f e.
             ap (λ (m : WasmModule). exported_as name m.exports) tree'
-            ∙ exports-more t u s s' some linked (result_tuple_of old) consistent holds add (subst (AllPairs (λ x y. x ≢ y)) bound.names bound.distinct) name f (ap (λ (m : WasmModule). exported_as name m.exports) (sym tree) ∙ e);
+            ∙ exports-more t u given s s' some linked (result_tuple_of old) consistent holds add (subst (AllPairs (λ x y. x ≢ y)) bound.names bound.distinct) name f (ap (λ (m : WasmModule). exported_as name m.exports) (sym tree) ∙ e);
       }
 
   -- the numbers of result tuples of the adapters before stay
@@ -233,12 +246,13 @@ module _ (old : Collected) (checks checks' : Checks) (s s' : ModuleSoFar) (candi
 
   -- the module of all of them
   pub made-more : (new : Collected) → new.builder ≡ old.builder → new.tunables ≡ old.tunables → new.features ≡ old.features → new.taken ≡ old.taken ++ taken_of candidate ∷ [] → checks'.builder ≡ checks.builder → checks'.concurrency ≡ checks.concurrency
-      → ((a : LinkedAdapter) → IsLinked old.builder candidate a → Adds old.builder.tables (adapter_tunables old.tunables old.features) s s' a (tuple_of_results old.builder.tables candidate.adapter.now.lift_ty))
+      → ((a : LinkedAdapter) → IsLinked old.builder candidate a → Adds old.builder.tables (adapter_tunables old.tunables old.features) (given_of old.builder old.tunables) s s' a (tuple_of_results old.builder.tables candidate.adapter.now.lift_ty))
       → IsMade new checks' s'
   unfolding linked some
   made-more new builder tunables features taken same_builder same_concurrency adds = record {
     builder = same_builder ∙ made.builder ∙ sym builder;
     concurrency = same_concurrency ∙ made.concurrency ∙ ap (λ t. t.concurrency_support) (sym tunables);
+    once = subst (λ (b : Builder). HoldTypesOnce b.tables b.module_types) (sym builder) made.once;
     some = (some ++ linked ∷ [], all some linked made.some.1 (linked-of old.builder sound candidate typed).1);
     covers = λ _ adapters are_taken.
         let (before, a, is, those, this) = zip-pop (IsTakenAs old.builder) old.taken (taken_of candidate) adapters (rw (builder, taken) at are_taken) in
@@ -246,20 +260,24 @@ module _ (old : Collected) (checks checks' : Checks) (s s' : ModuleSoFar) (candi
         let covers = made.covers whole before those in
         let bound = bound-behind before a those h in
         let sound_all = sound-push before a covers.sound (sound-here before a those h) in
-        let holds = holds-more old.builder.tables (adapter_tunables old.tunables old.features) s s' before a (result_tuple_of old) (consistent-here before a those h) covers.holds (adds a h) (sound-here before a those h) (result_tuple_of new)
+        let holds = holds-more old.builder.tables (adapter_tunables old.tunables old.features) (given_of old.builder old.tunables) s s' before a (result_tuple_of old) (consistent-here before a those h) covers.holds (adds a h) (sound-here before a those h) (result_tuple_of new)
         (tuples-kept new builder taken before those) (tuple-last new builder taken before those) in
-        let settings : adapter_tunables old.tunables old.features ≡ adapter_tunables new.tunables new.features = (λ k. adapter_tunables (sym tunables k) (sym features k)) in
-        let tables : old.builder.tables ≡ new.builder.tables = ap (λ (b : Builder). b.tables) (sym builder) in
         subst (IsStateOf new checks' s') (sym is) (record {
           checked = bound;
-          holds = subst (λ t. Holds t (adapter_tunables new.tunables new.features) s' (before ++ a ∷ []) (result_tuple_of new)) tables
-              (subst (λ u. Holds old.builder.tables u s' (before ++ a ∷ []) (result_tuple_of new)) settings holds);
+          holds = subst (λ (b : Builder). Holds b.tables (adapter_tunables new.tunables new.features) (given_of b new.tunables) s' (before ++ a ∷ []) (result_tuple_of new)) (sym builder)
+              (subst (λ (v : Tunables). Holds old.builder.tables (adapter_tunables v new.features) (given_of old.builder v) s' (before ++ a ∷ []) (result_tuple_of new)) (sym tunables)
+              (subst (λ (f : WasmFeatures). Holds old.builder.tables (adapter_tunables old.tunables f) (given_of old.builder old.tunables) s' (before ++ a ∷ []) (result_tuple_of new)) (sym features) holds));
           sound = sound_all;
+          unshared = all-more HasNoSharedMemory before (before ++ a ∷ []) a refl covers.unshared (unshared-here before a those h);
         });
   }
     where
       all : (before : List LinkedAdapter) (a : LinkedAdapter) → AreTaken old before → IsLinked old.builder candidate a → AreTaken new (before ++ a ∷ [])
       all before a those h = rw (builder, taken) (zip-push (IsTakenAs old.builder) old.taken before (taken_of candidate) a those (is-taken old.builder candidate a h))
+
+-- each helper has its function
+pub helpers-here : (old : Collected) (checks : Checks) (s : ModuleSoFar) → IsMade old checks s → old.whole ≡ true → HelpersAreThere old.builder.tables old.tunables.debug_adapter_modules old.tunables.concurrency_support old.tunables.fuel s
+helpers-here old checks s made whole = (made.covers whole made.some.0 made.some.1).holds.helpers
 
 -- the first fault that the checks tell
 pub first-behind : (old : Collected) (checks : Checks) (s : ModuleSoFar) (candidate : Candidate) (f : Fault) → IsMade old checks s → old.whole ≡ true → IsFirstOf checks candidate f → IsFirstBehind old candidate f
@@ -286,20 +304,22 @@ module _ (b : Builder) (t : Tunables) (f : WasmFeatures) where
   unfolding no_collected no_checks
   covers-none [] h = record {
     checked = record { memories = Covers-nothing; reallocs = Covers-nothing; uses = Covers-nothing; names = refl; distinct = λ i j d below within. absurd (omega arith) };
-    holds = holds-nothing b.tables (adapter_tunables t f) (result_tuple_of no_collected);
+    holds = holds-nothing b.tables (adapter_tunables t f) (given_of b t) (result_tuple_of no_collected);
     sound = λ k d within. absurd (omega (arith, within));
+    unshared = λ k d within. absurd (omega (arith, within));
   }
   covers-none (a ∷ adapters) h = absurd h
 
-  pub made-first : (taken : List TakenAdapter) (tree : WasmModule) (imports : List Import) (whole : Bool) (checks : Checks) (s : ModuleSoFar) → taken ≡ [] → s ≡ nothing_so_far
+  pub made-first : HoldTypesOnce b.tables b.module_types → (taken : List TakenAdapter) (tree : WasmModule) (imports : List Import) (whole : Bool) (checks : Checks) (s : ModuleSoFar) → taken ≡ [] → s ≡ nothing_so_far
       → checks ≡ record { builder = b; concurrency = t.concurrency_support; bound = record { memories = []; reallocs = []; uses = []; names = [] } }
       → IsMade (record { builder = b; tunables = t; features = f; taken = taken; tree = tree; imports = imports; whole = whole }) checks s
   unfolding no_collected no_checks
-  made-first taken tree imports whole checks s none nothing first = rw (none, nothing, first) (record {
+  made-first once taken tree imports whole checks s none nothing first = rw (none, nothing, first) (record {
     builder = refl;
     concurrency = refl;
+    once = once;
     some = ([], tt);
-    covers = λ _ adapters are. let h = covers-none adapters are in record { checked = h.checked; holds = h.holds; sound = h.sound };
+    covers = λ _ adapters are. let h = covers-none adapters are in record { checked = h.checked; holds = h.holds; sound = h.sound; unshared = h.unshared };
   })
 
 -- ---- its tree
@@ -309,15 +329,15 @@ pub promised-of : (c : Collected) (checks : Checks) (s : ModuleSoFar) → IsMade
     → (adapters : List LinkedAdapter) → AreTaken c adapters → Promised c.tree c.imports c.tunables c.features adapters (result_tuple_of c)
 promised-of c checks s made tree imports whole adapters taken =
     let covers = made.covers whole adapters taken in
-    rw (tree, imports) (whole-promised c.builder.tables c.tunables c.features s adapters (result_tuple_of c) covers.holds covers.sound
-    (AreConsistent-covered _ _ covers.checked.uses) (subst (AllPairs (λ x y. x ≢ y)) covers.checked.names covers.checked.distinct))
+    rw (tree, imports) (whole-promised c.builder.tables c.tunables c.features s adapters (result_tuple_of c) c.builder.module_types covers.holds covers.sound
+    (AreConsistent-covered _ _ covers.checked.uses) (subst (AllPairs (λ x y. x ≢ y)) covers.checked.names covers.checked.distinct) made.once covers.unshared)
 
 pub keeps-promises : (c : Collected) (checks : Checks) (s : ModuleSoFar) → IsMade c checks s → c.tree ≡ module_of s → c.imports ≡ s.imports → c.whole ≡ true → length (functions_of s) + length s.functions < 2 ^ 32 → KeepsPromises c
 keeps-promises c checks s made tree imports whole numbered =
     let adapters = made.some.0 in
     let covers = made.covers whole adapters made.some.1 in
     record {
-      in_range = subst InRange (sym tree) (whole-range c.builder.tables c.tunables c.features s adapters (result_tuple_of c) covers.holds covers.sound
+      in_range = subst InRange (sym tree) (whole-range c.builder.tables c.tunables c.features s adapters (result_tuple_of c) c.builder.module_types covers.holds covers.sound
           (AreConsistent-covered _ _ covers.checked.uses) (subst (AllPairs (λ x y. x ≢ y)) covers.checked.names covers.checked.distinct) numbered);
       adapters = adapters;
       taken = made.some.1;

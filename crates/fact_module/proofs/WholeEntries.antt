@@ -37,6 +37,7 @@ use Rattle.fact_emit.proofs.KnownLaws.{extended_type}
 use Rattle.fact_emit.proofs.LinkedLaws.{linked_adapter}
 use Rattle.fact_emit.proofs.Named.{named-lengths}
 use Rattle.fact_emit.proofs.ServingLaws.{serves_sooner}
+use Rattle.fact_compound.specs.Asks.{IsLaterModule}
 use Rattle.fact_compound.specs.AsyncParts.{callee_name, part_name, part_type}
 use Rattle.fact_compound.specs.Asyncs.{CompiledAsync}
 use Rattle.fact_compound.specs.Described.{DescribesEntry}
@@ -44,19 +45,22 @@ use Rattle.fact_compound.specs.Entries.{HasReferences, IsEntryFunction, IsHanded
 use Rattle.fact_compound.specs.Syncs.{lower_type_of}
 use Rattle.fact_compound.specs.declared.adapters.AdapterData.{AdapterData}
 use Rattle.fact_compound.specs.declared.asyncs.AsyncPart.TheVariants as part
+use Rattle.fact_compound.proofs.CompiledAdapters.{numbered_later}
 use Rattle.fact_forms.specs.Sound.{IsSoundAdapter}
 use Rattle.fact_promises.specs.AsyncRuns.{HandsOver, IsCallNamed, IsCallTyped}
 use Rattle.fact_promises.proofs.EntryFunctions.{entry_functions_hand_over}
-use Rattle.fact_module.specs.Adding.{AsParts, AsSync, AsTrap, CompiledAs, own_functions}
+use Rattle.fact_module.specs.Adding.{AsParts, AsSync, AsTrap, CompiledAs, Given, numbered_for, own_functions}
 use Rattle.fact_module.specs.Exports.{Callee, IsExportOf, callee_of, exported_as, exported_functions_of}
-use Rattle.fact_module.specs.Holding.{HasAdded, Holds, first_function, function_count, own_names}
+use Rattle.fact_module.specs.Holding.{HasAdded, Holds, count_at, counts_behind, first_count, first_function, function_count, own_names}
 use Rattle.fact_module.specs.Links.{links_of}
-use Rattle.fact_module.proofs.CompiledLaws.{callee-extended, compiled-extended, describes-entry, entry-extended, not-awaited-sync, not-awaited-within, own-count, own_types}
+use Rattle.fact_module.proofs.CompiledLaws.{added-extended, callee-extended, describes-entry, entry-extended, helpers-extended, not-awaited-sync, not-awaited-within, own-count, own_types}
 use Rattle.fact_module.proofs.EntryCalls.{even-returned, prepare-is, start-is}
+use Rattle.fact_module.proofs.HelperHistory.{helper-typed}
+use Rattle.fact_module.proofs.HelperParts.{kept_linked}
 use Rattle.fact_module.proofs.LiftNamed.{callee-linked, known-linked, lift-later, names-lift}
-use Rattle.fact_module.proofs.NameLaws.{exported-at, exported-own, get-behind, named-zero, own-name-at}
+use Rattle.fact_module.proofs.NameLaws.{exported-at, exported-own, get-behind, numbered-at}
 use Rattle.fact_module.proofs.OwnLaws.{known_of}
-use Rattle.fact_module.proofs.PartLaws.{kept_linked, names_imports}
+use Rattle.fact_module.proofs.PartLaws.{names_imports}
 use Rattle.fact_module.proofs.WholeExports.{all-at}
 use Rattle.fact_module.proofs.WholeFunctions.{is_sound, knows, once, part_does, serves, sync_does, trap_does, types}
 use Rattle.fact_module.proofs.WholeTyped.{HasTypedFunction}
@@ -106,28 +110,31 @@ callee-found m is es (b ∷ adapters) j a h at awaited = by (is_awaited b) refl 
 
 -- ---- what is handed on
 
-module _ (t : Tables) (u : AdapterTunables) (s : ModuleSoFar) (adapters : List LinkedAdapter) (tuples : ℕ → ℕ) (h : Holds t u s adapters tuples) (sound : All IsSoundAdapter adapters)
+module _ (t : Tables) (u : AdapterTunables) (given : Given) (s : ModuleSoFar) (adapters : List LinkedAdapter) (tuples : ℕ → ℕ) (h : Holds t u given s adapters tuples) (sound : All IsSoundAdapter adapters)
     (consistent : AreConsistent (flat_map uses_of adapters)) (j : ℕ) (a : LinkedAdapter) (at : slice_get adapters j ≡ Some a) where
   abbrev first : ℕ
-  first = first_function adapters j
+  first = first_function h.counts adapters j
 
-  abbrev placed : HasAdded t u s a (first_function adapters j) (tuples j)
+  abbrev placed : HasAdded t u given s a (first_function h.counts adapters j) (count_at h.counts j) (tuples j)
   placed = h.placed j a at
+
+  own-later : Extended placed.adds.own s
+  own-later = extended_on (helpers-extended placed.adds.helpers) placed.later
 
   abbrev number : ℕ
   number = (h.placed j a at).adds.«data».callee.number
 
   -- each of its own functions is exported
-  own-exported : (i : ℕ) (x : List ℕ) → slice_get (own_names a) i ≡ Some x → is_exported (func.Defined (first_function adapters j + i)) (s.exports ++ s.callees) ≡ true
+  own-exported : (i : ℕ) (x : List ℕ) → slice_get (own_names a) i ≡ Some x → is_exported (func.Defined (first_function h.counts adapters j + i)) (s.exports ++ s.callees) ≡ true
   own-exported i x named =
-      let q = first_function adapters j + i in
-      let place = own-name-at adapters j i a x at named in
-      let there = get_append s.exports s.callees q _ (ap (λ es. slice_get es q) h.exports ∙ named-zero q (flat_map own_names adapters) x place) in
-      exported-there (func.Defined q) (s.exports ++ s.callees) q _ there refl
+      let place = first_function [] adapters j + i in
+      let there = get_append s.exports s.callees place _ (ap (λ es. slice_get es place) h.exports ∙ numbered-at 0 h.counts adapters j i a x at named) in
+      let number : 0 + first_function h.counts adapters j + i ≡ first_function h.counts adapters j + i = omega arith in
+      exported-there (func.Defined (first_function h.counts adapters j + i)) (s.exports ++ s.callees) place _ there (ap func.Defined number)
 
   -- and so is handed on
-  own-handed-on : (i n : ℕ) (x : List ℕ) (f : WasmFunc) (ty : FuncType) → slice_get (own_names a) i ≡ Some x → slice_get s.functions (first_function adapters j + i) ≡ Some f → slice_get s.types f.ty ≡ Some ty
-      → first_function adapters j + i ≡ n → IsHandedOn (module_of s) (func.Defined n)
+  own-handed-on : (i n : ℕ) (x : List ℕ) (f : WasmFunc) (ty : FuncType) → slice_get (own_names a) i ≡ Some x → slice_get s.functions (first_function h.counts adapters j + i) ≡ Some f → slice_get s.types f.ty ≡ Some ty
+      → first_function h.counts adapters j + i ≡ n → IsHandedOn (module_of s) (func.Defined n)
   own-handed-on i n x f ty named there typed is = subst (λ k. IsHandedOn (module_of s) (func.Defined k)) is (record {
     ty = ty;
     there = ap (option_and_then (λ (g : WasmFunc). slice_get s.types g.ty)) there ∙ typed;
@@ -139,11 +146,11 @@ module _ (t : Tables) (u : AdapterTunables) (s : ModuleSoFar) (adapters : List L
 
   -- the callee is imported at the number that the code names
   callee-imported : slice_get (functions_of s) number ≡ Some (known.CoreDef a.callee)
-  callee-imported = grown_get (extended_on (compiled-extended placed.adds.compiled) placed.later).functions number (known.CoreDef a.callee) (callee-linked placed.adds (mentions placed.before) known-before)
+  callee-imported = grown_get (extended_on (added-extended placed.adds) placed.later).functions number (known.CoreDef a.callee) (callee-linked placed.adds (mentions placed.before) known-before)
 
   -- an imported function that is the callee is the one of that number
   callee-number : (f : FuncName) → imported_function (module_of s) s.imports f ≡ Some (known.CoreDef a.callee) → f ≡ func.Import number
-  callee-number (func.Import k) e = ap func.Import ((once t u s adapters tuples h sound consistent).functions.one k number (known.CoreDef a.callee) refl e callee-imported)
+  callee-number (func.Import k) e = ap func.Import ((once t u given s adapters tuples h sound consistent).functions.one k number (known.CoreDef a.callee) refl e callee-imported)
   callee-number (func.Defined k) e = cc
 
   callee-export : is_awaited a ≡ true → FoundCallee (module_of s) s.imports s.callees a
@@ -152,7 +159,7 @@ module _ (t : Tables) (u : AdapterTunables) (s : ModuleSoFar) (adapters : List L
   -- and is handed on where the call is
   callee-handed-on : is_awaited a ≡ true → IsHandedOn (module_of s) (func.Import number)
   callee-handed-on awaited =
-      let callee = (knows t u s adapters tuples h sound consistent j a at).callee in
+      let callee = (knows t u given s adapters tuples h sound consistent j a at).callee in
       let found = callee-export awaited in
       record {
         ty = record { params = a.lift.core_type.params; results = a.lift.core_type.results };
@@ -169,12 +176,12 @@ module _ (t : Tables) (u : AdapterTunables) (s : ModuleSoFar) (adapters : List L
   callee-as distinct awaited f found =
       let export = callee-export awaited in
       let there = get-behind s.exports s.callees export.place ∙ export.there in
-      exported-at (module_of s) s.imports s.exports s.callees adapters distinct h.exports h.callees (length s.exports + export.place) export.export f there (ap (λ n. exported_as n (s.exports ++ s.callees)) export.named ∙ found)
+      exported-at (module_of s) s.imports s.exports s.callees h.counts adapters distinct h.exports h.callees (length s.exports + export.place) export.export f there (ap (λ n. exported_as n (s.exports ++ s.callees)) export.named ∙ found)
       ∙ callee-number export.export.func export.is_callee
 
   -- ---- the function that hands the call over
 
-  module _ (awaited : is_awaited a ≡ true) (c : CompiledAsync t placed.adds.«data» u.debug u.concurrency placed.adds.linked placed.new)
+  module _ (awaited : is_awaited a ≡ true) (c : CompiledAsync (λ M p. IsLaterModule M p placed.new) t placed.adds.«data» u.debug u.concurrency (numbered_for a placed.adds.linked) placed.adds.own)
       (there : (i : ℕ) (f : WasmFunc) → slice_get (c.start.function ∷ c.return.function ∷ c.entry.function ∷ []) i ≡ Some f → slice_get s.functions (first + i) ≡ Some f)
       (typed : AllZip (λ (f : WasmFunc) ty. slice_get s.types f.ty ≡ Some ty) (c.start.function ∷ c.return.function ∷ c.entry.function ∷ []) (part_type part.Start a ∷ part_type part.Return a ∷ lower_type_of a ∷ [])) where
     abbrev told : AdapterData
@@ -198,11 +205,11 @@ module _ (t : Tables) (u : AdapterTunables) (s : ModuleSoFar) (adapters : List L
     }
 
     described : DescribesEntry t told a
-    described = describes-entry placed.adds (is_sound t u s adapters tuples h sound consistent j a at)
+    described = describes-entry placed.adds (is_sound t u given s adapters tuples h sound consistent j a at)
 
     -- what it names on the lift side stands there when it is declared
     lift-returned : NamesLift c.returned told a
-    lift-returned = lift-later (extended_on c.start.puts.imports c.return.puts.imports) told a (names-lift placed.adds (mentions placed.before) known-before)
+    lift-returned = lift-later (extended_on (numbered_later placed.adds.linked (length (exported_functions_of a))) (extended_on c.start.puts.imports c.return.puts.imports)) told a (names-lift placed.adds (mentions placed.before) known-before)
 
     lift-declared : NamesLift c.entry.declared told a
     lift-declared = lift-later (extended_type c.entry.ty c.entry.declares) told a lift-returned
@@ -213,13 +220,13 @@ module _ (t : Tables) (u : AdapterTunables) (s : ModuleSoFar) (adapters : List L
         even-returned c (named-lengths placed.adds.linked.types _ [] placed.adds.linked.section placed.adds.linked.imports known.named)
 
     entered-later : Extended c.entered s
-    entered-later = extended_on (callee-extended c) placed.later
+    entered-later = extended_on (callee-extended c) own-later
 
     written-later : Extended c.entry.written s
-    written-later = extended_on (extended_defined (ap (λ (v : ModuleSoFar). v.types) c.entry.is_last) (ap (λ (v : ModuleSoFar). v.section) c.entry.is_last) (ap (λ (v : ModuleSoFar). v.imports) c.entry.is_last)) entered-later
+    written-later = extended_on (extended_defined (ap (λ (v : ModuleSoFar). v.types) c.entry.is_last) (ap (λ (v : ModuleSoFar). v.section) c.entry.is_last) (ap (λ (v : ModuleSoFar). v.imports) c.entry.is_last) (ap (λ (v : ModuleSoFar). v.helpers) c.entry.is_last) (ap (λ (v : ModuleSoFar). v.numbered) c.entry.is_last)) entered-later
 
     entry-is : IsEntryFunction a references (module_of s) (with_task_calls a c.entry.places.prepare_call c.entry.places.start_call (import_places s)) c.entry.function
-    entry-is = c.entry.is a described lift-returned (module_of s) (import_places s) (serves_sooner entered-later (serves t u s adapters tuples h sound consistent))
+    entry-is = c.entry.is a described lift-returned (module_of s) (import_places s) (serves_sooner entered-later (serves t u given s adapters tuples h sound consistent))
 
     entry-typed : HasTypedFunction (module_of s) c.entry.function
     entry-typed = record { ty = lower_type_of a; type_is = typed.1.1.0; typed = entry-is.typed references-there typed.1.1.0 }
@@ -228,7 +235,7 @@ module _ (t : Tables) (u : AdapterTunables) (s : ModuleSoFar) (adapters : List L
     signature-is : record { params = c.entry.lower.params; results = c.entry.lower.results } ≡ a.lower.core_type
     signature-is =
         let is = c.entry.lower_is a described in
-        (λ k. record { params = (is k).params; results = (is k).results }) ∙ sym (is_sound t u s adapters tuples h sound consistent j a at).lower_core_type
+        (λ k. record { params = (is k).params; results = (is k).results }) ∙ sym (is_sound t u given s adapters tuples h sound consistent j a at).lower_core_type
 
     prepare-there : IsCallNamed (module_of s) s.imports c.entry.places.prepare_call (known.PrepareCall (def_of_memory (options_of a.lift))) (codes "sync") (prepare_call_name a.name) (prepare_call_type a.lower.core_type.params)
     prepare-there =
@@ -251,7 +258,7 @@ module _ (t : Tables) (u : AdapterTunables) (s : ModuleSoFar) (adapters : List L
       function_is = there 2 c.entry.function refl;
       type_is = typed.1.1.0;
       does = entry-is;
-      core_type = (is_sound t u s adapters tuples h sound consistent j a at).lower_core_type;
+      core_type = (is_sound t u given s adapters tuples h sound consistent j a at).lower_core_type;
       references = references-there;
       names = names_imports s adapters h.lists;
     })
@@ -259,17 +266,17 @@ module _ (t : Tables) (u : AdapterTunables) (s : ModuleSoFar) (adapters : List L
   -- ---- each of its functions is typed
 
   own-typed : AllByRecursion (HasTypedFunction (module_of s)) (own_functions placed.adds.compiled)
-  own-typed = by placed.adds.compiled placed.functions_there (types t u s adapters tuples h sound consistent j a at)
+  own-typed = by placed.adds.compiled placed.functions_there (types t u given s adapters tuples h sound consistent j a at)
     where
-      by : (c : CompiledAs t placed.adds.«data» u a placed.adds.linked placed.new) → ((i : ℕ) (f : WasmFunc) → slice_get (own_functions c) i ≡ Some f → slice_get s.functions (first + i) ≡ Some f)
+      by : (c : CompiledAs placed.new t placed.adds.«data» u a (numbered_for a placed.adds.linked) placed.adds.own) → ((i : ℕ) (f : WasmFunc) → slice_get (own_functions c) i ≡ Some f → slice_get s.functions (first + i) ≡ Some f)
           → AllZip (λ (f : WasmFunc) ty. slice_get s.types f.ty ≡ Some ty) (own_functions c) (own_types c) → AllByRecursion (HasTypedFunction (module_of s)) (own_functions c)
-      by (AsTrap within c) there typed = (record { ty = lower_type_of a; type_is = typed.0; typed = (trap_does t u s adapters tuples h sound consistent j a at c).typed typed.0 }, tt)
-      by (AsSync crosses sync c) there typed = (record { ty = lower_type_of a; type_is = typed.0; typed = (sync_does t u s adapters tuples h sound consistent j a at sync c placed.later).typed typed.0 }, tt)
+      by (AsTrap within c) there typed = (record { ty = lower_type_of a; type_is = typed.0; typed = (trap_does t u given s adapters tuples h sound consistent j a at c).typed typed.0 }, tt)
+      by (AsSync crosses sync c) there typed = (record { ty = lower_type_of a; type_is = typed.0; typed = (sync_does t u given s adapters tuples h sound consistent j a at sync c own-later).typed typed.0 }, tt)
       by (AsParts awaited c) there typed =
-          let returned = extended_on (entry-extended c.entry) (extended_on (callee-extended c) placed.later) in
+          let returned = extended_on (entry-extended c.entry) (extended_on (callee-extended c) own-later) in
           let started = extended_on c.return.puts.imports returned in
-          let start : HasTypedFunction (module_of s) c.start.function = record { ty = part_type part.Start a; type_is = typed.0; typed = (part_does t u s adapters tuples h sound consistent j a at part.Start c.start started).typed typed.0 } in
-          let return : HasTypedFunction (module_of s) c.return.function = record { ty = part_type part.Return a; type_is = typed.1.0; typed = (part_does t u s adapters tuples h sound consistent j a at part.Return c.return returned).typed typed.1.0 } in
+          let start : HasTypedFunction (module_of s) c.start.function = record { ty = part_type part.Start a; type_is = typed.0; typed = (part_does t u given s adapters tuples h sound consistent j a at part.Start c.start started).typed typed.0 } in
+          let return : HasTypedFunction (module_of s) c.return.function = record { ty = part_type part.Return a; type_is = typed.1.0; typed = (part_does t u given s adapters tuples h sound consistent j a at part.Return c.return returned).typed typed.1.0 } in
           (start, (return, (entry-typed awaited c there typed, tt)))
 
   -- so is each that has a number of one of them
@@ -284,34 +291,38 @@ module _ (t : Tables) (u : AdapterTunables) (s : ModuleSoFar) (adapters : List L
 
 -- ---- each function is one of an adapter
 
--- which function of which adapter has a number
-record FunctionAt (adapters : List LinkedAdapter) (k : ℕ) : Type 0 where
+-- which function of which adapter has a number: its own, or a helper behind its own
+record FunctionAt (counts : List ℕ) (adapters : List LinkedAdapter) (k : ℕ) : Type 0 where
   place : ℕ
   adapter : LinkedAdapter
   number : ℕ
   there : slice_get adapters place ≡ Some adapter
-  within : number < length (exported_functions_of adapter)
-  is : k ≡ first_function adapters place + number
+  within : number < length (exported_functions_of adapter) + count_at counts place
+  is : k ≡ first_function counts adapters place + number
 
-function-at : (adapters : List LinkedAdapter) (k : ℕ) → k < function_count adapters → FunctionAt adapters k
-function-at [] k below = absurd (omega (arith, below))
-function-at (a ∷ adapters) k below = elim (cases_lt k (length (exported_functions_of a))) [
-  | inl own ↦ record { place = 0; adapter = a; number = k; there = refl; within = own; is = omega arith }
+function-at : (counts : List ℕ) (adapters : List LinkedAdapter) (k : ℕ) → k < function_count counts adapters → FunctionAt counts adapters k
+function-at counts [] k below = absurd (omega (arith, below))
+function-at counts (a ∷ adapters) k below = elim (cases_lt k (length (exported_functions_of a) + first_count counts)) [
+  | inl here ↦ record { place = 0; adapter = a; number = k; there = refl; within = here; is = omega arith }
   | inr behind ↦
-      let rest = function-at adapters (k - length (exported_functions_of a)) (omega (arith, below, behind)) in
+      let rest = function-at (counts_behind counts) adapters (k - (length (exported_functions_of a) + first_count counts)) (omega (arith, below, behind)) in
       record { place = suc rest.place; adapter = rest.adapter; number = rest.number; there = rest.there; within = rest.within; is = omega (arith, rest.is, behind) }
 ]
 
 -- ---- the module
 
-module _ (t : Tables) (u : AdapterTunables) (s : ModuleSoFar) (adapters : List LinkedAdapter) (tuples : ℕ → ℕ) (h : Holds t u s adapters tuples) (sound : All IsSoundAdapter adapters)
+module _ (t : Tables) (u : AdapterTunables) (given : Given) (s : ModuleSoFar) (adapters : List LinkedAdapter) (tuples : ℕ → ℕ) (h : Holds t u given s adapters tuples) (sound : All IsSoundAdapter adapters)
     (consistent : AreConsistent (flat_map uses_of adapters)) where
   -- Each function has a type, and is typed.
   pub each_typed : (k : ℕ) (f : WasmFunc) → slice_get s.functions k ≡ Some f → HasTypedFunction (module_of s) f
   each_typed k f e =
       let within = slice_get_within s.functions k f e in
-      let x = function-at adapters k (omega (arith, within, h.count)) in
-      function-typed t u s adapters tuples h sound consistent x.place x.adapter x.there x.number f x.within (ap (slice_get s.functions) (sym x.is) ∙ e)
+      let x = function-at h.counts adapters k (omega (arith, within, h.count)) in
+      let there = ap (slice_get s.functions) (sym x.is) ∙ e in
+      elim (cases_lt x.number (length (exported_functions_of x.adapter))) [
+        | inl own ↦ function-typed t u given s adapters tuples h sound consistent x.place x.adapter x.there x.number f own there
+        | inr helper ↦ helper-typed t u given s adapters tuples h sound consistent x.place x.adapter x.there (x.number - length (exported_functions_of x.adapter)) f (omega (arith, x.within, helper)) (ap (slice_get s.functions) (omega (arith, helper)) ∙ there)
+      ]
 
   module _ (distinct : AllPairs (λ x y. x ≢ y) (flat_map export_names adapters)) where
     -- What is exported under the name of an async adapter between two instances hands its call over, with what is exported under the names of its two
@@ -320,26 +331,26 @@ module _ (t : Tables) (u : AdapterTunables) (s : ModuleSoFar) (adapters : List L
         → exported_as (part_name part.Start a.name) (s.exports ++ s.callees) ≡ Some start → exported_as (part_name part.Return a.name) (s.exports ++ s.callees) ≡ Some return
         → exported_as (callee_name a.name) (s.exports ++ s.callees) ≡ Some callee → exported_as a.name (s.exports ++ s.callees) ≡ Some (func.Defined k)
         → HandsOver (module_of s) s.imports a (record { start = start; return = return; callee = callee; results = tuples j }) k
-    hands-over j a start return callee k at awaited start_as return_as callee_as own_as = by (h.placed j a at).adds.compiled (h.placed j a at).functions_there (types t u s adapters tuples h sound consistent j a at)
+    hands-over j a start return callee k at awaited start_as return_as callee_as own_as = by (h.placed j a at).adds.compiled (h.placed j a at).functions_there (types t u given s adapters tuples h sound consistent j a at)
       where
-        own-is : (i : ℕ) (x : List ℕ) (f : FuncName) → slice_get (own_names a) i ≡ Some x → exported_as x (s.exports ++ s.callees) ≡ Some f → f ≡ func.Defined (first_function adapters j + i)
-        own-is i x f named found = exported-own (module_of s) s.imports s.exports s.callees adapters distinct h.exports h.callees j i a x at named f found
+        own-is : (i : ℕ) (x : List ℕ) (f : FuncName) → slice_get (own_names a) i ≡ Some x → exported_as x (s.exports ++ s.callees) ≡ Some f → f ≡ func.Defined (first_function h.counts adapters j + i)
+        own-is i x f named found = exported-own (module_of s) s.imports s.exports s.callees h.counts adapters distinct h.exports h.callees j i a x at named f found
 
-        by : (c : CompiledAs t (h.placed j a at).adds.«data» u a (h.placed j a at).adds.linked (h.placed j a at).new) → ((i : ℕ) (f : WasmFunc) → slice_get (own_functions c) i ≡ Some f → slice_get s.functions (first_function adapters j + i) ≡ Some f)
+        by : (c : CompiledAs (h.placed j a at).new t (h.placed j a at).adds.«data» u a (numbered_for a (h.placed j a at).adds.linked) (h.placed j a at).adds.own) → ((i : ℕ) (f : WasmFunc) → slice_get (own_functions c) i ≡ Some f → slice_get s.functions (first_function h.counts adapters j + i) ≡ Some f)
             → AllZip (λ (f : WasmFunc) ty. slice_get s.types f.ty ≡ Some ty) (own_functions c) (own_types c) → HandsOver (module_of s) s.imports a (record { start = start; return = return; callee = callee; results = tuples j }) k
         by (AsTrap within c) there typed = absurd (true≢false (sym awaited ∙ not-awaited-within a within))
         by (AsSync crosses sync c) there typed = absurd (true≢false (sym awaited ∙ not-awaited-sync a sync))
         by (AsParts awaited_too c) there typed =
-            let linked = linked-count t u s adapters tuples h sound consistent j a at awaited c there typed in
+            let linked = linked-count t u given s adapters tuples h sound consistent j a at awaited c there typed in
             let start_is = own-is 0 (part_name part.Start a.name) start (rw awaited refl) start_as in
             let return_is = own-is 1 (part_name part.Return a.name) return (rw awaited refl) return_as in
-            let own : func.Defined k ≡ func.Defined (first_function adapters j + 2) = own-is 2 a.name (func.Defined k) (rw awaited refl) own_as in
-            let number : first_function adapters j + 2 ≡ k = cc in
-            let first : first_function adapters j + 0 ≡ length (h.placed j a at).adds.linked.functions = omega (arith, linked) in
-            let second : first_function adapters j + 1 ≡ suc (length (h.placed j a at).adds.linked.functions) = omega (arith, linked) in
+            let own : func.Defined k ≡ func.Defined (first_function h.counts adapters j + 2) = own-is 2 a.name (func.Defined k) (rw awaited refl) own_as in
+            let number : first_function h.counts adapters j + 2 ≡ k = cc in
+            let first : first_function h.counts adapters j + 0 ≡ length (h.placed j a at).adds.linked.functions = omega (arith, linked) in
+            let second : first_function h.counts adapters j + 1 ≡ suc (length (h.placed j a at).adds.linked.functions) = omega (arith, linked) in
             let starts = sym (start_is ∙ ap func.Defined first) in
             let returns = sym (return_is ∙ ap func.Defined second) in
-            let calls = sym (callee-as t u s adapters tuples h sound consistent j a at distinct awaited callee callee_as) in
+            let calls = sym (callee-as t u given s adapters tuples h sound consistent j a at distinct awaited callee callee_as) in
             let tuple = (h.placed j a at).adds.tuple_is in
             subst (λ (r : References). HandsOver (module_of s) s.imports a r k) (λ i. record { start = starts i; return = returns i; callee = calls i; results = tuple i })
-            (subst (HandsOver (module_of s) s.imports a (references t u s adapters tuples h sound consistent j a at awaited c there typed)) number (entry-hands-over t u s adapters tuples h sound consistent j a at awaited c there typed))
+            (subst (HandsOver (module_of s) s.imports a (references t u given s adapters tuples h sound consistent j a at awaited c there typed)) number (entry-hands-over t u given s adapters tuples h sound consistent j a at awaited c there typed))

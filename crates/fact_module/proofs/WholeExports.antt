@@ -1,5 +1,5 @@
 -- What a whole module of adapters exports.
-use Rattle.std.proofs.Common.{◌≡◌, ℕ, zero, suc, ◌+◌, ◌≤◌, Bool, true, false, List, [], ◌∷◌, ◌++◌, Some, Contains, refl, sym, ap, ◌∙◌, subst, arith, length, length-append, slice_get}
+use Rattle.std.proofs.Common.{◌≡◌, ℕ, zero, suc, ◌+◌, ◌≤◌, Bool, true, false, List, [], ◌∷◌, ◌++◌, Some, Contains, refl, sym, ap, ◌∙◌, subst, arith, append_assoc, length, slice_get}
 use Rattle.std.specs.Prelude.{All, cond}
 use Rattle.std.specs.List.{AllZip, flat_map}
 use Rattle.std.proofs.lemmas.List.Elements.{Contains-append_left, Contains-append_right}
@@ -23,9 +23,9 @@ use Rattle.fact_plan_types.proofs.HandleLaws.{zip_map}
 use Rattle.fact_compound.specs.AsyncParts.{callee_name, part_name, part_type}
 use Rattle.fact_compound.specs.declared.asyncs.AsyncPart.TheVariants as part
 use Rattle.fact_forms.specs.Sound.{IsSoundAdapter}
-use Rattle.fact_module.specs.Adding.{AsParts, AsSync, AsTrap, CompiledAs, own_functions}
+use Rattle.fact_module.specs.Adding.{AsParts, AsSync, AsTrap, CompiledAs, Given, own_functions}
 use Rattle.fact_module.specs.Exports.{Callee, Exported, IsExportOf, Own, callee_of, defined_type, exported, exported_as, exported_functions_of}
-use Rattle.fact_module.specs.Holding.{HasAdded, Holds, first_function, function_count, named_from, numbered, own_names}
+use Rattle.fact_module.specs.Holding.{HasAdded, Holds, count_at, counts_behind, first_count, first_function, function_count, named_from, numbered, own_names}
 use Rattle.fact_module.proofs.CompiledLaws.{not-awaited-sync, not-awaited-within, own_types, types-added}
 
 -- ---- lists
@@ -78,71 +78,85 @@ names-counted a =
     by name start return own first second true = refl
     by name start return own first second false = refl
 
-pub all-names-counted : (adapters : List LinkedAdapter) → length (flat_map own_names adapters) ≡ function_count adapters
-all-names-counted [] = refl
-all-names-counted (a ∷ adapters) = length-append (own_names a) (flat_map own_names adapters) ∙ (λ k. names-counted a k + all-names-counted adapters k)
+-- exports one behind the other
+exports-both : (imports funcs : ℕ) (es fs : List WasmExport) → AreExportsNamed imports funcs es → AreExportsNamed imports funcs fs → AreExportsNamed imports funcs (es ++ fs)
+exports-both imports funcs [] fs h g = g
+exports-both imports funcs (e ∷ es) fs h g = (h.0, exports-both imports funcs es fs h.1 g)
 
--- the next adapter's functions stand behind those of the one before it
-pub first-next : (adapters : List LinkedAdapter) (j : ℕ) (a : LinkedAdapter) → slice_get adapters j ≡ Some a → first_function adapters (suc j) ≡ first_function adapters j + length (exported_functions_of a)
-first-next [] j a e = cc
-first-next (b ∷ adapters) zero a e =
-    let same : b ≡ a = cc in
-    let count = ap (λ x. length (exported_functions_of x)) same in
-    omega (arith, count)
-first-next (b ∷ adapters) (suc j) a e = let rest = first-next adapters j a e in omega (arith, rest)
+-- all names of adapters are exported for functions that are there
+numbered-within : (imports funcs n : ℕ) (counts : List ℕ) (adapters : List LinkedAdapter) → n + function_count counts adapters ≤ funcs → AreExportsNamed imports funcs (numbered n counts adapters)
+numbered-within imports funcs n counts [] h = tt
+numbered-within imports funcs n counts (a ∷ adapters) h =
+    let counted = names-counted a in
+    let next : ℕ = n + length (own_names a) + first_count counts in
+    exports-both imports funcs (named_from n (own_names a)) (numbered next (counts_behind counts) adapters) (named-within imports funcs n (own_names a) (omega (arith, h, counted)))
+    (numbered-within imports funcs next (counts_behind counts) adapters (omega (arith, h, counted)))
+
+-- behind other adapters
+pub numbered-behind : (n : ℕ) (cs ds : List ℕ) (xs ys : List LinkedAdapter) → length cs ≡ length xs → numbered n (cs ++ ds) (xs ++ ys) ≡ numbered n cs xs ++ numbered (n + function_count cs xs) ds ys
+numbered-behind n [] ds [] ys even = let same : n ≡ n + 0 = omega arith in ap (λ k. numbered k ds ys) same
+numbered-behind n [] ds (x ∷ xs) ys even = absurd (omega (arith, even))
+numbered-behind n (c ∷ cs) ds [] ys even = absurd (omega (arith, even))
+numbered-behind n (c ∷ cs) ds (x ∷ xs) ys even =
+    let counted = names-counted x in
+    let next : ℕ = n + length (own_names x) + c in
+    let same : next + function_count cs xs ≡ n + (length (exported_functions_of x) + c + function_count cs xs) = omega (arith, counted) in
+    ap (λ es. named_from n (own_names x) ++ es) (numbered-behind next cs ds xs ys (omega (arith, even)) ∙ ap (λ k. numbered next cs xs ++ numbered k ds ys) same)
+    ∙ sym (append_assoc (named_from n (own_names x)) (numbered next cs xs) (numbered (n + (length (exported_functions_of x) + c + function_count cs xs)) ds ys))
 
 -- ---- the exports of the module
 
-module _ (t : Tables) (u : AdapterTunables) (s : ModuleSoFar) (adapters : List LinkedAdapter) (tuples : ℕ → ℕ) (h : Holds t u s adapters tuples) (sound : All IsSoundAdapter adapters) where
+module _ (t : Tables) (u : AdapterTunables) (given : Given) (s : ModuleSoFar) (adapters : List LinkedAdapter) (tuples : ℕ → ℕ) (h : Holds t u given s adapters tuples) (sound : All IsSoundAdapter adapters) where
   -- a function of the module has this type
   defined : (k : ℕ) (f : WasmFunc) (ty : FuncType) → slice_get s.functions k ≡ Some f → slice_get s.types f.ty ≡ Some ty → defined_type (module_of s) (func.Defined k) ≡ Some ty
   defined k f ty there typed = rw (there, typed) refl
 
   -- the functions of the adapter at a place
-  own-exports : (j : ℕ) (a : LinkedAdapter) → slice_get adapters j ≡ Some a → AllZip (IsExportOf (module_of s) s.imports) (named_from (first_function adapters j) (own_names a)) (exported_functions_of a)
+  own-exports : (j : ℕ) (a : LinkedAdapter) → slice_get adapters j ≡ Some a → AllZip (IsExportOf (module_of s) s.imports) (named_from (first_function h.counts adapters j) (own_names a)) (exported_functions_of a)
   own-exports j a at = by placed.adds.compiled placed.functions_there (zip_map _ _ (λ f ty e. grown_get placed.later.types f.ty ty e) _ _ (types-added placed.adds is_sound))
     where
-      placed : HasAdded t u s a (first_function adapters j) (tuples j)
+      placed : HasAdded t u given s a (first_function h.counts adapters j) (count_at h.counts j) (tuples j)
       placed = h.placed j a at
 
       is_sound : IsSoundAdapter a
       is_sound = all-at IsSoundAdapter adapters sound j a at
 
-      by : {old new : ModuleSoFar} (c : CompiledAs t placed.adds.«data» u a old new) → ((i : ℕ) (f : WasmFunc) → slice_get (own_functions c) i ≡ Some f → slice_get s.functions (first_function adapters j + i) ≡ Some f)
+      by : {end old new : ModuleSoFar} (c : CompiledAs end t placed.adds.«data» u a old new) → ((i : ℕ) (f : WasmFunc) → slice_get (own_functions c) i ≡ Some f → slice_get s.functions (first_function h.counts adapters j + i) ≡ Some f)
           → AllZip (λ (f : WasmFunc) ty. slice_get s.types f.ty ≡ Some ty) (own_functions c) (own_types c)
-          → AllZip (IsExportOf (module_of s) s.imports) (named_from (first_function adapters j) (own_names a)) (exported_functions_of a)
+          → AllZip (IsExportOf (module_of s) s.imports) (named_from (first_function h.counts adapters j) (own_names a)) (exported_functions_of a)
       by (AsTrap within c) there typed =
           let none = not-awaited-within a within in
-          let here : slice_get s.functions (first_function adapters j) ≡ Some c.function = ap (slice_get s.functions) (omega arith) ∙ there 0 c.function refl in
+          let here : slice_get s.functions (first_function h.counts adapters j) ≡ Some c.function = ap (slice_get s.functions) (omega arith) ∙ there 0 c.function refl in
           rw none ((refl, defined _ c.function _ here typed.0 ∙ ap Some (sym is_sound.lower_core_type)), tt)
       by (AsSync crosses sync c) there typed =
           let none = not-awaited-sync a sync in
-          let here : slice_get s.functions (first_function adapters j) ≡ Some c.function = ap (slice_get s.functions) (omega arith) ∙ there 0 c.function refl in
+          let here : slice_get s.functions (first_function h.counts adapters j) ≡ Some c.function = ap (slice_get s.functions) (omega arith) ∙ there 0 c.function refl in
           rw none ((refl, defined _ c.function _ here typed.0 ∙ ap Some (sym is_sound.lower_core_type)), tt)
       by (AsParts awaited c) there typed =
-          let start : slice_get s.functions (first_function adapters j) ≡ Some c.start.function = ap (slice_get s.functions) (omega arith) ∙ there 0 c.start.function refl in
-          let return : slice_get s.functions (suc (first_function adapters j)) ≡ Some c.return.function = ap (slice_get s.functions) (omega arith) ∙ there 1 c.return.function refl in
-          let entry : slice_get s.functions (suc (suc (first_function adapters j))) ≡ Some c.entry.function = ap (slice_get s.functions) (omega arith) ∙ there 2 c.entry.function refl in
+          let start : slice_get s.functions (first_function h.counts adapters j) ≡ Some c.start.function = ap (slice_get s.functions) (omega arith) ∙ there 0 c.start.function refl in
+          let return : slice_get s.functions (suc (first_function h.counts adapters j)) ≡ Some c.return.function = ap (slice_get s.functions) (omega arith) ∙ there 1 c.return.function refl in
+          let entry : slice_get s.functions (suc (suc (first_function h.counts adapters j))) ≡ Some c.entry.function = ap (slice_get s.functions) (omega arith) ∙ there 2 c.entry.function refl in
           rw awaited ((refl, defined _ c.start.function _ start typed.0), ((refl, defined _ c.return.function _ return typed.1.0), ((refl, defined _ c.entry.function _ entry typed.1.1.0 ∙ ap Some (sym is_sound.lower_core_type)), tt)))
 
-  exports-from : (j n : ℕ) (rest : List LinkedAdapter) → n ≡ first_function adapters j → ((i : ℕ) (a : LinkedAdapter) → slice_get rest i ≡ Some a → slice_get adapters (j + i) ≡ Some a)
-      → AllZip (IsExportOf (module_of s) s.imports) (named_from n (flat_map own_names rest)) (flat_map exported_functions_of rest)
-  exports-from j n [] is at = tt
-  exports-from j n (a ∷ rest) is at =
-      let here : slice_get adapters j ≡ Some a = ap (slice_get adapters) (omega arith) ∙ at 0 a refl in
-      let next = first-next adapters j a here in
+  exports-from : (n : ℕ) (counts : List ℕ) (rest : List LinkedAdapter) → ((i : ℕ) (a : LinkedAdapter) → slice_get rest i ≡ Some a → AllZip (IsExportOf (module_of s) s.imports) (named_from (n + first_function counts rest i) (own_names a)) (exported_functions_of a))
+      → AllZip (IsExportOf (module_of s) s.imports) (numbered n counts rest) (flat_map exported_functions_of rest)
+  exports-from n counts [] each = tt
+  exports-from n counts (a ∷ rest) each =
       let counted = names-counted a in
-      let follows : n + length (own_names a) ≡ first_function adapters (suc j) = omega (arith, is, next, counted) in
-      let own = subst (λ k. AllZip (IsExportOf (module_of s) s.imports) (named_from k (own_names a)) (exported_functions_of a)) (sym is) (own-exports j a here) in
-      let more = exports-from (suc j) (n + length (own_names a)) rest follows (λ i b e. ap (slice_get adapters) (omega arith) ∙ at (suc i) b e) in
-      subst (λ es. AllZip (IsExportOf (module_of s) s.imports) es (exported_functions_of a ++ flat_map exported_functions_of rest)) (sym (named-behind n (own_names a) (flat_map own_names rest)))
-      (zip-behind (IsExportOf (module_of s) s.imports) _ _ _ _ own more)
+      let here : n + first_function counts (a ∷ rest) 0 ≡ n = omega arith in
+      let own = subst (λ k. AllZip (IsExportOf (module_of s) s.imports) (named_from k (own_names a)) (exported_functions_of a)) here (each 0 a refl) in
+      let more = exports-from (n + length (own_names a) + first_count counts) (counts_behind counts) rest (λ i b e.
+      let follows : n + first_function counts (a ∷ rest) (suc i) ≡ n + length (own_names a) + first_count counts + first_function (counts_behind counts) rest i = omega (arith, counted) in
+      subst (λ k. AllZip (IsExportOf (module_of s) s.imports) (named_from k (own_names b)) (exported_functions_of b)) follows (each (suc i) b e)) in
+      zip-behind (IsExportOf (module_of s) s.imports) _ _ _ _ own more
 
   -- The exports are the adapters' functions by their names, and behind them the callees of async ones.
   pub exports-are : AllZip (IsExportOf (module_of s) s.imports) (s.exports ++ s.callees) (exported adapters)
   exports-are =
       zip-behind (IsExportOf (module_of s) s.imports) s.exports (flat_map exported_functions_of adapters) s.callees (flat_map callee_of adapters)
-      (subst (λ es. AllZip (IsExportOf (module_of s) s.imports) es (flat_map exported_functions_of adapters)) (sym h.exports) (exports-from 0 0 adapters refl (λ i a e. let same : 0 + i ≡ i = omega arith in ap (slice_get adapters) same ∙ e)))
+      (subst (λ es. AllZip (IsExportOf (module_of s) s.imports) es (flat_map exported_functions_of adapters)) (sym h.exports) (exports-from 0 h.counts adapters (λ j a at.
+      let same : first_function h.counts adapters j ≡ 0 + first_function h.counts adapters j = omega arith in
+      subst (λ k. AllZip (IsExportOf (module_of s) s.imports) (named_from k (own_names a)) (exported_functions_of a)) same (own-exports j a at))))
       h.callees
 
 -- ---- numbers in range
@@ -164,15 +178,10 @@ module _ (s : ModuleSoFar) (count : imported_functions (module_of s) ≡ length 
       by true [] h rest = absurd h
       by true (e ∷ es) h rest = (imported-within funcs e.func _ h.0.1, rest es h.1)
 
-  both-within : (imports funcs : ℕ) (es fs : List WasmExport) → AreExportsNamed imports funcs es → AreExportsNamed imports funcs fs → AreExportsNamed imports funcs (es ++ fs)
-  both-within imports funcs [] fs h g = g
-  both-within imports funcs (e ∷ es) fs h g = (h.0, both-within imports funcs es fs h.1 g)
-
   -- each export names a function that is there
-  pub exports-within : (adapters : List LinkedAdapter) → s.exports ≡ numbered 0 adapters → AllZip (IsExportOf (module_of s) s.imports) s.callees (flat_map callee_of adapters) → length s.functions ≡ function_count adapters
+  pub exports-within : (counts : List ℕ) (adapters : List LinkedAdapter) → s.exports ≡ numbered 0 counts adapters → AllZip (IsExportOf (module_of s) s.imports) s.callees (flat_map callee_of adapters) → length s.functions ≡ function_count counts adapters
       → AreExportsNamed (imported_functions (module_of s)) (length s.functions) (s.exports ++ s.callees)
-  exports-within adapters own callees functions =
-      let counted = all-names-counted adapters in
-      both-within _ _ s.exports s.callees
-      (subst (AreExportsNamed (imported_functions (module_of s)) (length s.functions)) (sym own) (named-within _ _ 0 (flat_map own_names adapters) (omega (arith, counted, functions))))
+  exports-within counts adapters own callees functions =
+      exports-both _ _ s.exports s.callees
+      (subst (AreExportsNamed (imported_functions (module_of s)) (length s.functions)) (sym own) (numbered-within _ _ 0 counts adapters (omega (arith, functions))))
       (callees-within (length s.functions) s.callees adapters callees)

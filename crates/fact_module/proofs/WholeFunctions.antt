@@ -3,11 +3,12 @@
 use Rattle.std.proofs.Common.{◌≡◌, ◌≢◌, ℕ, zero, suc, ◌+◌, Bool, true, false, List, [], ◌∷◌, Option, Some, None, All, AllPairs, refl, sym, ap, ◌∙◌, subst, arith, slice_get}
 use Rattle.std.specs.Prelude.{cond, filter, is_some}
 use Rattle.std.proofs.lemmas.Bool.{true≢false}
-use Rattle.std.specs.List.{AllZip, flat_map}
+use Rattle.std.specs.List.{AllZip, Contains, flat_map}
 use Rattle.std.proofs.lemmas.Option.{get_or_from_slice_get, slice_get_within}
 use Rattle.fact_wasm.specs.declared.module.WasmImport.{WasmImport}
 use Rattle.fact_wasm.specs.declared.module.WasmFunc.{WasmFunc}
 use Rattle.fact_wasm.specs.declared.module.WasmModule.{WasmModule}
+use Rattle.fact_wasm.specs.declared.types.FuncType.{FuncType}
 use Rattle.fact_types.specs.Adapters.{LinkedAdapter, Side, is_async, is_crossing}
 use Rattle.fact_types.specs.Tables.{Tables}
 use Rattle.fact_types.specs.declared.import.Import.{Import}
@@ -24,6 +25,8 @@ use Rattle.fact_emit.specs.ImportSection.{Mention, Sort, a_function, a_global, a
 use Rattle.fact_emit.specs.Imports.{AreOnce, Extended, Serves, StandOnce}
 use Rattle.fact_emit.specs.Known.{AreKnown, AreUsedAlike}
 use Rattle.fact_emit.specs.KnownAdapters.{KnowsAdapter, KnowsSide}
+use Rattle.fact_emit.specs.Listed.{ListsMentions}
+use Rattle.fact_emit.specs.Options.{memory_place, number_if_any}
 use Rattle.fact_emit.specs.PlacesOf.{import_places}
 use Rattle.fact_emit.specs.States.{ModuleSoFar, module_of}
 use Rattle.fact_emit.proofs.AdapterKnown.{has_places, have_core_types, knows_adapter}
@@ -33,9 +36,10 @@ use Rattle.fact_emit.proofs.ListedLaws.{listed_even}
 use Rattle.fact_emit.proofs.Mentions.{in-mentions, of-a-kind}
 use Rattle.fact_emit.proofs.PlacesOfLaws.{are_import_places}
 use Rattle.fact_emit.proofs.ServingLaws.{serves_all, serves_sooner}
+use Rattle.fact_compound.specs.Asks.{IsLaterModule}
 use Rattle.fact_compound.specs.AsyncParts.{part_type}
 use Rattle.fact_compound.specs.Asyncs.{CompiledPart, IsPartFunction}
-use Rattle.fact_compound.specs.Described.{KnowsAdapterData, memory_place, number_if_any}
+use Rattle.fact_compound.specs.Described.{KnowsAdapterData}
 use Rattle.fact_compound.specs.Events.{AreSetTo}
 use Rattle.fact_compound.specs.Functions.{CompiledSync}
 use Rattle.fact_compound.specs.Placed.{AreOptionsOf, IsDataOf}
@@ -56,10 +60,10 @@ use Rattle.fact_promises.specs.Runs.{Behaves, OnlyTraps}
 use Rattle.fact_promises.proofs.Behaviour.{functions_behave}
 use Rattle.fact_promises.proofs.PartFunctions.{part_functions_transfer}
 use Rattle.fact_promises.proofs.Traps.{trap_functions_trap}
-use Rattle.fact_module.specs.Adding.{AsParts, AsSync, AsTrap, CompiledAs, HasSideData, own_functions}
-use Rattle.fact_module.specs.Holding.{HasAdded, Holds, first_function}
+use Rattle.fact_module.specs.Adding.{Adds, AsParts, AsSync, AsTrap, CompiledAs, Given, HasSideData, numbered_for, own_functions}
+use Rattle.fact_module.specs.Holding.{HasAdded, Holds, count_at, first_function}
 use Rattle.fact_module.specs.Links.{links_of, page_size_log2_of, side_links_of}
-use Rattle.fact_module.proofs.CompiledLaws.{callee-extended, compiled-extended, describes, describes-lower, describes-transfers, entry-extended, has-post-return, none-marked, not-awaited-sync, not-awaited-within, own_types, types-added}
+use Rattle.fact_module.proofs.CompiledLaws.{added-extended, callee-extended, describes, describes-lower, describes-transfers, entry-extended, has-post-return, helpers-extended, none-marked, not-awaited-sync, not-awaited-within, own_types, types-added}
 use Rattle.fact_module.proofs.PartLaws.{names_imports}
 use Rattle.fact_module.proofs.StartsOnce.{starts-once}
 use Rattle.fact_module.proofs.WholeExports.{all-at, in-flat}
@@ -120,7 +124,7 @@ some_there : (o : Option (Id Memories)) (n : ℕ) → number_if_any o ≡ Some n
 some_there None n e = cc
 some_there (Some m) n e = refl
 
-options_placed : (M : WasmModule) (p : ImportPlaces) (t : Tables) (s : Side) (d : AdapterOptions) → HasSideData t s d → KnowsSide M p s (side_links_of d) → AreOptionsOf s (side_links_of d) d
+options_placed : {cores : List FuncType} (M : WasmModule) (p : ImportPlaces) (t : Tables) (s : Side) (d : AdapterOptions) → HasSideData t cores s d → KnowsSide M p s (side_links_of d) → AreOptionsOf s (side_links_of d) d
 options_placed M p t s d h knows = record {
   instance = h.instance;
   flags = refl;
@@ -134,7 +138,7 @@ options_placed M p t s d h knows = record {
 
 -- ---- the module
 
-module _ (t : Tables) (u : AdapterTunables) (s : ModuleSoFar) (adapters : List LinkedAdapter) (tuples : ℕ → ℕ) (h : Holds t u s adapters tuples) (sound : All IsSoundAdapter adapters)
+module _ (t : Tables) (u : AdapterTunables) (given : Given) (s : ModuleSoFar) (adapters : List LinkedAdapter) (tuples : ℕ → ℕ) (h : Holds t u given s adapters tuples) (sound : All IsSoundAdapter adapters)
     (consistent : AreConsistent (flat_map uses_of adapters)) where
   abbrev all_mentions : List Mention
   all_mentions = flat_map adapter_mentions adapters
@@ -162,35 +166,47 @@ module _ (t : Tables) (u : AdapterTunables) (s : ModuleSoFar) (adapters : List L
   alike : AreUsedAlike all_mentions
   alike = mentions_alike adapters consistent
 
+  -- What an adapter names that was added to a module from which this one goes on stands in its places.
+  module _ {old new : ModuleSoFar} {before : List LinkedAdapter} (lists : ListsMentions old (mentions before) before) (a : LinkedAdapter) {tuple : ℕ} (adds : Adds t u given old new a tuple) (later : Extended new s) (sound_too : IsSoundAdapter a)
+      (inside : (m : Mention) → Contains (adapter_mentions a) m → Contains all_mentions m) where
+    pub knows_added : KnowsAdapter here places a (links_of adds.«data»)
+    knows_added = knows_adapter serves known_all alike old adds.linked (mentions before) a (links_of adds.«data») (record { named = lists.named; transcoders = lists.transcoders }) adds.links (extended_on (added-extended adds) later) inside
+
+    pub links_added : KnowsAdapterData here places adds.«data» a
+    links_added =
+        let w = sound_are_writable a sound_too in
+        let data_is : IsDataOf a (links_of adds.«data») adds.«data» = record {
+          lift = options_placed here places t a.lift adds.«data».lift adds.lift knows_added.lift;
+          lower = options_placed here places t a.lower adds.«data».lower adds.lower knows_added.lower;
+          callee = refl;
+          post_return = refl;
+          has_post_return = has-post-return adds;
+          transparent = adds.transparent;
+        } in
+        links_adapter here places a (links_of adds.«data») adds.«data» knows_added data_is sound_too.lift_core_type w.memories
+
   module _ (j : ℕ) (a : LinkedAdapter) (at : slice_get adapters j ≡ Some a) where
-    abbrev placed : HasAdded t u s a (first_function adapters j) (tuples j)
+    abbrev placed : HasAdded t u given s a (first_function h.counts adapters j) (count_at h.counts j) (tuples j)
     placed = h.placed j a at
 
     abbrev first : ℕ
-    first = first_function adapters j
+    first = first_function h.counts adapters j
 
     pub is_sound : IsSoundAdapter a
     is_sound = all-at IsSoundAdapter adapters sound j a at
 
-    linked_later : Extended placed.adds.linked s
-    linked_later = extended_on (compiled-extended placed.adds.compiled) placed.later
+    own_later : Extended placed.adds.own s
+    own_later = extended_on (helpers-extended placed.adds.helpers) placed.later
+
+    -- the whole module has the helpers that the adapter's functions ask for
+    helpers_later : IsLaterModule here places placed.new
+    helpers_later = record { serves = serves_sooner placed.later serves; types = placed.later.types; functions = placed.functions_later }
 
     pub knows : KnowsAdapter here places a (links_of placed.adds.«data»)
-    knows = knows_adapter serves known_all alike placed.old placed.adds.linked (mentions placed.before) a (links_of placed.adds.«data») (record { named = placed.lists.named; transcoders = placed.lists.transcoders }) placed.adds.links linked_later
-        (λ m c. in-flat adapter_mentions adapters j a m at c)
+    knows = knows_added placed.lists a placed.adds placed.later is_sound (λ m c. in-flat adapter_mentions adapters j a m at c)
 
     pub links : KnowsAdapterData here places placed.adds.«data» a
-    links =
-        let w = sound_are_writable a is_sound in
-        let data_is : IsDataOf a (links_of placed.adds.«data») placed.adds.«data» = record {
-          lift = options_placed here places t a.lift placed.adds.«data».lift placed.adds.lift knows.lift;
-          lower = options_placed here places t a.lower placed.adds.«data».lower placed.adds.lower knows.lower;
-          callee = refl;
-          post_return = refl;
-          has_post_return = has-post-return placed.adds;
-          transparent = placed.adds.transparent;
-        } in
-        links_adapter here places a (links_of placed.adds.«data») placed.adds.«data» knows data_is is_sound.lift_core_type w.memories
+    links = links_added placed.lists a placed.adds placed.later is_sound (λ m c. in-flat adapter_mentions adapters j a m at c)
 
     checked : is_crossing a ≡ true → IsCheckedAdapter places a
     checked crosses = sound_are_checked places a is_sound crosses (known_tell_memories here s a (links_of placed.adds.«data») (listed_even s (mentions adapters) adapters h.lists) knows)
@@ -201,13 +217,13 @@ module _ (t : Tables) (u : AdapterTunables) (s : ModuleSoFar) (adapters : List L
 
     -- ---- a sync one between two instances
 
-    pub sync_does : (sync : is_async a ≡ false) (c : CompiledSync t placed.adds.«data» u.debug u.concurrency u.exceptions placed.adds.linked placed.new) → Extended placed.new s → IsSyncFunction u a here places c.function
+    pub sync_does : (sync : is_async a ≡ false) (c : CompiledSync (λ M p. IsLaterModule M p placed.new) t placed.adds.«data» u.debug u.concurrency u.exceptions (numbered_for a placed.adds.linked) placed.adds.own) → Extended placed.adds.own s → IsSyncFunction u a here places c.function
     sync_does sync c later =
         let set_to : AreSetTo u.concurrency u.exceptions u = record { concurrency_is = refl; exceptions_are = refl } in
-        c.writes.is u a (describes placed.adds is_sound sync) set_to here places (serves_sooner later serves) links
+        c.writes.is u a (describes placed.adds is_sound sync) set_to here places (serves_sooner later serves) helpers_later links
 
     -- The adapter's function stands there, and it behaves.
-    sync_behaves : (crosses : is_crossing a ≡ true) (sync : is_async a ≡ false) (c : CompiledSync t placed.adds.«data» u.debug u.concurrency u.exceptions placed.adds.linked placed.new) → Extended placed.new s
+    sync_behaves : (crosses : is_crossing a ≡ true) (sync : is_async a ≡ false) (c : CompiledSync (λ M p. IsLaterModule M p placed.new) t placed.adds.«data» u.debug u.concurrency u.exceptions (numbered_for a placed.adds.linked) placed.adds.own) → Extended placed.adds.own s
         → slice_get s.functions first ≡ Some c.function → slice_get s.types c.function.ty ≡ Some (lower_type_of a) → IsAdapterFunction here s.imports u a adapters first
     sync_behaves crosses sync c later there type_is = record {
       function = c.function;
@@ -224,10 +240,10 @@ module _ (t : Tables) (u : AdapterTunables) (s : ModuleSoFar) (adapters : List L
 
     -- ---- one within one instance
 
-    pub trap_does : (c : CompiledSameInstance t placed.adds.«data» placed.adds.linked placed.new) → IsSameInstanceFunction a here places c.function
-    trap_does c = c.is a (describes-lower placed.adds) here places (serves_sooner placed.later serves)
+    pub trap_does : (c : CompiledSameInstance t placed.adds.«data» (numbered_for a placed.adds.linked) placed.adds.own) → IsSameInstanceFunction a here places c.function
+    trap_does c = c.is a (describes-lower placed.adds) here places (serves_sooner own_later serves)
 
-    traps_only : (c : CompiledSameInstance t placed.adds.«data» placed.adds.linked placed.new) → slice_get s.functions first ≡ Some c.function → slice_get s.types c.function.ty ≡ Some (lower_type_of a)
+    traps_only : (c : CompiledSameInstance t placed.adds.«data» (numbered_for a placed.adds.linked) placed.adds.own) → slice_get s.functions first ≡ Some c.function → slice_get s.types c.function.ty ≡ Some (lower_type_of a)
         → IsTrapFunction here s.imports a adapters first
     traps_only c there type_is = record {
       function = c.function;
@@ -240,10 +256,10 @@ module _ (t : Tables) (u : AdapterTunables) (s : ModuleSoFar) (adapters : List L
 
     -- ---- an async one between two instances
 
-    pub part_does : (x : AsyncPart) {old new : ModuleSoFar} (c : CompiledPart t placed.adds.«data» u.debug u.concurrency x old new) → Extended new s → IsPartFunction x u a here places c.function
-    part_does x c later = c.is u a (describes-transfers placed.adds is_sound) refl here places (serves_sooner later serves) links
+    pub part_does : (x : AsyncPart) {old new : ModuleSoFar} (c : CompiledPart (λ M p. IsLaterModule M p placed.new) t placed.adds.«data» u.debug u.concurrency x old new) → Extended new s → IsPartFunction x u a here places c.function
+    part_does x c later = c.is u a (describes-transfers placed.adds is_sound) refl here places (serves_sooner later serves) helpers_later links
 
-    part_transfers : (x : AsyncPart) {old new : ModuleSoFar} (crosses : is_crossing a ≡ true) (c : CompiledPart t placed.adds.«data» u.debug u.concurrency x old new) → Extended new s
+    part_transfers : (x : AsyncPart) {old new : ModuleSoFar} (crosses : is_crossing a ≡ true) (c : CompiledPart (λ M p. IsLaterModule M p placed.new) t placed.adds.«data» u.debug u.concurrency x old new) → Extended new s
         → (k : ℕ) → slice_get s.functions k ≡ Some c.function → slice_get s.types c.function.ty ≡ Some (part_type x a) → IsPartFunctionOf x here s.imports u a adapters k
     part_transfers x crosses c later k there type_is = record {
       function = c.function;
@@ -262,16 +278,16 @@ module _ (t : Tables) (u : AdapterTunables) (s : ModuleSoFar) (adapters : List L
     pub function_behaves : is_crossing a ≡ true → is_async a ≡ false → Behaves here s.imports u a first
     function_behaves crosses sync = by placed.adds.compiled (λ f e. subst (λ n. slice_get s.functions n ≡ Some f) (omega arith) (placed.functions_there 0 f e)) types
       where
-        by : (c : CompiledAs t placed.adds.«data» u a placed.adds.linked placed.new) → ((f : WasmFunc) → slice_get (own_functions c) 0 ≡ Some f → slice_get s.functions first ≡ Some f)
+        by : (c : CompiledAs placed.new t placed.adds.«data» u a (numbered_for a placed.adds.linked) placed.adds.own) → ((f : WasmFunc) → slice_get (own_functions c) 0 ≡ Some f → slice_get s.functions first ≡ Some f)
             → AllZip (λ (f : WasmFunc) ty. slice_get s.types f.ty ≡ Some ty) (own_functions c) (own_types c) → Behaves here s.imports u a first
         by (AsTrap within c) there typed = absurd (true≢false (sym crosses ∙ within))
-        by (AsSync crosses_too sync_too c) there typed = functions_behave here s.imports u a adapters first (sync_behaves crosses sync c placed.later (there c.function refl) typed.0)
+        by (AsSync crosses_too sync_too c) there typed = functions_behave here s.imports u a adapters first (sync_behaves crosses sync c own_later (there c.function refl) typed.0)
         by (AsParts awaited c) there typed = absurd (true≢false (sym awaited ∙ not-awaited-sync a sync))
 
     pub function_only_traps : is_crossing a ≡ false → OnlyTraps here s.imports a first
     function_only_traps within = by placed.adds.compiled (λ f e. subst (λ n. slice_get s.functions n ≡ Some f) (omega arith) (placed.functions_there 0 f e)) types
       where
-        by : (c : CompiledAs t placed.adds.«data» u a placed.adds.linked placed.new) → ((f : WasmFunc) → slice_get (own_functions c) 0 ≡ Some f → slice_get s.functions first ≡ Some f)
+        by : (c : CompiledAs placed.new t placed.adds.«data» u a (numbered_for a placed.adds.linked) placed.adds.own) → ((f : WasmFunc) → slice_get (own_functions c) 0 ≡ Some f → slice_get s.functions first ≡ Some f)
             → AllZip (λ (f : WasmFunc) ty. slice_get s.types f.ty ≡ Some ty) (own_functions c) (own_types c) → OnlyTraps here s.imports a first
         by (AsTrap within_too c) there typed = trap_functions_trap here s.imports a adapters first (traps_only c (there c.function refl) typed.0)
         by (AsSync crosses sync c) there typed = absurd (true≢false (sym crosses ∙ within))
@@ -288,14 +304,14 @@ module _ (t : Tables) (u : AdapterTunables) (s : ModuleSoFar) (adapters : List L
         crosses : is_crossing a ≡ true
         crosses = and_right (is_async a) (is_crossing a) awaited
 
-        by : (c : CompiledAs t placed.adds.«data» u a placed.adds.linked placed.new) → ((i : ℕ) (f : WasmFunc) → slice_get (own_functions c) i ≡ Some f → slice_get s.functions (first + i) ≡ Some f)
+        by : (c : CompiledAs placed.new t placed.adds.«data» u a (numbered_for a placed.adds.linked) placed.adds.own) → ((i : ℕ) (f : WasmFunc) → slice_get (own_functions c) i ≡ Some f → slice_get s.functions (first + i) ≡ Some f)
             → AllZip (λ (f : WasmFunc) ty. slice_get s.types f.ty ≡ Some ty) (own_functions c) (own_types c) → (x : AsyncPart) → Transfers x here s.imports u a (part_at x)
         by (AsTrap within c) there typed x = absurd (true≢false (sym awaited ∙ not-awaited-within a within))
         by (AsSync crosses_too sync c) there typed x = absurd (true≢false (sym awaited ∙ not-awaited-sync a sync))
         by (AsParts awaited_too c) there typed part.Start =
-            let returned = extended_on (entry-extended c.entry) (extended_on (callee-extended c) placed.later) in
+            let returned = extended_on (entry-extended c.entry) (extended_on (callee-extended c) own_later) in
             let started = extended_on c.return.puts.imports returned in
             part_functions_transfer part.Start here s.imports u a adapters (first + 0) (part_transfers part.Start crosses c.start started (first + 0) (there 0 c.start.function refl) typed.0)
         by (AsParts awaited_too c) there typed part.Return =
-            let returned = extended_on (entry-extended c.entry) (extended_on (callee-extended c) placed.later) in
+            let returned = extended_on (entry-extended c.entry) (extended_on (callee-extended c) own_later) in
             part_functions_transfer part.Return here s.imports u a adapters (first + 1) (part_transfers part.Return crosses c.return returned (first + 1) (there 1 c.return.function refl) typed.1.0)

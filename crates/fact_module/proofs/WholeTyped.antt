@@ -29,6 +29,7 @@ use Rattle.fact_emit.specs.ImportSection.{AreNamed, Callback, Callee as CalleeRo
 use Rattle.fact_emit.specs.States.{ModuleSoFar, module_of}
 use Rattle.fact_emit.proofs.Mentions.{in-mentions}
 use Rattle.fact_forms.specs.Sound.{HasUsualPages, IsSoundAdapter}
+use Rattle.fact_module.specs.Adding.{Given}
 use Rattle.fact_module.specs.Exports.{Callee, Exported, IsExportOf, Own, defined_type, exported, type_of_function}
 use Rattle.fact_module.specs.Holding.{Holds}
 use Rattle.fact_module.proofs.NameLaws.{named-once, times, times-here}
@@ -216,13 +217,13 @@ pub record HasTypedFunction (M : WasmModule) (f : WasmFunc) : Type 0 where
   pub type_is : slice_get M.types f.ty ≡ Some ty
   pub typed : is_typed_function M f ≡ true
 
-module _ (t : Tables) (u : AdapterTunables) (s : ModuleSoFar) (adapters : List LinkedAdapter) (tuples : ℕ → ℕ) (h : Holds t u s adapters tuples) (sound : All IsSoundAdapter adapters)
+module _ (t : Tables) (u : AdapterTunables) (given : Given) (s : ModuleSoFar) (adapters : List LinkedAdapter) (tuples : ℕ → ℕ) (h : Holds t u given s adapters tuples) (sound : All IsSoundAdapter adapters)
     (distinct : AllPairs (λ x y. x ≢ y) (flat_map export_names adapters)) (each : (k : ℕ) (f : WasmFunc) → slice_get s.functions k ≡ Some f → HasTypedFunction (module_of s) f) where
   pub typed-module : typed_module (module_of s) ≡ true
   typed-module =
       let M = module_of s in
       let imports : list_all (is_typed_import M) s.section ≡ true = typed-imports M (mentions adapters) (usual-mentions adapters sound) [] s.section s.imports h.lists.named in
-      let exports : list_all (is_typed_export M) (s.exports ++ s.callees) ≡ true = typed-exports M s.imports imports (s.exports ++ s.callees) (exported adapters) (exports-are t u s adapters tuples h sound) in
-      let names : are_distinct (s.exports ++ s.callees) ≡ true = distinct-names (s.exports ++ s.callees) (named-once M s.imports s.exports s.callees adapters distinct h.exports h.callees) in
+      let exports : list_all (is_typed_export M) (s.exports ++ s.callees) ≡ true = typed-exports M s.imports imports (s.exports ++ s.callees) (exported adapters) (exports-are t u given s adapters tuples h sound) in
+      let names : are_distinct (s.exports ++ s.callees) ≡ true = distinct-names (s.exports ++ s.callees) (named-once M s.imports s.exports s.callees h.counts adapters distinct h.exports h.callees) in
       let functions : list_all (is_typed_function M) s.functions ≡ true = each-passes (is_typed_function M) s.functions (λ k f e. (each k f e).typed) in
       both imports (both exports (both names functions))

@@ -18,9 +18,10 @@ use Rattle.fact_module.specs.declared.taken.TakenAdapter.{TakenAdapter}
 use Rattle.fact_emit.specs.States.{ModuleSoFar}
 use Rattle.fact_compound.specs.Entries.{tuple_of_results}
 use Rattle.fact_forms.specs.Sound.{IsSoundAdapter}
+use Rattle.fact_module.specs.Adding.{Given}
 use Rattle.fact_module.specs.Exports.{exported_as}
 use Rattle.fact_module.specs.Faithful.{Promised, adapter_tunables}
-use Rattle.fact_module.specs.Holding.{Holds}
+use Rattle.fact_module.specs.Holding.{HasNoSharedMemory, HoldTypesOnce, Holds}
 
 -- ---- a module
 
@@ -96,14 +97,20 @@ pub record KeepsPromises (c : Collected) : Type 0 where
 
 -- ---- what holds of it at all times
 
+-- what functions are compiled by besides the tunables of actions
+abbrev pub given_of : Builder → Tunables → Given
+given_of b tunables = record { fuel = tunables.fuel; cores = b.module_types }
+
 -- The checks and the parts of the module are those of these adapters.
 pub record IsStateOf (c : Collected) (checks : Checks) (s : ModuleSoFar) (adapters : List LinkedAdapter) : Type 0 where
   pub checked : AreChecked checks adapters
-  pub holds : Holds c.builder.tables (adapter_tunables c.tunables c.features) s adapters (result_tuple_of c)
+  pub holds : Holds c.builder.tables (adapter_tunables c.tunables c.features) (given_of c.builder c.tunables) s adapters (result_tuple_of c)
   pub sound : All IsSoundAdapter adapters
+  pub unshared : All HasNoSharedMemory adapters
 
 pub record IsMade (c : Collected) (checks : Checks) (s : ModuleSoFar) : Type 0 where
   pub builder : checks.builder ≡ c.builder
   pub concurrency : checks.concurrency ≡ c.tunables.concurrency_support
+  pub once : HoldTypesOnce c.builder.tables c.builder.module_types
   pub some : (adapters : List LinkedAdapter) × AreTaken c adapters
   pub covers : c.whole ≡ true → (adapters : List LinkedAdapter) → AreTaken c adapters → IsStateOf c checks s adapters

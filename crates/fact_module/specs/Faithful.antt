@@ -16,6 +16,7 @@ use Rattle.fact_promises.specs.AsyncRuns.{HandsOver, Transfers}
 use Rattle.fact_promises.specs.Runs.{Behaves, OnlyTraps}
 use Rattle.fact_module.specs.Exports.{IsExportOf, exported, exported_as}
 use Rattle.fact_module.specs.Order.{IsOrdered}
+use Rattle.fact_module.specs.Outlines.{IsOutlined}
 use Rattle.fact_emit.specs.declared.tunables.Tunables.{Tunables}
 use Rattle.fact_emit.specs.declared.tunables.WasmFeatures.{WasmFeatures}
 
@@ -43,4 +44,5 @@ pub record Faithful (m : WasmModule) (is : List Import) (u : AdapterTunables) (a
 pub record Promised (m : WasmModule) (is : List Import) (tunables : Tunables) (features : WasmFeatures) (adapters : List LinkedAdapter) (tuples : ℕ → ℕ) : Type 0 where
   pub faithful : Faithful m is (adapter_tunables tunables features) adapters tuples
   pub order : IsOrdered m is adapters
+  pub outlined : IsOutlined m tunables.fuel adapters
   pub typed : typed_module m ≡ true

@@ -4,8 +4,9 @@ use Rattle.std.specs.Prelude.{◌≡◌, List, [], ◌++◌}
 use Rattle.std.specs.List.{filter_map, flat_map}
 use Rattle.fact_types.specs.Adapters.{LinkedAdapter}
 use Rattle.fact_types.specs.declared.import.Import.{Import}
+use Rattle.fact_emit.specs.NamedFunctions.{defined_place}
 use Rattle.fact_emit.specs.States.{ModuleSoFar, functions_of}
-use Rattle.fact_module.specs.Order.{AreParts, ModulePart, defined_place, functions_in, items, items_in, own_places}
+use Rattle.fact_module.specs.Order.{AreParts, ModulePart, functions_in, items, items_in, own_places}
 
 -- Its imports and functions stand adapter by adapter, also where more functions are imported behind its own.
 pub record IsInParts (s : ModuleSoFar) (more : List Import) (adapters : List LinkedAdapter) : Type 0 where

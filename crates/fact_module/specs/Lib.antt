@@ -10,6 +10,7 @@ pub mod Holding
 pub mod InParts
 pub mod Links
 pub mod Order
+pub mod Outlines
 pub mod Taking
 pub mod Typed
 pub mod WorkedPlans

@@ -9,12 +9,12 @@ use Rattle.fact_builder.specs.Builder.{Builder}
 use Rattle.fact_checks.specs.Linked.{IsLinked}
 use Rattle.fact_checks.specs.declared.adapter.AdapterOptionsDfg.{AdapterOptionsDfg}
 use Rattle.fact_checks.specs.declared.sides.Candidate.{Candidate}
-use Rattle.fact_compound.specs.Described.{number_if_any}
 use Rattle.fact_compound.specs.declared.adapters.AdapterData.{AdapterData}
 use Rattle.fact_compound.specs.declared.adapters.AdapterOptions.{AdapterOptions}
 use Rattle.fact_emit.specs.AdapterLinks.{AdapterLinks, SideLinks}
 use Rattle.fact_emit.specs.ImportSection.{Mention, adapter_mentions}
 use Rattle.fact_emit.specs.Known.{AreKnown, AreUsedAlike}
+use Rattle.fact_emit.specs.Options.{number_if_any}
 use Rattle.fact_emit.specs.States.{ModuleSoFar}
 
 -- where the module has what a side names

@@ -1,8 +1,7 @@
 -- The order in which the imports and the functions of a module stand: adapter by adapter.
-use Rattle.std.specs.Prelude.{◌≡◌, ℕ, suc, ◌+◌, Bool, true, false, not, nat_le, List, [], ◌∷◌, ◌++◌, Option, Some, None, filter, length, map, slice_get, if◌then◌else◌}
+use Rattle.std.specs.Prelude.{◌≡◌, ℕ, suc, ◌+◌, Bool, true, false, not, nat_le, List, [], ◌∷◌, ◌++◌, Option, Some, filter, length, map, slice_get, if◌then◌else◌}
 use Rattle.std.specs.List.{flat_map, filter_map, range_with_len}
 use Rattle.fact_wasm.specs.declared.instr.FuncName.{FuncName}
-use Rattle.fact_wasm.specs.declared.instr.FuncName.TheVariants as func
 use Rattle.fact_wasm.specs.declared.module.WasmFunc.{WasmFunc}
 use Rattle.fact_wasm.specs.declared.module.WasmImport.{WasmImport}
 use Rattle.fact_wasm.specs.declared.module.WasmModule.{WasmModule}
@@ -12,17 +11,13 @@ use Rattle.fact_types.specs.declared.import.Import.{Import}
 use Rattle.fact_types.specs.declared.import.Import.TheVariants as known
 use Rattle.fact_module.specs.Exports.{exported_functions_of}
 use Rattle.fact_emit.specs.ImportSection.{Mention, a_function, adapter_mentions, imports_of, is_of, with_mentions}
-use Rattle.fact_emit.specs.NamedFunctions.{all_added_once, functions_named, imported_place}
+use Rattle.fact_emit.specs.NamedFunctions.{all_added_once, defined_place, functions_named, imported_place}
 
 -- ---- what code names
 
 -- the functions that a body names, front to back
 abbrev pub names : WasmFunc → List FuncName
 names f = functions_named f.body
-
-abbrev pub defined_place : FuncName → Option ℕ
-defined_place (func.Import k) = None
-defined_place (func.Defined k) = Some k
 
 abbrev pub is_definition : Option Import → Bool
 is_definition (Some (known.CoreDef d)) = true

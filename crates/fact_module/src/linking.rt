@@ -1,16 +1,17 @@
 //! The imports of what an adapter names, and the data that its code is written by.
 
-ghost use Rattle.std.specs.Prelude.{◌≡◌, ◌<◌, ℕ, IfOk, IfSome, Some, length};
+ghost use Rattle.std.specs.Prelude.{◌≡◌, ◌<◌, ℕ, IfOk, IfSome, OnOk, Some, length};
 ghost use Rattle.fact_entity.specs.declared.id.Id as id;
 ghost use Rattle.fact_types.specs.Adapters.{LinkedAdapter, Side, is_wide};
 ghost use Rattle.fact_emit.specs.AdapterLinks.{IsAdapterLinked, IsLinkedIfAny, IsMemoryLinked, IsSideLinked};
 ghost use Rattle.fact_emit.specs.ImportSection.{Callback, PostReturn, Realloc};
 ghost use Rattle.fact_emit.specs.Imports.{Extended};
+ghost use Rattle.fact_emit.specs.Options.{number_if_any};
 ghost use Rattle.fact_emit.specs.Requests.{IsReallocImported};
 ghost use Rattle.fact_emit.specs.States.{functions_of, memories_of};
 ghost use Rattle.fact_emit.specs.StringPieces.{IsMemoryImported};
 ghost use Rattle.fact_checks.specs.Linked.{IsLinked};
-ghost use Rattle.fact_compound.specs.Described.{AreOptionsImported, linear_of, number_if_any};
+ghost use Rattle.fact_compound.specs.Described.{AreOptionsImported, linear_of};
 ghost use Rattle.fact_module.specs.Links.{CanBeLinked, IsDataOfCandidate, IsDataOfSide, NamesOf, links_of, page_size_log2_of, side_links_of};
 
 use fact_builder::ComponentTypesBuilder;
@@ -152,6 +153,7 @@ pub fn link_adapter(
     ensures options { IfOk result (λ d. AreOptionsImported d sections.new) }
     ensures post_return { IfOk result (λ d. IfSome d.lift.post_return (λ (f : id.Id _). f.number < length (functions_of sections.new))) }
     ensures described { IfOk result (λ d. IsDataOfCandidate candidate.now d) }
+    ensures keeps { OnOk result (Extended sections.old sections.new) }
 {
     let adapter = candidate.adapter;
     let core_type = &builder[adapter.lift_options.core_type];

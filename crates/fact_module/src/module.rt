@@ -7,9 +7,10 @@ ghost use Rattle.fact_plan_types.specs.PlanTypes.{told};
 ghost use Rattle.fact_plan_types.specs.declared.error.Place.TheVariants as place_at;
 ghost use Rattle.fact_checks.specs.Linked.{IsLinked, NamesTypesOf};
 ghost use Rattle.fact_module.specs.Adapted.{IsFaultlessFor, IsFirst, OfAdapter};
-ghost use Rattle.fact_module.specs.Collected.{AreTaken, Extends, HasTaken, KeepsSettings, KeepsPromises, no_tree, result_tuple_of, taken_of};
+ghost use Rattle.fact_module.specs.Collected.{AreTaken, Extends, HasTaken, KeepsSettings, KeepsPromises, given_of, no_tree, result_tuple_of, taken_of};
 ghost use Rattle.fact_types.specs.Adapters.{LinkedAdapter};
 ghost use Rattle.fact_compound.specs.Entries.{tuple_of_results};
+ghost use Rattle.fact_compound.specs.Helpers.{HelpersAreThere};
 ghost use Rattle.fact_forms.specs.Sound.{HasValidSides};
 ghost use Rattle.fact_module.specs.Adding.{Adds};
 ghost use Rattle.fact_module.specs.Faithful.{Promised, adapter_tunables};
@@ -93,7 +94,9 @@ fn is_memory(error: FuseError) -> bool
 fn add_adapter(state: &mut ModuleState<'_>, candidate: &Candidate<'_>) -> Result<(), OutOfMemory>
     requires typed { NamesTypesOf state.old.builder.now candidate.now.adapter.now }
     requires linkable { CanBeLinked state.old.builder.now candidate.now state.old.sections }
-    ensures added { OnOk result ((a : LinkedAdapter) → IsLinked state.old.builder.now candidate.now a → Adds state.old.builder.now.tables (adapter_tunables state.old.tunables.now state.old.features) state.old.sections state.new.sections a (tuple_of_results state.old.builder.now.tables candidate.now.adapter.now.lift_ty)) }
+    requires linked { (a : LinkedAdapter) × IsLinked state.old.builder.now candidate.now a }
+    requires helpers { HelpersAreThere state.old.builder.now.tables state.old.tunables.now.debug_adapter_modules state.old.tunables.now.concurrency_support state.old.tunables.now.fuel state.old.sections }
+    ensures added { OnOk result ((a : LinkedAdapter) → IsLinked state.old.builder.now candidate.now a → Adds state.old.builder.now.tables (adapter_tunables state.old.tunables.now state.old.features) (given_of state.old.builder.now state.old.tunables.now) state.old.sections state.new.sections a (tuple_of_results state.old.builder.now.tables candidate.now.adapter.now.lift_ty)) }
     ensures keeps { OnlySectionsChanged state.old state.new }
 {
     let linked = link_adapter(&mut state.sections, state.builder, candidate)?;
@@ -130,8 +133,10 @@ fn emit(
 ) -> Result<(), OutOfMemory>
     requires typed { NamesTypesOf state.old.builder.now candidate.now.adapter.now }
     requires linkable { CanBeLinked state.old.builder.now candidate.now state.old.sections }
+    requires linked { (a : LinkedAdapter) × IsLinked state.old.builder.now candidate.now a }
+    requires helpers { HelpersAreThere state.old.builder.now.tables state.old.tunables.now.debug_adapter_modules state.old.tunables.now.concurrency_support state.old.tunables.now.fuel state.old.sections }
     ensures taken { OnOk result (taken.new.items ≡ taken.old.items ++ taken_of candidate.now ∷ []) }
-    ensures emitted { OnOk result ((a : LinkedAdapter) → IsLinked state.old.builder.now candidate.now a → Adds state.old.builder.now.tables (adapter_tunables state.old.tunables.now state.old.features) state.old.sections state.new.sections a (tuple_of_results state.old.builder.now.tables candidate.now.adapter.now.lift_ty)) }
+    ensures emitted { OnOk result ((a : LinkedAdapter) → IsLinked state.old.builder.now candidate.now a → Adds state.old.builder.now.tables (adapter_tunables state.old.tunables.now state.old.features) (given_of state.old.builder.now state.old.tunables.now) state.old.sections state.new.sections a (tuple_of_results state.old.builder.now.tables candidate.now.adapter.now.lift_ty)) }
     ensures keeps { OnlySectionsChanged state.old state.new }
     ensures refused { OnErr result (taken.new.items ≡ taken.old.items) }
 {
@@ -150,6 +155,7 @@ impl<'a> Module<'a> {
         requires fuel { 1 ≤ tunables.now.fuel }
         ensures { result ≡ record { builder = types.now; tunables = tunables.now; features = features; taken = []; tree = no_tree; imports = []; whole = true } }
     {
+        types.reveal();
         Module {
             alloc,
             types: FunctionTypes::new(alloc, types),

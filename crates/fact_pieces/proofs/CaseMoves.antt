@@ -164,14 +164,14 @@ module _ (S : Setting) (used : ℕ → Bool) (from : From) (to : To) (n : Number
 
     -- A case with a payload: its number, the payload, and zeros.
     pub moves_some_case : {act : Source → Target → Action (List CoreValue)} {payload : List Instr} → FromUsed used from → IsApartAt room_count (to_past 1 to) → MayZero S.locals rest_to
-        → Moves S tagged 0 500 (from_part count 1 bytes from) payload_to act payload
+        → Moves S tagged 0 100 (from_part count 1 bytes from) payload_to act payload
         → Moves S used 300 0 from to (λ s d. write_number S.to (size_of n) d k >>= (λ tag. act (source_part count 1 bytes s) (target_spot room_count room (target_past 1 d)) >>= (λ vs. Give (padded d (tag ++ vs))))) (tag_code n k to ++ (payload ++ zero_code rest_to))
     moves_some_case {act} {payload} fu apart' z m = record {
       effect = λ ls s d e st g rooms.
           within {spare = 0} (omega arith) (tag_then {spare = 0} ls s d e st g rooms (λ tag ls1 keeps stood g1.
           let tu1 : ToUsed tagged (to_past 1 to) = spot_used used tagged 1 to (to_more used (to_spot 1 0 to)) tu in
           let rooms1 = rooms_spot room_count room (from_part count 1 bytes from) (to_past 1 to) (rooms_part count 1 bytes from (to_past 1 to) (rooms_past 1 from to (rooms_kept keeps from to fu tu rooms))) in
-          within {spare = 500} (omega arith) (in_turn {spare = 500} {spare' = 0}
+          within {spare = 100} (omega arith) (in_turn {spare = 100} {spare' = 0}
           (m.effect ls1 (source_part count 1 bytes s) (target_spot room_count room (target_past 1 d)) (keeps.types ∙ e) (stands_part S.from64 ls1 count 1 bytes from s (stands_kept keeps S.from64 from s fu st)) (goes_spot S.to64 tagged ls1 room_count room (to_past 1 to) (target_past 1 d) g1) rooms1)
           (λ vs ls2 r.
           let g2 = goes_past S.to64 tagged ls2 room_count room (to_past 1 to) (target_past 1 d) apart' (goes_kept r.1 S.to64 (to_past 1 to) (target_past 1 d) tu1 g1) in

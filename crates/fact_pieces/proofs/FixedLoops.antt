@@ -62,7 +62,7 @@ pub record IsFixedMove (S : Setting) (used : ℕ → Bool) (l : FixedMove) (elem
   pub used2 : used l.base2 ≡ true
   pub room1 : l.offset1 + l.count * l.size1 ≤ S.rooms.from
   pub room2 : l.offset2 + l.count * l.size2 ≤ S.rooms.to
-  pub element_moves : Moves (element_setting S l.size1 l.size2) (with_fixed used l) 0 500 (InMemory l.memory1 l.source 0) (ToMemory l.memory2 l.target 0) element code
+  pub element_moves : Moves (element_setting S l.size1 l.size2) (with_fixed used l) 0 100 (InMemory l.memory1 l.source 0) (ToMemory l.memory2 l.target 0) element code
 
 -- ---- addresses
 
@@ -131,7 +131,7 @@ module _ {S : Setting} {used : ℕ → Bool} {l : FixedMove} {element : Source �
   inner_left = local_here (with_local (with_local used l.source) l.target) l.left
 
   fixed_turned : (i : ℕ) (ls : Locals) → suc i ≤ l.count → FixedTurn i ls
-      → Does S.whole S.places Onward 8 500 [] ls (fixed_turn S.from64 S.to64 l code) (element (AtAddress (a + i * l.size1)) (Into (b + i * l.size2))) (λ vs. []) (λ vs ls'. IsTurned l.left l.count FixedTurn i vs ls')
+      → Does S.whole S.places Onward 8 100 [] ls (fixed_turn S.from64 S.to64 l code) (element (AtAddress (a + i * l.size1)) (Into (b + i * l.size2))) (λ vs. []) (λ vs ls'. IsTurned l.left l.count FixedTurn i vs ls')
   unfolding inner
   fixed_turned i ls lt t =
       let types : held_types ls ≡ S.locals = t.keeps.types ∙ e in

@@ -68,7 +68,7 @@ module _ (flats1 size1 flats2 size2 : ℕ) (element : Source → Target → Acti
 
     -- an element, and then the others, while the locals of its destination are in use
     pub moves_element : {to : To} (i n : ℕ) {code1 code2 : List Instr} → FromUsed used from → ToUsed used to → IsApartAt flats2 to
-        → Moves S used 0 500 (from_part flats1 (i * flats1) (i * size1) from) (to_spot flats2 (i * size2) to) element code1
+        → Moves S used 0 100 (from_part flats1 (i * flats1) (i * size1) from) (to_spot flats2 (i * size2) to) element code1
         → Moves S (with_to used (to_spot flats2 (i * size2) to)) 0 0 from (to_past flats2 to) (λ s d. rest (suc i) n s d) code2
         → Moves S used 0 0 from to (λ s d. rest i (suc n) s d) (code1 ++ code2)
     moves_element i n fu tu apart one two =

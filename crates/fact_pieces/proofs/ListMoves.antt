@@ -92,7 +92,7 @@ pub record IsListMove (S : Setting) (used inner used1 used2 : ℕ → Bool) (l :
   pub used1_number : used1 (l.temp 1) ≡ true
   pub stays : (ls ls' : Locals) (vs : List CoreValue) → KeepsLocals used2 ls ls' → Stood ls l.pointer2 vs → Stood ls' l.pointer2 vs
   pub element_does : (ls : Locals) (a b : ℕ) → held_types ls ≡ S.locals → slice_get ls (l.temp 6) ≡ Some (Some (address_operand S.from64 a)) → slice_get ls (l.temp 7) ≡ Some (Some (address_operand S.to64 b)) → a + l.size1 ≤ 2 ^ address_bits S.from64 → b + l.size2 ≤ 2 ^ address_bits S.to64
-      → Does S.whole S.places Onward 0 500 [] ls l.code (l.element (AtAddress a) (Into b)) (λ vs. []) (λ vs ls'. KeepsLocals inner ls ls')
+      → Does S.whole S.places Onward 0 100 [] ls l.code (l.element (AtAddress a) (Into b)) (λ vs. []) (λ vs ls'. KeepsLocals inner ls ls')
 
 abbrev pub pair_code : Setting → ListMove → List Instr
 pair_code S l = put_code S.to64 (l.temp 3) l.pointer2 ++ put_code S.to64 (l.temp 1) l.length2

@@ -170,7 +170,7 @@ module _ (S : Setting) (used : ℕ → Bool) (b : ListPlaces) (ms ns : Members) 
     pub to_typed2 : ToTyped S.locals S.to64 (second_to (size_of (pointer S.to64)) b.to)
     pub apart : IsApart (b.temp 1) b.to
     pub element_does : (ls : Locals) (x y : ℕ) → held_types ls ≡ S.locals → slice_get ls (b.temp 6) ≡ Some (Some (address_operand S.from64 x)) → slice_get ls (b.temp 7) ≡ Some (Some (address_operand S.to64 y)) → x + (entry_extent S.from ms).size ≤ 2 ^ address_bits S.from64 → y + (entry_extent S.to ns).size ≤ 2 ^ address_bits S.to64
-        → Does S.whole S.places Onward 0 500 [] ls code (element (AtAddress x) (Into y)) (λ vs. []) (λ vs ls'. KeepsLocals (with_temps used b.temp 10) ls ls')
+        → Does S.whole S.places Onward 0 100 [] ls code (element (AtAddress x) (Into y)) (λ vs. []) (λ vs ls'. KeepsLocals (with_temps used b.temp 10) ls ls')
     pub element_typed : IsTyped S.whole S.locals [] code [] (OnStack [])
 
   module _ (h : IsList) where

@@ -56,7 +56,7 @@ module _ {M : WasmModule} {p : ImportPlaces} {locals : List ValType} {used inner
     {length1 length2 : ℕ} (fits1 : from + n * e1 ≤ length1) (fits2 : to + n * e2 ≤ length2) (is1 : IsLength w1 length1) (is2 : IsLength w2 length2)
     {code : List Instr} (element : Source → Target → Action (List CoreValue))
     (element_does : (ls : Locals) (a b : ℕ) → held_types ls ≡ locals → slice_get ls (temp 6) ≡ Some (Some (address_operand w1 a)) → slice_get ls (temp 7) ≡ Some (Some (address_operand w2 b)) → a + e1 ≤ 2 ^ address_bits w1 → b + e2 ≤ 2 ^ address_bits w2
-    → Does M p Onward 0 500 [] ls code (element (AtAddress a) (Into b)) (λ vs. []) (λ vs ls'. KeepsLocals inner ls ls')) where
+    → Does M p Onward 0 100 [] ls code (element (AtAddress a) (Into b)) (λ vs. []) (λ vs ls'. KeepsLocals inner ls ls')) where
   apart : (i j : ℕ) → (nat_lt i 10 && nat_lt j 10) ≡ true → nat_eq i j ≡ false → temp i ≢ temp j
   apart i j h ne same =
       eqb-false i j ne (t.distinct i j (ltb-true i 10 (first_of (nat_lt i 10) (nat_lt j 10) h)) (ltb-true j 10 (second_of (nat_lt i 10) (nat_lt j 10) h)) same)
@@ -87,7 +87,7 @@ module _ {M : WasmModule} {p : ImportPlaces} {locals : List ValType} {used inner
       let wide = length_addresses w length is in
       omega (arith, inside, wide)
 
-  turned : (i : ℕ) (ls : Locals) → i < n → Turn i ls → Does M p Onward 12 500 [] ls (turn_body w1 w2 e1 e2 temp code) (element (AtAddress (from + i * e1)) (Into (to + i * e2))) (λ vs. []) (λ vs ls'. Turn (suc i) ls')
+  turned : (i : ℕ) (ls : Locals) → i < n → Turn i ls → Does M p Onward 12 100 [] ls (turn_body w1 w2 e1 e2 temp code) (element (AtAddress (from + i * e1)) (Into (to + i * e2))) (λ vs. []) (λ vs ls'. Turn (suc i) ls')
   turned i ls lt h =
       let types : held_types ls ≡ locals = h.keeps.types ∙ e in
       let one = element_does ls (from + i * e1) (to + i * e2) types (h.source lt) (h.target lt) (within_addresses w1 from e1 i length1 fits1 is1 lt) (within_addresses w2 to e2 i length2 fits2 is2 lt) in
@@ -114,7 +114,7 @@ module _ {M : WasmModule} {p : ImportPlaces} {locals : List ValType} {used inner
   pub elements : (ls : Locals) → Turn 0 ls
       → Does M p Onward 5 0 [] ls (counted_code (left_code (temp 5)) (turn_body w1 w2 e1 e2 temp code)) (each n (λ i. element (AtAddress (from + i * e1)) (Into (to + i * e2)))) (λ vs. []) (λ vs ls'. Turn n ls')
   elements ls h =
-      counted {tests = 2} {extra = 12} {spare = 500} n (λ i. element (AtAddress (from + i * e1)) (Into (to + i * e2))) Turn (omega arith)
+      counted {tests = 2} {extra = 12} {spare = 100} n (λ i. element (AtAddress (from + i * e1)) (Into (to + i * e2))) Turn (omega arith)
       (λ i k l same inv. pushes_left (temp 5) k (inv.left ∙ ap (λ m. Some (Some (I64 m))) (left_is i k same))) (λ i l lt inv. turned i l lt inv) ls h
     where
       left_is : (i k : ℕ) → i + k ≡ n → n - i ≡ k

@@ -12,7 +12,7 @@ use Rattle.fact_emit.specs.States.{ModuleSoFar}
 
 -- a module, whose import section names these imports
 abbrev pub finished : WasmModule → List Import → ModuleSoFar
-finished m is = record { types = m.types; section = m.imports; imports = is; functions = m.funcs; exports = m.exports; callees = [] }
+finished m is = record { types = m.types; section = m.imports; imports = is; functions = m.funcs; exports = m.exports; callees = []; helpers = []; numbered = 0 }
 
 -- the places at which it has what is imported
 abbrev pub places_in : WasmModule → List Import → ImportPlaces

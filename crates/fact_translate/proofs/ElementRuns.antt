@@ -12,6 +12,7 @@ use Rattle.fact_types.specs.declared.widths.MemoryWidth.TheVariants.{Memory32, M
 use Rattle.fact_types.specs.Adapters.{is_wide}
 use Rattle.fact_types.specs.Fields.{Field}
 use Rattle.fact_types.specs.FlatShapes.{flat, flat_members, times, IsCounted}
+use Rattle.fact_types.specs.Heights.{height}
 use Rattle.fact_types.specs.Layout.{extent}
 use Rattle.fact_types.specs.PointerPairs.{has_pointer_pair}
 use Rattle.fact_types.specs.Shapes.{Shape, Members, no_members, layout_of, next_of, place_of}
@@ -23,6 +24,7 @@ use Rattle.fact_moves.specs.Actions.{Action}
 use Rattle.fact_moves.specs.Moves.{element_flats, entry_extent, flat_length, move, move_fields}
 use Rattle.fact_moves.specs.Running.{ImportPlaces}
 use Rattle.fact_moves.specs.Sides.{LiftLowerOptions, Source, Target, width_of_side}
+use Rattle.fact_moves.specs.Outlining.{translates, translates_times}
 use Rattle.fact_moves.proofs.ValidTypes.{single_extent}
 use Rattle.fact_pieces.specs.Does.{Locals}
 use Rattle.fact_pieces.specs.Places.{Slot, From, InLocals, InMemory, To, ToLocals, ToMemory, Setting, transfer, Moves, Stood, FromUsed, ToUsed, to_past}
@@ -33,25 +35,32 @@ use Rattle.fact_pieces.proofs.Rules.{done}
 use Rattle.fact_pieces.proofs.TypingLaws.{typed_done}
 use Rattle.fact_emit.specs.declared.places.Sides.{Sides}
 use Rattle.fact_emit.specs.declared.writer.Writer.{Writer}
-use Rattle.fact_emit.specs.Emits.{Piece, Grew, Emits}
-use Rattle.fact_emit.specs.Fitting.{CanRead, CanWrite, SlotsFit, AreWithin, FromWithin, ToWithin, FitsShapes, MovesShape, MovesNode, bytes_of_shape}
+use Rattle.fact_emit.specs.Asked.{AskedHelper}
+use Rattle.fact_emit.specs.Emits.{GrewAsking, EmitsAsking}
+use Rattle.fact_emit.specs.Fitting.{CanRead, CanWrite, SlotsFit, AreWithin, FromWithin, ToWithin, FitsShapes, MovesNode, bytes_of_shape}
+use Rattle.fact_emit.specs.Movable.{CanMoveMember}
 use Rattle.fact_emit.specs.MovesValue.{Act, MovesValue}
 use Rattle.fact_emit.specs.Parts.{offset_on}
+use Rattle.fact_emit.specs.Pieces.{Piece}
 use Rattle.fact_emit.specs.Places.{setting_of}
 use Rattle.fact_emit.specs.Requests.{ServesLists}
 use Rattle.fact_emit.specs.Writers.{taken_in}
 use Rattle.fact_emit.proofs.Emitting.{emits_as, emits_nothing, emits_then, grew_nothing, grew_on}
 use Rattle.fact_emit.proofs.PartPlaces.{room_length}
 use Rattle.fact_translate.specs.declared.fixed.FixedElements.{FixedElements}
+use Rattle.fact_translate.specs.Asks.{AreAsked, MovesHelped}
 use Rattle.fact_translate.specs.FixedLists.{nth_from, nth_to}
-use Rattle.fact_translate.specs.Movable.{CanMove}
 use Rattle.fact_translate.specs.Moved.{MovedValue}
 use Rattle.fact_translate.specs.MovedFixed.{AreFixedElements, MovedElements, fixed_of}
+use Rattle.fact_translate.specs.declared.fuel.Fuel.{Fuel}
+use Rattle.fact_translate.specs.Translations.{TranslatesAs, place_of_source, place_of_target}
+use Rattle.fact_translate.proofs.Asking.{asked_both}
 use Rattle.fact_translate.proofs.FieldJoin.{apart_dst, slots_behind, slots_front, using_past, using_spot}
 use Rattle.fact_translate.proofs.FixedJoin.{fixed_bytes}
 use Rattle.fact_translate.proofs.Found.{flat_is}
 use Rattle.fact_translate.proofs.ListMembers.{first_place, single}
 use Rattle.fact_translate.proofs.WithinRooms.{part_within, past_within, spot_within}
+use Rattle.fact_translate.proofs.Translating.{both_translated, nothing_translated, part_place, past_place, spot_place, translated_at}
 
 -- ---- what is left of a list
 
@@ -112,8 +121,8 @@ field_zero Memory64 s = first_zero Memory64 s
 -- Code that moves an element moves it as the only member of a tuple.
 single_at : {S : Setting} {used : ℕ → Bool} {c : List Instr} (s u : Shape) (n place bytes m room : ℕ) (src : From) (dst : To) → n ≡ flat_length S.from s → m ≡ flat_length S.to u
     → FromUsed used (from_part n place bytes src) → ToUsed used (to_spot m room dst) → IsApartAt (flat_length S.to u) (to_spot m room dst)
-    → Moves S used 0 500 (from_part n place bytes src) (to_spot m room dst) (move (transfer S) s u) c
-    → Moves S used 0 500 (from_part n place bytes src) (to_spot m room dst) (move_fields (transfer S) (single s) (single u) 0) c
+    → Moves S used 0 100 (from_part n place bytes src) (to_spot m room dst) (move (transfer S) s u) c
+    → Moves S used 0 100 (from_part n place bytes src) (to_spot m room dst) (move_fields (transfer S) (single s) (single u) 0) c
 single_at {S} {used} {c} s u n place bytes m room src dst en em fu tu apart one =
     let part : From = from_part n place bytes src in
     let spot : To = to_spot m room dst in
@@ -122,9 +131,9 @@ single_at {S} {used} {c} s u n place bytes m room src dst en em fu tu apart one 
     let z' : ℕ = place_of (width_of_side S.to) u 0 in
     let part_is : from_part (flat_length S.from s) 0 z part ≡ part = ap (λ k. from_part k 0 z part) (sym en) ∙ part_again n place bytes z src (field_zero (width_of_side S.from) s) in
     let spot_is : to_spot (flat_length S.to u) z' spot ≡ spot = ap (λ k. to_spot k z' spot) (sym em) ∙ spot_again m room z' dst (first_zero (width_of_side S.to) u) in
-    let here = subst (λ y. Moves S used 0 500 y (to_spot (flat_length S.to u) z' spot) act c) (sym part_is) (subst (λ y. Moves S used 0 500 part y act c) (sym spot_is) one) in
+    let here = subst (λ y. Moves S used 0 100 y (to_spot (flat_length S.to u) z' spot) act c) (sym part_is) (subst (λ y. Moves S used 0 100 part y act c) (sym spot_is) one) in
     let none = subst (λ k. Moves S (with_to used (to_spot (flat_length S.to u) z' spot)) 0 0 part (to_past k spot) (move_fields (transfer S) (single s) no_members (next_of (width_of_side S.to) u 0)) []) em (nothing_left m room dst (single s) (next_of (width_of_side S.to) u 0)) in
-    subst (Moves S used 0 500 part spot (move_fields (transfer S) (single s) (single u) 0)) (append-nil c)
+    subst (Moves S used 0 100 part spot (move_fields (transfer S) (single s) (single u) 0)) (append-nil c)
     (moves_member (single s) no_members [] u 0 (only_field s) refl fu tu apart here none)
 
 -- ---- the places of elements
@@ -220,7 +229,7 @@ pub record AreElementNumbers (sides : Sides) (s u : Shape) (from_count from_size
   pub to_bytes : to_size ≡ (extent (width sides.to.memory64) (layout_of u)).size
 
 elements_join : {sides : Sides} {src : From} {dst : To} {taken : ℕ → Bool} {s u : Shape} {from_count from_size to_count to_size : ℕ} → AreElementNumbers sides s u from_count from_size to_count to_size → (i n : ℕ)
-    → (M : WasmModule) (p : ImportPlaces) (locals : List ValType) (c k : List Instr) → MovesShape sides (nth_from from_count from_size i src) (nth_to to_count to_size i dst) taken s u M p locals c
+    → (M : WasmModule) (p : ImportPlaces) (locals : List ValType) (c k : List Instr) → MovesHelped sides (nth_from from_count from_size i src) (nth_to to_count to_size i dst) taken s u M p locals c
     → MovesElements sides src (to_past to_count dst) taken (i + suc n) (suc i) n s u M p locals k → MovesElements sides src dst taken (i + suc n) i (suc n) s u M p locals (c ++ k)
 elements_join {sides} {src} {dst} {taken} {s} {u} {from_count} {from_size} {to_count} {to_size} h i n M p locals c k one rest = record {
   moves = λ a b rooms used using fit.
@@ -235,7 +244,7 @@ elements_join {sides} {src} {dst} {taken} {s} {u} {from_count} {from_size} {to_c
       let to_bytes_is = h.to_bytes ∙ ap (λ m. (extent (width m) (layout_of u)).size) (sym fit.to_wide) in
       let to_is : nth_to to_count to_size i dst ≡ spot = nth_spot_is M p locals b S.to64 u i n to_count to_size (h.to_counted (width_of_side b)) to_bytes_is dst fit.writes in
       let after_is : to_past to_count dst ≡ to_past g dst = past_is M p locals b S.to64 u i n to_count to_size (h.to_counted (width_of_side b)) to_bytes_is dst fit.writes in
-      let one' = subst (λ x. MovesShape sides x spot taken s u M p locals c) from_is (subst (λ y. MovesShape sides (nth_from from_count from_size i src) y taken s u M p locals c) to_is one) in
+      let one' = subst (λ x. MovesHelped sides x spot taken s u M p locals c) from_is (subst (λ y. MovesHelped sides (nth_from from_count from_size i src) y taken s u M p locals c) to_is one) in
       let rest' = subst (λ y. MovesElements sides src y taken (i + suc n) (suc i) n s u M p locals k) after_is rest in
       let here = using_spot using f (i * f) (i * size) g (i * size') in
       let room' : size' * (suc i + n) ≡ size' * (i + suc n) = omega arith in
@@ -304,24 +313,35 @@ elements_all {sides} {src} {dst} {s = s} {u} all M p locals code m = record {
 -- ---- as it is written
 
 -- How a loop over elements stands before the element of a number: code for those that are left, behind what was written, moves all.
-pub record ElementsRun (t : Tables) (from to : InterfaceType) (e : FixedElements) (i : ℕ) (sides : Sides) (src : From) (dst spots : To) (first now : Writer) : Type 0 where
-  pub grew : Grew first now
-  pub goes_on : (s u : Shape) → HasShape t from s → HasShape t to u → IsCounted s → IsCounted u → CanMove s u → AreFixedElements sides e s u → (n : ℕ) → i + n ≡ e.count → (last : Writer)
-      → Emits now last (MovesElements sides src spots (taken_in first) e.count i n s u) → Emits first last (MovesElements sides src dst (taken_in first) e.count 0 e.count s u)
+pub record ElementsRun (t : Tables) (from to : InterfaceType) (e : FixedElements) (i : ℕ) (sides : Sides) (src : From) (dst spots : To) (before between : Fuel) (first now : Writer) : Type 0 where
+  pub asks : List AskedHelper
+  pub grew : GrewAsking asks first now
+  pub asked : AreAsked t sides (suc (height t to)) now.imports asks
+  pub goes_on : (s u : Shape) → HasShape t from s → HasShape t to u → IsCounted s → IsCounted u → CanMoveMember s u → AreFixedElements sides e s u → (n : ℕ) → i + n ≡ e.count → (later : List AskedHelper) (last : Writer)
+      → EmitsAsking later now last (MovesElements sides src spots (taken_in first) e.count i n s u) → EmitsAsking (asks ++ later) first last (MovesElements sides src dst (taken_in first) e.count 0 e.count s u)
+  pub place : place_of_target spots ≡ place_of_target dst
+  pub translated : (s u : Shape) → HasShape t from s → HasShape t to u → IsCounted s → IsCounted u → CanMoveMember s u → (n : ℕ) → i + n ≡ e.count → (later : List AskedHelper) (after : Fuel)
+      → TranslatesAs t sides src dst between after later (λ i r. translates_times n (translates i r s u)) → TranslatesAs t sides src dst before after (asks ++ later) (λ i r. translates_times e.count (translates i r s u))
 
-pub elements_begin : {t : Tables} {from to : InterfaceType} {e : FixedElements} {sides : Sides} {src : From} {dst : To} {first : Writer} → ElementsRun t from to e 0 sides src dst dst first first
-elements_begin {e = e} {sides} {src} {dst} {first} = record {
+pub elements_begin : {t : Tables} {from to : InterfaceType} {e : FixedElements} {sides : Sides} {src : From} {dst : To} {first : Writer} {before : Fuel} → ElementsRun t from to e 0 sides src dst dst before before first first
+elements_begin {t} {e = e} {sides} {src} {dst} {first} {before} = record {
   grew = grew_nothing first;
-  goes_on = λ s u hs hu cs cu can elements n is last x. let same : n ≡ e.count = omega (arith, is) in subst (λ k. Emits first last (MovesElements sides src dst (taken_in first) e.count 0 k s u)) same x;
+  asks = [];
+  asked = record { each = tt };
+  goes_on = λ s u hs hu cs cu can elements n is later last x. let same : n ≡ e.count = omega (arith, is) in subst (λ k. EmitsAsking later first last (MovesElements sides src dst (taken_in first) e.count 0 k s u)) same x;
+  place = refl;
+  translated = λ s u hs hu cs cu can n is later after x. let same : n ≡ e.count = omega (arith, is) in subst (λ k. TranslatesAs t sides src dst before after later (λ i r. translates_times k (translates i r s u))) same x;
 }
 
-pub element_passed : {t : Tables} {from to : InterfaceType} {e : FixedElements} {i : ℕ} {sides : Sides} {src psrc : From} {dst spots spot after : To} {first now then' : Writer} (from_count to_count : ℕ)
+pub element_passed : {t : Tables} {from to : InterfaceType} {e : FixedElements} {i : ℕ} {sides : Sides} {src psrc : From} {dst spots spot after : To} {first now then' : Writer} {begun between left : Fuel} (from_count to_count : ℕ)
     → ((s : Shape) → HasShape t from s → from_count ≡ unwrap_or (layout_of s).flat_count 0) → ((u : Shape) → HasShape t to u → to_count ≡ unwrap_or (layout_of u).flat_count 0)
-    → psrc ≡ nth_from from_count e.from_size i src → spot ≡ nth_to to_count e.to_size i spots → after ≡ to_past to_count spots → MovedValue t from to sides psrc spot now then'
-    → i < e.count → ElementsRun t from to e i sides src dst spots first now → ElementsRun t from to e (i + 1) sides src dst after first then'
-element_passed {e = e} {i} {sides} {src} {psrc} {dst} {spots} {spot} {after} {first} {now} {then'} from_count to_count from_is to_is part_at spot_at after_at m lt r = record {
+    → psrc ≡ nth_from from_count e.from_size i src → spot ≡ nth_to to_count e.to_size i spots → after ≡ to_past to_count spots → MovedValue t from to sides psrc spot between left now then'
+    → i < e.count → ElementsRun t from to e i sides src dst spots begun between first now → ElementsRun t from to e (i + 1) sides src dst after begun left first then'
+element_passed {t} {e = e} {i} {sides} {src} {psrc} {dst} {spots} {spot} {after} {first} {now} {then'} {begun} {between} {left} from_count to_count from_is to_is part_at spot_at after_at m lt r = record {
   grew = grew_on r.grew m.grew;
-  goes_on = λ s u hs hu cs cu can elements n is last x.
+  asks = r.asks ++ m.asks;
+  asked = asked_both m.grew.imports r.asks m.asks r.asked m.asked;
+  goes_on = λ s u hs hu cs cu can elements n is later last x.
       let numbers : AreElementNumbers sides s u from_count e.from_size to_count e.to_size = record {
         from_counted = λ w few. from_is s hs ∙ flat_is w s (layout_of s).flat_count refl cs few;
         to_counted = λ w few. to_is u hu ∙ flat_is w u (layout_of u).flat_count refl cu few;
@@ -332,16 +352,33 @@ element_passed {e = e} {i} {sides} {src} {psrc} {dst} {spots} {spot} {after} {fi
       let still : taken_in now ≡ taken = λ j. λ i. (r.grew.still i) j in
       let all_is : i + suc n ≡ e.count = omega (arith, is) in
       let next : i + 1 ≡ suc i = omega arith in
-      let one = subst (λ t. Emits now then' (MovesShape sides (nth_from from_count e.from_size i src) (nth_to to_count e.to_size i spots) t s u)) still
-      (subst (λ y. Emits now then' (MovesShape sides (nth_from from_count e.from_size i src) y (taken_in now) s u)) spot_at (subst (λ y. Emits now then' (MovesShape sides y spot (taken_in now) s u)) part_at (m.emits s u hs hu cs cu can))) in
-      let rest = subst (λ a. Emits then' last (MovesElements sides src (to_past to_count spots) taken a (suc i) n s u)) (sym all_is)
-      (subst (λ j. Emits then' last (MovesElements sides src (to_past to_count spots) taken e.count j n s u)) next (subst (λ y. Emits then' last (MovesElements sides src y taken e.count (i + 1) n s u)) after_at x)) in
-      r.goes_on s u hs hu cs cu can elements (suc n) all_is last (subst (λ a. Emits now last (MovesElements sides src spots taken a i (suc n) s u)) all_is (emits_then (elements_join numbers i n) one rest));
+      let one = subst (λ t. EmitsAsking m.asks now then' (MovesHelped sides (nth_from from_count e.from_size i src) (nth_to to_count e.to_size i spots) t s u)) still
+      (subst (λ y. EmitsAsking m.asks now then' (MovesHelped sides (nth_from from_count e.from_size i src) y (taken_in now) s u)) spot_at (subst (λ y. EmitsAsking m.asks now then' (MovesHelped sides y spot (taken_in now) s u)) part_at (m.emits s u hs hu cs cu can))) in
+      let rest = subst (λ a. EmitsAsking later then' last (MovesElements sides src (to_past to_count spots) taken a (suc i) n s u)) (sym all_is)
+      (subst (λ j. EmitsAsking later then' last (MovesElements sides src (to_past to_count spots) taken e.count j n s u)) next (subst (λ y. EmitsAsking later then' last (MovesElements sides src y taken e.count (i + 1) n s u)) after_at x)) in
+      subst (λ asks. EmitsAsking asks first last (MovesElements sides src dst taken e.count 0 e.count s u)) (sym (append_assoc r.asks m.asks later))
+      (r.goes_on s u hs hu cs cu can elements (suc n) all_is (m.asks ++ later) last (subst (λ a. EmitsAsking (m.asks ++ later) now last (MovesElements sides src spots taken a i (suc n) s u)) all_is (emits_then (elements_join numbers i n) one rest)));
+  place = ap place_of_target after_at ∙ past_place to_count spots ∙ r.place;
+  translated = λ s u hs hu cs cu can n is later last x.
+      let all_is : i + suc n ≡ e.count = omega (arith, is) in
+      let here : TranslatesAs t sides src dst between left m.asks (λ i r. translates i r s u) =
+      translated_at (ap place_of_source part_at ∙ part_place (min (i * from_count) 18446744073709551615) from_count (min (i * e.from_size) 4294967295) src)
+      (ap place_of_target spot_at ∙ spot_place 0 to_count (min (i * e.to_size) 4294967295) spots ∙ r.place) (m.translated s u hs hu cs cu can) in
+      let both : TranslatesAs t sides src dst between last (m.asks ++ later) (λ i r. translates_times (suc n) (translates i r s u)) = both_translated here x in
+      subst (λ asks. TranslatesAs t sides src dst begun last asks (λ i r. translates_times e.count (translates i r s u))) (sym (append_assoc r.asks m.asks later))
+      (r.translated s u hs hu cs cu can (suc n) all_is (m.asks ++ later) last both);
 }
 
-pub elements_end : {t : Tables} {from to : InterfaceType} {e : FixedElements} {i : ℕ} {sides : Sides} {src : From} {dst spots : To} {first last : Writer} → i ≡ e.count → ElementsRun t from to e i sides src dst spots first last → MovedElements t from to e sides src dst first last
-elements_end {e = e} {i} {sides} {src} {dst} {spots} {first} {last} is r = record {
+pub elements_end : {t : Tables} {from to : InterfaceType} {e : FixedElements} {i : ℕ} {sides : Sides} {src : From} {dst spots : To} {first last : Writer} {before after : Fuel} → i ≡ e.count → ElementsRun t from to e i sides src dst spots before after first last
+    → MovedElements t from to e e.count sides src dst before after first last
+elements_end {t} {e = e} {i} {sides} {src} {dst} {spots} {first} {last} {before} {after} is r = record {
   grew = r.grew;
+  asks = r.asks;
+  asked = r.asked;
   emits = λ s u hs hu cs cu can elements.
-      emits_as (elements_all e.count) (r.goes_on s u hs hu cs cu can elements 0 (omega (arith, is)) last (emits_nothing (λ M p locals. elements_none e.count i M p locals)));
+      subst (λ asks. EmitsAsking asks first last (MovesNode sides src dst (taken_in first) (fixed_of e.count s) (fixed_of e.count u))) (append-nil r.asks)
+      (emits_as (elements_all e.count) (r.goes_on s u hs hu cs cu can elements 0 (omega (arith, is)) [] last (emits_nothing (λ M p locals. elements_none e.count i M p locals))));
+  translated = λ s u hs hu cs cu can.
+      subst (λ asks. TranslatesAs t sides src dst before after asks (λ i r. translates_times e.count (translates i r s u))) (append-nil r.asks)
+      (r.translated s u hs hu cs cu can 0 (omega (arith, is)) [] after (nothing_translated (λ i r n. refl)));
 }

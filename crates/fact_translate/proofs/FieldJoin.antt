@@ -22,11 +22,12 @@ use Rattle.fact_pieces.specs.Places.{Slot, From, InLocals, InMemory, To, ToLocal
 use Rattle.fact_pieces.proofs.FieldMoves.{from_part, to_spot, with_to, IsApartAt, moves_member}
 use Rattle.fact_pieces.proofs.Rules.{within}
 use Rattle.fact_emit.specs.declared.places.Sides.{Sides}
-use Rattle.fact_emit.specs.Fitting.{SlotsFit, CanRead, CanWrite, bytes_of_shape, AreWithin, FitsShapes, FitsFields, MovesShape, MovesFields, MovesPaidFields}
+use Rattle.fact_emit.specs.Fitting.{SlotsFit, CanRead, CanWrite, bytes_of_shape, AreWithin, FitsShapes, FitsFields, MovesFields}
 use Rattle.fact_emit.specs.Parts.{offset_on, from_behind, to_behind, bytes_by}
 use Rattle.fact_emit.specs.Places.{setting_of, HasDistinctSlots, TargetTaken, Using}
 use Rattle.fact_emit.proofs.PartPlaces.{used_take, used_drop, locals_take, locals_drop, distinct_take, distinct_drop, apart_at, room_take, room_drop, room_length, with_more, with_within}
 use Rattle.fact_emit.proofs.Using.{used_more}
+use Rattle.fact_translate.specs.Asks.{MovesHelped, MovesHelpedFields}
 use Rattle.fact_translate.proofs.Found.{IsAmong, among, holds_found}
 use Rattle.fact_translate.proofs.WithinRooms.{part_within, past_within, spot_within}
 
@@ -190,8 +191,8 @@ pub fields_join_paid : {sides : Sides} {taken : ℕ → Bool} {psrc src : From} 
     → psrc ≡ from_behind skip cnt bytes src → pdst ≡ to_behind 0 count place dst → after ≡ to_past count dst
     → (f.flat_place ≤ 16 → skip ≡ f.flat_place) → ((w : MemoryWidth) → length (flat w f.shape) ≤ 16 → cnt ≡ length (flat w f.shape)) → bytes ≡ bytes_by (width sides.from.memory64) f.place32 f.place64
     → ((w : MemoryWidth) → length (flat w u) ≤ 16 → count ≡ length (flat w u)) → place ≡ place_of (width sides.to.memory64) u end → next ≡ next_of (width sides.to.memory64) u end
-    → (M : WasmModule) (p : ImportPlaces) (locals : List ValType) (c k : List Instr) → MovesShape sides psrc pdst taken f.shape u M p locals c → MovesFields sides src after taken ms ns next M p locals k
-    → MovesPaidFields sides src dst taken ms (typed y u ns) end M p locals (c ++ k)
+    → (M : WasmModule) (p : ImportPlaces) (locals : List ValType) (c k : List Instr) → MovesHelped sides psrc pdst taken f.shape u M p locals c → MovesFields sides src after taken ms ns next M p locals k
+    → MovesHelpedFields sides src dst taken ms (typed y u ns) end M p locals (c ++ k)
 fields_join_paid {sides} {taken} {psrc} {src} {pdst} {dst} {after} {ms} {ns} {y} {u} {end} {next} {f} skip cnt bytes count place found counted src_is spot_is past_is skip_is cnt_is bytes_is count_is place_is next_is M p locals c k one rest = record {
   moves = λ a b rooms used using fit.
       let S = setting_of sides a b rooms M p locals in
@@ -213,7 +214,7 @@ fields_join_paid {sides} {taken} {psrc} {src} {pdst} {dst} {after} {ms} {ns} {y}
       } in
       let fits_here : FitsShapes sides S f.shape u part (to_spot n room dst) = record { from_wide = fit.from_wide; to_wide = fit.to_wide; reads = field_read M p locals a S.from64 ms f counted x src fit.reads; writes = spot_write M p locals b S.to64 u y ns end dst fit.writes; within = within_here; lists = λ h. fit.lists (holds_found y ms 0 0 0 f found h) } in
       let fits_later : FitsFields sides S ms ns (next_of (width_of_side b) u end) src (to_past n dst) = record { from_wide = fit.from_wide; to_wide = fit.to_wide; reads = fit.reads; writes = past_write M p locals b S.to64 u y ns end dst fit.writes; within = record { source = fit.within.source; target = past_within rooms.to (ends_of (width_of_side b) (typed y u ns) end) n dst fit.within.target }; lists = fit.lists } in
-      let one' = subst (λ s. MovesShape sides s (to_spot n room dst) taken f.shape u M p locals c) part_is (subst (λ d. MovesShape sides psrc d taken f.shape u M p locals c) to_is one) in
+      let one' = subst (λ s. MovesHelped sides s (to_spot n room dst) taken f.shape u M p locals c) part_is (subst (λ d. MovesHelped sides psrc d taken f.shape u M p locals c) to_is one) in
       let rest' = subst (λ e. MovesFields sides src (to_past n dst) taken ms ns e M p locals k) next_are (subst (λ d. MovesFields sides src d taken ms ns next M p locals k) after_is rest) in
       (moves_member ms ns y u end f found using.from using.to (apart_dst n dst using.distinct)
       (one'.moves a b rooms used here fits_here) (rest'.moves a b rooms (with_to used (to_spot n room dst)) (using_past using n room) fits_later));
@@ -229,7 +230,7 @@ pub fields_join : {sides : Sides} {taken : ℕ → Bool} {psrc src : From} {pdst
     → psrc ≡ from_behind skip cnt bytes src → pdst ≡ to_behind 0 count place dst → after ≡ to_past count dst
     → (f.flat_place ≤ 16 → skip ≡ f.flat_place) → ((w : MemoryWidth) → length (flat w f.shape) ≤ 16 → cnt ≡ length (flat w f.shape)) → bytes ≡ bytes_by (width sides.from.memory64) f.place32 f.place64
     → ((w : MemoryWidth) → length (flat w u) ≤ 16 → count ≡ length (flat w u)) → place ≡ place_of (width sides.to.memory64) u end → next ≡ next_of (width sides.to.memory64) u end
-    → (M : WasmModule) (p : ImportPlaces) (locals : List ValType) (c k : List Instr) → MovesShape sides psrc pdst taken f.shape u M p locals c → MovesFields sides src after taken ms ns next M p locals k
+    → (M : WasmModule) (p : ImportPlaces) (locals : List ValType) (c k : List Instr) → MovesHelped sides psrc pdst taken f.shape u M p locals c → MovesFields sides src after taken ms ns next M p locals k
     → MovesFields sides src dst taken ms (typed y u ns) end M p locals (c ++ k)
 fields_join skip cnt bytes count place found counted src_is spot_is past_is skip_is cnt_is bytes_is count_is place_is next_is M p locals c k one rest =
     let paid = fields_join_paid skip cnt bytes count place found counted src_is spot_is past_is skip_is cnt_is bytes_is count_is place_is next_is M p locals c k one rest in

@@ -1,7 +1,7 @@
 -- A list of fixed length from memory to memory: its loop, by the code of an element.
 use Rattle.std.proofs.Common.{◌≡◌, ℕ, zero, suc, ◌+◌, ◌*◌, ◌<◌, ◌≤◌, Bool, true, false, List, [], ◌∷◌, ◌++◌, refl, sym, ap, ◌∙◌, subst, arith, append-nil}
 use Rattle.std.specs.Prelude.{nat_eq, if◌then◌else◌}
-use Rattle.std.specs.List.{AllByRecursion}
+use Rattle.std.specs.List.{AllByRecursion, filter_map}
 use Rattle.std.proofs.lemmas.Bool.{eqb-true, eqb-false}
 use Rattle.fact_wasm.specs.declared.instr.BlockType.TheVariants.{Empty}
 use Rattle.fact_wasm.specs.declared.instr.Instr.{Instr, the_lemmas}
@@ -30,20 +30,23 @@ use Rattle.fact_pieces.proofs.UsedLocals.{with_local, local_here, local_more}
 use Rattle.fact_emit.specs.declared.places.Address.{Address}
 use Rattle.fact_emit.specs.declared.places.Sides.{Sides}
 use Rattle.fact_emit.specs.declared.writer.Writer.{Writer}
-use Rattle.fact_emit.specs.Emits.{Is, Both, Grew, Emits}
-use Rattle.fact_emit.specs.Fitting.{bytes_of_shape, FitsShapes, FitsFields, MovesNode, MovesPaidFields}
+use Rattle.fact_emit.specs.Asked.{AskedHelper}
+use Rattle.fact_emit.specs.Emits.{Grew, GrewAsking, EmitsAsking}
+use Rattle.fact_emit.specs.Fitting.{bytes_of_shape, FitsShapes, FitsFields, MovesNode}
 use Rattle.fact_emit.specs.Imports.{AreOnce}
-use Rattle.fact_emit.specs.NamedFunctions.{imported_named}
+use Rattle.fact_emit.specs.NamedFunctions.{defined_place, functions_named}
+use Rattle.fact_emit.specs.Pieces.{Is, Both}
 use Rattle.fact_emit.specs.Places.{AreDistinctSlots, setting_of, Using}
 use Rattle.fact_emit.specs.Writers.{Began, Ended, TookAll, FreedAll, Wrote, taken_in}
 use Rattle.fact_emit.proofs.BroughtLaws.{brought_as, brought_between}
 use Rattle.fact_emit.proofs.Emitting.{body_is, emits_both, emits_wrote, grew_on, grew_wrote, same_locals, same_still, same_types, sooner, still_numbers}
 use Rattle.fact_emit.proofs.ImportLaws.{extended_none, extended_on, grows_on}
-use Rattle.fact_emit.proofs.NamedLaws.{named_append, named_loop, names_none, ranged_append, ranged_loop, ranged_more, ranged_none}
+use Rattle.fact_emit.proofs.NamedLaws.{named_append, named_loop, names_none, ranged_append, ranged_in, ranged_loop, ranged_none}
 use Rattle.fact_emit.proofs.RangedCode.{get_ranged, set_ranged}
 use Rattle.fact_emit.proofs.RequestRanged.{const_ranged}
 use Rattle.fact_translate.specs.declared.fixed.FixedElements.{FixedElements}
 use Rattle.fact_translate.specs.declared.fixed.FixedLocals.{FixedLocals}
+use Rattle.fact_translate.specs.Asks.{MovesHelpedFields}
 use Rattle.fact_translate.specs.FixedLists.{ClosesFixed, fixed_begin_code, fixed_end_code, fixed_numbers, fixed_slots}
 use Rattle.fact_translate.specs.MovedFixed.{AreFixedElements, fixed_of}
 use Rattle.fact_translate.proofs.SlotTemporaries.{unkept}
@@ -76,17 +79,17 @@ module _ (left : ℕ) (body ends : List Instr) (ended : AreRanged 0 0 ends) wher
   again_ranged : AreRanged 0 0 (again_code left)
   again_ranged = ranged_none 0 0 (again_code left) (simp the_lemmas)
 
-  countdown_named : imported_named (countdown_code left (body ++ ends)) ≡ imported_named body
+  countdown_named : functions_named (countdown_code left (body ++ ends)) ≡ functions_named body
   countdown_named =
       named_loop Empty ((body ++ ends) ++ again_code left) ∙ named_append (body ++ ends) (again_code left)
-      ∙ (λ i. named_append body ends i ++ names_none (again_code left) again_ranged i) ∙ append-nil (imported_named body ++ imported_named ends)
-      ∙ (λ i. imported_named body ++ names_none ends ended i) ∙ append-nil (imported_named body)
+      ∙ (λ i. named_append body ends i ++ names_none (again_code left) again_ranged i) ∙ append-nil (functions_named body ++ functions_named ends)
+      ∙ (λ i. functions_named body ++ names_none ends ended i) ∙ append-nil (functions_named body)
 
-  countdown_ranged : (imports : ℕ) → AreRanged imports 0 body → AreRanged imports 0 (countdown_code left (body ++ ends))
-  countdown_ranged imports h =
-      let more = λ (code : List Instr) (r : AreRanged 0 0 code). ranged_more 0 imports (omega arith) code r in
-      ranged_loop imports 0 Empty ((body ++ ends) ++ again_code left)
-      (ranged_append imports 0 (body ++ ends) (again_code left) (ranged_append imports 0 body ends h (more ends ended)) (more (again_code left) again_ranged))
+  countdown_ranged : (imports funcs : ℕ) → AreRanged imports funcs body → AreRanged imports funcs (countdown_code left (body ++ ends))
+  countdown_ranged imports funcs h =
+      let more = λ (code : List Instr) (r : AreRanged 0 0 code). ranged_in 0 imports 0 funcs (omega arith) (omega arith) code r in
+      ranged_loop imports funcs Empty ((body ++ ends) ++ again_code left)
+      (ranged_append imports funcs (body ++ ends) (again_code left) (ranged_append imports funcs body ends h (more ends ended)) (more (again_code left) again_ranged))
 
 -- ---- what is known when it is written
 
@@ -101,7 +104,7 @@ pub record WritesFixed (sides : Sides) (e : FixedElements) (l : FixedLocals) (ta
 -- the loop of its elements, by the code of one
 pub record LoopsFixed (sides : Sides) (e : FixedElements) (l : FixedLocals) (inner : ℕ → Bool) (s u : Shape) (M : WasmModule) (p : ImportPlaces) (locals : List ValType) (code : List Instr) : Type 0 where
   pub body : List Instr
-  pub moves : MovesPaidFields sides (InMemory sides.from.memory l.source 0) (ToMemory sides.to.memory l.target 0) inner (single s) (single u) 0 M p locals body
+  pub moves : MovesHelpedFields sides (InMemory sides.from.memory l.source 0) (ToMemory sides.to.memory l.target 0) inner (single s) (single u) 0 M p locals body
   pub is : code ≡ countdown_code l.left (body ++ fixed_end_code sides.from.memory64 sides.to.memory64 e l)
 
 -- ---- what it does
@@ -202,7 +205,7 @@ module _ {sides : Sides} {e : FixedElements} {l : FixedLocals} {taken inner : �
           lists = fit.lists;
         }
 
-    is_fixed : {body : List Instr} → MovesPaidFields sides (InMemory sides.from.memory l.source 0) (ToMemory sides.to.memory l.target 0) inner (single s) (single u) 0 M p locals body → IsFixedMove S used fixed act body
+    is_fixed : {body : List Instr} → MovesHelpedFields sides (InMemory sides.from.memory l.source 0) (ToMemory sides.to.memory l.target 0) inner (single s) (single u) 0 M p locals body → IsFixedMove S used fixed act body
     is_fixed m = record {
       some = h.elements.some;
       few = let le = count_small e.count e.from_size 4294967295 from.offset h.elements.from_some all_from in omega (arith, le);
@@ -245,14 +248,15 @@ module _ {sides : Sides} {e : FixedElements} {l : FixedLocals} {taken inner : �
 -- ---- as it was written
 
 -- the code of an element was written aside, and became a loop
-pub fixed_looped_grew : {c d e f : Writer} {sides : Sides} {x : FixedElements} {l : FixedLocals} {outer : List Instr} → Began c d outer → Grew d e → ClosesFixed sides x l outer e f → Grew c f
-fixed_looped_grew {c} {d} {e} {f} {sides} {x} {l} began m closed =
+pub fixed_looped_grew : {asks : List AskedHelper} {c d e f : Writer} {sides : Sides} {x : FixedElements} {l : FixedLocals} {outer : List Instr} → Began c d outer → GrewAsking asks d e → ClosesFixed sides x l outer e f → GrewAsking asks c f
+fixed_looped_grew {c = c} {d} {e} {f} {sides} {x} {l} began m closed =
     let ends : List Instr = fixed_end_code sides.from.memory64 sides.to.memory64 x l in
     let loop : List Instr → List Instr = λ body. countdown_code l.left (body ++ ends) in
     let ended = fixed_end_ranged sides.from.memory64 sides.to.memory64 x l in
     record {
       added = loop m.added;
       code = closed.code ∙ ap (λ o. o ++ loop e.code.items) began.outer ∙ ap (λ b. c.code.items ++ loop b) (body_is began.code m);
+      calls = ap (filter_map defined_place) (countdown_named l.left m.added ends ended) ∙ m.calls;
       brought = brought_as (countdown_named l.left m.added ends ended) (countdown_ranged l.left m.added ends ended) (brought_between began.imports (sym closed.imports) m.brought);
       imports = extended_on (extended_none began.imports) (extended_on m.imports (extended_none closed.imports));
       once = λ o. subst AreOnce (sym closed.imports) (m.once (subst AreOnce (sym began.imports) o));
@@ -261,12 +265,12 @@ fixed_looped_grew {c} {d} {e} {f} {sides} {x} {l} began m closed =
       still = λ j. same_still e f closed.locals j ∙ m.still j ∙ same_still c d began.locals j;
     }
 
-fixed_looped : {c d e f : Writer} {sides : Sides} {x : FixedElements} {l : FixedLocals} {outer : List Instr} {taken : ℕ → Bool} {s u : Shape} → Began c d outer
-    → Emits d e (MovesPaidFields sides (InMemory sides.from.memory l.source 0) (ToMemory sides.to.memory l.target 0) taken (single s) (single u) 0) → ClosesFixed sides x l outer e f → Emits c f (LoopsFixed sides x l taken s u)
+fixed_looped : {asks : List AskedHelper} {c d e f : Writer} {sides : Sides} {x : FixedElements} {l : FixedLocals} {outer : List Instr} {taken : ℕ → Bool} {s u : Shape} → Began c d outer
+    → EmitsAsking asks d e (MovesHelpedFields sides (InMemory sides.from.memory l.source 0) (ToMemory sides.to.memory l.target 0) taken (single s) (single u) 0) → ClosesFixed sides x l outer e f → EmitsAsking asks c f (LoopsFixed sides x l taken s u)
 unfolding fixed_looped_grew
-fixed_looped {c} {d} {e} {f} began m closed = record {
+fixed_looped {c = c} {d} {e} {f} began m closed = record {
   grew = fixed_looped_grew began m.grew closed;
-  does = λ M p locals later. record { body = m.grew.added; moves = m.does M p locals (sooner {a = e} (extended_none closed.imports) (same_locals e f closed.locals) later); is = refl };
+  does = λ M p locals later h. record { body = m.grew.added; moves = m.does M p locals (sooner {a = e} (extended_none closed.imports) (same_locals e f closed.locals) later) h; is = refl };
 }
 
 module _ {sides : Sides} {a b c d e f g : Writer} {x : FixedElements} {l : FixedLocals} {outer : List Instr} (from to : Address)
@@ -274,12 +278,12 @@ module _ {sides : Sides} {a b c d e f g : Writer} {x : FixedElements} {l : Fixed
   begin_grew : Grew b c
   begin_grew = grew_wrote (fixed_begin_ranged sides.from.memory64 sides.to.memory64 x l from to) opened
 
-  pub fixed_grew : Grew d e → Grew a g
+  pub fixed_grew : {asks : List AskedHelper} → GrewAsking asks d e → GrewAsking asks a g
   fixed_grew m = grew_around_all took (grew_on begin_grew (fixed_looped_grew began m closed)) freed
 
   -- Code that moves an element, in the loop of a list, moves the list.
-  pub fixed_emits : {s u : Shape} → AreFixedElements sides x s u → Emits d e (MovesPaidFields sides (InMemory sides.from.memory l.source 0) (ToMemory sides.to.memory l.target 0) (taken_in d) (single s) (single u) 0)
-      → Emits a g (MovesNode sides (InMemory sides.from.memory from.local from.offset) (ToMemory sides.to.memory to.local to.offset) (taken_in a) (fixed_of x.count s) (fixed_of x.count u))
+  pub fixed_emits : {asks : List AskedHelper} {s u : Shape} → AreFixedElements sides x s u → EmitsAsking asks d e (MovesHelpedFields sides (InMemory sides.from.memory l.source 0) (ToMemory sides.to.memory l.target 0) (taken_in d) (single s) (single u) 0)
+      → EmitsAsking asks a g (MovesNode sides (InMemory sides.from.memory from.local from.offset) (ToMemory sides.to.memory to.local to.offset) (taken_in a) (fixed_of x.count s) (fixed_of x.count u))
   fixed_emits elements m =
       let still : (i : ℕ) → taken_in d i ≡ taken_in c i = λ i. same_still c d began.locals i in
       let writes : WritesFixed sides x l (taken_in a) (taken_in d) _ _ = record {
@@ -293,9 +297,9 @@ module _ {sides : Sides} {a b c d e f g : Writer} {x : FixedElements} {l : Fixed
       (emits_both (emits_wrote (fixed_begin_ranged sides.from.memory64 sides.to.memory64 x l from to) opened) (fixed_looped began m closed)) freed
 
 -- the locals are still in use when they are freed
-pub fixed_taken : {sides : Sides} {a b c d e f : Writer} {x : FixedElements} {l : FixedLocals} {outer : List Instr} (from to : Address) → TookAll a b (fixed_slots sides.from.memory64 sides.to.memory64 l)
-    → Wrote b c (fixed_begin_code sides.from.memory64 sides.to.memory64 x l from to) → Began c d outer → ClosesFixed sides x l outer e f → Grew d e → AllByRecursion (λ i. taken_in f i ≡ true) (fixed_numbers l)
-fixed_taken {sides} {a} {b} {c} {d} {e} {f} {x} {l} from to took opened began closed moved =
+pub fixed_taken : {asks : List AskedHelper} {sides : Sides} {a b c d e f : Writer} {x : FixedElements} {l : FixedLocals} {outer : List Instr} (from to : Address) → TookAll a b (fixed_slots sides.from.memory64 sides.to.memory64 l)
+    → Wrote b c (fixed_begin_code sides.from.memory64 sides.to.memory64 x l from to) → Began c d outer → ClosesFixed sides x l outer e f → GrewAsking asks d e → AllByRecursion (λ i. taken_in f i ≡ true) (fixed_numbers l)
+fixed_taken {sides = sides} {a} {b} {c} {d} {e} {f} {x} {l} from to took opened began closed moved =
     let begun : Grew b c = grew_wrote (fixed_begin_ranged sides.from.memory64 sides.to.memory64 x l from to) opened in
     all_taken b f (fixed_slots sides.from.memory64 sides.to.memory64 l) (λ i. same_still e f closed.locals i ∙ moved.still i ∙ same_still c d began.locals i ∙ begun.still i) took.taken
 

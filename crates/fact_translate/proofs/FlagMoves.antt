@@ -28,6 +28,7 @@ use Rattle.fact_emit.specs.declared.scalars.NumberTest.TheVariants.{CaseBelow}
 use Rattle.fact_emit.specs.declared.writer.Writer.{Writer}
 use Rattle.fact_emit.specs.Emits.{Emits}
 use Rattle.fact_emit.specs.Fitting.{number_for_flat, MovesNode}
+use Rattle.fact_emit.specs.Movable.{CanMove, CanMoveFlags}
 use Rattle.fact_emit.specs.MovesValue.{MovesValue}
 use Rattle.fact_emit.specs.Numbers.{FitsUnchecked}
 use Rattle.fact_emit.specs.Scalars.{canonical_of, number_moves, tested_moves}
@@ -35,7 +36,6 @@ use Rattle.fact_emit.specs.Writers.{taken_in}
 use Rattle.fact_emit.proofs.Emitting.{emits_as}
 use Rattle.fact_emit.proofs.ScalarMoves.{fits_one, moves_as}
 use Rattle.fact_translate.specs.Kinds.{flags_number_of, discriminant_number_of}
-use Rattle.fact_translate.specs.Movable.{CanMove, CanMoveFlags}
 use Rattle.fact_translate.specs.Moved.{MovedFrom}
 use Rattle.fact_translate.proofs.TypeKinds.{flags_kind, enum_kind, flags_count, enum_count}
 
@@ -63,7 +63,7 @@ short_holds N64 ne v h = absurd (ne refl)
 -- ---- flags
 
 -- the room of one to 32 flags, by the tests of their number
-flags_room : (n : ℕ) → 0 < n → n ≤ 32 → ((flags_extent (flags_size n)).size ≡ size_of (flags_number_of n)) × (flags_flat (flags_size n) ≡ 1)
+pub flags_room : (n : ℕ) → 0 < n → n ≤ 32 → ((flags_extent (flags_size n)).size ≡ size_of (flags_number_of n)) × (flags_flat (flags_size n) ≡ 1)
 flags_room n some few = go (n == 0) (nat_le n 8) (nat_le n 16) refl refl
   where
     go : (z a b : Bool) → (n == 0) ≡ z → nat_le n 16 ≡ b

@@ -1,5 +1,5 @@
 -- The types that handles are values of, and their moves.
-use Rattle.std.proofs.Common.{◌≡◌, ℕ, [], ◌∷◌, Option, Some, None, refl, sym, ap, ◌∙◌, subst}
+use Rattle.std.proofs.Common.{◌≡◌, ℕ, [], ◌∷◌, Option, Some, None, refl, sym, ap, ◌∙◌, subst, true}
 use Rattle.fact_types.specs.declared.flats.FlatType.TheVariants as flat_type
 use Rattle.fact_types.specs.declared.interface.InterfaceType.{InterfaceType}
 use Rattle.fact_types.specs.declared.interface.InterfaceType.TheVariants as ty
@@ -17,14 +17,16 @@ use Rattle.fact_emit.specs.declared.writer.Writer.{Writer}
 use Rattle.fact_emit.specs.Emits.{Emits}
 use Rattle.fact_emit.specs.Fitting.{node_moves}
 use Rattle.fact_emit.specs.Handles.{handle_moves, handle_transfer, transfer_by}
+use Rattle.fact_emit.specs.Movable.{CanTransfer}
 use Rattle.fact_emit.specs.MovesValue.{MovesValue}
 use Rattle.fact_emit.specs.Numbers.{FitsUnchecked}
 use Rattle.fact_emit.specs.Writers.{taken_in}
 use Rattle.fact_emit.proofs.Emitting.{emits_as}
 use Rattle.fact_emit.proofs.ScalarMoves.{fits_one, moves_as}
-use Rattle.fact_translate.specs.Movable.{CanTransfer}
 use Rattle.fact_translate.specs.Moved.{MovedNode}
+use Rattle.fact_translate.specs.declared.fuel.Fuel.{Fuel}
 use Rattle.fact_translate.proofs.TypeKinds.{future_kind, future_type, plain_only, stream_kind, stream_type}
+use Rattle.fact_translate.proofs.TranslatedShapes.{is_leaf, leaf_translated}
 
 -- Values of two shapes are handles that are taken over so.
 record AreHandles (s u : Shape) (h : HandleTransfer) : Type 0 where
@@ -57,14 +59,26 @@ module _ (t : Tables) (s u : Shape) (h : HandleTransfer) where
       are_so (s_node (k_stream i.number m) ms) (s_node (k_stream j.number n) ns) (transfer_by runtime.StreamTransfer i.number j.number) is_s is_u (same_some _ _ h refl e) (record { flat_s = λ w. refl; flat_u = λ w. refl; same = λ tr src dst. refl })
   are_handles _ _ e hs hu = cc
 
+-- a handle has no members
+handle_leaf : (t : Tables) (s : Shape) (h : HandleTransfer) (from to : InterfaceType) → handle_transfer from to ≡ Some h → HasShape t from s → is_leaf s ≡ true
+handle_leaf t s h (ty.Own i) (ty.Own j) e hs = ap is_leaf (plain_only t (ty.Own i) refl s hs)
+handle_leaf t s h (ty.Borrow i) (ty.Borrow j) e hs = ap is_leaf (plain_only t (ty.Borrow i) refl s hs)
+handle_leaf t s h (ty.ErrorContext i) (ty.ErrorContext j) e hs = ap is_leaf (plain_only t (ty.ErrorContext i) refl s hs)
+handle_leaf t s h (ty.Future i) (ty.Future j) e hs = let (m, ms, is_s) = future_kind t i s hs in ap is_leaf is_s
+handle_leaf t s h (ty.Stream i) (ty.Stream j) e hs = let (m, ms, is_s) = stream_kind t i s hs in ap is_leaf is_s
+handle_leaf t s h _ _ e hs = cc
+
 -- A handle is moved, whatever the shapes of its types are.
-pub handle_moved : {t : Tables} {from to : InterfaceType} {sides : Sides} {src : From} {dst : To} {a b : Writer} {o : Option HandleTransfer} (h : HandleTransfer) → o ≡ handle_transfer from to → o ≡ Some h
-    → Emits a b (MovesValue sides src dst (taken_in a) 516 (FitsUnchecked N32 src dst) (handle_moves h)) → MovedNode t from to sides src dst a b
+pub handle_moved : {t : Tables} {from to : InterfaceType} {sides : Sides} {src : From} {dst : To} {a b : Writer} {before : Fuel} {o : Option HandleTransfer} (h : HandleTransfer) → o ≡ handle_transfer from to → o ≡ Some h
+    → Emits a b (MovesValue sides src dst (taken_in a) 516 (FitsUnchecked N32 src dst) (handle_moves h)) → MovedNode t from to sides src dst before before a b
 handle_moved {t} {from} {to} {sides} {src} {dst} h is is_h x = record {
   grew = x.grew;
+  asks = [];
+  asked = record { each = tt };
   emits = λ s u hs hu cs cu can.
       let are = are_handles t s u h from to (sym is ∙ is_h) hs hu in
       emits_as (λ M p locals code m. moves_as (λ S f. fits_one sides S flat_type.I32 N32 (λ v m. m) are.flat_s are.flat_u f) (λ S s' d'. are.same (transfer S) s' d') m) x;
+  translated = λ s u hs hu cs cu can. leaf_translated s u (handle_leaf t s h from to (sym is ∙ is_h) hs);
 }
 
 -- where types are no handles of one kind, their values are none

@@ -1,4 +1,6 @@
 pub mod Alignments
+pub mod Asking
+pub mod Costs
 pub mod ElementRuns
 pub mod FieldJoin
 pub mod FixedJoin
@@ -6,6 +8,9 @@ pub mod FixedMembers
 pub mod FlagMoves
 pub mod Found
 pub mod HandleMoves
+pub mod Helped
+pub mod HelperCodes
+pub mod KeyShapes
 pub mod ListJoin
 pub mod ListMembers
 pub mod ListParts
@@ -23,6 +28,8 @@ pub mod SumEmits
 pub mod SumFinds
 pub mod SumJoin
 pub mod SumRoom
+pub mod TranslatedShapes
+pub mod Translating
 pub mod TypeKinds
 pub mod WithinRooms
 pub mod ZeroCode

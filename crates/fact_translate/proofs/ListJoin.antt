@@ -1,7 +1,7 @@
 -- The code of a list: what stands in front of its elements, the loop, and the new list behind it, in locals that are taken around all.
 use Rattle.std.proofs.Common.{◌≡◌, ℕ, zero, suc, ◌<◌, ◌≤◌, Bool, true, false, List, [], ◌∷◌, ◌++◌, Option, Some, refl, sym, ap, ◌∙◌, subst, arith, append_assoc}
 use Rattle.std.specs.Prelude.{nat_eq}
-use Rattle.std.specs.List.{AllByRecursion}
+use Rattle.std.specs.List.{AllByRecursion, filter_map}
 use Rattle.fact_wasm.specs.declared.types.ValType.{ValType}
 use Rattle.fact_wasm.specs.declared.types.ValType.TheVariants as val
 use Rattle.fact_wasm.specs.declared.instr.Instr.{Instr}
@@ -40,11 +40,14 @@ use Rattle.fact_pieces.proofs.Temporaries.{Temporaries}
 use Rattle.fact_pieces.proofs.UsedLocals.{with_temps, temps_here}
 use Rattle.fact_emit.specs.declared.places.Sides.{Sides}
 use Rattle.fact_emit.specs.declared.writer.Writer.{Writer}
-use Rattle.fact_emit.specs.Emits.{Grew, Both, Emits}
+use Rattle.fact_emit.specs.Asked.{AskedHelper}
+use Rattle.fact_emit.specs.Emits.{GrewAsking, EmitsAsking}
 use Rattle.fact_emit.specs.Imports.{AreOnce}
-use Rattle.fact_emit.specs.Fitting.{CanRead, CanWrite, FitsFields, MovesNode, MovesPaidFields}
+use Rattle.fact_emit.specs.Fitting.{CanRead, CanWrite, FitsFields, MovesNode}
+use Rattle.fact_emit.specs.NamedFunctions.{defined_place}
 use Rattle.fact_emit.specs.Numbers.{HasUpperAt}
 use Rattle.fact_emit.specs.Pairs.{length_from, length_to, put_pair_code}
+use Rattle.fact_emit.specs.Pieces.{Both}
 use Rattle.fact_emit.specs.Places.{AreDistinctSlots, checks_at, setting_of, Using}
 use Rattle.fact_emit.specs.RuntimeCalls.{slots_of as slots_at_of}
 use Rattle.fact_emit.specs.Requests.{request_code, ServesLists}
@@ -55,6 +58,7 @@ use Rattle.fact_emit.proofs.ImportLaws.{extended_none, extended_on, grows_on}
 use Rattle.fact_emit.proofs.NamedLaws.{ranged_append}
 use Rattle.fact_translate.specs.declared.lists.Elements.{Elements}
 use Rattle.fact_translate.specs.declared.lists.ListLocals.{ListLocals}
+use Rattle.fact_translate.specs.Asks.{MovesHelpedFields}
 use Rattle.fact_translate.specs.Lists.{list_slots, OpensList, ClosesList, begin_code, asks_code, list_context, turn_end_code}
 use Rattle.fact_translate.proofs.Alignments.{aligns_shape}
 use Rattle.fact_translate.proofs.ListRanged.{counted_named, counted_ranged, left_ranged, put_ranged, turn_end_ranged}
@@ -95,7 +99,7 @@ parts_code reads1 reads2 request puts from64 to64 s1 a1 s2 a2 log1 log2 memory1 
 -- code of an element was written in a loop, and the new list behind it
 pub record LoopsList (sides : Sides) (x : Elements) (l : ListLocals) (taken : ℕ → Bool) (ms ns : Members) (dst : To) (M : WasmModule) (p : ImportPlaces) (locals : List ValType) (code : List Instr) : Type 0 where
   pub body : List Instr
-  pub moves : MovesPaidFields sides (InMemory sides.from.memory l.source 0) (ToMemory sides.to.memory l.target 0) taken ms ns 0 M p locals body
+  pub moves : MovesHelpedFields sides (InMemory sides.from.memory l.source 0) (ToMemory sides.to.memory l.target 0) taken ms ns 0 M p locals body
   pub is : code ≡ counted_code (left_code l.left) (body ++ turn_end_code sides.from.memory64 sides.to.memory64 x l) ++ put_pair_code sides.to.memory64 l.address l.number dst
 
 -- what is known of the elements and of the locals when the code is written
@@ -340,8 +344,8 @@ module _ {sides : Sides} {x : Elements} {l : ListLocals} {taken inner : ℕ → 
 -- ---- as it was written
 
 -- the code of an element was written aside, and became a loop
-pub looped_grew : {c d e f : Writer} {sides : Sides} {x : Elements} {l : ListLocals} {dst : To} {outer : List Instr} → Began c d outer → Grew d e → ClosesList sides x l outer dst e f → Grew c f
-looped_grew {c} {d} {e} {f} {sides} {x} {l} {dst} began m closed =
+pub looped_grew : {asks : List AskedHelper} {c d e f : Writer} {sides : Sides} {x : Elements} {l : ListLocals} {dst : To} {outer : List Instr} → Began c d outer → GrewAsking asks d e → ClosesList sides x l outer dst e f → GrewAsking asks c f
+looped_grew {c = c} {d} {e} {f} {sides} {x} {l} {dst} began m closed =
     let from64 = sides.from.memory64 in
     let to64 = sides.to.memory64 in
     let test : List Instr = left_code l.left in
@@ -352,6 +356,7 @@ looped_grew {c} {d} {e} {f} {sides} {x} {l} {dst} began m closed =
     record {
       added = loop m.added;
       code = closed.code ∙ ap (λ o. o ++ loop e.code.items) began.outer ∙ ap (λ b. c.code.items ++ loop b) (body_is began.code m);
+      calls = ap (filter_map defined_place) (counted_named test m.added ends puts (left_ranged l.left) (turn_end_ranged from64 to64 x l) put) ∙ m.calls;
       brought = brought_as (counted_named test m.added ends puts (left_ranged l.left) (turn_end_ranged from64 to64 x l) put) (counted_ranged test m.added ends puts (left_ranged l.left) (turn_end_ranged from64 to64 x l) put)
           (brought_between began.imports (sym closed.imports) m.brought);
       imports = extended_on (extended_none began.imports) (extended_on m.imports (extended_none closed.imports));
@@ -361,11 +366,11 @@ looped_grew {c} {d} {e} {f} {sides} {x} {l} {dst} began m closed =
       still = λ j. same_still e f closed.locals j ∙ m.still j ∙ same_still c d began.locals j;
     }
 
-pub looped : {c d e f : Writer} {sides : Sides} {x : Elements} {l : ListLocals} {dst : To} {outer : List Instr} {taken : ℕ → Bool} {ms ns : Members} → Began c d outer
-    → Emits d e (MovesPaidFields sides (InMemory sides.from.memory l.source 0) (ToMemory sides.to.memory l.target 0) taken ms ns 0) → ClosesList sides x l outer dst e f
-    → Emits c f (LoopsList sides x l taken ms ns dst)
+pub looped : {asks : List AskedHelper} {c d e f : Writer} {sides : Sides} {x : Elements} {l : ListLocals} {dst : To} {outer : List Instr} {taken : ℕ → Bool} {ms ns : Members} → Began c d outer
+    → EmitsAsking asks d e (MovesHelpedFields sides (InMemory sides.from.memory l.source 0) (ToMemory sides.to.memory l.target 0) taken ms ns 0) → ClosesList sides x l outer dst e f
+    → EmitsAsking asks c f (LoopsList sides x l taken ms ns dst)
 unfolding looped_grew
-looped {c} {d} {e} {f} began m closed = record {
+looped {c = c} {d} {e} {f} began m closed = record {
   grew = looped_grew began m.grew closed;
-  does = λ M p locals later. record { body = m.grew.added; moves = m.does M p locals (sooner {a = e} (extended_none closed.imports) (same_locals e f closed.locals) later); is = refl };
+  does = λ M p locals later h. record { body = m.grew.added; moves = m.does M p locals (sooner {a = e} (extended_none closed.imports) (same_locals e f closed.locals) later) h; is = refl };
 }

@@ -15,32 +15,41 @@ use Rattle.fact_types.specs.declared.widths.Extent.{Extent}
 use Rattle.fact_types.specs.declared.widths.MemoryWidth.{MemoryWidth}
 use Rattle.fact_types.specs.declared.widths.MemoryWidth.TheVariants.{Memory32, Memory64}
 use Rattle.fact_types.specs.FlatShapes.{IsCounted}
+use Rattle.fact_types.specs.Heights.{height}
 use Rattle.fact_types.specs.Layout.{extent, aligned, record_layout}
 use Rattle.fact_types.specs.Shapes.{k_list, k_map, Shape, s_plain, s_node, Members, no_members, typed, layout_of, place_of, next_of, ends_of}
 use Rattle.fact_types.specs.Signatures.{width}
 use Rattle.fact_types.specs.Sound.{TakesBytes}
 use Rattle.fact_types.specs.Tables.{Tables, HasShape, HasMembers}
 use Rattle.fact_moves.specs.Running.{ImportPlaces}
+use Rattle.fact_moves.specs.Outlining.{in_memories}
 use Rattle.fact_moves.proofs.ValidTypes.{single_extent}
 use Rattle.fact_pieces.specs.Places.{From, InMemory, To, ToMemory}
 use Rattle.fact_emit.specs.declared.places.Sides.{Sides}
 use Rattle.fact_emit.specs.declared.writer.Writer.{Writer}
-use Rattle.fact_emit.specs.Emits.{Grew, Emits}
-use Rattle.fact_emit.specs.Fitting.{MovesShape, MovesNode, MovesPaidFields}
+use Rattle.fact_emit.specs.Asked.{AskedHelper}
+use Rattle.fact_emit.specs.Emits.{Grew, GrewAsking, Emits, EmitsAsking}
+use Rattle.fact_emit.specs.Fitting.{MovesNode}
+use Rattle.fact_emit.specs.Movable.{CanMove, CanMoveFields, CanMoveElements}
 use Rattle.fact_emit.specs.Parts.{bytes_by}
 use Rattle.fact_emit.specs.Writers.{AreDistinctNumbers, taken_in, Began, TookAll, FreedAll, Wrote}
 use Rattle.fact_emit.proofs.Emitting.{emits_as, emits_both, grew_on, grew_wrote, same_still}
+use Rattle.fact_emit.proofs.ImportLaws.{extended_none}
 use Rattle.fact_translate.specs.declared.lists.Elements.{Elements}
 use Rattle.fact_translate.specs.declared.lists.ListLocals.{ListLocals}
+use Rattle.fact_translate.specs.Asks.{MovesHelped, MovesHelpedFields}
 use Rattle.fact_translate.specs.Lists.{list_slots, list_numbers, OpensList, ClosesList}
-use Rattle.fact_translate.specs.Movable.{CanMove, CanMoveFields, CanMoveElements}
 use Rattle.fact_translate.specs.Moved.{MovedNode, MovedValue}
+use Rattle.fact_translate.specs.declared.fuel.Fuel.{Fuel}
+use Rattle.fact_translate.proofs.Asking.{asked_on}
 use Rattle.fact_translate.proofs.FieldJoin.{fields_join_paid}
 use Rattle.fact_translate.proofs.Found.{flat_is}
 use Rattle.fact_translate.proofs.ListJoin.{WritesList, entry_layout, list_piece, looped, looped_grew, map_piece}
 use Rattle.fact_translate.proofs.MemberRuns.{NextMember, open_next, none_left, nothing_moves}
 use Rattle.fact_emit.proofs.FreedLocals.{grew_around_all, emits_around_all, inside_taken, all_inside, all_taken, all_distinct}
 use Rattle.fact_translate.proofs.TypeKinds.{list_kind, list_type}
+use Rattle.fact_translate.proofs.Translating.{translated_in_memories, translated_with}
+use Rattle.fact_translate.proofs.TranslatedShapes.{single_is, translated_shapes}
 
 -- ---- entries, whatever they are
 
@@ -53,11 +62,11 @@ pub record AreEntries (memory64 : Bool) (ms : Members) (size align : ℕ) : Type
 module _ {sides : Sides} {src : From} {dst : To} {a b c d e f g : Writer} {x : Elements} {l : ListLocals} {outer : List Instr}
     (took : TookAll a b (list_slots sides.from.memory64 sides.to.memory64 l)) (opened : Emits b c (OpensList sides x l src)) (began : Began c d outer)
     (closed : ClosesList sides x l outer dst e f) (freed : FreedAll f g (list_numbers l)) where
-  pub entries_grew : Grew d e → Grew a g
+  pub entries_grew : {asks : List AskedHelper} → GrewAsking asks d e → GrewAsking asks a g
   entries_grew m = grew_around_all took (grew_on opened.grew (looped_grew began m closed)) freed
 
   module _ {ms ns : Members} (from : AreEntries sides.from.memory64 ms x.from_size x.from_align) (to : AreEntries sides.to.memory64 ns x.to_size x.to_align) (from_takes : TakesBytes (entry_layout ms)) (to_takes : TakesBytes (entry_layout ns))
-      (moved : Emits d e (MovesPaidFields sides (InMemory sides.from.memory l.source 0) (ToMemory sides.to.memory l.target 0) (taken_in d) ms ns 0)) where
+      {asks : List AskedHelper} (moved : EmitsAsking asks d e (MovesHelpedFields sides (InMemory sides.from.memory l.source 0) (ToMemory sides.to.memory l.target 0) (taken_in d) ms ns 0)) where
     same_taken : (i : ℕ) → taken_in d i ≡ taken_in c i
     same_taken i = same_still c d began.locals i
 
@@ -78,11 +87,11 @@ module _ {sides : Sides} {src : From} {dst : To} {a b c d e f g : Writer} {x : E
     }
 
     -- Code that moves the members of an entry, in the loop of a list, moves the list.
-    pub list_emits : Emits a g (MovesNode sides src dst (taken_in a) (s_node k_list ms) (s_node k_list ns))
+    pub list_emits : EmitsAsking asks a g (MovesNode sides src dst (taken_in a) (s_node k_list ms) (s_node k_list ns))
     list_emits = emits_around_all (λ M p locals code typed both. list_piece writes M p locals code typed both) took (emits_both opened (looped began moved closed)) freed
 
     -- and so it is of a map
-    pub map_emits : Emits a g (MovesNode sides src dst (taken_in a) (s_node k_map ms) (s_node k_map ns))
+    pub map_emits : EmitsAsking asks a g (MovesNode sides src dst (taken_in a) (s_node k_map ms) (s_node k_map ns))
     map_emits = emits_around_all (λ M p locals code typed both. map_piece writes M p locals code typed both) took (emits_both opened (looped began moved closed)) freed
 
 -- ---- the first member stands at the begin
@@ -112,9 +121,9 @@ first_next w s = ap (λ n. n + (extent w (layout_of s)).size) (first_place (exte
 
 -- code that moves an element moves the members of the element's tuple
 pub single_moved : {sides : Sides} {taken : ℕ → Bool} {memory base memory' base' : ℕ} (s u : Shape) → IsCounted s → IsCounted u → (M : WasmModule) (p : ImportPlaces) (locals : List ValType) (code : List Instr)
-    → MovesShape sides (InMemory memory base 0) (ToMemory memory' base' 0) taken s u M p locals code → MovesPaidFields sides (InMemory memory base 0) (ToMemory memory' base' 0) taken (single s) (single u) 0 M p locals code
+    → MovesHelped sides (InMemory memory base 0) (ToMemory memory' base' 0) taken s u M p locals code → MovesHelpedFields sides (InMemory memory base 0) (ToMemory memory' base' 0) taken (single s) (single u) 0 M p locals code
 single_moved {sides} {taken} {memory} {base} {memory'} {base'} s u cs cu M p locals code one =
-    subst (MovesPaidFields sides (InMemory memory base 0) (ToMemory memory' base' 0) taken (single s) (single u) 0 M p locals) (append-nil code)
+    subst (MovesHelpedFields sides (InMemory memory base 0) (ToMemory memory' base' 0) taken (single s) (single u) 0 M p locals) (append-nil code)
     (fields_join_paid {psrc = InMemory memory base 0} {src = InMemory memory base 0} {pdst = ToMemory memory' base' 0} {dst = ToMemory memory' base' 0} {after = ToMemory memory' base' 0}
     {f = record { shape = s; flat_place = 0; place32 = place_of Memory32 s 0; place64 = place_of Memory64 s 0 }}
     0 (unwrap_or (layout_of s).flat_count 0) 0 (unwrap_or (layout_of u).flat_count 0) 0 refl (cs, tt) refl refl refl (λ le. refl) (λ w few. flat_is w s (layout_of s).flat_count refl cs few) (first_bytes (width sides.from.memory64) s)
@@ -142,21 +151,23 @@ single_entries {memory64 = memory64} x s h takes = record {
 
 -- ---- lists
 
-module _ {t : Tables} {sides : Sides} {src : From} {dst : To} {a b c d e f g : Writer} {x : Elements} {l : ListLocals} {outer : List Instr} {y z : InterfaceType}
+module _ {t : Tables} {sides : Sides} {src : From} {dst : To} {a b c d e f g : Writer} {x : Elements} {l : ListLocals} {outer : List Instr} {y z : InterfaceType} {before after : Fuel}
     (took : TookAll a b (list_slots sides.from.memory64 sides.to.memory64 l)) (opened : Emits b c (OpensList sides x l src)) (began : Began c d outer)
-    (moved : MovedValue t y z sides (InMemory sides.from.memory l.source 0) (ToMemory sides.to.memory l.target 0) d e) (closed : ClosesList sides x l outer dst e f) (freed : FreedAll f g (list_numbers l))
+    (moved : MovedValue t y z sides (InMemory sides.from.memory l.source 0) (ToMemory sides.to.memory l.target 0) before after d e) (closed : ClosesList sides x l outer dst e f) (freed : FreedAll f g (list_numbers l))
     (from : IsElement t sides.from.memory64 y x.from_size x.from_align) (to : IsElement t sides.to.memory64 z x.to_size x.to_align) where
   single_emits : (s u : Shape) → HasShape t y s → HasShape t z u → IsCounted s → IsCounted u → CanMoveElements (single s) (single u) (CanMoveFields (single s) (single u))
-      → Emits a g (MovesNode sides src dst (taken_in a) (s_node k_list (single s)) (s_node k_list (single u)))
+      → EmitsAsking moved.asks a g (MovesNode sides src dst (taken_in a) (s_node k_list (single s)) (s_node k_list (single u)))
   single_emits s u hs hu cs cu can =
       list_emits took opened began closed freed (single_entries from s hs can.from_bytes) (single_entries to u hu can.to_bytes) can.from_bytes can.to_bytes
       (emits_as (single_moved s u cs cu) (moved.emits s u hs hu cs cu can.fields.0))
 
   -- A list was moved by the code of its elements.
   pub list_moved : (i j : Id TypeLists) → ((ms : Members) → HasShape t (ty.List i) (s_node k_list ms) → HasMembers t (([], Some y) ∷ []) ms) → ((ns : Members) → HasShape t (ty.List j) (s_node k_list ns) → HasMembers t (([], Some z) ∷ []) ns)
-      → MovedNode t (ty.List i) (ty.List j) sides src dst a g
-  list_moved i j members members' = record {
+      → height t z < height t (ty.List j) → MovedNode t (ty.List i) (ty.List j) sides src dst before after a g
+  list_moved i j members members' lower = record {
     grew = entries_grew took opened began closed freed moved.grew;
+    asks = moved.asks;
+    asked = asked_on (extended_none (freed.imports ∙ closed.imports)) (omega (arith, lower)) moved.asks moved.asked;
     emits = λ s u hs hu cs cu can.
         let (ms, is_s) = list_kind t i s hs in
         let (ns, is_u) = list_kind t j u hu in
@@ -165,15 +176,28 @@ module _ {t : Tables} {sides : Sides} {src : From} {dst : To} {a b c d e f g : W
         let s_is : s ≡ s_node k_list (single s1) = is_s ∙ ap (s_node k_list) ms_is in
         let u_is : u ≡ s_node k_list (single u1) = is_u ∙ ap (s_node k_list) ns_is in
         let can' : CanMove (s_node k_list (single s1)) (s_node k_list (single u1)) = subst (CanMove (s_node k_list (single s1))) u_is (subst (λ s. CanMove s u) s_is can) in
-        subst (λ s. Emits a g (MovesNode sides src dst (taken_in a) s u)) (sym s_is) (subst (λ u. Emits a g (MovesNode sides src dst (taken_in a) (s_node k_list (single s1)) u)) (sym u_is)
+        subst (λ s. EmitsAsking moved.asks a g (MovesNode sides src dst (taken_in a) s u)) (sym s_is) (subst (λ u. EmitsAsking moved.asks a g (MovesNode sides src dst (taken_in a) (s_node k_list (single s1)) u)) (sym u_is)
         (single_emits s1 u1 hs1 hu1 (subst IsCounted s_is cs).1.0 (subst IsCounted u_is cu).1.0 can'));
+    translated = λ s u hs hu cs cu can.
+        let (ms, is_s) = list_kind t i s hs in
+        let (ns, is_u) = list_kind t j u hu in
+        let (s1, hs1, ms_is) = list_element t y ms (members ms (subst (HasShape t (ty.List i)) is_s hs)) in
+        let (u1, hu1, ns_is) = list_element t z ns (members' ns (subst (HasShape t (ty.List j)) is_u hu)) in
+        let s_is : s ≡ s_node k_list (single s1) = is_s ∙ ap (s_node k_list) ms_is in
+        let u_is : u ≡ s_node k_list (single u1) = is_u ∙ ap (s_node k_list) ns_is in
+        let can' : CanMove (s_node k_list (single s1)) (s_node k_list (single u1)) = subst (CanMove (s_node k_list (single s1))) u_is (subst (λ s. CanMove s u) s_is can) in
+        translated_shapes s_is u_is (translated_with (λ i r n route. single_is i (in_memories r) s1 u1 n)
+        (translated_in_memories (moved.translated s1 u1 hs1 hu1 (subst IsCounted s_is cs).1.0 (subst IsCounted u_is cu).1.0 can'.fields.0)));
   }
 
 -- a list at a type of another kind, whose values are not moved
-pub list_alone : {t : Tables} {from : InterfaceType} {sides : Sides} {src : From} {dst : To} {first last : Writer} {xs : List Instr} → AreRanged 0 0 xs → (i : Id TypeLists) (to : InterfaceType) → from ≡ ty.List i → ((j : Id TypeLists) → to ≢ ty.List j) → Wrote first last xs → MovedNode t from to sides src dst first last
+pub list_alone : {t : Tables} {from : InterfaceType} {sides : Sides} {src : From} {dst : To} {first last : Writer} {before : Fuel} {xs : List Instr} → AreRanged 0 0 xs → (i : Id TypeLists) (to : InterfaceType) → from ≡ ty.List i → ((j : Id TypeLists) → to ≢ ty.List j) → Wrote first last xs → MovedNode t from to sides src dst before before first last
 list_alone {t} ranged i to is other w = record {
   grew = grew_wrote ranged w;
+  asks = [];
+  asked = record { each = tt };
   emits = λ s u hs hu cs cu can. let (ms, is_s) = list_kind t i s (subst (λ y. HasShape t y s) is hs) in absurd (alone ms u hu (subst (λ s. CanMove s u) is_s can));
+  translated = λ s u hs hu cs cu can. let (ms, is_s) = list_kind t i s (subst (λ y. HasShape t y s) is hs) in absurd (alone ms u hu (subst (λ s. CanMove s u) is_s can));
 }
   where
     alone : (ms : Members) (u : Shape) → HasShape t to u → CanMove (s_node k_list ms) u → ⊥
@@ -182,8 +206,8 @@ list_alone {t} ranged i to is other w = record {
     alone ms (s_node _ ns) hu can = can
 
 -- the locals are still in use when they are freed
-pub locals_taken : {a b c d e f : Writer} {sides : Sides} {x : Elements} {l : ListLocals} {dst : To} {outer : List Instr} → TookAll a b (list_slots sides.from.memory64 sides.to.memory64 l) → Grew b c → Began c d outer → Grew d e → ClosesList sides x l outer dst e f
+pub locals_taken : {asks : List AskedHelper} {a b c d e f : Writer} {sides : Sides} {x : Elements} {l : ListLocals} {dst : To} {outer : List Instr} → TookAll a b (list_slots sides.from.memory64 sides.to.memory64 l) → Grew b c → Began c d outer → GrewAsking asks d e → ClosesList sides x l outer dst e f
     → AllByRecursion (λ i. taken_in f i ≡ true) (list_numbers l) × AreDistinctNumbers (list_numbers l)
-locals_taken {a} {b} {c} {d} {e} {f} {sides} {l = l} took opened began moved closed =
+locals_taken {a = a} {b} {c} {d} {e} {f} {sides} {l = l} took opened began moved closed =
     let slots = list_slots sides.from.memory64 sides.to.memory64 l in
     (all_taken b f slots (λ i. same_still e f closed.locals i ∙ moved.still i ∙ same_still c d began.locals i ∙ opened.still i) took.taken, all_distinct slots took.distinct)

@@ -13,8 +13,9 @@ use Rattle.fact_emit.specs.declared.places.LinearMemory.{LinearMemory}
 use Rattle.fact_emit.specs.declared.places.Sides.{Sides}
 use Rattle.fact_emit.specs.declared.writer.Writer.{Writer}
 use Rattle.fact_emit.specs.Checks.{Guarded, ChecksRegion}
-use Rattle.fact_emit.specs.Emits.{Is, Emits}
+use Rattle.fact_emit.specs.Emits.{Emits}
 use Rattle.fact_emit.specs.Pairs.{ReadsPair, length_from, put_pair_code}
+use Rattle.fact_emit.specs.Pieces.{Is}
 use Rattle.fact_emit.specs.Places.{checks_at}
 use Rattle.fact_emit.specs.Requests.{AsksRegion}
 use Rattle.fact_emit.specs.Writers.{Wrote, Ended}

@@ -8,8 +8,8 @@ use Rattle.fact_pieces.specs.Code.{counted_code, turn_code}
 use Rattle.fact_pieces.specs.Lists.{address_code, bump_code, bytes_code, count_code, few_code, left_code, put_code}
 use Rattle.fact_pieces.specs.Places.{To, code_before, code_behind}
 use Rattle.fact_pieces.specs.Tests.{pointer}
-use Rattle.fact_emit.specs.NamedFunctions.{imported_named}
-use Rattle.fact_emit.proofs.NamedLaws.{named_append, named_block, named_loop, names_none, ranged_append, ranged_block, ranged_loop, ranged_more, ranged_none}
+use Rattle.fact_emit.specs.NamedFunctions.{functions_named}
+use Rattle.fact_emit.proofs.NamedLaws.{named_append, named_block, named_loop, names_none, ranged_append, ranged_block, ranged_in, ranged_loop, ranged_none}
 use Rattle.fact_emit.proofs.RangedCode.{before_ranged, behind_ranged, set_ranged}
 use Rattle.fact_emit.proofs.RequestRanged.{address_ranged}
 use Rattle.fact_translate.specs.declared.lists.Elements.{Elements}
@@ -63,25 +63,25 @@ module _ (test body ends behind : List Instr) (tested : AreRanged 0 0 test) (end
   leave_ranged : (label : ℕ) → AreRanged 0 0 (I.BrIf label ∷ [])
   leave_ranged label = ranged_none 0 0 (I.BrIf label ∷ []) (simp the_lemmas)
 
-  turn_named : imported_named (turn_code test (body ++ ends)) ≡ imported_named body
+  turn_named : functions_named (turn_code test (body ++ ends)) ≡ functions_named body
   turn_named =
-      named_append test (I.BrIf 1 ∷ ((body ++ ends) ++ I.Br 0 ∷ [])) ∙ (λ i. names_none test tested i ++ imported_named (I.BrIf 1 ∷ ((body ++ ends) ++ I.Br 0 ∷ [])))
-      ∙ named_append (I.BrIf 1 ∷ []) ((body ++ ends) ++ I.Br 0 ∷ []) ∙ (λ i. names_none (I.BrIf 1 ∷ []) (leave_ranged 1) i ++ imported_named ((body ++ ends) ++ I.Br 0 ∷ []))
+      named_append test (I.BrIf 1 ∷ ((body ++ ends) ++ I.Br 0 ∷ [])) ∙ (λ i. names_none test tested i ++ functions_named (I.BrIf 1 ∷ ((body ++ ends) ++ I.Br 0 ∷ [])))
+      ∙ named_append (I.BrIf 1 ∷ []) ((body ++ ends) ++ I.Br 0 ∷ []) ∙ (λ i. names_none (I.BrIf 1 ∷ []) (leave_ranged 1) i ++ functions_named ((body ++ ends) ++ I.Br 0 ∷ []))
       ∙ named_append (body ++ ends) (I.Br 0 ∷ []) ∙ (λ i. named_append body ends i ++ names_none (I.Br 0 ∷ []) (branch_ranged 0) i)
-      ∙ append-nil (imported_named body ++ imported_named ends) ∙ (λ i. imported_named body ++ names_none ends ended i) ∙ append-nil (imported_named body)
+      ∙ append-nil (functions_named body ++ functions_named ends) ∙ (λ i. functions_named body ++ names_none ends ended i) ∙ append-nil (functions_named body)
 
-  pub counted_named : imported_named (counted_code test (body ++ ends) ++ behind) ≡ imported_named body
+  pub counted_named : functions_named (counted_code test (body ++ ends) ++ behind) ≡ functions_named body
   counted_named =
       let turn : List Instr = turn_code test (body ++ ends) in
-      named_append (counted_code test (body ++ ends)) behind ∙ (λ i. (named_block Empty (I.Loop Empty turn ∷ []) ∙ named_loop Empty turn ∙ turn_named) i ++ names_none behind after i) ∙ append-nil (imported_named body)
+      named_append (counted_code test (body ++ ends)) behind ∙ (λ i. (named_block Empty (I.Loop Empty turn ∷ []) ∙ named_loop Empty turn ∙ turn_named) i ++ names_none behind after i) ∙ append-nil (functions_named body)
 
-  pub counted_ranged : (imports : ℕ) → AreRanged imports 0 body → AreRanged imports 0 (counted_code test (body ++ ends) ++ behind)
-  counted_ranged imports h =
-      let more = λ (code : List Instr) (r : AreRanged 0 0 code). ranged_more 0 imports (omega arith) code r in
+  pub counted_ranged : (imports funcs : ℕ) → AreRanged imports funcs body → AreRanged imports funcs (counted_code test (body ++ ends) ++ behind)
+  counted_ranged imports funcs h =
+      let more = λ (code : List Instr) (r : AreRanged 0 0 code). ranged_in 0 imports 0 funcs (omega arith) (omega arith) code r in
       let turn : List Instr = turn_code test (body ++ ends) in
-      ranged_append imports 0 (counted_code test (body ++ ends)) behind
-      (ranged_block imports 0 Empty (I.Loop Empty turn ∷ []) (ranged_loop imports 0 Empty turn
-      (ranged_append imports 0 test (I.BrIf 1 ∷ ((body ++ ends) ++ I.Br 0 ∷ [])) (more test tested)
-      (ranged_append imports 0 (I.BrIf 1 ∷ []) ((body ++ ends) ++ I.Br 0 ∷ []) (more (I.BrIf 1 ∷ []) (leave_ranged 1))
-      (ranged_append imports 0 (body ++ ends) (I.Br 0 ∷ []) (ranged_append imports 0 body ends h (more ends ended)) (more (I.Br 0 ∷ []) (branch_ranged 0)))))))
+      ranged_append imports funcs (counted_code test (body ++ ends)) behind
+      (ranged_block imports funcs Empty (I.Loop Empty turn ∷ []) (ranged_loop imports funcs Empty turn
+      (ranged_append imports funcs test (I.BrIf 1 ∷ ((body ++ ends) ++ I.Br 0 ∷ [])) (more test tested)
+      (ranged_append imports funcs (I.BrIf 1 ∷ []) ((body ++ ends) ++ I.Br 0 ∷ []) (more (I.BrIf 1 ∷ []) (leave_ranged 1))
+      (ranged_append imports funcs (body ++ ends) (I.Br 0 ∷ []) (ranged_append imports funcs body ends h (more ends ended)) (more (I.Br 0 ∷ []) (branch_ranged 0)))))))
       (more behind after)

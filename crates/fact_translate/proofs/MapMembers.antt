@@ -14,6 +14,7 @@ use Rattle.fact_types.specs.declared.widths.MemoryWidth.{MemoryWidth}
 use Rattle.fact_types.specs.declared.widths.MemoryWidth.TheVariants.{Memory32, Memory64}
 use Rattle.fact_types.specs.Fields.{Field}
 use Rattle.fact_types.specs.FlatShapes.{flat, IsCounted}
+use Rattle.fact_types.specs.Heights.{height}
 use Rattle.fact_types.specs.Layout.{extent, aligned, record_layout}
 use Rattle.fact_types.specs.Shapes.{k_map, k_tuple, Shape, s_plain, s_node, Members, no_members, typed, entry_parts, layout_of, place_of, next_of, ends_of, second_place}
 use Rattle.fact_types.specs.Signatures.{width}
@@ -22,26 +23,34 @@ use Rattle.fact_types.specs.Tables.{Tables, HasShape, HasMembers, IsSound, abi_a
 use Rattle.fact_types.proofs.PlaceLaws.{align_pos, ends_within}
 use Rattle.fact_types.proofs.ShapeLaws.{layout_is}
 use Rattle.fact_moves.specs.Running.{ImportPlaces}
+use Rattle.fact_moves.specs.Outlining.{in_memories, translates}
 use Rattle.fact_pieces.specs.Places.{From, InMemory, To, ToMemory}
 use Rattle.fact_emit.specs.declared.places.Sides.{Sides}
 use Rattle.fact_emit.specs.declared.writer.Writer.{Writer}
-use Rattle.fact_emit.specs.Emits.{Emits}
-use Rattle.fact_emit.specs.Fitting.{MovesShape, MovesNode, MovesFields, MovesPaidFields}
+use Rattle.fact_emit.specs.Emits.{Emits, EmitsAsking}
+use Rattle.fact_emit.specs.Fitting.{MovesNode, MovesFields}
+use Rattle.fact_emit.specs.Movable.{CanMove, CanMoveElements, CanMoveFields}
 use Rattle.fact_emit.specs.Parts.{bytes_by, from_behind, to_behind}
 use Rattle.fact_emit.specs.Writers.{taken_in, Began, TookAll, FreedAll, Wrote}
 use Rattle.fact_emit.proofs.Emitting.{emits_then, grew_on, grew_wrote}
+use Rattle.fact_emit.proofs.ImportLaws.{extended_none}
 use Rattle.fact_translate.specs.declared.lists.Elements.{Elements}
 use Rattle.fact_translate.specs.declared.lists.ListLocals.{ListLocals}
+use Rattle.fact_translate.specs.Asks.{MovesHelped, MovesHelpedFields}
 use Rattle.fact_translate.specs.Lists.{list_slots, list_numbers, OpensList, ClosesList, IsEntryOf}
 use Rattle.fact_translate.specs.MemberPairs.{Member}
-use Rattle.fact_translate.specs.Movable.{CanMove, CanMoveElements, CanMoveFields}
 use Rattle.fact_translate.specs.Moved.{MovedNode, MovedValue}
+use Rattle.fact_translate.specs.declared.fuel.Fuel.{Fuel}
+use Rattle.fact_translate.specs.Translations.{TranslatesAs, place_of_source, place_of_target}
+use Rattle.fact_translate.proofs.Asking.{asked_below, asked_both, asked_later}
 use Rattle.fact_translate.proofs.FieldJoin.{fields_join, fields_join_paid}
 use Rattle.fact_translate.proofs.Found.{flat_is}
 use Rattle.fact_translate.proofs.ListJoin.{entry_layout}
 use Rattle.fact_translate.proofs.ListMembers.{AreEntries, entries_grew, first_bytes, first_next, first_place, map_emits}
 use Rattle.fact_translate.proofs.MemberRuns.{NextMember, open_next, none_left, nothing_moves}
 use Rattle.fact_translate.proofs.TypeKinds.{map_kind, map_type}
+use Rattle.fact_translate.proofs.Translating.{both_translated, translated_at, translated_in_memories, translated_with}
+use Rattle.fact_translate.proofs.TranslatedShapes.{entry_members, translated_shapes}
 
 -- ---- entries
 
@@ -67,8 +76,8 @@ value_field k v = record { shape = v; flat_place = 0 + length (flat Memory32 k);
 pair_moved : {sides : Sides} {taken : ℕ → Bool} {memory base memory' base' : ℕ} (bytes place : ℕ) (k v k' v' : Shape) → IsCounted k → IsCounted v → IsCounted k' → IsCounted v'
     → bytes ≡ bytes_by (width sides.from.memory64) (place_of Memory32 v (next_of Memory32 k 0)) (place_of Memory64 v (next_of Memory64 k 0)) → place ≡ place_of (width sides.to.memory64) v' (next_of (width sides.to.memory64) k' 0)
     → (M : WasmModule) (p : ImportPlaces) (locals : List ValType) (c d : List Instr)
-    → MovesShape sides (InMemory memory base 0) (ToMemory memory' base' 0) taken k k' M p locals c → MovesShape sides (from_behind 0 0 bytes (InMemory memory base 0)) (to_behind 0 0 place (ToMemory memory' base' 0)) taken v v' M p locals d
-    → MovesPaidFields sides (InMemory memory base 0) (ToMemory memory' base' 0) taken (pair k v) (pair k' v') 0 M p locals (c ++ d)
+    → MovesHelped sides (InMemory memory base 0) (ToMemory memory' base' 0) taken k k' M p locals c → MovesHelped sides (from_behind 0 0 bytes (InMemory memory base 0)) (to_behind 0 0 place (ToMemory memory' base' 0)) taken v v' M p locals d
+    → MovesHelpedFields sides (InMemory memory base 0) (ToMemory memory' base' 0) taken (pair k v) (pair k' v') 0 M p locals (c ++ d)
 pair_moved {sides} {taken} {memory} {base} {memory'} {base'} bytes place k v k' v' ck cv ck' cv' bytes_is place_is M p locals c d one two =
     let from : From = InMemory memory base 0 in
     let to : To = ToMemory memory' base' 0 in
@@ -134,21 +143,21 @@ module _ {t : Tables} (sound : IsSound t) {e : TypeMap} (laid : IsMapEntry t e) 
 
 -- ---- maps
 
-module _ {t : Tables} {sides : Sides} {src : From} {dst : To} {a b c d m e f g : Writer} {x : Elements} {l : ListLocals} {outer : List Instr} {y z : TypeMap} {bytes place : ℕ} {value_from : From} {value_to : To}
+module _ {t : Tables} {sides : Sides} {src : From} {dst : To} {a b c d m e f g : Writer} {x : Elements} {l : ListLocals} {outer : List Instr} {y z : TypeMap} {bytes place : ℕ} {value_from : From} {value_to : To} {before between after : Fuel}
     (took : TookAll a b (list_slots sides.from.memory64 sides.to.memory64 l)) (opened : Emits b c (OpensList sides x l src)) (began : Began c d outer)
-    (key : MovedValue t y.key z.key sides (InMemory sides.from.memory l.source 0) (ToMemory sides.to.memory l.target 0) d m) (value : MovedValue t y.value z.value sides value_from value_to m e)
+    (key : MovedValue t y.key z.key sides (InMemory sides.from.memory l.source 0) (ToMemory sides.to.memory l.target 0) before between d m) (value : MovedValue t y.value z.value sides value_from value_to between after m e)
     (closed : ClosesList sides x l outer dst e f) (freed : FreedAll f g (list_numbers l))
     (from_is : value_from ≡ from_behind 0 0 bytes (InMemory sides.from.memory l.source 0)) (to_is : value_to ≡ to_behind 0 0 place (ToMemory sides.to.memory l.target 0))
     (bytes_is : bytes ≡ bytes_by (width sides.from.memory64) y.value_offset32 y.value_offset64) (place_is : place ≡ bytes_by (width sides.to.memory64) z.value_offset32 z.value_offset64)
     (from : IsEntryOf sides.from.memory64 y.entry_abi x.from_size x.from_align) (to : IsEntryOf sides.to.memory64 z.entry_abi x.to_size x.to_align)
     (sound : IsSound t) (from_laid : IsMapEntry t y) (to_laid : IsMapEntry t z) where
   pair_emits : (k v k' v' : Shape) → HasShape t y.key k → HasShape t y.value v → HasShape t z.key k' → HasShape t z.value v' → IsCounted k → IsCounted v → IsCounted k' → IsCounted v'
-      → CanMoveElements (pair k v) (pair k' v') (CanMoveFields (pair k v) (pair k' v')) → Emits a g (MovesNode sides src dst (taken_in a) (s_node k_map (pair k v)) (s_node k_map (pair k' v')))
+      → CanMoveElements (pair k v) (pair k' v') (CanMoveFields (pair k v) (pair k' v')) → EmitsAsking (key.asks ++ value.asks) a g (MovesNode sides src dst (taken_in a) (s_node k_map (pair k v)) (s_node k_map (pair k' v')))
   pair_emits k v k' v' hk hv hk' hv' ck cv ck' cv' can =
       let used : taken_in m ≡ taken_in d = λ j. λ i. (key.grew.still i) j in
       let from_spot : From = from_behind 0 0 bytes (InMemory sides.from.memory l.source 0) in
       let to_spot : To = to_behind 0 0 place (ToMemory sides.to.memory l.target 0) in
-      let second = subst (λ u. Emits m e (MovesShape sides from_spot to_spot u v v')) used (subst (λ s. Emits m e (MovesShape sides s to_spot (taken_in m) v v')) from_is (subst (λ s. Emits m e (MovesShape sides value_from s (taken_in m) v v')) to_is
+      let second = subst (λ u. EmitsAsking value.asks m e (MovesHelped sides from_spot to_spot u v v')) used (subst (λ s. EmitsAsking value.asks m e (MovesHelped sides s to_spot (taken_in m) v v')) from_is (subst (λ s. EmitsAsking value.asks m e (MovesHelped sides value_from s (taken_in m) v v')) to_is
       (value.emits v v' hv hv' cv cv' can.fields.1.0))) in
       map_emits took opened began closed freed (pair_entries sound from_laid k v hk hv from can.from_bytes) (pair_entries sound to_laid k' v' hk' hv' to can.to_bytes) can.from_bytes can.to_bytes
       (emits_then (pair_moved bytes place k v k' v' ck cv ck' cv' (bytes_is ∙ value_bytes sound from_laid k v hk hv (width sides.from.memory64)) (place_is ∙ value_place sound to_laid k' v' hk' hv' (width sides.to.memory64)))
@@ -156,9 +165,12 @@ module _ {t : Tables} {sides : Sides} {src : From} {dst : To} {a b c d m e f g :
 
   -- A map was moved by the code of its keys and values.
   pub map_moved : (i j : Id TypeMaps) → ((ms : Members) → HasShape t (ty.Map i) (s_node k_map ms) → HasMembers t ((0 ∷ [], Some y.key) ∷ (1 ∷ [], Some y.value) ∷ []) ms)
-      → ((ns : Members) → HasShape t (ty.Map j) (s_node k_map ns) → HasMembers t ((0 ∷ [], Some z.key) ∷ (1 ∷ [], Some z.value) ∷ []) ns) → MovedNode t (ty.Map i) (ty.Map j) sides src dst a g
-  map_moved i j members members' = record {
+      → ((ns : Members) → HasShape t (ty.Map j) (s_node k_map ns) → HasMembers t ((0 ∷ [], Some z.key) ∷ (1 ∷ [], Some z.value) ∷ []) ns) → height t z.key < height t (ty.Map j) → height t z.value < height t (ty.Map j) → MovedNode t (ty.Map i) (ty.Map j) sides src dst before after a g
+  map_moved i j members members' key_lower value_lower = record {
     grew = entries_grew took opened began closed freed (grew_on key.grew value.grew);
+    asks = key.asks ++ value.asks;
+    asked = asked_later (extended_none (freed.imports ∙ closed.imports)) (key.asks ++ value.asks)
+        (asked_both value.grew.imports key.asks value.asks (asked_below (omega (arith, key_lower)) key.asks key.asked) (asked_below (omega (arith, value_lower)) value.asks value.asked));
     emits = λ s u hs hu cs cu can.
         let (ms, is_s) = map_kind t i s hs in
         let (ns, is_u) = map_kind t j u hu in
@@ -169,15 +181,32 @@ module _ {t : Tables} {sides : Sides} {src : From} {dst : To} {a b c d m e f g :
         let counted = (subst IsCounted s_is cs).1 in
         let counted' = (subst IsCounted u_is cu).1 in
         let can' : CanMove (s_node k_map (pair k v)) (s_node k_map (pair k' v')) = subst (CanMove (s_node k_map (pair k v))) u_is (subst (λ s. CanMove s u) s_is can) in
-        subst (λ s. Emits a g (MovesNode sides src dst (taken_in a) s u)) (sym s_is) (subst (λ u. Emits a g (MovesNode sides src dst (taken_in a) (s_node k_map (pair k v)) u)) (sym u_is)
+        subst (λ s. EmitsAsking (key.asks ++ value.asks) a g (MovesNode sides src dst (taken_in a) s u)) (sym s_is) (subst (λ u. EmitsAsking (key.asks ++ value.asks) a g (MovesNode sides src dst (taken_in a) (s_node k_map (pair k v)) u)) (sym u_is)
         (pair_emits k v k' v' hk hv hk' hv' counted.0 counted.1.0 counted'.0 counted'.1.0 can'));
+    translated = λ s u hs hu cs cu can.
+        let (ms, is_s) = map_kind t i s hs in
+        let (ns, is_u) = map_kind t j u hu in
+        let (k, v, hk, hv, ms_is) = map_entry t y.key y.value ms (members ms (subst (HasShape t (ty.Map i)) is_s hs)) in
+        let (k', v', hk', hv', ns_is) = map_entry t z.key z.value ns (members' ns (subst (HasShape t (ty.Map j)) is_u hu)) in
+        let s_is : s ≡ s_node k_map (pair k v) = is_s ∙ ap (s_node k_map) ms_is in
+        let u_is : u ≡ s_node k_map (pair k' v') = is_u ∙ ap (s_node k_map) ns_is in
+        let counted = (subst IsCounted s_is cs).1 in
+        let counted' = (subst IsCounted u_is cu).1 in
+        let can' : CanMove (s_node k_map (pair k v)) (s_node k_map (pair k' v')) = subst (CanMove (s_node k_map (pair k v))) u_is (subst (λ s. CanMove s u) s_is can) in
+        let first = key.translated k k' hk hk' counted.0 counted'.0 can'.fields.0 in
+        let second : TranslatesAs t sides (InMemory sides.from.memory l.source 0) (ToMemory sides.to.memory l.target 0) between after value.asks (λ i r. translates i r v v') =
+        translated_at (ap place_of_source from_is) (ap place_of_target to_is) (value.translated v v' hv hv' counted.1.0 counted'.1.0 can'.fields.1.0) in
+        translated_shapes s_is u_is (translated_with (λ i r n route. entry_members i (in_memories r) k v k' v' n) (translated_in_memories (both_translated first second)));
   }
 
 -- a map at a type of another kind, whose values are not moved
-pub map_alone : {t : Tables} {from : InterfaceType} {sides : Sides} {src : From} {dst : To} {first last : Writer} {xs : List Instr} → AreRanged 0 0 xs → (i : Id TypeMaps) (to : InterfaceType) → from ≡ ty.Map i → ((j : Id TypeMaps) → to ≢ ty.Map j) → Wrote first last xs → MovedNode t from to sides src dst first last
+pub map_alone : {t : Tables} {from : InterfaceType} {sides : Sides} {src : From} {dst : To} {first last : Writer} {before : Fuel} {xs : List Instr} → AreRanged 0 0 xs → (i : Id TypeMaps) (to : InterfaceType) → from ≡ ty.Map i → ((j : Id TypeMaps) → to ≢ ty.Map j) → Wrote first last xs → MovedNode t from to sides src dst before before first last
 map_alone {t} ranged i to is other w = record {
   grew = grew_wrote ranged w;
+  asks = [];
+  asked = record { each = tt };
   emits = λ s u hs hu cs cu can. let (ms, is_s) = map_kind t i s (subst (λ y. HasShape t y s) is hs) in absurd (alone ms u hu (subst (λ s. CanMove s u) is_s can));
+  translated = λ s u hs hu cs cu can. let (ms, is_s) = map_kind t i s (subst (λ y. HasShape t y s) is hs) in absurd (alone ms u hu (subst (λ s. CanMove s u) is_s can));
 }
   where
     alone : (ms : Members) (u : Shape) → HasShape t to u → CanMove (s_node k_map ms) u → ⊥

@@ -23,18 +23,21 @@ use Rattle.fact_types.proofs.ShapeLaws.{same_some, none_some}
 use Rattle.fact_pieces.specs.Places.{From, To}
 use Rattle.fact_emit.specs.declared.places.Sides.{Sides}
 use Rattle.fact_emit.specs.declared.writer.Writer.{Writer}
-use Rattle.fact_emit.specs.Emits.{Emits}
+use Rattle.fact_emit.specs.Emits.{EmitsAsking}
 use Rattle.fact_emit.specs.Fitting.{MovesFields}
+use Rattle.fact_emit.specs.Movable.{CanMoveFields}
 use Rattle.fact_emit.specs.Writers.{taken_in}
 use Rattle.fact_translate.specs.declared.members.MemberPair.{MemberPair}
 use Rattle.fact_translate.specs.declared.members.MembersEnd.{MembersEnd}
 use Rattle.fact_translate.specs.MemberPairs.{Member, place_behind, end_behind, members_of_node, members_at, pair_named, EachPair, IsPair, ArePairs, FindsEach, ArePairsOf, MovedPairs}
-use Rattle.fact_translate.specs.Movable.{CanMoveFields}
 use Rattle.fact_translate.specs.Moved.{IsLiveFound, MovedNode, MovedTuple}
+use Rattle.fact_translate.specs.declared.fuel.Fuel.{Fuel}
+use Rattle.fact_translate.specs.Translations.{TranslatesAs}
 use Rattle.fact_translate.proofs.MemberRuns.{IsAt, member_at}
 use Rattle.fact_translate.proofs.NodeMoves.{found_live, record_moved, tuple_moved}
 use Rattle.fact_translate.proofs.SourceMembers.{MembersAhead, IsPlaceFrom, opened, goes_on, is_there, not_there, stays, same_place, from_here, from_later, later_places}
 use Rattle.fact_translate.proofs.TypeKinds.{record_kind, tuple_kind}
+use Rattle.fact_moves.specs.Outlining.{translates_fields}
 
 -- ---- the members of a type and of its shapes
 
@@ -235,14 +238,22 @@ module _ (t : Tables) (from : Id TypeTuples) (ss : List InterfaceType) (n : ℕ)
 
 -- ---- records and tuples of pairs that were moved
 
-module _ {t : Tables} {from to : InterfaceType} {kind : Kind} {pairs : List MemberPair} {sides : Sides} {src : From} {dst : To} {first last : Writer} where
-  members_are_moved : ArePairsOf t from to kind pairs → MovedPairs t to pairs sides src dst first last
-      → (ms ns : Members) → HasShape t from (s_node kind ms) → HasShape t to (s_node kind ns) → AreCounted ms → AreCounted ns → CanMoveFields ms ns → Emits first last (MovesFields sides src dst (taken_in first) ms ns 0)
+module _ {t : Tables} {from to : InterfaceType} {kind : Kind} {pairs : List MemberPair} {sides : Sides} {src : From} {dst : To} {before after : Fuel} {first last : Writer} where
+  members_are_moved : ArePairsOf t from to kind pairs → (m : MovedPairs t to pairs sides src dst before after first last)
+      → (ms ns : Members) → HasShape t from (s_node kind ms) → HasShape t to (s_node kind ns) → AreCounted ms → AreCounted ns → CanMoveFields ms ns → EmitsAsking m.asks first last (MovesFields sides src dst (taken_in first) ms ns 0)
   members_are_moved p m ms ns hs hu cs cu can = m.emits ms ns (p.found ms hs) (members_have t to kind ns hu) cs cu can
 
-module _ {t : Tables} {pairs slice : List MemberPair} {sides : Sides} {src : From} {dst : To} {first last : Writer} (same : slice ≡ pairs) where
-  pub record_of_pairs : (i j : Id TypeRecords) → ArePairsOf t (ty.Record i) (ty.Record j) k_record pairs → MovedPairs t (ty.Record j) slice sides src dst first last → MovedNode t (ty.Record i) (ty.Record j) sides src dst first last
-  record_of_pairs i j p m = record_moved m.grew i j (members_are_moved (subst (λ ps. ArePairsOf t (ty.Record i) (ty.Record j) k_record ps) (sym same) p) m)
+  members_are_translated : ArePairsOf t from to kind pairs → (m : MovedPairs t to pairs sides src dst before after first last)
+      → (ms ns : Members) → HasShape t from (s_node kind ms) → HasShape t to (s_node kind ns) → AreCounted ms → AreCounted ns → CanMoveFields ms ns → TranslatesAs t sides src dst before after m.asks (λ i r. translates_fields i r ms ns)
+  members_are_translated p m ms ns hs hu cs cu can = m.translated ms ns (p.found ms hs) (members_have t to kind ns hu) cs cu can
 
-  pub tuple_of_pairs : (i j : Id TypeTuples) → ArePairsOf t (ty.Tuple i) (ty.Tuple j) k_tuple pairs → MovedPairs t (ty.Tuple j) slice sides src dst first last → MovedTuple t (ty.Tuple i) (ty.Tuple j) sides src dst first last
-  tuple_of_pairs i j p m = tuple_moved m.grew i j (members_are_moved (subst (λ ps. ArePairsOf t (ty.Tuple i) (ty.Tuple j) k_tuple ps) (sym same) p) m)
+module _ {t : Tables} {pairs slice : List MemberPair} {sides : Sides} {src : From} {dst : To} {before after : Fuel} {first last : Writer} (same : slice ≡ pairs) where
+  pub record_of_pairs : (i j : Id TypeRecords) → ArePairsOf t (ty.Record i) (ty.Record j) k_record pairs → MovedPairs t (ty.Record j) slice sides src dst before after first last → MovedNode t (ty.Record i) (ty.Record j) sides src dst before after first last
+  record_of_pairs i j p m =
+      let are = subst (λ ps. ArePairsOf t (ty.Record i) (ty.Record j) k_record ps) (sym same) p in
+      record_moved m.grew i j m.asked (members_are_moved are m) (members_are_translated are m)
+
+  pub tuple_of_pairs : (i j : Id TypeTuples) → ArePairsOf t (ty.Tuple i) (ty.Tuple j) k_tuple pairs → MovedPairs t (ty.Tuple j) slice sides src dst before after first last → MovedTuple t (ty.Tuple i) (ty.Tuple j) sides src dst before after first last
+  tuple_of_pairs i j p m =
+      let are = subst (λ ps. ArePairsOf t (ty.Tuple i) (ty.Tuple j) k_tuple ps) (sym same) p in
+      tuple_moved m.grew i j m.asked (members_are_moved are m) (members_are_translated are m)

@@ -37,6 +37,7 @@ use Rattle.fact_emit.specs.declared.string_locals.StringLocals.{StringLocals}
 use Rattle.fact_emit.specs.declared.writer.Writer.{Writer}
 use Rattle.fact_emit.specs.Emits.{Grew, Emits}
 use Rattle.fact_emit.specs.Fitting.{CanRead, CanWrite, MovesNode}
+use Rattle.fact_emit.specs.Movable.{CanMove}
 use Rattle.fact_emit.specs.Numbers.{HasUpperAt}
 use Rattle.fact_emit.specs.Pairs.{length_from}
 use Rattle.fact_emit.specs.Places.{AreDistinctSlots, checks_at, setting_of, Using}
@@ -44,12 +45,13 @@ use Rattle.fact_emit.specs.Requests.{ServesLists}
 use Rattle.fact_emit.specs.StringPieces.{HaveMemories, WroteString, string_move, string_numbers, string_slots}
 use Rattle.fact_emit.specs.Writers.{AreDistinctNumbers, taken_in, TookAll, FreedAll, Wrote}
 use Rattle.fact_emit.proofs.Emitting.{grew_wrote}
-use Rattle.fact_translate.specs.Movable.{CanMove}
 use Rattle.fact_translate.specs.Moved.{MovedNode}
+use Rattle.fact_translate.specs.declared.fuel.Fuel.{Fuel}
 use Rattle.fact_translate.proofs.PairPlaces.{PairReads, PairWrites, pair_from, pair_to, second_from_is, second_to_is, first_readable, second_readable, first_from_typed, second_from_typed, first_writable, second_writable, first_to_typed, second_to_typed, from_used, read_first_is, put_first_is, apart_of}
 use Rattle.fact_translate.proofs.SlotTemporaries.{all_at, distinct_at, slot_at, typed_at, unkept}
 use Rattle.fact_emit.proofs.FreedLocals.{all_distinct, all_taken, emits_around_all}
 use Rattle.fact_translate.proofs.TypeKinds.{plain_only}
+use Rattle.fact_translate.proofs.TranslatedShapes.{is_leaf, leaf_translated}
 
 types_are : (l : StringLocals) (j : ℕ) → j < 10 → (slot_at (string_slots l) j).1 ≡ string_type j
 types_are l zero h = refl
@@ -222,21 +224,27 @@ string_taken {l} {b = b} {c} took moved = (all_taken b c (string_slots l) moved.
 
 -- ---- types
 
-pub string_moved : {t : Tables} {from to : InterfaceType} {sides : Sides} {src : From} {dst : To} {first last : Writer} → from ≡ ty.String → to ≡ ty.String
-    → Emits first last (MovesNode sides src dst (taken_in first) (s_plain ty.String) (s_plain ty.String)) → MovedNode t from to sides src dst first last
+pub string_moved : {t : Tables} {from to : InterfaceType} {sides : Sides} {src : From} {dst : To} {first last : Writer} {before : Fuel} → from ≡ ty.String → to ≡ ty.String
+    → Emits first last (MovesNode sides src dst (taken_in first) (s_plain ty.String) (s_plain ty.String)) → MovedNode t from to sides src dst before before first last
 string_moved {t} {from} {to} {sides} {src} {dst} {first} {last} is is' x = record {
   grew = x.grew;
+  asks = [];
+  asked = record { each = tt };
   emits = λ s u hs hu cs cu can.
       let s_is = plain_only t ty.String refl s (subst (λ y. HasShape t y s) is hs) in
       let u_is = plain_only t ty.String refl u (subst (λ y. HasShape t y u) is' hu) in
       subst (λ s. Emits first last (MovesNode sides src dst (taken_in first) s u)) (sym s_is) (subst (λ u. Emits first last (MovesNode sides src dst (taken_in first) (s_plain ty.String) u)) (sym u_is) x);
+  translated = λ s u hs hu cs cu can. leaf_translated s u (ap is_leaf (plain_only t ty.String refl s (subst (λ y. HasShape t y s) is hs)));
 }
 
 -- a string at another type, whose values are not moved
-pub string_alone : {t : Tables} {from : InterfaceType} {sides : Sides} {src : From} {dst : To} {first last : Writer} {xs : List Instr} → AreRanged 0 0 xs → (to : InterfaceType) → from ≡ ty.String → to ≢ ty.String → Wrote first last xs → MovedNode t from to sides src dst first last
+pub string_alone : {t : Tables} {from : InterfaceType} {sides : Sides} {src : From} {dst : To} {first last : Writer} {before : Fuel} {xs : List Instr} → AreRanged 0 0 xs → (to : InterfaceType) → from ≡ ty.String → to ≢ ty.String → Wrote first last xs → MovedNode t from to sides src dst before before first last
 string_alone {t} ranged to is other w = record {
   grew = grew_wrote ranged w;
+  asks = [];
+  asked = record { each = tt };
   emits = λ s u hs hu cs cu can. absurd (alone u hu (subst (λ s. CanMove s u) (plain_only t ty.String refl s (subst (λ y. HasShape t y s) is hs)) can));
+  translated = λ s u hs hu cs cu can. absurd (alone u hu (subst (λ s. CanMove s u) (plain_only t ty.String refl s (subst (λ y. HasShape t y s) is hs)) can));
 }
   where
     alone : (u : Shape) → HasShape t to u → CanMove (s_plain ty.String) u → ⊥

@@ -20,11 +20,12 @@ use Rattle.fact_moves.specs.Actions.{Action, Give, ◌>>=◌}
 use Rattle.fact_moves.specs.Actions as action
 use Rattle.fact_moves.specs.Moves.{padded, write_case, move, move_case}
 use Rattle.fact_moves.specs.Sides.{Transfer, Source, Target, write_number}
+use Rattle.fact_moves.specs.Outlining.{Route, translates, translates_case, translates_none}
 use Rattle.fact_translate.specs.declared.sums.NumberedCase.{NumberedCase}
 use Rattle.fact_translate.specs.declared.sums.PairedCase.{PairedCase}
 use Rattle.fact_translate.specs.declared.sums.Sum.{Sum}
-use Rattle.fact_translate.specs.Movable.{CanMove, CanMoveCase}
-use Rattle.fact_translate.specs.MovedSums.{IsLiveNumbered, HasPayloadShape}
+use Rattle.fact_emit.specs.Movable.{CanMoveMember, CanMoveCase}
+use Rattle.fact_translate.specs.MovedSums.{IsLiveNumbered, HasPayloadShape, numbered_height, payload_height}
 use Rattle.fact_translate.specs.Sums.{numbered_case, case_at_name, paired_case, paired_cases, IsSumKind, IsSumOf}
 use Rattle.fact_translate.proofs.SumRoom.{IsPayload, bare_payload, typed_payload}
 use Rattle.fact_translate.proofs.TypeKinds.{node_members}
@@ -53,9 +54,10 @@ module _ (t : Tables) (c : CaseType) where
     pub is : found ≡ Some (numbered_case number (Some type))
     pub shaped : HasShape t type to
     pub counted : IsCounted to
-    pub can : CanMove from to
+    pub can : CanMoveMember from to
     pub among : IsPayload ns to
     pub moves : (tr : Transfer) (ms : Members) (s : Source) (d : Target) → move_case tr ms all c ns n s d ≡ write_case tr ms all s d number (Some from) (Some to) (λ p s' d'. move tr p to s' d')
+    pub translated : (i : ℕ) (r : Route) (m : ℕ) → translates_case i r c.name from ns m ≡ translates i r from to m
 
   abbrev Found : (all ns : Members) (n : ℕ) (ys : List (List ℕ × Option InterfaceType)) → Type 0
   Found all ns n ys = FoundBare all ns n (case_at_name c.name n ys) ⊎ FoundTyped all ns n (case_at_name c.name n ys)
@@ -66,7 +68,7 @@ module _ (t : Tables) (c : CaseType) where
 
   bare_later : (all ns : Members) (x : List ℕ) (n : ℕ) (q : Option InterfaceType) (ys : List (List ℕ × Option InterfaceType)) → bytes_eq x c.name ≡ false → Found all ns (suc n) ys
       → FoundBare all (bare x ns) n (found_at false n q ys) ⊎ FoundTyped all (bare x ns) n (found_at false n q ys)
-  unfolding move
+  unfolding move translates_case
   bare_later all ns x n q ys e (inl f) = inl (record {
     number = f.number;
     none = f.none;
@@ -87,11 +89,12 @@ module _ (t : Tables) (c : CaseType) where
     among = record { place = suc f.among.place; case = f.among.case; there = f.among.there; payload = f.among.payload };
     moves = λ tr ms s d.
         ap (λ (b : Bool). if b then write_case tr ms all s d n c.payload None (λ p s' d'. action.Unreachable) else move_case tr ms all c ns (suc n) s d) e ∙ f.moves tr ms s d;
+    translated = λ i r m. ap (λ (b : Bool). if b then translates_none m else translates_case i r c.name f.from ns m) e ∙ f.translated i r m;
   })
 
   typed_later : (all ns : Members) (x : List ℕ) (u : Shape) (n : ℕ) (q : Option InterfaceType) (ys : List (List ℕ × Option InterfaceType)) → bytes_eq x c.name ≡ false → Found all ns (suc n) ys
       → FoundBare all (typed x u ns) n (found_at false n q ys) ⊎ FoundTyped all (typed x u ns) n (found_at false n q ys)
-  unfolding move
+  unfolding move translates_case
   typed_later all ns x u n q ys e (inl f) = inl (record {
     number = f.number;
     none = f.none;
@@ -112,6 +115,7 @@ module _ (t : Tables) (c : CaseType) where
     among = record { place = suc f.among.place; case = f.among.case; there = f.among.there; payload = f.among.payload };
     moves = λ tr ms s d.
         ap (λ (b : Bool). if b then write_case tr ms all s d n c.payload (Some u) (λ p s' d'. move tr p u s' d') else move_case tr ms all c ns (suc n) s d) e ∙ f.moves tr ms s d;
+    translated = λ i r m. ap (λ (b : Bool). if b then translates i r f.from u m else translates_case i r c.name f.from ns m) e ∙ f.translated i r m;
   })
 
   bare_here : (all ns : Members) (x : List ℕ) (n : ℕ) (q : Option InterfaceType) (ys : List (List ℕ × Option InterfaceType)) → bytes_eq x c.name ≡ true → q ≡ None → c.payload ≡ None → FoundBare all (bare x ns) n (found_at true n q ys)
@@ -125,9 +129,9 @@ module _ (t : Tables) (c : CaseType) where
         ∙ ap (λ (o : Option Shape). write_case tr ms all s d n o None (λ p s' d'. action.Unreachable)) empty;
   }
 
-  typed_here : (all ns : Members) (x : List ℕ) (u : Shape) (n : ℕ) (q : Option InterfaceType) (y : InterfaceType) (ys : List (List ℕ × Option InterfaceType)) → bytes_eq x c.name ≡ true → q ≡ Some y → HasShape t y u → IsCounted u → (p : Shape) → c.payload ≡ Some p → CanMove p u
+  typed_here : (all ns : Members) (x : List ℕ) (u : Shape) (n : ℕ) (q : Option InterfaceType) (y : InterfaceType) (ys : List (List ℕ × Option InterfaceType)) → bytes_eq x c.name ≡ true → q ≡ Some y → HasShape t y u → IsCounted u → (p : Shape) → c.payload ≡ Some p → CanMoveMember p u
       → FoundTyped all (typed x u ns) n (found_at true n q ys)
-  unfolding move
+  unfolding move translates_case
   typed_here all ns x u n q y ys e some shaped counted p full can = record {
     number = n;
     from = p;
@@ -142,6 +146,7 @@ module _ (t : Tables) (c : CaseType) where
     moves = λ tr ms s d.
         ap (λ (b : Bool). if b then write_case tr ms all s d n c.payload (Some u) (λ p s' d'. move tr p u s' d') else move_case tr ms all c ns (suc n) s d) e
         ∙ ap (λ (o : Option Shape). write_case tr ms all s d n o (Some u) (λ p s' d'. move tr p u s' d')) full;
+    translated = λ i r m. ap (λ (b : Bool). if b then translates i r p u m else translates_case i r c.name p ns m) e;
   }
 
   -- A case that can be moved has a case of its name.
@@ -162,9 +167,9 @@ module _ (t : Tables) (c : CaseType) where
       name_is : (b : Bool) → bytes_eq x c.name ≡ b → found_at b n y.1 ys ≡ case_at_name c.name n (y ∷ ys)
       name_is b e = ap (λ (b : Bool). found_at b n y.1 ys) (sym e ∙ ap (λ z. bytes_eq z c.name) (sym h.0))
 
-      go : (b : Bool) → bytes_eq x c.name ≡ b → chosen b (ThereIs c.payload (λ p. CanMove p u)) (CanMoveCase c ns) → (CanMoveCase c ns → Found all ns (suc n) ys) → Found all (typed x u ns) n (y ∷ ys)
+      go : (b : Bool) → bytes_eq x c.name ≡ b → chosen b (ThereIs c.payload (λ p. CanMoveMember p u)) (CanMoveCase c ns) → (CanMoveCase c ns → Found all ns (suc n) ys) → Found all (typed x u ns) n (y ∷ ys)
       go true e can rest =
-          let (p, full, moves) = there_is c.payload (λ p. CanMove p u) can in
+          let (p, full, moves) = there_is c.payload (λ p. CanMoveMember p u) can in
           inr (subst (FoundTyped all (typed x u ns) n) (name_is true e) (typed_here all ns x u n y.1 h.1.0 ys e h.1.1 h.1.2 k.0 p full moves))
       go false e can rest = subst (λ f. FoundBare all (typed x u ns) n f ⊎ FoundTyped all (typed x u ns) n f) (name_is false e) (typed_later all ns x u n y.1 ys e (rest can))
 
@@ -237,15 +242,6 @@ named_from x n (y ∷ ys) f e = go (bytes_eq y.0 x) e (named_from x (suc n) ys f
     go false e rest = let r = rest e in (suc r.0, r.1, r.2, r.3)
 
 -- ---- what stands in the tables
-
--- the height of a payload at a destination, with one for the case
-abbrev pub payload_height : Tables → Option InterfaceType → ℕ
-payload_height t None = 0
-payload_height t (Some y) = suc (height t y)
-
-abbrev pub numbered_height : Tables → Option NumberedCase → ℕ
-numbered_height t None = 0
-numbered_height t (Some f) = payload_height t f.payload
 
 abbrev info_of : VariantInfo → Parts → VariantInfo
 info_of d no_parts = d

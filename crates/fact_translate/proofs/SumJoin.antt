@@ -30,13 +30,14 @@ use Rattle.fact_pieces.proofs.SumMoves.{moves_sum, tagged_code}
 use Rattle.fact_pieces.proofs.TypedShapes.{IsClosedCode}
 use Rattle.fact_emit.specs.declared.places.Sides.{Sides}
 use Rattle.fact_emit.specs.Bodies.{ChoosesCase}
-use Rattle.fact_emit.specs.Fitting.{bytes_of_shape, FitsShapes, node_moves, MovesShape}
+use Rattle.fact_emit.specs.Fitting.{bytes_of_shape, FitsShapes, node_moves}
 use Rattle.fact_emit.specs.MovesValue.{MovesValue, except, HasLocal}
 use Rattle.fact_emit.specs.Numbers.{HasUpperAt}
 use Rattle.fact_emit.specs.Parts.{from_behind, bytes_by}
 use Rattle.fact_emit.specs.Places.{setting_of, checks_at, Using}
 use Rattle.fact_emit.proofs.NumberMoves.{narrow_of, readable}
 use Rattle.fact_emit.proofs.Using.{free_except, using_more}
+use Rattle.fact_translate.specs.Asks.{MovesHelped}
 use Rattle.fact_translate.specs.Kinds.{discriminant_number_of}
 use Rattle.fact_translate.specs.MovedSums.{MovesPayload, MovesCaseOf, AreCaseBodies}
 use Rattle.fact_translate.proofs.FieldJoin.{apart_dst, using_past, using_spot}
@@ -114,7 +115,7 @@ module _ (sides : Sides) (src : From) (dst : To) (taken : ℕ → Bool) (ms ns :
         lists = λ e. fit.lists (payload_holds ms p source e);
       }
 
-      some_moves : {code : List Instr} → MovesShape sides part spot taken p u M q locals code
+      some_moves : {code : List Instr} → MovesHelped sides part spot taken p u M q locals code
           → ((s : Source) (d : Target) → move_case (transfer S) ms ns c ns 0 s d ≡ write_case (transfer S) ms ns s d number (Some p) (Some u) (λ p s' d'. move (transfer S) p u s' d'))
           → Moves S used 300 0 src dst (λ s d. move_case (transfer S) ms ns c ns 0 s d) (tag_code size number dst ++ (code ++ zero_code rest))
       some_moves m is =
@@ -147,7 +148,7 @@ module _ (sides : Sides) (src : From) (dst : To) (taken : ℕ → Bool) (ms ns :
         let part_at = part_is M q locals a sides.from.memory64 ms p source from_count from_bytes (from_is (width_of_side a)) from_at src fit.reads in
         let spot_at = spot_is M q locals b sides.to.memory64 ns u destination to_count to_bytes (to_is (width_of_side b)) to_at dst fit.writes in
         let rest_at = past_is M q locals b sides.to.memory64 ns u destination to_count to_bytes (to_is (width_of_side b)) to_at dst fit.writes in
-        let moved = subst (λ s. MovesShape sides s (to_spot (flat_length b u) (payload_place (side_abi b) ns) (to_past 1 dst)) taken p u M q locals m.payload) part_at (subst (λ d. MovesShape sides (from_behind 1 from_count from_bytes src) d taken p u M q locals m.payload) spot_at m.moves) in
+        let moved = subst (λ s. MovesHelped sides s (to_spot (flat_length b u) (payload_place (side_abi b) ns) (to_past 1 dst)) taken p u M q locals m.payload) part_at (subst (λ d. MovesHelped sides (from_behind 1 from_count from_bytes src) d taken p u M q locals m.payload) spot_at m.moves) in
         let code_is : m.payload ++ zero_code (to_past (flat_length b u) (to_past 1 dst)) ≡ code = ap (λ r. m.payload ++ zero_code r) (sym rest_at) ∙ sym m.is in
         let S = setting_of sides a b rooms M q locals in
         subst (λ k. Moves S used 300 0 src dst (λ s d. move_case (transfer S) ms ns c ns 0 s d) (tag_code size number dst ++ k)) code_is

@@ -10,20 +10,25 @@ use Rattle.fact_types.specs.declared.kinds.RecordField.{RecordField}
 use Rattle.fact_types.specs.Fields.{field_of, Finds}
 use Rattle.fact_types.specs.Flat.{add_flat}
 use Rattle.fact_types.specs.FlatShapes.{AreCounted}
-use Rattle.fact_types.specs.Heights.{Within}
+use Rattle.fact_types.specs.Heights.{Within, height}
 use Rattle.fact_types.specs.Layout.{aligned}
 use Rattle.fact_types.specs.Shapes.{Kind, k_record, s_node, Members, layout_of, IsWithin}
 use Rattle.fact_types.specs.Tables.{Tables, Node, node_of, HasShape, HasMembers}
+use Rattle.fact_moves.specs.Outlining.{translates_fields}
 use Rattle.fact_pieces.specs.Places.{From, To}
 use Rattle.fact_emit.specs.declared.places.Sides.{Sides}
 use Rattle.fact_emit.specs.declared.writer.Writer.{Writer}
-use Rattle.fact_emit.specs.Emits.{Grew, Emits}
+use Rattle.fact_emit.specs.Asked.{AskedHelper}
+use Rattle.fact_emit.specs.Emits.{GrewAsking, EmitsAsking}
 use Rattle.fact_emit.specs.Fitting.{MovesFields}
+use Rattle.fact_emit.specs.Movable.{CanMoveFields}
 use Rattle.fact_emit.specs.Writers.{taken_in}
+use Rattle.fact_translate.specs.Asks.{AreAsked}
+use Rattle.fact_translate.specs.declared.fuel.Fuel.{Fuel}
 use Rattle.fact_translate.specs.declared.members.MemberPair.{MemberPair}
 use Rattle.fact_translate.specs.declared.members.MembersEnd.{MembersEnd}
-use Rattle.fact_translate.specs.Movable.{CanMoveFields}
 use Rattle.fact_translate.specs.Moved.{IsLiveFound}
+use Rattle.fact_translate.specs.Translations.{TranslatesAs}
 use denote.Ref.{Bor}
 
 -- ---- places
@@ -94,7 +99,11 @@ pub record ArePairsOf (t : Tables) (from to : InterfaceType) (kind : Kind) (pair
 -- ---- moves
 
 -- Code was written that moves members to those of a destination, from the places that were found in a source.
-pub record MovedPairs (t : Tables) (to : InterfaceType) (pairs : List MemberPair) (sides : Sides) (src : From) (dst : To) (old new : Writer) : Type 0 where
-  pub grew : Grew old new
+pub record MovedPairs (t : Tables) (to : InterfaceType) (pairs : List MemberPair) (sides : Sides) (src : From) (dst : To) (before after : Fuel) (old new : Writer) : Type 0 where
+  pub asks : List AskedHelper
+  pub grew : GrewAsking asks old new
+  pub asked : AreAsked t sides (height t to) new.imports asks
   pub emits : (ms ns : Members) → FindsEach t ms to pairs → HasMembers t (members_at t to) ns → AreCounted ms → AreCounted ns → CanMoveFields ms ns
-      → Emits old new (MovesFields sides src dst (taken_in old) ms ns 0)
+      → EmitsAsking asks old new (MovesFields sides src dst (taken_in old) ms ns 0)
+  pub translated : (ms ns : Members) → FindsEach t ms to pairs → HasMembers t (members_at t to) ns → AreCounted ms → AreCounted ns → CanMoveFields ms ns
+      → TranslatesAs t sides src dst before after asks (λ i r. translates_fields i r ms ns)

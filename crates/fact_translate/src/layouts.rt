@@ -47,6 +47,7 @@ pub fn alignment(types: &ComponentTypes, ty: &InterfaceType, memory64: bool) -> 
     requires { IsLive types.now ty.now }
     ensures some { 0 < result }
     ensures is { (s : Shape) → HasShape types.now ty.now s → result ≡ (extent (width memory64) (layout_of s)).align }
+    ensures small { (s : Shape) → HasShape types.now ty.now s → (extent (width memory64) (layout_of s)).size ≤ 4294967295 }
 {
     let abi = types.canonical_abi(ty);
     if memory64 { abi.align64 } else { abi.align32 }

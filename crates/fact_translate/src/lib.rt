@@ -4,10 +4,13 @@
 
 pub mod fixed;
 pub mod flags;
+pub mod fuel;
+pub mod helpers;
 pub mod layouts;
 pub mod lists;
 pub mod maps;
 pub mod members;
+pub mod places;
 pub mod products;
 pub mod strings;
 pub mod sums;

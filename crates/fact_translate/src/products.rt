@@ -7,7 +7,8 @@ ghost use Rattle.fact_pieces.specs.Places.{InMemory, ToMemory};
 ghost use Rattle.fact_emit.specs.Handles.{handle_transfer as transfer_of};
 ghost use Rattle.fact_emit.specs.Places.{from_of, to_of};
 ghost use Rattle.fact_emit.specs.StringPieces.{AreSidesImported};
-ghost use Rattle.fact_translate.specs.Moved.{MovedNode, MovedTuple, MovedValue, MovedMember, CheckedPlaces, IsLiveFound};
+ghost use Rattle.fact_translate.specs.Asks.{AreSidesTold};
+ghost use Rattle.fact_translate.specs.Moved.{MovedNode, MovedTuple, MovedInPlace, MovedValue, MovedMember, IsLiveFound};
 ghost use Rattle.fact_translate.specs.MovedFixed.{MovedElements};
 ghost use Rattle.fact_translate.specs.MovedSums.{IsLiveNumbered, MovedSome, MovedPayload, MovedCase, WroteBodies, MovedSumBy, MovedSum};
 ghost use Rattle.fact_translate.specs.MemberPairs.{ArePairs, MovedPairs};
@@ -18,16 +19,19 @@ use crate::fixed::{
     take_fixed_locals,
 };
 use crate::flags::{discriminant_number, move_enum, move_flags};
+use crate::fuel::{Fuel, cost};
+use crate::helpers::call_helper;
 use crate::layouts::{alignment, byte_count, byte_place, flat_length, next_place};
 use crate::lists::{Elements, close_list, free_list_locals, open_list, take_list_locals};
 use crate::maps::{entries, value_place};
 use crate::members::{MemberPair, pair_fields, pair_members};
+use crate::places::check_places;
 use crate::strings::move_string;
 use crate::sums::{
     PairedCase, Sum, option_sum, payload_place, put_left_over, put_tag, result_sum, variant_sum,
 };
+use fact_builder::ComponentTypesBuilder;
 use fact_emit::bodies::put_cases;
-use fact_emit::checks::{check_source, check_target};
 use fact_emit::handles::{handle_transfer, move_handle};
 use fact_emit::numbers::read_number;
 use fact_emit::places::{Address, Sides, SourcePlace, TargetPlace};
@@ -40,32 +44,14 @@ use fact_entity::{
 use fact_types::{ComponentTypes, FieldPlace, InterfaceType, VariantInfo};
 use fact_wasm::{Instr, OutOfMemory, Seq, ValType};
 
-/// With debug checks on, traps where a place in memory is not aligned for its type.
-fn check_places(
-    types: &ComponentTypes,
-    w: &mut Writer,
-    sides: Sides,
-    from: InterfaceType,
-    to: InterfaceType,
-    source: SourcePlace<'_>,
-    target: TargetPlace<'_>,
-) -> Result<(), OutOfMemory>
-    requires from_live { IsLive types.now from }
-    requires to_live { IsLive types.now to }
-    ensures { OnOk result (CheckedPlaces types.now from to sides (from_of sides.from source.entry) (to_of sides.to target.entry) w.old w.new) }
-{
-    let align = alignment(types, &from, sides.from.memory64);
-    check_source(w, sides.debug, sides.from, align, source)?;
-    let align = alignment(types, &to, sides.to.memory64);
-    check_target(w, sides.debug, sides.to, align, target)?;
-    Ok(())
-}
-
-/// Moves a value of a live type to a place of a type that it can be moved to.
+/// Moves a value of a live type to a place of a type that it can be moved to. Where that costs more than the fuel that is left, and some was
+/// taken, a helper moves it.
 #[cycle(moving)]
 pub fn translate(
     types: &ComponentTypes,
+    builder: &ComponentTypesBuilder,
     w: &mut Writer,
+    fuel: &mut Fuel,
     sides: Sides,
     from: InterfaceType,
     to: InterfaceType,
@@ -75,12 +61,43 @@ pub fn translate(
     requires from_live { IsLive types.now from }
     requires to_live { IsLive types.now to }
     requires sides { AreSidesImported sides w.old.imports }
-    ensures { OnOk result (MovedValue types.now from to sides (from_of sides.from source.entry) (to_of sides.to target.entry) w.old w.new) }
+    requires tables { builder.now.tables ≡ types.now }
+    requires told { AreSidesTold sides }
+    ensures { OnOk result (MovedValue types.now from to sides (from_of sides.from source.entry) (to_of sides.to target.entry) fuel.old fuel.new w.old w.new) }
 {
+    if fuel.covers(cost(types, from)) {
+        translate_in_place(types, builder, w, fuel, sides, from, to, source, target)?;
+    } else {
+        call_helper(builder, w, sides, from, to, source, target)?;
+    }
+    Ok(())
+}
+
+/// Moves a value by code of this function, which takes its cost from the fuel, but for members that cost more than what is left.
+#[cycle(moving)]
+pub fn translate_in_place(
+    types: &ComponentTypes,
+    builder: &ComponentTypesBuilder,
+    w: &mut Writer,
+    fuel: &mut Fuel,
+    sides: Sides,
+    from: InterfaceType,
+    to: InterfaceType,
+    source: SourcePlace<'_>,
+    target: TargetPlace<'_>,
+) -> Result<(), OutOfMemory>
+    requires from_live { IsLive types.now from }
+    requires to_live { IsLive types.now to }
+    requires sides { AreSidesImported sides w.old.imports }
+    requires tables { builder.now.tables ≡ types.now }
+    requires told { AreSidesTold sides }
+    ensures { OnOk result (MovedInPlace types.now from to sides (from_of sides.from source.entry) (to_of sides.to target.entry) fuel.old fuel.new w.old w.new) }
+{
+    fuel.take(cost(types, from));
     check_places(types, w, sides, from, to, source, target)?;
     match handle_transfer(from, to) {
         Some(transfer) => move_handle(w, sides, transfer, source, target)?,
-        None => move_node(types, w, sides, from, to, source, target)?,
+        None => move_node(types, builder, w, fuel, sides, from, to, source, target)?,
     }
     Ok(())
 }
@@ -89,7 +106,9 @@ pub fn translate(
 #[cycle(moving)]
 fn move_node(
     types: &ComponentTypes,
+    builder: &ComponentTypesBuilder,
     w: &mut Writer,
+    fuel: &mut Fuel,
     sides: Sides,
     from: InterfaceType,
     to: InterfaceType,
@@ -99,41 +118,57 @@ fn move_node(
     requires from_live { IsLive types.now from }
     requires to_live { IsLive types.now to }
     requires sides { AreSidesImported sides w.old.imports }
+    requires tables { builder.now.tables ≡ types.now }
+    requires told { AreSidesTold sides }
     requires no_handle { transfer_of from to ≡ None }
-    ensures { OnOk result (MovedNode types.now from to sides (from_of sides.from source.entry) (to_of sides.to target.entry) w.old w.new) }
+    ensures { OnOk result (MovedNode types.now from to sides (from_of sides.from source.entry) (to_of sides.to target.entry) fuel.old fuel.new w.old w.new) }
 {
     match from {
         InterfaceType::Record(i) => match to {
-            InterfaceType::Record(j) => move_record(types, w, sides, i, j, source, target)?,
+            InterfaceType::Record(j) => move_record(
+                types, builder, w, fuel, sides, i, j, source, target,
+            )?,
             _ => w.put(Instr::Unreachable)?,
         },
         InterfaceType::Tuple(i) => match to {
-            InterfaceType::Tuple(j) => move_tuple(types, w, sides, i, j, source, target)?,
+            InterfaceType::Tuple(j) => move_tuple(
+                types, builder, w, fuel, sides, i, j, source, target,
+            )?,
             _ => w.put(Instr::Unreachable)?,
         },
         InterfaceType::Variant(i) => match to {
-            InterfaceType::Variant(j) => move_variant(types, w, sides, i, j, source, target)?,
+            InterfaceType::Variant(j) => move_variant(
+                types, builder, w, fuel, sides, i, j, source, target,
+            )?,
             _ => w.put(Instr::Unreachable)?,
         },
         InterfaceType::Option(i) => match to {
-            InterfaceType::Option(j) => move_option(types, w, sides, i, j, source, target)?,
+            InterfaceType::Option(j) => move_option(
+                types, builder, w, fuel, sides, i, j, source, target,
+            )?,
             _ => w.put(Instr::Unreachable)?,
         },
         InterfaceType::Result(i) => match to {
-            InterfaceType::Result(j) => move_result(types, w, sides, i, j, source, target)?,
+            InterfaceType::Result(j) => move_result(
+                types, builder, w, fuel, sides, i, j, source, target,
+            )?,
             _ => w.put(Instr::Unreachable)?,
         },
         InterfaceType::List(i) => match to {
-            InterfaceType::List(j) => move_list(types, w, sides, i, j, source, target)?,
+            InterfaceType::List(j) => move_list(
+                types, builder, w, fuel, sides, i, j, source, target,
+            )?,
             _ => w.put(Instr::Unreachable)?,
         },
         InterfaceType::Map(i) => match to {
-            InterfaceType::Map(j) => move_map(types, w, sides, i, j, source, target)?,
+            InterfaceType::Map(j) => move_map(
+                types, builder, w, fuel, sides, i, j, source, target,
+            )?,
             _ => w.put(Instr::Unreachable)?,
         },
         InterfaceType::FixedLengthList(i) => match to {
             InterfaceType::FixedLengthList(j) => {
-                move_fixed_list(types, w, sides, i, j, source, target)?
+                move_fixed_list(types, builder, w, fuel, sides, i, j, source, target)?
             }
             _ => w.put(Instr::Unreachable)?,
         },
@@ -152,7 +187,9 @@ fn move_node(
 #[cycle(moving)]
 fn move_record(
     types: &ComponentTypes,
+    builder: &ComponentTypesBuilder,
     w: &mut Writer,
+    fuel: &mut Fuel,
     sides: Sides,
     from: TypeRecordIndex,
     to: TypeRecordIndex,
@@ -162,11 +199,14 @@ fn move_record(
     requires from_live { IsLive types.now (ty.Record from) }
     requires to_live { IsLive types.now (ty.Record to) }
     requires sides { AreSidesImported sides w.old.imports }
-    ensures { OnOk result (MovedNode types.now (ty.Record from) (ty.Record to) sides (from_of sides.from source.entry) (to_of sides.to target.entry) w.old w.new) }
+    requires tables { builder.now.tables ≡ types.now }
+    requires told { AreSidesTold sides }
+    ensures { OnOk result (MovedNode types.now (ty.Record from) (ty.Record to) sides (from_of sides.from source.entry) (to_of sides.to target.entry) fuel.old fuel.new w.old w.new) }
 {
     let pairs = pair_fields(w.alloc, types, from, to)?;
     let whole = InterfaceType::Record(to);
-    let moved = move_pairs(types, w, sides, whole, pairs.as_slice(), source, target);
+    let slice = pairs.as_slice();
+    let moved = move_pairs(types, builder, w, fuel, sides, whole, slice, source, target);
     drop(pairs);
     moved
 }
@@ -175,7 +215,9 @@ fn move_record(
 #[cycle(moving)]
 pub fn move_tuple(
     types: &ComponentTypes,
+    builder: &ComponentTypesBuilder,
     w: &mut Writer,
+    fuel: &mut Fuel,
     sides: Sides,
     from: TypeTupleIndex,
     to: TypeTupleIndex,
@@ -185,11 +227,14 @@ pub fn move_tuple(
     requires from_live { IsLive types.now (ty.Tuple from) }
     requires to_live { IsLive types.now (ty.Tuple to) }
     requires sides { AreSidesImported sides w.old.imports }
-    ensures { OnOk result (MovedTuple types.now (ty.Tuple from) (ty.Tuple to) sides (from_of sides.from source.entry) (to_of sides.to target.entry) w.old w.new) }
+    requires tables { builder.now.tables ≡ types.now }
+    requires told { AreSidesTold sides }
+    ensures { OnOk result (MovedTuple types.now (ty.Tuple from) (ty.Tuple to) sides (from_of sides.from source.entry) (to_of sides.to target.entry) fuel.old fuel.new w.old w.new) }
 {
     let pairs = pair_members(w.alloc, types, from, to)?;
     let whole = InterfaceType::Tuple(to);
-    let moved = move_pairs(types, w, sides, whole, pairs.as_slice(), source, target);
+    let slice = pairs.as_slice();
+    let moved = move_pairs(types, builder, w, fuel, sides, whole, slice, source, target);
     drop(pairs);
     moved
 }
@@ -198,7 +243,9 @@ pub fn move_tuple(
 #[cycle(moving)]
 fn move_pairs(
     types: &ComponentTypes,
+    builder: &ComponentTypesBuilder,
     w: &mut Writer,
+    fuel: &mut Fuel,
     sides: Sides,
     whole: InterfaceType,
     pairs: &[MemberPair],
@@ -207,7 +254,9 @@ fn move_pairs(
 ) -> Result<(), OutOfMemory>
     requires pairs { ArePairs types.now whole pairs.now }
     requires sides { AreSidesImported sides w.old.imports }
-    ensures { OnOk result (MovedPairs types.now whole pairs.now sides (from_of sides.from source.entry) (to_of sides.to target.entry) w.old w.new) }
+    requires tables { builder.now.tables ≡ types.now }
+    requires told { AreSidesTold sides }
+    ensures { OnOk result (MovedPairs types.now whole pairs.now sides (from_of sides.from source.entry) (to_of sides.to target.entry) fuel.old fuel.new w.old w.new) }
 {
     let mut rest = target;
     let mut end: u32 = 0;
@@ -215,7 +264,9 @@ fn move_pairs(
         let place = next_place(types.canonical_abi(&pair.ty), sides.to.memory64, &mut end);
         let count = flat_length(types, &pair.ty);
         let spot = rest.part(0, count, place);
-        move_member(types, w, sides, pair.found, pair.ty, source, spot)?;
+        move_member(
+            types, builder, w, fuel, sides, pair.found, pair.ty, source, spot,
+        )?;
         rest = rest.past(count);
     }
     Ok(())
@@ -225,7 +276,9 @@ fn move_pairs(
 #[cycle(moving)]
 fn move_list(
     types: &ComponentTypes,
+    builder: &ComponentTypesBuilder,
     w: &mut Writer,
+    fuel: &mut Fuel,
     sides: Sides,
     from: TypeListIndex,
     to: TypeListIndex,
@@ -235,16 +288,18 @@ fn move_list(
     requires from_live { IsLive types.now (ty.List from) }
     requires to_live { IsLive types.now (ty.List to) }
     requires sides { AreSidesImported sides w.old.imports }
-    ensures { OnOk result (MovedNode types.now (ty.List from) (ty.List to) sides (from_of sides.from source.entry) (to_of sides.to target.entry) w.old w.new) }
+    requires tables { builder.now.tables ≡ types.now }
+    requires told { AreSidesTold sides }
+    ensures { OnOk result (MovedNode types.now (ty.List from) (ty.List to) sides (from_of sides.from source.entry) (to_of sides.to target.entry) fuel.old fuel.new w.old w.new) }
 {
     types.reveal();
-    let from_element = types[from].element;
-    let to_element = types[to].element;
+    let from_item = types[from].element;
+    let to_item = types[to].element;
     let elements = Elements {
-        from_size: byte_count(types, &from_element, sides.from.memory64),
-        from_align: alignment(types, &from_element, sides.from.memory64),
-        to_size: byte_count(types, &to_element, sides.to.memory64),
-        to_align: alignment(types, &to_element, sides.to.memory64),
+        from_size: byte_count(types, &from_item, sides.from.memory64),
+        from_align: alignment(types, &from_item, sides.from.memory64),
+        to_size: byte_count(types, &to_item, sides.to.memory64),
+        to_align: alignment(types, &to_item, sides.to.memory64),
     };
     let locals = take_list_locals(w, sides)?;
     open_list(w, sides, elements, locals, source)?;
@@ -257,7 +312,9 @@ fn move_list(
         local: locals.target,
         offset: 0,
     });
-    translate(types, w, sides, from_element, to_element, part, spot)?;
+    translate(
+        types, builder, w, fuel, sides, from_item, to_item, part, spot,
+    )?;
     close_list(w, sides, elements, locals, outer, target)?;
     free_list_locals(w, locals)?;
     Ok(())
@@ -267,7 +324,9 @@ fn move_list(
 #[cycle(moving)]
 fn move_map(
     types: &ComponentTypes,
+    builder: &ComponentTypesBuilder,
     w: &mut Writer,
+    fuel: &mut Fuel,
     sides: Sides,
     from: TypeMapIndex,
     to: TypeMapIndex,
@@ -277,7 +336,9 @@ fn move_map(
     requires from_live { IsLive types.now (ty.Map from) }
     requires to_live { IsLive types.now (ty.Map to) }
     requires sides { AreSidesImported sides w.old.imports }
-    ensures { OnOk result (MovedNode types.now (ty.Map from) (ty.Map to) sides (from_of sides.from source.entry) (to_of sides.to target.entry) w.old w.new) }
+    requires tables { builder.now.tables ≡ types.now }
+    requires told { AreSidesTold sides }
+    ensures { OnOk result (MovedNode types.now (ty.Map from) (ty.Map to) sides (from_of sides.from source.entry) (to_of sides.to target.entry) fuel.old fuel.new w.old w.new) }
 {
     types.reveal();
     let from_map = &types[from];
@@ -294,17 +355,17 @@ fn move_map(
         local: locals.target,
         offset: 0,
     });
-    translate(types, w, sides, from_map.key, to_map.key, entry, spot)?;
+    let from_key = from_map.key;
+    let to_key = to_map.key;
+    translate(
+        types, builder, w, fuel, sides, from_key, to_key, entry, spot,
+    )?;
     let value = entry.part(0, 0, value_place(from_map, sides.from.memory64));
     let value_spot = spot.part(0, 0, value_place(to_map, sides.to.memory64));
+    let from_value = from_map.value;
+    let to_value = to_map.value;
     translate(
-        types,
-        w,
-        sides,
-        from_map.value,
-        to_map.value,
-        value,
-        value_spot,
+        types, builder, w, fuel, sides, from_value, to_value, value, value_spot,
     )?;
     close_list(w, sides, elements, locals, outer, target)?;
     free_list_locals(w, locals)?;
@@ -315,7 +376,9 @@ fn move_map(
 #[cycle(moving)]
 fn move_fixed_list(
     types: &ComponentTypes,
+    builder: &ComponentTypesBuilder,
     w: &mut Writer,
+    fuel: &mut Fuel,
     sides: Sides,
     from: TypeFixedLengthListIndex,
     to: TypeFixedLengthListIndex,
@@ -325,27 +388,35 @@ fn move_fixed_list(
     requires from_live { IsLive types.now (ty.FixedLengthList from) }
     requires to_live { IsLive types.now (ty.FixedLengthList to) }
     requires sides { AreSidesImported sides w.old.imports }
-    ensures { OnOk result (MovedNode types.now (ty.FixedLengthList from) (ty.FixedLengthList to) sides (from_of sides.from source.entry) (to_of sides.to target.entry) w.old w.new) }
+    requires tables { builder.now.tables ≡ types.now }
+    requires told { AreSidesTold sides }
+    ensures { OnOk result (MovedNode types.now (ty.FixedLengthList from) (ty.FixedLengthList to) sides (from_of sides.from source.entry) (to_of sides.to target.entry) fuel.old fuel.new w.old w.new) }
 {
     types.reveal();
-    let from_element = types[from].element;
-    let to_element = types[to].element;
+    let from_item = types[from].element;
+    let to_item = types[to].element;
     let e = FixedElements {
         count: types[to].size,
-        from_size: byte_count(types, &from_element, sides.from.memory64),
-        to_size: byte_count(types, &to_element, sides.to.memory64),
+        from_size: byte_count(types, &from_item, sides.from.memory64),
+        to_size: byte_count(types, &to_item, sides.to.memory64),
     };
     match source {
         SourcePlace::Memory(begin) => match target {
             TargetPlace::Memory(spot) => {
-                move_by_loop(types, w, sides, from_element, to_element, e, begin, spot)?
+                move_by_loop(
+                    types, builder, w, fuel, sides, from_item, to_item, e, begin, spot,
+                )?
             }
             TargetPlace::Locals(_) => {
-                move_one_by_one(types, w, sides, from_element, to_element, e, source, target)?
+                move_one_by_one(
+                    types, builder, w, fuel, sides, from_item, to_item, e, source, target,
+                )?
             }
         },
         SourcePlace::Locals(_) => {
-            move_one_by_one(types, w, sides, from_element, to_element, e, source, target)?
+            move_one_by_one(
+                types, builder, w, fuel, sides, from_item, to_item, e, source, target,
+            )?
         }
     }
     Ok(())
@@ -355,7 +426,9 @@ fn move_fixed_list(
 #[cycle(moving)]
 fn move_by_loop(
     types: &ComponentTypes,
+    builder: &ComponentTypesBuilder,
     w: &mut Writer,
+    fuel: &mut Fuel,
     sides: Sides,
     from: InterfaceType,
     to: InterfaceType,
@@ -366,7 +439,9 @@ fn move_by_loop(
     requires from_live { IsLive types.now from }
     requires to_live { IsLive types.now to }
     requires sides { AreSidesImported sides w.old.imports }
-    ensures { OnOk result (MovedElements types.now from to e sides (InMemory sides.from.memory source.local source.offset) (ToMemory sides.to.memory target.local target.offset) w.old w.new) }
+    requires tables { builder.now.tables ≡ types.now }
+    requires told { AreSidesTold sides }
+    ensures { OnOk result (MovedElements types.now from to e 1 sides (InMemory sides.from.memory source.local source.offset) (ToMemory sides.to.memory target.local target.offset) fuel.old fuel.new w.old w.new) }
 {
     let locals = take_fixed_locals(w, sides)?;
     open_fixed(w, sides, e, locals, source, target)?;
@@ -379,7 +454,7 @@ fn move_by_loop(
         local: locals.target,
         offset: 0,
     });
-    translate(types, w, sides, from, to, part, spot)?;
+    translate(types, builder, w, fuel, sides, from, to, part, spot)?;
     close_fixed(w, sides, e, locals, outer)?;
     free_fixed_locals(w, locals)?;
     Ok(())
@@ -389,7 +464,9 @@ fn move_by_loop(
 #[cycle(moving)]
 fn move_one_by_one(
     types: &ComponentTypes,
+    builder: &ComponentTypesBuilder,
     w: &mut Writer,
+    fuel: &mut Fuel,
     sides: Sides,
     from: InterfaceType,
     to: InterfaceType,
@@ -400,7 +477,9 @@ fn move_one_by_one(
     requires from_live { IsLive types.now from }
     requires to_live { IsLive types.now to }
     requires sides { AreSidesImported sides w.old.imports }
-    ensures { OnOk result (MovedElements types.now from to e sides (from_of sides.from source.entry) (to_of sides.to target.entry) w.old w.new) }
+    requires tables { builder.now.tables ≡ types.now }
+    requires told { AreSidesTold sides }
+    ensures { OnOk result (MovedElements types.now from to e e.count sides (from_of sides.from source.entry) (to_of sides.to target.entry) fuel.old fuel.new w.old w.new) }
 {
     let from_flats = flat_length(types, &from);
     let to_flats = flat_length(types, &to);
@@ -408,7 +487,7 @@ fn move_one_by_one(
     for n in 0..e.count {
         let part = nth_source(source, from_flats, e.from_size, n);
         let spot = nth_target(rest, to_flats, e.to_size, n);
-        translate(types, w, sides, from, to, part, spot)?;
+        translate(types, builder, w, fuel, sides, from, to, part, spot)?;
         rest = rest.past(to_flats);
     }
     Ok(())
@@ -418,7 +497,9 @@ fn move_one_by_one(
 #[cycle(moving)]
 fn move_member(
     types: &ComponentTypes,
+    builder: &ComponentTypesBuilder,
     w: &mut Writer,
+    fuel: &mut Fuel,
     sides: Sides,
     found: Option<FieldPlace>,
     to: InterfaceType,
@@ -428,7 +509,9 @@ fn move_member(
     requires from_live { IsLiveFound types.now found }
     requires to_live { IsLive types.now to }
     requires sides { AreSidesImported sides w.old.imports }
-    ensures { OnOk result (MovedMember types.now found to sides (from_of sides.from source.entry) (to_of sides.to spot.entry) w.old w.new) }
+    requires tables { builder.now.tables ≡ types.now }
+    requires told { AreSidesTold sides }
+    ensures { OnOk result (MovedMember types.now found to sides (from_of sides.from source.entry) (to_of sides.to spot.entry) fuel.old fuel.new w.old w.new) }
 {
     match found {
         Some(found) => {
@@ -436,7 +519,7 @@ fn move_member(
             let count = flat_length(types, &found.ty);
             let bytes = byte_place(found, sides.from.memory64);
             let part = source.part(skip, count, bytes);
-            translate(types, w, sides, found.ty, to, part, spot)?;
+            translate(types, builder, w, fuel, sides, found.ty, to, part, spot)?;
         }
         None => w.put(Instr::Unreachable)?,
     }
@@ -447,7 +530,9 @@ fn move_member(
 #[cycle(moving)]
 fn move_variant(
     types: &ComponentTypes,
+    builder: &ComponentTypesBuilder,
     w: &mut Writer,
+    fuel: &mut Fuel,
     sides: Sides,
     from: TypeVariantIndex,
     to: TypeVariantIndex,
@@ -457,20 +542,15 @@ fn move_variant(
     requires from_live { IsLive types.now (ty.Variant from) }
     requires to_live { IsLive types.now (ty.Variant to) }
     requires sides { AreSidesImported sides w.old.imports }
-    ensures { OnOk result (MovedNode types.now (ty.Variant from) (ty.Variant to) sides (from_of sides.from source.entry) (to_of sides.to target.entry) w.old w.new) }
+    requires tables { builder.now.tables ≡ types.now }
+    requires told { AreSidesTold sides }
+    ensures { OnOk result (MovedNode types.now (ty.Variant from) (ty.Variant to) sides (from_of sides.from source.entry) (to_of sides.to target.entry) fuel.old fuel.new w.old w.new) }
 {
     let sum = variant_sum(w.alloc, types, from, to)?;
-    let source_type = InterfaceType::Variant(from);
-    let target_type = InterfaceType::Variant(to);
+    let from_type = InterfaceType::Variant(from);
+    let to_type = InterfaceType::Variant(to);
     move_sum(
-        types,
-        w,
-        sides,
-        source_type,
-        target_type,
-        &sum,
-        source,
-        target,
+        types, builder, w, fuel, sides, from_type, to_type, &sum, source, target,
     )?;
     Ok(())
 }
@@ -479,7 +559,9 @@ fn move_variant(
 #[cycle(moving)]
 fn move_option(
     types: &ComponentTypes,
+    builder: &ComponentTypesBuilder,
     w: &mut Writer,
+    fuel: &mut Fuel,
     sides: Sides,
     from: TypeOptionIndex,
     to: TypeOptionIndex,
@@ -489,20 +571,15 @@ fn move_option(
     requires from_live { IsLive types.now (ty.Option from) }
     requires to_live { IsLive types.now (ty.Option to) }
     requires sides { AreSidesImported sides w.old.imports }
-    ensures { OnOk result (MovedNode types.now (ty.Option from) (ty.Option to) sides (from_of sides.from source.entry) (to_of sides.to target.entry) w.old w.new) }
+    requires tables { builder.now.tables ≡ types.now }
+    requires told { AreSidesTold sides }
+    ensures { OnOk result (MovedNode types.now (ty.Option from) (ty.Option to) sides (from_of sides.from source.entry) (to_of sides.to target.entry) fuel.old fuel.new w.old w.new) }
 {
     let sum = option_sum(w.alloc, types, from, to)?;
-    let source_type = InterfaceType::Option(from);
-    let target_type = InterfaceType::Option(to);
+    let from_type = InterfaceType::Option(from);
+    let to_type = InterfaceType::Option(to);
     move_sum(
-        types,
-        w,
-        sides,
-        source_type,
-        target_type,
-        &sum,
-        source,
-        target,
+        types, builder, w, fuel, sides, from_type, to_type, &sum, source, target,
     )?;
     Ok(())
 }
@@ -511,7 +588,9 @@ fn move_option(
 #[cycle(moving)]
 fn move_result(
     types: &ComponentTypes,
+    builder: &ComponentTypesBuilder,
     w: &mut Writer,
+    fuel: &mut Fuel,
     sides: Sides,
     from: TypeResultIndex,
     to: TypeResultIndex,
@@ -521,20 +600,15 @@ fn move_result(
     requires from_live { IsLive types.now (ty.Result from) }
     requires to_live { IsLive types.now (ty.Result to) }
     requires sides { AreSidesImported sides w.old.imports }
-    ensures { OnOk result (MovedNode types.now (ty.Result from) (ty.Result to) sides (from_of sides.from source.entry) (to_of sides.to target.entry) w.old w.new) }
+    requires tables { builder.now.tables ≡ types.now }
+    requires told { AreSidesTold sides }
+    ensures { OnOk result (MovedNode types.now (ty.Result from) (ty.Result to) sides (from_of sides.from source.entry) (to_of sides.to target.entry) fuel.old fuel.new w.old w.new) }
 {
     let sum = result_sum(w.alloc, types, from, to)?;
-    let source_type = InterfaceType::Result(from);
-    let target_type = InterfaceType::Result(to);
+    let from_type = InterfaceType::Result(from);
+    let to_type = InterfaceType::Result(to);
     move_sum(
-        types,
-        w,
-        sides,
-        source_type,
-        target_type,
-        &sum,
-        source,
-        target,
+        types, builder, w, fuel, sides, from_type, to_type, &sum, source, target,
     )?;
     Ok(())
 }
@@ -543,7 +617,9 @@ fn move_result(
 #[cycle(moving)]
 fn move_sum(
     types: &ComponentTypes,
+    builder: &ComponentTypesBuilder,
     w: &mut Writer,
+    fuel: &mut Fuel,
     sides: Sides,
     from: InterfaceType,
     to: InterfaceType,
@@ -555,10 +631,14 @@ fn move_sum(
     requires to_live { IsLive types.now to }
     requires cases { IsSumOf types.now from to sum.now }
     requires sides { AreSidesImported sides w.old.imports }
-    ensures { OnOk result (MovedSum types.now from to sides (from_of sides.from source.entry) (to_of sides.to target.entry) w.old w.new) }
+    requires tables { builder.now.tables ≡ types.now }
+    requires told { AreSidesTold sides }
+    ensures { OnOk result (MovedSum types.now from to sides (from_of sides.from source.entry) (to_of sides.to target.entry) fuel.old fuel.new w.old w.new) }
 {
     let local = w.take_local(ValType::I32)?;
-    move_sum_by(types, w, sides, from, to, sum, local, source, target)?;
+    move_sum_by(
+        types, builder, w, fuel, sides, from, to, sum, local, source, target,
+    )?;
     w.free_local(local)?;
     Ok(())
 }
@@ -567,7 +647,9 @@ fn move_sum(
 #[cycle(moving)]
 fn move_sum_by(
     types: &ComponentTypes,
+    builder: &ComponentTypesBuilder,
     w: &mut Writer,
+    fuel: &mut Fuel,
     sides: Sides,
     from: InterfaceType,
     to: InterfaceType,
@@ -580,7 +662,9 @@ fn move_sum_by(
     requires to_live { IsLive types.now to }
     requires cases { IsSumOf types.now from to sum.now }
     requires sides { AreSidesImported sides w.old.imports }
-    ensures { OnOk result (MovedSumBy types.now from to local sides (from_of sides.from source.entry) (to_of sides.to target.entry) w.old w.new) }
+    requires tables { builder.now.tables ≡ types.now }
+    requires told { AreSidesTold sides }
+    ensures { OnOk result (MovedSumBy types.now from to local sides (from_of sides.from source.entry) (to_of sides.to target.entry) fuel.old fuel.new w.old w.new) }
 {
     types.reveal();
     read_number(
@@ -591,7 +675,9 @@ fn move_sum_by(
         source,
     )?;
     w.put(Instr::LocalSet(local))?;
-    let bodies = case_bodies(types, w, sides, from, to, sum, source, target)?;
+    let bodies = case_bodies(
+        types, builder, w, fuel, sides, from, to, sum, source, target,
+    )?;
     put_cases(w, local, bodies)?;
     Ok(())
 }
@@ -600,7 +686,9 @@ fn move_sum_by(
 #[cycle(moving)]
 fn case_bodies(
     types: &ComponentTypes,
+    builder: &ComponentTypesBuilder,
     w: &mut Writer,
+    fuel: &mut Fuel,
     sides: Sides,
     from: InterfaceType,
     to: InterfaceType,
@@ -612,13 +700,16 @@ fn case_bodies(
     requires to_live { IsLive types.now to }
     requires cases { IsSumOf types.now from to sum.now }
     requires sides { AreSidesImported sides w.old.imports }
-    ensures { IfOk result (λ bodies. WroteBodies types.now from to sides (from_of sides.from source.entry) (to_of sides.to target.entry) (length sum.now.cases.items) bodies.items w.old w.new) }
+    requires tables { builder.now.tables ≡ types.now }
+    requires told { AreSidesTold sides }
+    ensures { IfOk result (λ bodies. WroteBodies types.now from to sides (from_of sides.from source.entry) (to_of sides.to target.entry) (length sum.now.cases.items) bodies.items fuel.old fuel.new w.old w.new) }
 {
     types.reveal();
     let mut bodies = Vec::new(w.alloc);
     for case in sum.cases.as_slice() {
         let outer = w.begin();
-        move_case(types, w, sides, (sum.from, sum.to), *case, source, target)?;
+        let infos = (sum.from, sum.to);
+        move_case(types, builder, w, fuel, sides, infos, *case, source, target)?;
         let body = w.end(outer);
         bodies.push(body)?;
     }
@@ -629,7 +720,9 @@ fn case_bodies(
 #[cycle(moving)]
 fn move_case(
     types: &ComponentTypes,
+    builder: &ComponentTypesBuilder,
     w: &mut Writer,
+    fuel: &mut Fuel,
     sides: Sides,
     infos: (VariantInfo, VariantInfo),
     case: PairedCase,
@@ -639,7 +732,9 @@ fn move_case(
     requires from_live { IsLiveMember types.now case.payload }
     requires to_live { IsLiveNumbered types.now case.found }
     requires sides { AreSidesImported sides w.old.imports }
-    ensures { OnOk result (MovedCase types.now infos.0 infos.1 case sides (from_of sides.from source.entry) (to_of sides.to target.entry) w.old w.new) }
+    requires tables { builder.now.tables ≡ types.now }
+    requires told { AreSidesTold sides }
+    ensures { OnOk result (MovedCase types.now infos.0 infos.1 case sides (from_of sides.from source.entry) (to_of sides.to target.entry) fuel.old fuel.new w.old w.new) }
 {
     match case.found {
         Some(found) => {
@@ -647,7 +742,9 @@ fn move_case(
             put_tag(w, sides.to, size, found.number, target)?;
             move_payload(
                 types,
+                builder,
                 w,
+                fuel,
                 sides,
                 infos,
                 case.payload,
@@ -665,7 +762,9 @@ fn move_case(
 #[cycle(moving)]
 fn move_payload(
     types: &ComponentTypes,
+    builder: &ComponentTypesBuilder,
     w: &mut Writer,
+    fuel: &mut Fuel,
     sides: Sides,
     infos: (VariantInfo, VariantInfo),
     from: Option<InterfaceType>,
@@ -676,11 +775,15 @@ fn move_payload(
     requires from_live { IsLiveMember types.now from }
     requires to_live { IsLiveMember types.now to }
     requires sides { AreSidesImported sides w.old.imports }
-    ensures { OnOk result (MovedPayload types.now infos.0 infos.1 from to sides (from_of sides.from source.entry) (to_of sides.to target.entry) w.old w.new) }
+    requires tables { builder.now.tables ≡ types.now }
+    requires told { AreSidesTold sides }
+    ensures { OnOk result (MovedPayload types.now infos.0 infos.1 from to sides (from_of sides.from source.entry) (to_of sides.to target.entry) fuel.old fuel.new w.old w.new) }
 {
     match from {
         Some(from) => match to {
-            Some(to) => move_some(types, w, sides, infos, from, to, source, target)?,
+            Some(to) => move_some(
+                types, builder, w, fuel, sides, infos, from, to, source, target,
+            )?,
             None => w.put(Instr::Unreachable)?,
         },
         None => put_left_over(w, sides.to, target.past(1))?,
@@ -692,7 +795,9 @@ fn move_payload(
 #[cycle(moving)]
 fn move_some(
     types: &ComponentTypes,
+    builder: &ComponentTypesBuilder,
     w: &mut Writer,
+    fuel: &mut Fuel,
     sides: Sides,
     infos: (VariantInfo, VariantInfo),
     from: InterfaceType,
@@ -703,14 +808,16 @@ fn move_some(
     requires from_live { IsLive types.now from }
     requires to_live { IsLive types.now to }
     requires sides { AreSidesImported sides w.old.imports }
-    ensures { OnOk result (MovedSome types.now infos.0 infos.1 from to sides (from_of sides.from source.entry) (to_of sides.to target.entry) w.old w.new) }
+    requires tables { builder.now.tables ≡ types.now }
+    requires told { AreSidesTold sides }
+    ensures { OnOk result (MovedSome types.now infos.0 infos.1 from to sides (from_of sides.from source.entry) (to_of sides.to target.entry) fuel.old fuel.new w.old w.new) }
 {
     let bytes = payload_place(infos.0, sides.from.memory64);
     let part = source.part(1, flat_length(types, &from), bytes);
     let rest = target.past(1);
     let count = flat_length(types, &to);
     let spot = rest.part(0, count, payload_place(infos.1, sides.to.memory64));
-    translate(types, w, sides, from, to, part, spot)?;
+    translate(types, builder, w, fuel, sides, from, to, part, spot)?;
     put_left_over(w, sides.to, rest.past(count))?;
     Ok(())
 }

@@ -30,6 +30,6 @@ pub use conversions::add_lines_of_source;
 pub use made::made_of;
 pub use modules::{add_of_module, module_of_bytes};
 pub use runs::add_run;
-pub use trees::add_types;
+pub use trees::{add_tree, add_types};
 pub use type_lines::add_of_types;
 pub use words::{add_text, begins_answer, edited, first_of, number_of, word_of};

@@ -1,6 +1,7 @@
 //! Blocks of a table: of plans, of the bytes of modules, of types, and of sources.
 
 use crate::command::{add_asked, add_bytes, add_end, add_imports, add_page, add_prefixes};
+use crate::fueled::add_fueled;
 use crate::printed::module_of_block;
 use crate::shown::add_shown;
 use fact_plan_types::{FuseError, PlanTypes};
@@ -50,6 +51,7 @@ fn add_of_plan(
         ("ask", _) => add_asked(page, alloc, plan, rest),
         ("bytes", _) => add_bytes(page, alloc, rest),
         ("check", _) => add_checked(page, alloc, rest),
+        ("fuel", _) => add_fueled(page, alloc, plan, rest),
         ("shows", _) => add_shown(page, alloc, plan, module, rest),
         ("spells" | "call" | "tree", module) => add_of_module(page, alloc, module, kind, rest),
         _ => add_edited(page, alloc, plan, kind, rest),

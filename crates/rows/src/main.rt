@@ -15,6 +15,7 @@
 //!     prefixes EDITS                              the same as of `page` for each proper prefix, where it is another than for the one before
 //!     ask PIECE READ WRITE TELL | WORDS | EDITS   the same as of `page` with these words and streams: `command`
 //!     bytes SPACES HEX | WORDS                    the same as of `page` for so many spaces and these bytes behind them, with these words, if any
+//!     fuel N ..                                   what the module is like that it prints with `--fuel N`, and runs of it: `fueled`
 //!     shows ..                                    what the module is like, where the table does not have all its bytes: `shown`
 //!     check WHAT | BYTES                          what the check of adapter modules says of these bytes: `checked`
 //!
@@ -42,6 +43,7 @@
 
 mod blocks;
 mod command;
+mod fueled;
 mod printed;
 mod shown;
 

@@ -7,7 +7,7 @@ use row_lines::{module_of_bytes, word_of};
 use std::alloc::{AllocError, Global};
 
 /// The module in a text that begins with a line of hex, if there is one.
-fn module_in(alloc: Global, text: &str) -> Result<Option<WasmModule>, AllocError> {
+pub fn module_in(alloc: Global, text: &str) -> Result<Option<WasmModule>, AllocError> {
     let Some(line) = text.lines().next() else {
         return Ok(None);
     };

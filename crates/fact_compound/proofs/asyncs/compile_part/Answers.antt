@@ -19,4 +19,4 @@ returns-clause-compiled c =
     let wrote = rw c.component_types-tables.ensures at c.in_ok-function.ensures in
     let named = rw c.as_str.ensures at c.in_ok-name.ensures in
     let exported = rw c.deref.ensures at c.in_ok-export.ensures.exported in
-    compiled_part c.args.part c.in_ok-signature.ensures place has c.in_ok-ty.ensures.keeps c.in_ok-ty.ensures.once wrote c.in_ok-number.ensures.number c.in_ok-number.ensures.defined named exported
+    compiled_part c.args.part c.requires.ahead c.in_ok-signature.ensures place has c.in_ok-ty.ensures.keeps c.in_ok-ty.ensures.once wrote c.in_ok-number.ensures.number c.in_ok-number.ensures.defined named exported

@@ -1,4 +1,5 @@
-use Rattle.std.proofs.Common.{◌∙◌}
+use Rattle.std.proofs.Common.{arith, sym, ◌∙◌}
+use Rattle.fact_compound.specs.Translated.{IsFullFuel}
 use Rattle.fact_compound.proofs.AsyncFunctions.{wrote_part}
 use Rattle.fact_compound.proofs.OptionsImported.{options_same}
 use Rattle.fact_compound.proofs.asyncs.write_part.Goals as goal
@@ -8,7 +9,8 @@ write_part_body-said-requires-clause-options_imported c = options_same (c.over-w
 
 pub returns-in_ok-function-in-Ok : goal.returns-in_ok-function-in-Ok
 returns-in_ok-function-in-Ok c =
+    let full : IsFullFuel c.full-fuel.result = record { full = c.full-fuel.ensures.left ∙ sym c.full-fuel.ensures.initial; small = omega (arith, c.full-fuel.ensures.initial, c.ranges.fuel) } in
     let body = rw c.in-Ok.is at c.write_part_body-said.ensures in
     let code = rw c.into_parts-imports.ensures.code at c.in_ok-function-in-Ok.ensures.body in
     let locals = rw (c.into_parts-imports.ensures.locals, c.len.ensures) at c.in_ok-function-in-Ok.ensures.locals in
-    wrote_part body (c.over-w.ensures.imports ∙ c.replace.ensures.value) (c.replace-2.ensures.after ∙ c.into_parts-imports.ensures.imports) _ c.in_ok-function-in-Ok.ensures.ty code locals
+    wrote_part full c.full-fuel.ensures.initial body (c.over-w.ensures.imports ∙ c.replace.ensures.value) (c.replace-2.ensures.after ∙ c.into_parts-imports.ensures.imports) _ c.in_ok-function-in-Ok.ensures.ty code locals

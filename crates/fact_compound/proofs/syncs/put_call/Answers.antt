@@ -12,5 +12,6 @@ pub pass_params-requires : goal.pass_params-requires
 pass_params-requires c = record {
   lower_live = c.requires.lower_live;
   lift_live = c.requires.lift_live;
+  tables = c.requires.tables;
   sides = sides_same (c.in_ok-clear_flags.ensures.imports ∙ c.in_ok-save_flags.ensures.imports) (sides_later c.in_ok-enter_call.ensures.grew.imports (sides_later c.in_ok-check_may_leave.ensures.grew.imports (params_imported c.requires.options_imported)));
 }

@@ -8,6 +8,7 @@ pub move_results-requires : goal.move_results-requires
 move_results-requires c = record {
   lower_live = c.requires.lower_live;
   lift_live = c.requires.lift_live;
+  tables = c.requires.tables;
   sides = sides_same c.in_ok-clear_flags.ensures.imports (sides_later c.in_ok-exit_call.ensures.grew.imports (sides_later c.in_ok-read_context.ensures.grew.imports (results_imported c.requires.options_imported)));
 }
 

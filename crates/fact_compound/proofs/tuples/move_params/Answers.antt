@@ -1,7 +1,8 @@
-use Rattle.std.proofs.Common.{subst, sym}
+use Rattle.std.proofs.Common.{refl, subst, sym}
 use Rattle.fact_emit.specs.declared.places.Sides.{Sides}
 use Rattle.fact_emit.specs.StringPieces.{AreSidesImported}
 use Rattle.fact_emit.proofs.SidesImported.{sides_later}
+use Rattle.fact_translate.specs.Asks.{AreSidesTold}
 use Rattle.fact_compound.proofs.TuplesWritten.{moved_params}
 use Rattle.fact_compound.proofs.tuples.move_params.Goals as goal
 
@@ -15,6 +16,8 @@ pub move_tuple-requires : goal.move_tuple-requires
 move_tuple-requires c = record {
   from_live = c.tuples_of.ensures.params_live;
   to_live = c.tuples_of-2.ensures.params_live;
+  tables = c.requires.tables;
+  told = subst AreSidesTold (sym c.params_sides-sides.ensures) (record { from = refl; to = refl });
   sides = sides_later c.in_ok-ask_tuple_area.ensures.grew.imports (sides_later c.in_ok-check_tuple_area.ensures.grew.imports (subst (λ (s : Sides). AreSidesImported s c.args.w.now.imports) (sym c.params_sides-sides.ensures) c.requires.sides));
 }
 

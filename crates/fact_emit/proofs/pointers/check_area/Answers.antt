@@ -1,7 +1,8 @@
 use Rattle.std.proofs.Common.{◌≡◌, ℕ, true, ◌∙◌}
 use Rattle.fact_wasm.specs.declared.types.ValType.TheVariants as val
 use Rattle.fact_emit.specs.declared.writer.Writer.{Writer}
-use Rattle.fact_emit.specs.Emits.{Emits, Piece}
+use Rattle.fact_emit.specs.Emits.{Emits}
+use Rattle.fact_emit.specs.Pieces.{Piece}
 use Rattle.fact_emit.specs.Writers.{taken_in, Took, Freed}
 use Rattle.fact_emit.proofs.AreaMoves.{area_around, bytes_length, pointer_bytes, pointer_length}
 use Rattle.fact_emit.proofs.pointers.check_area.Goals as goal

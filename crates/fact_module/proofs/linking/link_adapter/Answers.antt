@@ -27,3 +27,6 @@ returns-clause-options c =
       lower_memory = memory_later behind c.in_ok-lower.ensures.memory;
       wide = options-wide c.requires.linkable _ c.in_ok-lift.ensures.described.memory64 c.in_ok-lower.ensures.described.memory64 (returns-clause-linked c);
     }
+
+pub returns-clause-keeps : goal.returns-clause-keeps
+returns-clause-keeps c = extended_on c.in_ok-lift.ensures.keeps (extended_on c.in_ok-lower.ensures.keeps (extended_on c.in_ok-callee.ensures.keeps c.link_post_return.ensures.keeps))

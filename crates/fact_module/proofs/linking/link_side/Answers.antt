@@ -1,10 +1,10 @@
 use Rattle.std.proofs.Common.{ap, sym, ◌∙◌, subst}
 use Rattle.fact_types.specs.Adapters.{is_wide}
 use Rattle.fact_types.specs.declared.outside.CoreDef.TheVariants as def
-use Rattle.fact_compound.specs.Described.{number_if_any}
 use Rattle.fact_emit.specs.AdapterLinks.{IsLinkedIfAny, IsMemoryLinked}
 use Rattle.fact_emit.specs.ImportSection.{Callback, Flags, Realloc}
 use Rattle.fact_emit.specs.Linked.{IsDefLinked}
+use Rattle.fact_emit.specs.Options.{number_if_any}
 use Rattle.fact_emit.proofs.ImportLaws.{extended_on}
 use Rattle.fact_emit.proofs.SidesImported.{memory_later, realloc_later}
 use Rattle.fact_module.proofs.LinkingLaws.{memory-there}

@@ -11,11 +11,14 @@ use Rattle.fact_types.proofs.HeightLaws.{fixed_length_list_within, list_within, 
 use Rattle.fact_pieces.specs.Places.{From, To}
 use Rattle.fact_emit.specs.declared.places.Sides.{Sides}
 use Rattle.fact_emit.specs.declared.writer.Writer.{Writer}
+use Rattle.fact_emit.specs.Places.{from_of, to_of}
 use Rattle.fact_emit.proofs.Emitting.{grew_on}
 use Rattle.fact_emit.proofs.RangedCode.{unreachable_ranged}
 use Rattle.fact_emit.proofs.SidesImported.{sides_later, sides_same}
 use Rattle.fact_translate.specs.MemberPairs.{members_at}
-use Rattle.fact_translate.specs.Moved.{MovedNode}
+use Rattle.fact_translate.specs.Moved.{CalledHelper, MovedNode}
+use Rattle.fact_translate.specs.declared.fuel.Fuel.{Fuel}
+use Rattle.fact_translate.specs.Translations.{place_of_source, place_of_target}
 use Rattle.fact_translate.proofs.ElementRuns.{element_passed, elements_begin, elements_end}
 use Rattle.fact_translate.proofs.FixedMembers.{fixed_alone, fixed_locals_taken, fixed_moved, loop_at, loop_moved}
 use Rattle.fact_translate.proofs.ListMembers.{list_moved, list_alone, locals_taken}
@@ -24,75 +27,101 @@ use Rattle.fact_translate.proofs.MemberPairs.{bare_pair, no_pair, pair_at, recor
 use Rattle.fact_translate.proofs.MemberRuns.{members_begin, member_passed, next_fits, next_member, pairs_moved}
 use Rattle.fact_emit.proofs.HandleMoves.{transfers_handles}
 use Rattle.fact_translate.proofs.HandleMoves.{handle_moved}
-use Rattle.fact_translate.proofs.NodeMoves.{value_moved, record_alone, tuple_alone, tuple_as_node, from_moved, scalar_moved, member_emits}
+use Rattle.fact_translate.proofs.Helped.{moved_in_place, value_called}
+use Rattle.fact_translate.proofs.NodeMoves.{value_moved, record_alone, tuple_alone, tuple_as_node, from_moved, scalar_moved, member_emits, member_missing}
 use Rattle.fact_translate.proofs.SumCases.{bare_case, pair_fits}
 use Rattle.fact_translate.proofs.SumEmits.{some_emits, payload_some, payload_alone, payload_none, case_moved, case_missing, bodies_begin, bodies_on, bodies_end, sum_by_emits, sum_around, variant_moved, variant_alone, option_moved, option_alone, result_moved, result_alone}
 use Rattle.fact_translate.proofs.StringMoves.{string_alone, string_moved}
 use Rattle.fact_translate.proofs.TypeKinds.{list_members, map_members}
 use Rattle.fact_translate.proofs.products.+moving.Goals as goal
+use Rattle.fact_translate.proofs.Translating.{turns_from_stack, turns_in_memories, turns_to_stack}
+use Rattle.fact_translate.proofs.TranslatedShapes.{enum_leaf, flags_leaf}
 
 -- a node by what its two types are
-kinds_moved : {t : Tables} {from to kind kind' : InterfaceType} {sides : Sides} {src : From} {dst : To} {first last : Writer} → from ≡ kind → to ≡ kind' → MovedNode t kind kind' sides src dst first last → MovedNode t from to sides src dst first last
-kinds_moved {t} {from} {to} {kind} {kind'} {sides} {src} {dst} {first} {last} is is' m = subst (λ x. MovedNode t x to sides src dst first last) (sym is) (subst (λ y. MovedNode t kind y sides src dst first last) (sym is') m)
+kinds_moved : {t : Tables} {from to kind kind' : InterfaceType} {sides : Sides} {src : From} {dst : To} {before after : Fuel} {first last : Writer} → from ≡ kind → to ≡ kind'
+    → MovedNode t kind kind' sides src dst before after first last → MovedNode t from to sides src dst before after first last
+kinds_moved {t} {from} {to} {kind} {kind'} {sides} {src} {dst} {before} {after} {first} {last} is is' m =
+    subst (λ x. MovedNode t x to sides src dst before after first last) (sym is) (subst (λ y. MovedNode t kind y sides src dst before after first last) (sym is') m)
 
 -- ---- values
 
-pub translate-move_node-requires : goal.translate-move_node-requires
-translate-move_node-requires t c = (omega (arith, c.decreases), (c.requires.from_live, (c.requires.to_live, (sides_later c.in_ok-check_places.ensures.grew.imports c.requires.sides, sym c.handle_transfer.ensures ∙ c.in-None.is))))
+-- a helper of the builder's tables, which are those of the types
+builder_called : {t u : Tables} {from to : InterfaceType} {sides : Sides} {src : From} {dst : To} {first last : Writer} → u ≡ t → CalledHelper u from to sides src dst first last → CalledHelper t from to sides src dst first last
+builder_called {from = from} {to} {sides} {src} {dst} {first} {last} same m = subst (λ t. CalledHelper t from to sides src dst first last) same m
 
-pub translate-move_handle-requires : goal.translate-move_handle-requires
-translate-move_handle-requires t c = transfers_handles c.args.from c.args.to c.in-Some.transfer (sym c.handle_transfer.ensures ∙ c.in-Some.is)
+pub translate-translate_in_place-requires : goal.translate-translate_in_place-requires
+translate-translate_in_place-requires t c = (omega (arith, c.decreases), (c.requires.from_live, (c.requires.to_live, (c.requires.sides, (c.requires.tables, c.requires.told)))))
 
-pub translate-returns-in_ok-move_handle-in-Some : goal.translate-returns-in_ok-move_handle-in-Some
-translate-returns-in_ok-move_handle-in-Some t c = value_moved c.in_ok-check_places.ensures (handle_moved c.in-Some.transfer c.handle_transfer.ensures c.in-Some.is c.in_ok-move_handle-in-Some.ensures)
+pub translate-call_helper-requires : goal.translate-call_helper-requires
+translate-call_helper-requires t c = record {
+  from_live = subst (λ t. IsLive t c.args.from) (sym c.requires.tables) c.requires.from_live;
+  to_live = subst (λ t. IsLive t c.args.to) (sym c.requires.tables) c.requires.to_live;
+  sides = c.requires.sides;
+  told = c.requires.told;
+}
 
-pub translate-returns-in_ok-move_node-in-None : goal.translate-returns-in_ok-move_node-in-None
-translate-returns-in_ok-move_node-in-None t c = value_moved c.in_ok-check_places.ensures c.in_ok-move_node-in-None.ensures
+pub translate-returns-in_ok-translate_in_place : goal.translate-returns-in_ok-translate_in_place
+translate-returns-in_ok-translate_in_place t c = moved_in_place (record { is = c.cost.ensures }) c.covers.ensures c.if-covers.true c.in_ok-translate_in_place.ensures
+
+pub translate-returns-in_ok-call_helper : goal.translate-returns-in_ok-call_helper
+translate-returns-in_ok-call_helper t c = value_called (record { is = c.cost.ensures }) c.covers.ensures c.if-covers.false (builder_called c.requires.tables c.in_ok-call_helper.ensures)
+
+pub translate_in_place-move_node-requires : goal.translate_in_place-move_node-requires
+translate_in_place-move_node-requires t c = (omega (arith, c.decreases), (c.requires.from_live, (c.requires.to_live, (sides_later c.in_ok-check_places.ensures.grew.imports c.requires.sides, (c.requires.tables, (c.requires.told, sym c.handle_transfer.ensures ∙ c.in-None.is))))))
+
+pub translate_in_place-move_handle-requires : goal.translate_in_place-move_handle-requires
+translate_in_place-move_handle-requires t c = transfers_handles c.args.from c.args.to c.in-Some.transfer (sym c.handle_transfer.ensures ∙ c.in-Some.is)
+
+pub translate_in_place-returns-in_ok-move_handle-in-Some : goal.translate_in_place-returns-in_ok-move_handle-in-Some
+translate_in_place-returns-in_ok-move_handle-in-Some t c = value_moved (record { is = c.cost.ensures }) c.take.ensures.initial c.take.ensures.left c.in_ok-check_places.ensures (handle_moved c.in-Some.transfer c.handle_transfer.ensures c.in-Some.is c.in_ok-move_handle-in-Some.ensures)
+
+pub translate_in_place-returns-in_ok-move_node-in-None : goal.translate_in_place-returns-in_ok-move_node-in-None
+translate_in_place-returns-in_ok-move_node-in-None t c = value_moved (record { is = c.cost.ensures }) c.take.ensures.initial c.take.ensures.left c.in_ok-check_places.ensures c.in_ok-move_node-in-None.ensures
 
 pub move_node-move_record-requires : goal.move_node-move_record-requires
-move_node-move_record-requires t c = (omega (arith, c.decreases, ap (height c.args.types.now) c.in-Record-to.is), (subst (IsLive c.args.types.now) c.in-Record.is c.requires.from_live, (subst (IsLive c.args.types.now) c.in-Record-to.is c.requires.to_live, c.requires.sides)))
+move_node-move_record-requires t c = (omega (arith, c.decreases, ap (height c.args.types.now) c.in-Record-to.is), (subst (IsLive c.args.types.now) c.in-Record.is c.requires.from_live, (subst (IsLive c.args.types.now) c.in-Record-to.is c.requires.to_live, (c.requires.sides, (c.requires.tables, c.requires.told)))))
 
 pub move_node-returns-in_ok-move_record-in-Record-to : goal.move_node-returns-in_ok-move_record-in-Record-to
 move_node-returns-in_ok-move_record-in-Record-to t c = kinds_moved c.in-Record.is c.in-Record-to.is c.in_ok-move_record-in-Record-to.ensures
 
 pub move_node-move_variant-requires : goal.move_node-move_variant-requires
-move_node-move_variant-requires t c = (omega (arith, c.decreases, ap (height c.args.types.now) c.in-Variant-to.is), (subst (IsLive c.args.types.now) c.in-Variant.is c.requires.from_live, (subst (IsLive c.args.types.now) c.in-Variant-to.is c.requires.to_live, c.requires.sides)))
+move_node-move_variant-requires t c = (omega (arith, c.decreases, ap (height c.args.types.now) c.in-Variant-to.is), (subst (IsLive c.args.types.now) c.in-Variant.is c.requires.from_live, (subst (IsLive c.args.types.now) c.in-Variant-to.is c.requires.to_live, (c.requires.sides, (c.requires.tables, c.requires.told)))))
 
 pub move_node-returns-in_ok-move_variant-in-Variant-to : goal.move_node-returns-in_ok-move_variant-in-Variant-to
 move_node-returns-in_ok-move_variant-in-Variant-to t c = kinds_moved c.in-Variant.is c.in-Variant-to.is c.in_ok-move_variant-in-Variant-to.ensures
 
 pub move_node-move_option-requires : goal.move_node-move_option-requires
-move_node-move_option-requires t c = (omega (arith, c.decreases, ap (height c.args.types.now) c.in-Option-to.is), (subst (IsLive c.args.types.now) c.in-Option.is c.requires.from_live, (subst (IsLive c.args.types.now) c.in-Option-to.is c.requires.to_live, c.requires.sides)))
+move_node-move_option-requires t c = (omega (arith, c.decreases, ap (height c.args.types.now) c.in-Option-to.is), (subst (IsLive c.args.types.now) c.in-Option.is c.requires.from_live, (subst (IsLive c.args.types.now) c.in-Option-to.is c.requires.to_live, (c.requires.sides, (c.requires.tables, c.requires.told)))))
 
 pub move_node-returns-in_ok-move_option-in-Option-to : goal.move_node-returns-in_ok-move_option-in-Option-to
 move_node-returns-in_ok-move_option-in-Option-to t c = kinds_moved c.in-Option.is c.in-Option-to.is c.in_ok-move_option-in-Option-to.ensures
 
 pub move_node-move_result-requires : goal.move_node-move_result-requires
-move_node-move_result-requires t c = (omega (arith, c.decreases, ap (height c.args.types.now) c.in-Result-to.is), (subst (IsLive c.args.types.now) c.in-Result.is c.requires.from_live, (subst (IsLive c.args.types.now) c.in-Result-to.is c.requires.to_live, c.requires.sides)))
+move_node-move_result-requires t c = (omega (arith, c.decreases, ap (height c.args.types.now) c.in-Result-to.is), (subst (IsLive c.args.types.now) c.in-Result.is c.requires.from_live, (subst (IsLive c.args.types.now) c.in-Result-to.is c.requires.to_live, (c.requires.sides, (c.requires.tables, c.requires.told)))))
 
 pub move_node-returns-in_ok-move_result-in-Result-to : goal.move_node-returns-in_ok-move_result-in-Result-to
 move_node-returns-in_ok-move_result-in-Result-to t c = kinds_moved c.in-Result.is c.in-Result-to.is c.in_ok-move_result-in-Result-to.ensures
 
 pub move_node-move_list-requires : goal.move_node-move_list-requires
-move_node-move_list-requires t c = (omega (arith, c.decreases, ap (height c.args.types.now) c.in-List-to.is), (subst (IsLive c.args.types.now) c.in-List.is c.requires.from_live, (subst (IsLive c.args.types.now) c.in-List-to.is c.requires.to_live, c.requires.sides)))
+move_node-move_list-requires t c = (omega (arith, c.decreases, ap (height c.args.types.now) c.in-List-to.is), (subst (IsLive c.args.types.now) c.in-List.is c.requires.from_live, (subst (IsLive c.args.types.now) c.in-List-to.is c.requires.to_live, (c.requires.sides, (c.requires.tables, c.requires.told)))))
 
 pub move_node-returns-in_ok-move_list-in-List-to : goal.move_node-returns-in_ok-move_list-in-List-to
 move_node-returns-in_ok-move_list-in-List-to t c = kinds_moved c.in-List.is c.in-List-to.is c.in_ok-move_list-in-List-to.ensures
 
 pub move_node-move_map-requires : goal.move_node-move_map-requires
-move_node-move_map-requires t c = (omega (arith, c.decreases, ap (height c.args.types.now) c.in-Map-to.is), (subst (IsLive c.args.types.now) c.in-Map.is c.requires.from_live, (subst (IsLive c.args.types.now) c.in-Map-to.is c.requires.to_live, c.requires.sides)))
+move_node-move_map-requires t c = (omega (arith, c.decreases, ap (height c.args.types.now) c.in-Map-to.is), (subst (IsLive c.args.types.now) c.in-Map.is c.requires.from_live, (subst (IsLive c.args.types.now) c.in-Map-to.is c.requires.to_live, (c.requires.sides, (c.requires.tables, c.requires.told)))))
 
 pub move_node-returns-in_ok-move_map-in-Map-to : goal.move_node-returns-in_ok-move_map-in-Map-to
 move_node-returns-in_ok-move_map-in-Map-to t c = kinds_moved c.in-Map.is c.in-Map-to.is c.in_ok-move_map-in-Map-to.ensures
 
 pub move_node-move_fixed_list-requires : goal.move_node-move_fixed_list-requires
-move_node-move_fixed_list-requires t c = (omega (arith, c.decreases, ap (height c.args.types.now) c.in-FixedLengthList-to.is), (subst (IsLive c.args.types.now) c.in-FixedLengthList.is c.requires.from_live, (subst (IsLive c.args.types.now) c.in-FixedLengthList-to.is c.requires.to_live, c.requires.sides)))
+move_node-move_fixed_list-requires t c = (omega (arith, c.decreases, ap (height c.args.types.now) c.in-FixedLengthList-to.is), (subst (IsLive c.args.types.now) c.in-FixedLengthList.is c.requires.from_live, (subst (IsLive c.args.types.now) c.in-FixedLengthList-to.is c.requires.to_live, (c.requires.sides, (c.requires.tables, c.requires.told)))))
 
 pub move_node-returns-in_ok-move_fixed_list-in-FixedLengthList-to : goal.move_node-returns-in_ok-move_fixed_list-in-FixedLengthList-to
 move_node-returns-in_ok-move_fixed_list-in-FixedLengthList-to t c = kinds_moved c.in-FixedLengthList.is c.in-FixedLengthList-to.is c.in_ok-move_fixed_list-in-FixedLengthList-to.ensures
 
 pub move_node-move_tuple-requires : goal.move_node-move_tuple-requires
-move_node-move_tuple-requires t c = (omega (arith, c.decreases, ap (height c.args.types.now) c.in-Tuple-to.is), (subst (IsLive c.args.types.now) c.in-Tuple.is c.requires.from_live, (subst (IsLive c.args.types.now) c.in-Tuple-to.is c.requires.to_live, c.requires.sides)))
+move_node-move_tuple-requires t c = (omega (arith, c.decreases, ap (height c.args.types.now) c.in-Tuple-to.is), (subst (IsLive c.args.types.now) c.in-Tuple.is c.requires.from_live, (subst (IsLive c.args.types.now) c.in-Tuple-to.is c.requires.to_live, (c.requires.sides, (c.requires.tables, c.requires.told)))))
 
 pub move_node-returns-in_ok-put-in_default-to : goal.move_node-returns-in_ok-put-in_default-to
 move_node-returns-in_ok-put-in_default-to t c =
@@ -106,10 +135,10 @@ move_node-returns-in_ok-put-in_default-to-2 t c =
     tuple_alone unreachable_ranged c.in-Tuple.i c.args.to c.in-Tuple.is c.in_default-to-2.not-Tuple c.in_ok-put-in_default-to-2.ensures
 
 pub move_node-returns-in_ok-move_flags-in-Flags : goal.move_node-returns-in_ok-move_flags-in-Flags
-move_node-returns-in_ok-move_flags-in-Flags t c = from_moved c.in-Flags.is c.in_ok-move_flags-in-Flags.ensures
+move_node-returns-in_ok-move_flags-in-Flags t c = from_moved c.in-Flags.is (flags_leaf _ c.in-Flags.i) c.in_ok-move_flags-in-Flags.ensures
 
 pub move_node-returns-in_ok-move_enum-in-Enum : goal.move_node-returns-in_ok-move_enum-in-Enum
-move_node-returns-in_ok-move_enum-in-Enum t c = from_moved c.in-Enum.is c.in_ok-move_enum-in-Enum.ensures
+move_node-returns-in_ok-move_enum-in-Enum t c = from_moved c.in-Enum.is (enum_leaf _ c.in-Enum.i) c.in_ok-move_enum-in-Enum.ensures
 
 pub move_node-returns-in_ok-put-in_default-to-3 : goal.move_node-returns-in_ok-put-in_default-to-3
 move_node-returns-in_ok-put-in_default-to-3 t c =
@@ -150,6 +179,9 @@ pub move_member-returns-in_ok-translate-in-Some : goal.move_member-returns-in_ok
 move_member-returns-in_ok-translate-in-Some t c =
     member_emits _ _ _ c.in-Some.is (c.from-skip.ensures ∙ c.unwrap_or.ensures) c.flat_length-count.ensures c.byte_place-bytes.ensures (c.part-part.ensures c.args.sides.from) c.in_ok-translate-in-Some.ensures
 
+pub move_member-returns-in_ok-put-in-None : goal.move_member-returns-in_ok-put-in-None
+move_member-returns-in_ok-put-in-None t c = member_missing unreachable_ranged c.in-None.is c.in_ok-put-in-None.ensures
+
 -- ---- members
 
 pub move_pairs-loop-pair-init : goal.move_pairs-loop-pair-init
@@ -173,12 +205,12 @@ move_pairs-flat_length-count-requires t c = (pair_at c.loop-pair.pair-index c.re
 pub move_pairs-move_member-requires : goal.move_pairs-move_member-requires
 move_pairs-move_member-requires t c =
     let p = (pair_at c.loop-pair.pair-index c.requires.pairs c.loop-pair-test.true).pair in
-    (omega (arith, p.within.lower, c.decreases), (p.found_live, (p.within.live, sides_later c.loop-pair.invariant.grew.imports c.requires.sides)))
+    (omega (arith, p.within.lower, c.decreases), (p.found_live, (p.within.live, (sides_later c.loop-pair.invariant.grew.imports c.requires.sides, (c.requires.tables, c.requires.told)))))
 
 pub move_pairs-loop-pair-preserved : goal.move_pairs-loop-pair-preserved
 move_pairs-loop-pair-preserved t c =
     let p = pair_at c.loop-pair.pair-index c.requires.pairs c.loop-pair-test.true in
-    member_passed p.name (get_or c.args.pairs.now c.loop-pair.pair-index bare_pair).ty p.at p.finds
+    member_passed p.name (get_or c.args.pairs.now c.loop-pair.pair-index bare_pair).ty p.at p.pair.within.lower p.finds
     c.canonical_abi.ensures.laid c.flat_length-count.ensures c.next_place-place.ensures.place c.next_place-place.ensures.moved
     (c.part-spot.ensures c.args.sides.to) (c.past-rest.ensures c.args.sides.to) c.in_ok-move_member.ensures c.loop-pair.invariant
 
@@ -188,20 +220,20 @@ move_pairs-returns t c = pairs_moved (no_pair c.loop-pair.pair-index c.requires.
 -- ---- records and tuples
 
 pub move_record-returns : goal.move_record-returns
-move_record-returns t c = on_ok_weaker c.move_pairs-moved.result (record_of_pairs c.as_slice.ensures.value c.args.from c.args.to c.in_ok-pairs.ensures) c.move_pairs-moved.ensures
+move_record-returns t c = on_ok_weaker c.move_pairs-moved.result (record_of_pairs c.as_slice-slice.ensures.value c.args.from c.args.to c.in_ok-pairs.ensures) c.move_pairs-moved.ensures
 
 pub move_tuple-returns : goal.move_tuple-returns
-move_tuple-returns t c = on_ok_weaker c.move_pairs-moved.result (tuple_of_pairs c.as_slice.ensures.value c.args.from c.args.to c.in_ok-pairs.ensures) c.move_pairs-moved.ensures
+move_tuple-returns t c = on_ok_weaker c.move_pairs-moved.result (tuple_of_pairs c.as_slice-slice.ensures.value c.args.from c.args.to c.in_ok-pairs.ensures) c.move_pairs-moved.ensures
 
 -- ---- variants, options and results
 
 pub move_sum-move_sum_by-requires : goal.move_sum-move_sum_by-requires
-move_sum-move_sum_by-requires t c = (omega (arith, c.decreases), (c.requires.from_live, (c.requires.to_live, (c.requires.cases, sides_same c.in_ok-local.ensures.imports c.requires.sides))))
+move_sum-move_sum_by-requires t c = (omega (arith, c.decreases), (c.requires.from_live, (c.requires.to_live, (c.requires.cases, (sides_same c.in_ok-local.ensures.imports c.requires.sides, (c.requires.tables, c.requires.told))))))
 
 pub move_sum_by-case_bodies-requires : goal.move_sum_by-case_bodies-requires
 move_sum_by-case_bodies-requires t c =
     let sides = sides_same c.in_ok-put.ensures.imports (sides_later c.in_ok-read_number.ensures.grew.imports c.requires.sides) in
-    (omega (arith, c.decreases), (c.requires.from_live, (c.requires.to_live, (c.requires.cases, sides))))
+    (omega (arith, c.decreases), (c.requires.from_live, (c.requires.to_live, (c.requires.cases, (sides, (c.requires.tables, c.requires.told))))))
 
 pub move_variant-returns : goal.move_variant-returns
 move_variant-returns t c = variant_moved c.args.from c.args.to c.in_ok-move_sum.ensures
@@ -230,12 +262,13 @@ case_bodies-move_case-requires t c =
     let there = ap (λ ps. slice_get ps c.loop-case.case-index) (sym c.as_slice-case-items.ensures.value) ∙ slice_get-get_or c.as_slice-case-items.result.now c.loop-case.case-index bare_case c.loop-case-test.true in
     let fits = pair_fits c.args.types.now c.reveal.ensures.sound c.args.from c.args.to c.args.sum.now c.requires.from_live c.requires.to_live c.requires.cases c.loop-case.case-index _ there in
     let sides = sides_same c.begin-outer.ensures.imports (sides_later c.loop-case.invariant.0.grew.imports c.requires.sides) in
-    (omega (arith, fits.lower, c.decreases), (fits.from_live, (fits.to_live, sides)))
+    (omega (arith, fits.lower, c.decreases), (fits.from_live, (fits.to_live, (sides, (c.requires.tables, c.requires.told)))))
 
 pub case_bodies-loop-case-preserved : goal.case_bodies-loop-case-preserved
 case_bodies-loop-case-preserved t c =
-    let there = ap (λ ps. slice_get ps c.loop-case.case-index) (sym c.as_slice-case-items.ensures.value) ∙ slice_get-get_or c.as_slice-case-items.result.now c.loop-case.case-index bare_case c.loop-case-test.true in (
-      bodies_on _ c.reveal.ensures.sound c.requires.cases there c.begin-outer.ensures c.in_ok-move_case.ensures c.end-body.ensures c.in_ok-push.ensures.items c.loop-case.invariant.0,
+    let there = ap (λ ps. slice_get ps c.loop-case.case-index) (sym c.as_slice-case-items.ensures.value) ∙ slice_get-get_or c.as_slice-case-items.result.now c.loop-case.case-index bare_case c.loop-case-test.true in
+    let fits = pair_fits c.args.types.now c.reveal.ensures.sound c.args.from c.args.to c.args.sum.now c.requires.from_live c.requires.to_live c.requires.cases c.loop-case.case-index _ there in (
+      bodies_on _ c.reveal.ensures.sound c.requires.cases there fits.lower c.begin-outer.ensures c.in_ok-move_case.ensures c.end-body.ensures c.in_ok-push.ensures.items c.loop-case.invariant.0,
       omega (arith, slice_get_within c.args.sum.now.cases.items c.loop-case.case-index _ there),
     )
 
@@ -294,7 +327,7 @@ move_list-translate-requires t c =
     let from = list_within c.args.types.now c.reveal.ensures.sound c.args.from c.index.result.now c.index.ensures in
     let to = list_within c.args.types.now c.reveal.ensures.sound c.args.to c.index-2.result.now c.index-2.ensures in
     let sides = sides_same c.begin-outer.ensures.imports (sides_later c.in_ok-open_list.ensures.grew.imports (sides_same c.in_ok-locals.ensures.imports c.requires.sides)) in
-    (omega (arith, to.lower, c.decreases), (from.live, (to.live, sides)))
+    (omega (arith, to.lower, c.decreases), (from.live, (to.live, (sides, (c.requires.tables, c.requires.told)))))
 
 pub move_list-free_list_locals-requires : goal.move_list-free_list_locals-requires
 move_list-free_list_locals-requires t c =
@@ -307,6 +340,7 @@ move_list-returns t c =
     (record { size_is = c.byte_count.ensures.is; align_is = c.alignment.ensures.is; small = c.byte_count.ensures.small })
     (record { size_is = c.byte_count-2.ensures.is; align_is = c.alignment-2.ensures.is; small = c.byte_count-2.ensures.small })
     c.args.from c.args.to (list_members c.args.types.now c.args.from c.index.result.now c.index.ensures) (list_members c.args.types.now c.args.to c.index-2.result.now c.index-2.ensures)
+    (list_within c.args.types.now c.reveal.ensures.sound c.args.to c.index-2.result.now c.index-2.ensures).lower
 
 -- ---- lists of fixed length
 
@@ -320,43 +354,49 @@ pub move_fixed_list-move_by_loop-requires : goal.move_fixed_list-move_by_loop-re
 move_fixed_list-move_by_loop-requires t c =
     let from = fixed_length_list_within c.args.types.now c.reveal.ensures.sound c.args.from c.index.result.now c.index.ensures in
     let to = fixed_length_list_within c.args.types.now c.reveal.ensures.sound c.args.to c.index-2.result.now c.index-2.ensures in
-    (omega (arith, to.lower, c.decreases), (from.live, (to.live, c.requires.sides)))
+    (omega (arith, to.lower, c.decreases), (from.live, (to.live, (c.requires.sides, (c.requires.tables, c.requires.told)))))
 
 pub move_fixed_list-move_one_by_one-requires : goal.move_fixed_list-move_one_by_one-requires
 move_fixed_list-move_one_by_one-requires t c =
     let from = fixed_length_list_within c.args.types.now c.reveal.ensures.sound c.args.from c.index.result.now c.index.ensures in
     let to = fixed_length_list_within c.args.types.now c.reveal.ensures.sound c.args.to c.index-2.result.now c.index-2.ensures in
-    (omega (arith, to.lower, c.decreases), (from.live, (to.live, c.requires.sides)))
+    (omega (arith, to.lower, c.decreases), (from.live, (to.live, (c.requires.sides, (c.requires.tables, c.requires.told)))))
 
 pub move_fixed_list-move_one_by_one-requires-in-Locals : goal.move_fixed_list-move_one_by_one-requires-in-Locals
 move_fixed_list-move_one_by_one-requires-in-Locals t c =
     let from = fixed_length_list_within c.args.types.now c.reveal.ensures.sound c.args.from c.index.result.now c.index.ensures in
     let to = fixed_length_list_within c.args.types.now c.reveal.ensures.sound c.args.to c.index-2.result.now c.index-2.ensures in
-    (omega (arith, to.lower, c.decreases), (from.live, (to.live, c.requires.sides)))
+    (omega (arith, to.lower, c.decreases), (from.live, (to.live, (c.requires.sides, (c.requires.tables, c.requires.told)))))
 
 pub move_fixed_list-returns-in_ok-move_by_loop-in-Memory-target : goal.move_fixed_list-returns-in_ok-move_by_loop-in-Memory-target
 move_fixed_list-returns-in_ok-move_by_loop-in-Memory-target t c =
     fixed_moved (loop_at c.in-Memory.begin c.in-Memory-target.spot c.in-Memory.is c.in-Memory-target.is c.in_ok-move_by_loop-in-Memory-target.ensures)
     (ap (λ (e : TypeFixedLengthList). e.size) (same_some _ c.index-3.result.now c.index-2.result.now c.index-3.ensures c.index-2.ensures))
+    (turns_in_memories _ (ap place_of_source (ap (from_of c.args.sides.from) c.in-Memory.is)) (ap place_of_target (ap (to_of c.args.sides.to) c.in-Memory-target.is)))
     (record { some = c.byte_count.ensures.some; is = c.byte_count.ensures.is }) (record { some = c.byte_count-2.ensures.some; is = c.byte_count-2.ensures.is }) c.args.from c.args.to c.index.ensures c.index-2.ensures
+    (fixed_length_list_within c.args.types.now c.reveal.ensures.sound c.args.to c.index-2.result.now c.index-2.ensures).lower
 
 pub move_fixed_list-returns-in_ok-move_one_by_one-in-Locals-target : goal.move_fixed_list-returns-in_ok-move_one_by_one-in-Locals-target
 move_fixed_list-returns-in_ok-move_one_by_one-in-Locals-target t c =
     fixed_moved c.in_ok-move_one_by_one-in-Locals-target.ensures
     (ap (λ (e : TypeFixedLengthList). e.size) (same_some _ c.index-3.result.now c.index-2.result.now c.index-3.ensures c.index-2.ensures))
+    (turns_to_stack _ (ap place_of_target (ap (to_of c.args.sides.to) c.in-Locals-target.is)))
     (record { some = c.byte_count.ensures.some; is = c.byte_count.ensures.is }) (record { some = c.byte_count-2.ensures.some; is = c.byte_count-2.ensures.is }) c.args.from c.args.to c.index.ensures c.index-2.ensures
+    (fixed_length_list_within c.args.types.now c.reveal.ensures.sound c.args.to c.index-2.result.now c.index-2.ensures).lower
 
 pub move_fixed_list-returns-in_ok-move_one_by_one-in-Locals : goal.move_fixed_list-returns-in_ok-move_one_by_one-in-Locals
 move_fixed_list-returns-in_ok-move_one_by_one-in-Locals t c =
     fixed_moved c.in_ok-move_one_by_one-in-Locals.ensures
     (ap (λ (e : TypeFixedLengthList). e.size) (same_some _ c.index-3.result.now c.index-2.result.now c.index-3.ensures c.index-2.ensures))
+    (turns_from_stack _ (ap place_of_source (ap (from_of c.args.sides.from) c.in-Locals.is)))
     (record { some = c.byte_count.ensures.some; is = c.byte_count.ensures.is }) (record { some = c.byte_count-2.ensures.some; is = c.byte_count-2.ensures.is }) c.args.from c.args.to c.index.ensures c.index-2.ensures
+    (fixed_length_list_within c.args.types.now c.reveal.ensures.sound c.args.to c.index-2.result.now c.index-2.ensures).lower
 
 pub move_one_by_one-loop-n-init : goal.move_one_by_one-loop-n-init
 move_one_by_one-loop-n-init t c = elements_begin
 
 pub move_one_by_one-translate-requires : goal.move_one_by_one-translate-requires
-move_one_by_one-translate-requires t c = (omega (arith, c.decreases), (c.requires.from_live, (c.requires.to_live, sides_later c.loop-n.invariant.grew.imports c.requires.sides)))
+move_one_by_one-translate-requires t c = (omega (arith, c.decreases), (c.requires.from_live, (c.requires.to_live, (sides_later c.loop-n.invariant.grew.imports c.requires.sides, (c.requires.tables, c.requires.told)))))
 
 pub move_one_by_one-loop-n-preserved : goal.move_one_by_one-loop-n-preserved
 move_one_by_one-loop-n-preserved t c =
@@ -369,7 +409,7 @@ move_one_by_one-returns t c = elements_end (omega (arith, c.loop-n-test.false)) 
 pub move_by_loop-translate-requires : goal.move_by_loop-translate-requires
 move_by_loop-translate-requires t c =
     let sides = sides_same (c.begin-outer.ensures.imports ∙ c.in_ok-open_fixed.ensures.imports ∙ c.in_ok-locals.ensures.imports) c.requires.sides in
-    (omega (arith, c.decreases), (c.requires.from_live, (c.requires.to_live, sides)))
+    (omega (arith, c.decreases), (c.requires.from_live, (c.requires.to_live, (sides, (c.requires.tables, c.requires.told)))))
 
 pub move_by_loop-free_fixed_locals-requires : goal.move_by_loop-free_fixed_locals-requires
 move_by_loop-free_fixed_locals-requires t c =
@@ -396,14 +436,14 @@ move_map-translate-requires t c =
     let from = map_key_within c.args.types.now c.reveal.ensures.sound c.args.from c.index-from_map.result.now c.index-from_map.ensures in
     let to = map_key_within c.args.types.now c.reveal.ensures.sound c.args.to c.index-to_map.result.now c.index-to_map.ensures in
     let sides = sides_same c.begin-outer.ensures.imports (sides_later c.in_ok-open_list.ensures.grew.imports (sides_same c.in_ok-locals.ensures.imports c.requires.sides)) in
-    (omega (arith, to.lower, c.decreases), (from.live, (to.live, sides)))
+    (omega (arith, to.lower, c.decreases), (from.live, (to.live, (sides, (c.requires.tables, c.requires.told)))))
 
 pub move_map-translate-requires-2 : goal.move_map-translate-requires-2
 move_map-translate-requires-2 t c =
     let from = map_value_within c.args.types.now c.reveal.ensures.sound c.args.from c.index-from_map.result.now c.index-from_map.ensures in
     let to = map_value_within c.args.types.now c.reveal.ensures.sound c.args.to c.index-to_map.result.now c.index-to_map.ensures in
     let sides = sides_same c.begin-outer.ensures.imports (sides_later c.in_ok-open_list.ensures.grew.imports (sides_same c.in_ok-locals.ensures.imports c.requires.sides)) in
-    (omega (arith, to.lower, c.decreases), (from.live, (to.live, sides_later c.in_ok-translate.ensures.grew.imports sides)))
+    (omega (arith, to.lower, c.decreases), (from.live, (to.live, (sides_later c.in_ok-translate.ensures.grew.imports sides, (c.requires.tables, c.requires.told)))))
 
 pub move_map-free_list_locals-requires : goal.move_map-free_list_locals-requires
 move_map-free_list_locals-requires t c =
@@ -416,3 +456,5 @@ move_map-returns t c =
     (c.part-value.ensures c.args.sides.from) (c.part-value_spot.ensures c.args.sides.to) c.value_place.ensures c.value_place-2.ensures c.entries-elements.ensures.from c.entries-elements.ensures.to
     c.reveal.ensures.sound (map_laid c.args.types.now c.reveal.ensures.sound c.args.from c.index-from_map.result.now c.index-from_map.ensures) (map_laid c.args.types.now c.reveal.ensures.sound c.args.to c.index-to_map.result.now c.index-to_map.ensures)
     c.args.from c.args.to (map_members c.args.types.now c.args.from c.index-from_map.result.now c.index-from_map.ensures) (map_members c.args.types.now c.args.to c.index-to_map.result.now c.index-to_map.ensures)
+    (map_key_within c.args.types.now c.reveal.ensures.sound c.args.to c.index-to_map.result.now c.index-to_map.ensures).lower
+    (map_value_within c.args.types.now c.reveal.ensures.sound c.args.to c.index-to_map.result.now c.index-to_map.ensures).lower

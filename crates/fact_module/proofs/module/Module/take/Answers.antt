@@ -6,7 +6,7 @@ use Rattle.fact_checks.specs.Linked.{IsLinked, NamesTypesOf}
 use Rattle.fact_forms.specs.Sound.{HasValidSides}
 use Rattle.fact_module.specs.Collected.{Collected, taken_of}
 use Rattle.fact_module.specs.Taking.{IsSoundBehind}
-use Rattle.fact_module.proofs.TakeLaws.{extends-more, linkable-here, made-more, refused-behind, sound-behind}
+use Rattle.fact_module.proofs.TakeLaws.{extends-more, helpers-here, linkable-here, linked-of, made-more, refused-behind, sound-behind}
 use Rattle.fact_module.proofs.module.Module.take.Goals as goal
 
 pub returns-else-is_memory-clause-refused : goal.returns-else-is_memory-clause-refused
@@ -19,6 +19,17 @@ emit-requires-clause-linkable c =
     let valid = subst (λ (v : Collected). (a : LinkedAdapter) → IsLinked v.builder c.args.candidate.now a → HasValidSides a) (sym c.self.view_is) c.requires.valid in
     let sound = subst (λ (t : Tables). IsSound t) c.component_types.ensures c.reveal-2.ensures.sound in
     linkable-here _ c.self.inside.checks c.check.new.self c.self.inside.state.sections c.self.inside.state.sections c.args.candidate.now c.self.invariant.0 whole sound typed valid c.in_default.ensures.sound
+
+pub emit-requires-clause-linked : goal.emit-requires-clause-linked
+emit-requires-clause-linked c =
+    let typed = subst (λ (v : Collected). NamesTypesOf v.builder c.args.candidate.now.adapter.now) (sym c.self.view_is) c.requires.typed in
+    let sound = subst (λ (t : Tables). IsSound t) c.component_types.ensures c.reveal-2.ensures.sound in
+    linked-of c.self.inside.state.builder.now sound c.args.candidate.now typed
+
+pub emit-requires-clause-helpers : goal.emit-requires-clause-helpers
+emit-requires-clause-helpers c =
+    let whole = ap (λ (v : Collected). v.whole) c.self.view_is ∙ c.requires.whole in
+    helpers-here _ c.self.inside.checks c.self.inside.state.sections c.self.invariant.0 whole
 
 pub invariant_of-self-in-Ok : goal.invariant_of-self-in-Ok
 invariant_of-self-in-Ok c =
