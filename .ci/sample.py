@@ -34,6 +34,7 @@ FORMS = {
     *(f"{source} bits to {target}" for source in (32, 64) for target in (32, 64)),
     *(f"{what} {how}" for what in ("parameters", "results") for how in ("in core values", "through a pointer")),
     *("marked async", "within one instance", "transparent", "post-return", "page size 1", "debug", "concurrency", "exceptions"),
+    "flags in another order",
 }
 
 
@@ -224,11 +225,15 @@ class Plan:
 
     def twin(self, tree):
         """A type with which this one agrees."""
-        if tree is None or isinstance(tree, str) or tree[0] in ("flags", "enum"):
+        if tree is None or isinstance(tree, str) or tree[0] == "enum":
             return tree
         kind, inner = tree
         if kind in HANDLES:
             return self.same_handle(kind)
+        if kind == "flags":
+            names = self.random.sample(inner, len(inner)) if self.chance(0.5) else inner
+            self.forms["flags in another order"] += names != inner
+            return kind, names
         if kind in ("record", "variant"):
             pairs = [(name, self.twin(part)) for name, part in inner]
             if kind == "variant" and self.chance(0.5):

@@ -49,6 +49,7 @@ export function carry(from, to, value, transfer) {
     const part = type => type.cases.find(entry => entry.name === name).type;
     return { [name]: part(from) === null ? null : carry(part(from), part(to), payload, transfer) };
   }
+  if (from.kind === 'flags') return to.labels.filter(label => value.includes(label));
   return value;
 }
 

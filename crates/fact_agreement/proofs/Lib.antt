@@ -6,4 +6,5 @@ pub mod KnownLaws
 pub mod LeftLaws
 pub mod MeasureLaws
 pub mod MemberLaws
+mod NameSets
 pub mod ScalarLaws

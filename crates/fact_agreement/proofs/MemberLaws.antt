@@ -155,7 +155,7 @@ names_are t (x ∷ xs) (bare n ms) h = more n x.0 (names_of ms) (map (λ x. x.0)
 names_are t (x ∷ xs) (typed n s ms) h = more n x.0 (names_of ms) (map (λ x. x.0) xs) (sym h.0) (names_are t xs ms h.2)
 
 -- members without types, which have given names
-names_alone : (names : List (List ℕ)) → map (λ (x : List ℕ × Option InterfaceType). x.0) (map (λ n. (n, None)) names) ≡ names
+pub names_alone : (names : List (List ℕ)) → map (λ (x : List ℕ × Option InterfaceType). x.0) (map (λ n. (n, None)) names) ≡ names
 names_alone [] = refl
 names_alone (n ∷ names) = ap (λ ns. n ∷ ns) (names_alone names)
 

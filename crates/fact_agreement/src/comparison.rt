@@ -113,16 +113,14 @@ fn of_tuple<'a>(types: &'a ComponentTypes, i: TypeTupleIndex, to: &InterfaceType
     }
 }
 
-// Flags and another type.
+// Flags and another type: the order of their names is no matter.
 fn of_flags<'a>(types: &'a ComponentTypes, i: TypeFlagsIndex, to: &InterfaceType) -> Comparison<'a>
     requires from_live { IsLive types.now (ty.Flags i) }
     requires to_live { IsLive types.now to.now }
     ensures { LeavesToTell types.now (ty.Flags i) to.now result }
 {
     match *to {
-        InterfaceType::Flags(j) => {
-            Comparison::Decided(types[i].names.as_slice() == types[j].names.as_slice())
-        }
+        InterfaceType::Flags(j) => Comparison::Decided(types[i].names == types[j].names),
         _ => Comparison::Decided(false),
     }
 }

@@ -1,5 +1,5 @@
 -- Handles, flags and enums that do not lift are never moved.
-use Rattle.std.proofs.Common.{◌≡◌, ℕ, zero, suc, ◌+◌, ◌*◌, ◌%◌, ◌^◌, ◌≤◌, ◌<◌, List, [], ◌∷◌, length, replicate, Option, Some, None, refl, sym, ap, ◌∙◌, subst, arith}
+use Rattle.std.proofs.Common.{◌≡◌, ℕ, zero, suc, ◌+◌, ◌*◌, ◌^◌, ◌≤◌, ◌<◌, List, [], ◌∷◌, length, replicate, Option, Some, None, refl, sym, ap, ◌∙◌, subst, arith}
 use Rattle.std.specs.Prelude.{nat_lt, option_map}
 use Rattle.std.proofs.lemmas.Bool.{ltb-true}
 use Rattle.fact_entity.specs.declared.id.Id.{Id}
@@ -19,7 +19,7 @@ use Rattle.fact_machine.specs.World.{World}
 use Rattle.fact_types.specs.declared.import.Import.{Import}
 use Rattle.fact_types.specs.declared.import.Import.TheVariants as import
 use Rattle.fact_moves.specs.Actions.{Visit, Ask, unless}
-use Rattle.fact_moves.specs.Moves.{move, move_handle, move_flags, move_enum}
+use Rattle.fact_moves.specs.Moves.{move, move_handle, move_flags, move_enum, bits_named}
 use Rattle.fact_values.specs.Places.{count_of_members, case_bytes, payload_place, flags_bytes}
 use Rattle.fact_moves.specs.Sides.{Source, Values, AtAddress, Target, width_of_side, first_bits, write_number}
 use Rattle.fact_values.specs.declared.value.HandleKind.TheVariants.{Own, Borrow, Future, Stream, ErrorContext}
@@ -131,7 +131,7 @@ module _ (c : TransferSetting) (g : IsGrounded c) where
   flags_refuse ms ns some most = record {
     by = λ s d gs w m is h ready target.
         does_aligned g (s_node k_flags ms) (s_node k_flags ns) s d (Visit 1 (move_flags c.transfer ms ns s d)) w (never_visit 1 (move_flags c.transfer ms ns s d) w
-        (never_number g (flags_bytes ms) 0 s (λ n. write_number c.transfer.to (flags_bytes ns) d (n % 2 ^ count_of_members ms)) w (one_flat ms s some most is) ready.from (flags_lack ms s some most h)));
+        (never_number g (flags_bytes ms) 0 s (λ n. write_number c.transfer.to (flags_bytes ns) d (bits_named (names_of ms) (names_of ns) n)) w (one_flat ms s some most is) ready.from (flags_lack ms s some most h)));
   }
 
   -- ---- enums

@@ -227,7 +227,7 @@ module _ (c : TransferSetting) (g : IsGrounded c) (texts : HasPointers c.transfe
   node_law k_result (s_node k_result ms) ns a vt vu ft fu has F G =
       sum_law a_result c g ms ns ft.1 vt.ruled.0.distinct (few_cases k_result ns vu) (λ n k h. cases_law k_result ms ns n k (places_agree ms ns n k a (ft.0 ∙ sym fu.0) vu.ruled.0.distinct h) vt ft has h G)
   node_law k_enum (s_node k_enum ms) ns a vt vu ft fu has F G = enum_law c g ms ns ft.0 fu.0 a (few_cases k_enum ns vu)
-  node_law k_flags (s_node k_flags ms) ns a vt vu ft fu has F G = flags_law c g ms ns a vu.ruled.0.distinct vt.ruled.0.enough.0 vt.ruled.0.enough.1
+  node_law k_flags (s_node k_flags ms) ns a vt vu ft fu has F G = flags_law c g ms ns a vt.ruled.0.enough.0 vt.ruled.0.enough.1 vu.ruled.0.enough.0 vu.ruled.0.enough.1
   node_law k_list (s_node k_list ms) ns a vt vu ft fu has F G =
       lists (has refl) ms ns (single [] ms ft.0.0 ft.0.1) (single [] ns fu.0.0 fu.0.1) vu
       (places_law ms ns a (ft.0.0 ∙ sym fu.0.0) vu.ruled.0.distinct ft.0.1 (members_valid k_list ms vt) ft.1 (λ e. has refl) F)

@@ -77,6 +77,9 @@ z_y_x = s_node k_variant (bare (codes "z") (bare (codes "y") (typed (codes "x") 
 abbrev pub three_flags : Shape
 three_flags = s_node k_flags (bare (codes "a") (bare (codes "b") (bare (codes "c") no_members)))
 
+abbrev pub turned_flags : Shape
+turned_flags = s_node k_flags (bare (codes "c") (bare (codes "b") (bare (codes "a") no_members)))
+
 abbrev pub AreFine : Shape → Type 0
 AreFine t = AreWellFormedTypes (t ∷ [])
 
@@ -131,6 +134,10 @@ x_or_text_fine = record { valid = (record { ruled = (follows k_variant _ (leb-tr
 pub flags_fine : AreFine three_flags
 unfolding aligned
 flags_fine = record { valid = (record { ruled = (follows k_flags _ (leb-true 1 3 refl, leb-true 3 32 refl) refl refl refl refl tt, tt); nested = leb-true _ 100 refl }, tt); formed = ((tt, tt), tt) }
+
+pub turned_fine : AreFine turned_flags
+unfolding aligned
+turned_fine = record { valid = (record { ruled = (follows k_flags _ (leb-true 1 3 refl, leb-true 3 32 refl) refl refl refl refl tt, tt); nested = leb-true _ 100 refl }, tt); formed = ((tt, tt), tt) }
 
 abbrev pub pair : List Shape
 pair = s_plain ty.U8 ∷ s_plain ty.U32 ∷ []

@@ -9,6 +9,7 @@
 -- | never looks at the flag of the lower side | IsFaithful |
 -- | hands on a pointer without copying | IsFaithful |
 -- | hands on fields by their places | IsFaithful |
+-- | hands on flags by their places | IsFaithful |
 -- | hands on a char that is none | IsFaithful |
 -- | hands on bits behind the last flag | IsFaithful |
 -- | writes where realloc said, unchecked | IsConfined (answers may be any) |
@@ -52,10 +53,10 @@ use Rattle.fact_values.specs.declared.value.Value.TheOpen.{Value-F}
 use Rattle.fact_values.specs.declared.value.Value.TheOpen as o
 use Rattle.fact_values.specs.Canonical.{AreCanonicalFlat, IsCanonicalFlat}
 use Rattle.fact_values.specs.Carry.{take_number}
-use Rattle.fact_values.specs.Handles.{cross, cross_fields, cross_places, given as given_step, then_step, done_step, members_of}
+use Rattle.fact_values.specs.Handles.{cross, cross_fields, cross_places, flags_named, given as given_step, then_step, done_step, members_of}
 use Rattle.fact_types.specs.Steps.{◌>>=◌}
 use Rattle.fact_values.specs.Lift.{lift_leading, lift_members}
-use Rattle.fact_values.specs.Opened.{fields_in}
+use Rattle.fact_values.specs.Opened.{fields_in, flags_in}
 use Rattle.fact_values.specs.Lift.{bits_of}
 use Rattle.fact_values.specs.Limits.{AreWithinLimits}
 use Rattle.fact_values.specs.Weight.{weight_members}
@@ -73,7 +74,7 @@ use Rattle.fact_carry.specs.Faithful.{AreCanonical, IsTransferred, IsFaithful, W
 use Rattle.fact_carry.specs.FaithfulLaws.{IsCheckedAdapter}
 use Rattle.fact_carry.specs.Places.{HasKnownMemory}
 use Rattle.fact_carry.specs.TransferLaws.{EndsInFew}
-use Rattle.fact_carry.proofs.WorkedAdapters.{exported, taking, places, state, words, off, fields, list, three_flags, char_fine, string_fine, bytes_fine, longs_fine, a_b_fine, b_a_fine, flags_fine, none_fine, taking_checked}
+use Rattle.fact_carry.proofs.WorkedAdapters.{exported, taking, places, state, words, off, fields, list, three_flags, turned_flags, char_fine, string_fine, bytes_fine, longs_fine, a_b_fine, b_a_fine, flags_fine, turned_fine, none_fine, taking_checked}
 
 -- the number of the first field of the first of values
 abbrev int_in : Value-F Value → ℕ
@@ -94,6 +95,22 @@ crossed_number (Some r) = first_number r.0
 
 record_number : (x : List ℕ) (n : ℕ) (rest : List (List ℕ × Value)) → first_number (value.Record ((x, value.Int (pos n)) ∷ rest) ∷ []) ≡ n
 record_number x n rest = ap (λ v. field_number (fields_in v)) (value.outs-Record ((x, value.Int (pos n)) ∷ rest)) ∙ ap int_in (value.outs-Int (pos n))
+
+-- whether the first flag of the first of values is set, as a number
+abbrev flag_number : Option (List (List ℕ × Bool)) → ℕ
+flag_number (Some (f ∷ fs)) = if f.1 then 1 else 0
+flag_number _ = 2
+
+abbrev first_flag : List Value → ℕ
+first_flag [] = 2
+first_flag (v ∷ vs) = flag_number (flags_in (out-Value v))
+
+abbrev crossed_flag : Option (List Value × List ℕ) → ℕ
+crossed_flag None = 2
+crossed_flag (Some r) = first_flag r.0
+
+first_flag_is : (x : List ℕ) (b : Bool) (rest : List (List ℕ × Bool)) → first_flag (value.Flags ((x, b) ∷ rest) ∷ []) ≡ (if b then 1 else 0)
+first_flag_is x b rest = ap (λ v. flag_number (flags_in v)) (value.outs-Flags ((x, b) ∷ rest))
 
 -- the one call of a run is the callee's
 record IsOnly (c k : Call) (before : List Call) : Type 0 where
@@ -196,6 +213,45 @@ module _ (instances : Id RuntimeInstances) where
       names x (suc zero, lt, e) = (0, leb-true 1 2 refl, e)
       names x (suc (suc k), lt, e) = absurd (omega (arith, lt))
 
+  -- Flags are handed on by their places: the callee takes a for c.
+  abbrev flags_turned : LinkedAdapter
+  flags_turned = adapter (three_flags ∷ []) (turned_flags ∷ [])
+
+  flags_by_place : Excludes flags_turned (I32 3 ∷ []) (state 1 1 [] []) (handed_on (state 1 1 [] []) (I32 3 ∷ [])) (IsFaithfulRun flags_turned (state 1 1 [] []) (I32 3 ∷ []) (handed_on (state 1 1 [] []) (I32 3 ∷ [])))
+  unfolding lift_leading lift_members cross cross_places
+  flags_by_place = record {
+    checked = taking_checked instances string.Utf8 string.Utf8 _ _ flags_fine turned_fine (record { given = given_names; asked = asked_names }, tt);
+    honest = record { state_typed = refl; args_typed = refl; typed = tt; honest = (tt, (λ e. let bad : false ≡ true = e in cc, λ e. let bad : false ≡ true = e in cc), tt) };
+    broken = λ f.
+        let t = carried_on flags_turned (state 1 1 [] []) (I32 3 ∷ []) f in
+        let are : cross_places take_number (tuple_members flags_turned.lower.params) (given ∷ []) (tuple_members flags_turned.lift.params) [] ≡ Some (t.outs, []) =
+        subst (λ vs. cross_places take_number (tuple_members flags_turned.lower.params) vs (tuple_members flags_turned.lift.params) [] ≡ Some (t.outs, [])) (sym (same_some (Some (given ∷ [])) (given ∷ []) t.values refl t.there)) t.carried.are in
+        let carried : 0 ≡ first_flag t.outs = sym (first_flag_is (codes "c") false ((codes "b", true) ∷ (codes "a", true) ∷ [])) ∙ ap crossed_flag (sym crosses ∙ are) in
+        let stands : first_flag t.outs ≡ 1 = ap (λ q. elim q [ None ↦ 1 | Some vs ↦ first_flag vs ]) (sym t.stand) ∙ first_flag_is (codes "c") true ((codes "b", true) ∷ (codes "a", false) ∷ []) in
+        let bad : 0 ≡ 1 = carried ∙ stands in
+        omega (arith, bad);
+  }
+    where
+      given : Value
+      given = value.Flags ((codes "a", true) ∷ (codes "b", true) ∷ (codes "c", false) ∷ [])
+
+      crosses : cross_places take_number (tuple_members flags_turned.lower.params) (given ∷ []) (tuple_members flags_turned.lift.params) [] ≡ Some (value.Flags ((codes "c", false) ∷ (codes "b", true) ∷ (codes "a", true) ∷ []) ∷ [], [])
+      crosses =
+          ap (λ x. given_step (flags_in x) (λ fs. given_step (flags_named (codes "c" ∷ codes "b" ∷ codes "a" ∷ []) fs) (λ gs. done_step (value.Flags gs))) [] >>= (λ r. Some (r.0 ∷ [], r.1)))
+          (value.outs-Flags ((codes "a", true) ∷ (codes "b", true) ∷ (codes "c", false) ∷ []))
+
+      given_names : (x : List ℕ) → Contains (codes "a" ∷ codes "b" ∷ codes "c" ∷ []) x → Contains (codes "c" ∷ codes "b" ∷ codes "a" ∷ []) x
+      given_names x (zero, lt, e) = (2, leb-true 3 3 refl, e)
+      given_names x (suc zero, lt, e) = (1, leb-true 2 3 refl, e)
+      given_names x (suc (suc zero), lt, e) = (0, leb-true 1 3 refl, e)
+      given_names x (suc (suc (suc k)), lt, e) = absurd (omega (arith, lt))
+
+      asked_names : (x : List ℕ) → Contains (codes "c" ∷ codes "b" ∷ codes "a" ∷ []) x → Contains (codes "a" ∷ codes "b" ∷ codes "c" ∷ []) x
+      asked_names x (zero, lt, e) = (2, leb-true 3 3 refl, e)
+      asked_names x (suc zero, lt, e) = (1, leb-true 2 3 refl, e)
+      asked_names x (suc (suc zero), lt, e) = (0, leb-true 1 3 refl, e)
+      asked_names x (suc (suc (suc k)), lt, e) = absurd (omega (arith, lt))
+
   -- A pointer is handed on, and nothing copied: nothing stands there in the other memory.
   abbrev bytes_passed : LinkedAdapter
   bytes_passed = adapter (list ty.U8 ∷ []) (list ty.U8 ∷ [])
@@ -215,7 +271,7 @@ module _ (instances : Id RuntimeInstances) where
   stray_bits : Excludes flags_passed (I32 255 ∷ []) (state 1 1 [] []) (handed_on (state 1 1 [] []) (I32 255 ∷ [])) (IsFaithfulRun flags_passed (state 1 1 [] []) (I32 255 ∷ []) (handed_on (state 1 1 [] []) (I32 255 ∷ [])))
   unfolding AreCanonicalFlat IsCanonicalFlat
   stray_bits = record {
-    checked = taking_checked instances string.Utf8 string.Utf8 _ _ flags_fine flags_fine (refl, tt);
+    checked = taking_checked instances string.Utf8 string.Utf8 _ _ flags_fine flags_fine (record { given = λ x c. c; asked = λ x c. c }, tt);
     honest = record { state_typed = refl; args_typed = refl; typed = tt; honest = (tt, (λ e. let bad : false ≡ true = e in cc, λ e. let bad : false ≡ true = e in cc), tt) };
     broken = λ f. let few : 255 < 8 = (canonical_on flags_passed (state 1 1 [] []) (I32 255 ∷ []) f).0.1 in omega (arith, few);
   }

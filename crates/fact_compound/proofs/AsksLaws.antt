@@ -37,7 +37,7 @@ use Rattle.fact_emit.proofs.KnownLaws.{extended_type}
 use Rattle.fact_emit.proofs.SidesImported.{sides_later}
 use Rattle.fact_compound.specs.Entries.{CompiledEntry}
 use Rattle.fact_compound.specs.declared.adapters.AdapterData.{AdapterData}
-use Rattle.fact_translate.specs.Asks.{AreAsked, IsAsked}
+use Rattle.fact_kinds.specs.Asks.{AreAsked, IsAsked}
 
 -- ---- what is new
 

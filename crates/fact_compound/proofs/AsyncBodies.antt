@@ -32,7 +32,7 @@ use Rattle.fact_emit.specs.Writers.{Wrote, taken_in}
 use Rattle.fact_emit.specs.declared.writer.Writer.{Writer}
 use Rattle.fact_emit.proofs.Emitting.{emits_as, emits_then, emits_wrote, grew_on, wrote_then}
 use Rattle.fact_emit.proofs.NamedLaws.{ranged_append}
-use Rattle.fact_translate.specs.declared.fuel.Fuel.{Fuel}
+use Rattle.fact_kinds.specs.declared.fuel.Fuel.{Fuel}
 use Rattle.fact_compound.specs.AsyncParts.{PartSlots, part_type}
 use Rattle.fact_compound.specs.Asyncs.{EmitsPart, HasPartLocals, part_flags}
 use Rattle.fact_compound.specs.Code.{cleared_code, pushed_code, saved_code, slot_types}

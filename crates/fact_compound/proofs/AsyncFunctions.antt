@@ -44,7 +44,7 @@ use Rattle.fact_emit.proofs.ImportLaws.{extended_on, grown_get, grows_none, grow
 use Rattle.fact_emit.proofs.Locals.{get_map}
 use Rattle.fact_emit.proofs.ServingLaws.{serves_sooner}
 use Rattle.fact_emit.specs.NamedFunctions.{defined_named}
-use Rattle.fact_translate.specs.declared.fuel.Fuel.{Fuel}
+use Rattle.fact_kinds.specs.declared.fuel.Fuel.{Fuel}
 use Rattle.fact_compound.specs.Keys.{IsKeyOfAdapter, part_asks}
 use Rattle.fact_compound.specs.Translated.{IsFullFuel}
 use Rattle.fact_compound.specs.Asks.{AreNewAsked, Having}

@@ -8,7 +8,7 @@ use Rattle.fact_machine.specs.declared.types.CoreValue.{CoreValue}
 use Rattle.fact_moves.specs.Actions.{Give, ◌>>=◌}
 use Rattle.fact_moves.specs.Moves.{flat_length, part, spot, past, with_field, move, move_fields}
 use Rattle.fact_moves.specs.Sides.{Transfer, Values, Target, width_of_side}
-use Rattle.fact_translate.proofs.Found.{IsAmong, among}
+use Rattle.fact_kinds.proofs.Found.{IsAmong, among}
 
 take_front : {X : Type 0} (n : ℕ) (xs more : List X) → n ≤ length xs → take n (xs ++ more) ≡ take n xs
 take_front zero xs more h = refl

@@ -47,9 +47,9 @@ use Rattle.fact_emit.proofs.BroughtLaws.{brought_between}
 use Rattle.fact_emit.proofs.Emitting.{emits_wrote, grew_on, sooner}
 use Rattle.fact_emit.proofs.ImportLaws.{grown_get, grows_none, grows_on}
 use Rattle.fact_emit.proofs.Locals.{get_map}
-use Rattle.fact_translate.specs.Asks.{IsAsked, params_at}
-use Rattle.fact_translate.specs.Moved.{MovedInPlace}
-use Rattle.fact_translate.specs.declared.fuel.Fuel.{Fuel}
+use Rattle.fact_kinds.specs.Asks.{IsAsked, params_at}
+use Rattle.fact_kinds.specs.Moved.{MovedInPlace}
+use Rattle.fact_kinds.specs.declared.fuel.Fuel.{Fuel}
 use Rattle.fact_compound.specs.Asks.{sides_between}
 use Rattle.fact_compound.specs.Code.{pushed_code, slot_types}
 use Rattle.fact_compound.specs.Functions.{AddedLocals, params_among, slots_from}

@@ -49,8 +49,8 @@ use Rattle.fact_emit.specs.declared.writer.Writer.{Writer}
 use Rattle.fact_emit.proofs.BroughtLaws.{brought_between}
 use Rattle.fact_emit.proofs.ImportLaws.{extended_on, grown_get}
 use Rattle.fact_emit.specs.declared.helpers.HelperType.{HelperType}
-use Rattle.fact_translate.specs.Asks.{params_at, params_of_side}
-use Rattle.fact_translate.specs.declared.fuel.Fuel.{Fuel}
+use Rattle.fact_kinds.specs.Asks.{params_at, params_of_side}
+use Rattle.fact_kinds.specs.declared.fuel.Fuel.{Fuel}
 use Rattle.fact_compound.specs.Translated.{IsFullFuel}
 use Rattle.fact_compound.specs.Helpers.{AreFewAt, AsksAsHelper, DoesHelper, IsHelperSignature, UsesHelper, WroteHelper, WroteHelperBody, asked_as, helper_params, helper_results, results_at, target_params}
 use Rattle.fact_compound.proofs.AsksLaws.{asks_behind, asks_same, type_new}

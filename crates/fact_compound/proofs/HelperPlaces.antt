@@ -28,7 +28,7 @@ use Rattle.fact_emit.specs.Places.{HasDistinctSlots, TargetTaken}
 use Rattle.fact_emit.specs.declared.helpers.HelperLocation.{HelperLocation}
 use Rattle.fact_emit.specs.declared.helpers.HelperLocation.TheVariants as location
 use Rattle.fact_emit.specs.declared.places.LinearMemory.{LinearMemory}
-use Rattle.fact_translate.specs.Asks.{params_at}
+use Rattle.fact_kinds.specs.Asks.{params_at}
 use Rattle.fact_compound.specs.Functions.{params_among, slots_from}
 use Rattle.fact_compound.specs.Helpers.{is_on_stack, results_at, target_params}
 use Rattle.fact_compound.specs.Passing.{last_local, tuple_from, tuple_to}

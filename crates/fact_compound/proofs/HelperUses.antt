@@ -37,10 +37,10 @@ use Rattle.fact_emit.specs.declared.helpers.HelperLocation.TheVariants as locati
 use Rattle.fact_emit.specs.declared.helpers.HelperType.{HelperType}
 use Rattle.fact_emit.specs.declared.options.Options.{Options}
 use Rattle.fact_emit.specs.declared.places.LinearMemory.{LinearMemory}
-use Rattle.fact_translate.specs.Asks.{params_at}
-use Rattle.fact_translate.specs.Moved.{AreSmall}
-use Rattle.fact_translate.specs.Translations.{FitsKey, IsKeyOf, place_of_location}
-use Rattle.fact_translate.proofs.KeyShapes.{SourceFits, SourcesFit, TargetFits, TargetsFit, fields_fit, keys_fit}
+use Rattle.fact_kinds.specs.Asks.{params_at}
+use Rattle.fact_kinds.specs.Moved.{AreSmall}
+use Rattle.fact_kinds.specs.Translations.{FitsKey, IsKeyOf, place_of_location}
+use Rattle.fact_kinds.proofs.KeyShapes.{SourceFits, SourcesFit, TargetFits, TargetsFit, fields_fit, keys_fit}
 use Rattle.fact_compound.specs.Asks.{sides_between}
 use Rattle.fact_compound.specs.Described.{DescribesTransfers, HasNewTupleMemory, HasTupleMemory, KnowsAdapterData, linear_of}
 use Rattle.fact_compound.specs.Functions.{slots_from}

@@ -23,9 +23,9 @@ use Rattle.fact_emit.specs.declared.helpers.HelperLocation.{HelperLocation}
 use Rattle.fact_emit.specs.declared.helpers.HelperLocation.TheVariants as location
 use Rattle.fact_emit.specs.declared.places.LinearMemory.{LinearMemory}
 use Rattle.fact_emit.specs.declared.places.Sides.{Sides}
-use Rattle.fact_translate.specs.Translations.{AreTranslated, IsFuel, IsKeyOf, TranslatesAs, place_of_location, place_of_source, place_of_target, translates_in_place, translates_inside}
-use Rattle.fact_translate.specs.declared.fuel.Fuel.{Fuel}
-use Rattle.fact_translate.proofs.Translating.{full_in_place}
+use Rattle.fact_kinds.specs.Translations.{AreTranslated, IsFuel, IsKeyOf, TranslatesAs, place_of_location, place_of_source, place_of_target, translates_in_place, translates_inside}
+use Rattle.fact_kinds.specs.declared.fuel.Fuel.{Fuel}
+use Rattle.fact_kinds.proofs.Translating.{full_in_place}
 use Rattle.fact_compound.specs.Described.{DescribesTransfers, linear_of}
 use Rattle.fact_compound.specs.Helpers.{is_on_stack}
 use Rattle.fact_compound.specs.Keys.{AmongParams, AmongResults, IsKeyOfAdapter, TranslatesPart, TranslatesSync, part_asks, sync_asks}

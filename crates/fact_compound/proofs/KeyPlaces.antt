@@ -11,9 +11,9 @@ use Rattle.fact_types.specs.Shapes.{Kind, k_record, k_variant, k_list, k_tuple, 
 use Rattle.fact_values.specs.Canonical.{ThereIs}
 use Rattle.fact_moves.specs.Outlining.{HelperKey, Route, Translated, Translating, Memory, cost, in_memories, translates, translates_case, translates_cases, translates_fields, translates_none, translates_then, translates_times, turns_of}
 use Rattle.fact_emit.specs.Movable.{CanMove, CanMoveCase, CanMoveFields, CanMoveMember, EachCaseOf}
-use Rattle.fact_translate.specs.Translations.{translates_inside}
-use Rattle.fact_translate.proofs.Found.{holds_found}
-use Rattle.fact_translate.proofs.TranslatedShapes.{fields_are, named_found}
+use Rattle.fact_kinds.specs.Translations.{translates_inside}
+use Rattle.fact_kinds.proofs.Found.{holds_found}
+use Rattle.fact_kinds.proofs.TranslatedShapes.{fields_are, named_found}
 
 or_first : (a b : Bool) → a ≡ true → (a || b) ≡ true
 or_first true b e = refl

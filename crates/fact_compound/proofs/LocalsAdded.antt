@@ -10,7 +10,7 @@ use Rattle.fact_emit.specs.Places.{slots_of_locals}
 use Rattle.fact_emit.specs.Writers.{used_local_of, AddedLocal}
 use Rattle.fact_emit.specs.declared.places.TypedLocal.{TypedLocal}
 use Rattle.fact_emit.specs.declared.writer.Writer.{Writer}
-use Rattle.fact_translate.specs.declared.fuel.Fuel.{Fuel}
+use Rattle.fact_kinds.specs.declared.fuel.Fuel.{Fuel}
 use Rattle.fact_compound.specs.Code.{slot_types}
 use Rattle.fact_compound.specs.Functions.{slots_from, AddedContext, AddedLocals, AddedSyncLocals, core_slots, places_with, unless_passed}
 use Rattle.fact_compound.specs.Syncs.{EmitsSync}

@@ -29,7 +29,7 @@ use Rattle.fact_emit.specs.Places.{AreDistinctSlots}
 use Rattle.fact_emit.specs.RuntimeCalls.{slots_of}
 use Rattle.fact_emit.specs.declared.context.ContextLocals.{ContextLocals}
 use Rattle.fact_emit.specs.declared.imported.RuntimeFunction.TheVariants as runtime
-use Rattle.fact_translate.specs.declared.fuel.Fuel.{Fuel}
+use Rattle.fact_kinds.specs.declared.fuel.Fuel.{Fuel}
 use Rattle.fact_compound.specs.Code.{SyncParts, pushed_code, sync_code, with_barrier}
 use Rattle.fact_compound.specs.Events.{AreCallOptions, CanFinish, CanReturnPost, KnowsRuntimeIf}
 use Rattle.fact_compound.specs.Described.{DescribesAdapter, KnowsAdapterData, KnowsPostReturn, linear_of}

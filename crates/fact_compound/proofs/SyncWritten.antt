@@ -39,7 +39,7 @@ use Rattle.fact_compound.specs.Asks.{AsksFor}
 use Rattle.fact_compound.specs.Code.{saved_code, started_code, cleared_code, pushed_code, call_code, enter_code, exit_code, finish_code}
 use Rattle.fact_compound.specs.Described.{CanMoveTuple, linear_of}
 use Rattle.fact_compound.specs.Events.{CanFinish, EntersCall, ExitsCall, FinishesCall, KnowsRuntimeIf, ReturnsPost}
-use Rattle.fact_translate.specs.declared.fuel.Fuel.{Fuel}
+use Rattle.fact_kinds.specs.declared.fuel.Fuel.{Fuel}
 use Rattle.fact_compound.specs.Keys.{TranslatesSync}
 use Rattle.fact_compound.specs.Passed.{ParamsCode, PassedParams, MovesResults, MovedResults, TranslatesParams, TranslatesResults}
 use Rattle.fact_compound.specs.Passing.{ChecksMayLeave, tuple_size}

@@ -27,8 +27,8 @@ use Rattle.fact_emit.specs.declared.places.Sides.{Sides}
 use Rattle.fact_emit.specs.declared.places.TypedLocal.{TypedLocal}
 use Rattle.fact_emit.specs.declared.writer.Writer.{Writer}
 use Rattle.fact_emit.proofs.Emitting.{emits_then, emits_nothing, grew_on}
-use Rattle.fact_translate.specs.Moved.{MovedTuple}
-use Rattle.fact_translate.specs.declared.fuel.Fuel.{Fuel}
+use Rattle.fact_kinds.specs.Moved.{MovedTuple}
+use Rattle.fact_kinds.specs.declared.fuel.Fuel.{Fuel}
 use Rattle.fact_compound.specs.Described.{linear_of}
 use Rattle.fact_compound.specs.Passed.{params_sides, results_sides, MovedParams, AskedTuple, CheckedTuple, MovedResults, PassedParams}
 use Rattle.fact_compound.specs.Passing.{last_local, tuple_from, tuple_to, tuple_size, tuple_align, AsksTuple, ChecksTuple}

@@ -25,7 +25,7 @@ use Rattle.fact_emit.proofs.BroughtLaws.{brought_between}
 use Rattle.fact_emit.proofs.ImportLaws.{grown_get, grows_none, grows_on}
 use Rattle.fact_emit.proofs.Locals.{get_map}
 use Rattle.fact_emit.specs.NamedFunctions.{defined_named}
-use Rattle.fact_translate.specs.declared.fuel.Fuel.{Fuel}
+use Rattle.fact_kinds.specs.declared.fuel.Fuel.{Fuel}
 use Rattle.fact_compound.specs.Described.{DescribesAdapter, KnowsAdapterData}
 use Rattle.fact_compound.specs.Functions.{slots_from, AddedSyncLocals, PutBody, DoesBody, WroteBody, places_with, sync_types, added_slots, context_types, unless_passed}
 use Rattle.fact_compound.specs.Events.{AreCallOptions}

@@ -46,7 +46,7 @@ use Rattle.fact_emit.proofs.DefinedKept.{defined_brought, defined_type, extended
 use Rattle.fact_emit.proofs.ImportLaws.{extended_on, grown_get}
 use Rattle.fact_emit.proofs.ServingLaws.{serves_sooner}
 use Rattle.fact_emit.specs.NamedFunctions.{defined_named}
-use Rattle.fact_translate.specs.declared.fuel.Fuel.{Fuel}
+use Rattle.fact_kinds.specs.declared.fuel.Fuel.{Fuel}
 use Rattle.fact_compound.specs.Keys.{AsksKeys, IsKeyOfAdapter, sync_asks}
 use Rattle.fact_compound.specs.Translated.{IsFullFuel}
 use Rattle.fact_compound.specs.Asks.{AreNewAsked, AsksFor}

@@ -35,7 +35,7 @@ use Rattle.fact_emit.specs.States.{ModuleSoFar, with_callee}
 use Rattle.fact_emit.specs.Writers.{AreNumberTypes, taken_in, types_of_locals}
 use Rattle.fact_emit.specs.declared.writer.Writer.{Writer}
 use Rattle.fact_emit.specs.NamedFunctions.{defined_named}
-use Rattle.fact_translate.specs.declared.fuel.Fuel.{Fuel}
+use Rattle.fact_kinds.specs.declared.fuel.Fuel.{Fuel}
 use Rattle.fact_compound.specs.Asks.{AsksFor, Having}
 use Rattle.fact_compound.specs.AsyncParts.{PartSlots, callee_name, part_action, part_name, part_type}
 use Rattle.fact_compound.specs.Code.{slot_types}

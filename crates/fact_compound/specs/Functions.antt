@@ -31,7 +31,7 @@ use Rattle.fact_emit.specs.States.{HasType, ModuleSoFar, export_as, with_exporte
 use Rattle.fact_emit.specs.Writers.{AreNumberTypes, types_of_locals, used_local_of}
 use Rattle.fact_emit.specs.declared.writer.Writer.{Writer}
 use Rattle.fact_emit.specs.NamedFunctions.{defined_named}
-use Rattle.fact_translate.specs.declared.fuel.Fuel.{Fuel}
+use Rattle.fact_kinds.specs.declared.fuel.Fuel.{Fuel}
 use Rattle.fact_compound.specs.Asks.{AsksFor, Having}
 use Rattle.fact_compound.specs.Code.{slot_types}
 use Rattle.fact_compound.specs.Described.{DescribesAdapter, KnowsAdapterData}

@@ -37,10 +37,10 @@ use Rattle.fact_emit.specs.declared.helpers.HelperLocation.{HelperLocation}
 use Rattle.fact_emit.specs.declared.helpers.HelperLocation.TheVariants as location
 use Rattle.fact_emit.specs.declared.helpers.HelperType.{HelperType}
 use Rattle.fact_emit.specs.declared.writer.Writer.{Writer}
-use Rattle.fact_translate.specs.Asks.{params_of_side}
-use Rattle.fact_translate.specs.Moved.{AreSmall}
-use Rattle.fact_translate.specs.Translations.{IsKeyOf, place_of_location}
-use Rattle.fact_translate.specs.declared.fuel.Fuel.{Fuel}
+use Rattle.fact_kinds.specs.Asks.{params_of_side}
+use Rattle.fact_kinds.specs.Moved.{AreSmall}
+use Rattle.fact_kinds.specs.Translations.{IsKeyOf, place_of_location}
+use Rattle.fact_kinds.specs.declared.fuel.Fuel.{Fuel}
 use Rattle.fact_compound.specs.Asks.{AsksFor, CanBeWritten, sides_between}
 use Rattle.fact_compound.specs.Functions.{slots_from}
 use Rattle.fact_compound.specs.Translated.{IsFullFuel}

@@ -8,8 +8,8 @@ use Rattle.fact_moves.specs.Adapters.{AdapterTunables}
 use Rattle.fact_moves.specs.Outlining.{HelperKey, asks_of, params_route, results_route, translates_params, translates_results, translates_then}
 use Rattle.fact_emit.specs.Asked.{AskedHelper}
 use Rattle.fact_emit.specs.NamedFunctions.{defined_named}
-use Rattle.fact_translate.specs.Translations.{IsKeyOf}
-use Rattle.fact_translate.specs.declared.fuel.Fuel.{Fuel}
+use Rattle.fact_kinds.specs.Translations.{IsKeyOf}
+use Rattle.fact_kinds.specs.declared.fuel.Fuel.{Fuel}
 use Rattle.fact_compound.specs.Described.{DescribesTransfers}
 use Rattle.fact_compound.specs.Passed.{TranslatesParams, TranslatesResults, params_sides, results_sides}
 use Rattle.fact_compound.specs.declared.adapters.AdapterData.{AdapterData}

@@ -21,7 +21,7 @@ use Rattle.fact_emit.specs.Writers.{taken_in}
 use Rattle.fact_emit.specs.declared.places.LinearMemory.{LinearMemory}
 use Rattle.fact_emit.specs.declared.places.Sides.{Sides}
 use Rattle.fact_emit.specs.declared.writer.Writer.{Writer}
-use Rattle.fact_translate.specs.declared.fuel.Fuel.{Fuel}
+use Rattle.fact_kinds.specs.declared.fuel.Fuel.{Fuel}
 use Rattle.fact_compound.specs.Asks.{AreNewAsked, AsksFor}
 use Rattle.fact_compound.specs.Described.{CanMoveTuple, linear_of}
 use Rattle.fact_compound.specs.Passing.{last_local, tuple_from, tuple_to, tuple_size, tuple_align, AsksTuple, ChecksTuple}

@@ -26,7 +26,7 @@ use Rattle.fact_emit.specs.declared.writer.Writer.{Writer}
 use Rattle.fact_compound.specs.Written.{SyncPlaces, HasLocals}
 use Rattle.fact_emit.specs.Imports.{Extended, Serves}
 use Rattle.fact_emit.specs.States.{ModuleSoFar}
-use Rattle.fact_translate.specs.declared.fuel.Fuel.{Fuel}
+use Rattle.fact_kinds.specs.declared.fuel.Fuel.{Fuel}
 use Rattle.fact_compound.specs.Asks.{AsksFor, Having}
 use Rattle.fact_compound.specs.Keys.{TranslatesSync}
 use Rattle.fact_compound.specs.Described.{DescribesAdapter, KnowsAdapterData}

@@ -6,8 +6,8 @@ use Rattle.fact_types.specs.Tuples.{tuple_members}
 use Rattle.fact_moves.specs.Outlining.{Memory, Route, Stack, ValuePlace, translates_fields}
 use Rattle.fact_emit.specs.Asked.{AskedHelper}
 use Rattle.fact_emit.specs.declared.places.Sides.{Sides}
-use Rattle.fact_translate.specs.Translations.{AreTranslated, IsFuel}
-use Rattle.fact_translate.specs.declared.fuel.Fuel.{Fuel}
+use Rattle.fact_kinds.specs.Translations.{AreTranslated, IsFuel}
+use Rattle.fact_kinds.specs.declared.fuel.Fuel.{Fuel}
 
 -- where values are that are flat, or not
 abbrev pub place_of_flat : Bool → ValuePlace

@@ -32,7 +32,7 @@ use Rattle.fact_compound.specs.Asks.{AsksFor}
 use Rattle.fact_compound.specs.Code.{SyncParts, call_steps_code, pushed_code, return_steps_code, slot_types, with_barrier}
 use Rattle.fact_compound.specs.Events.{CanFinish, KnowsRuntimeIf}
 use Rattle.fact_compound.specs.Described.{CanMoveTuple, linear_of}
-use Rattle.fact_translate.specs.declared.fuel.Fuel.{Fuel}
+use Rattle.fact_kinds.specs.declared.fuel.Fuel.{Fuel}
 use Rattle.fact_compound.specs.Keys.{TranslatesSync}
 use Rattle.fact_compound.specs.Passed.{ParamsCode, MovesResults, TranslatesParams, TranslatesResults}
 use Rattle.fact_compound.specs.PassedOn.{ArePassedOn}

@@ -18,7 +18,7 @@ use fact_builder::ComponentTypesBuilder;
 use fact_emit::places::TypedLocal;
 use fact_emit::state::ModuleSections;
 use fact_emit::writer::Writer;
-use fact_translate::fuel::Fuel;
+use fact_kinds::fuel::Fuel;
 use fact_types::{ComponentTypes, Signature};
 use fact_wasm::{FuncName, OutOfMemory, ValType, WasmFunc};
 use std::alloc::Global;

@@ -25,7 +25,7 @@ use fact_emit::context::ContextLocals;
 use fact_emit::places::TypedLocal;
 use fact_emit::state::{ModuleSections, ModuleState};
 use fact_emit::writer::{Local, Writer};
-use fact_translate::fuel::Fuel;
+use fact_kinds::fuel::Fuel;
 use fact_types::{ComponentTypes, InterfaceType, SideSig, Signature, TypeFuncIndex};
 use fact_wasm::{FuncName, Instr, OutOfMemory, Seq, ValType, WasmFunc};
 use std::alloc::Global;

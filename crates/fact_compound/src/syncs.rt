@@ -18,7 +18,7 @@ use fact_emit::barriers::put_barrier;
 use fact_emit::context::{ContextLocals, read_context};
 use fact_emit::places::TypedLocal;
 use fact_emit::writer::Writer;
-use fact_translate::fuel::Fuel;
+use fact_kinds::fuel::Fuel;
 use fact_types::ComponentTypes;
 use fact_wasm::OutOfMemory;
 

@@ -23,7 +23,7 @@ use fact_emit::pointers::check_area;
 use fact_emit::requests::ask_area;
 use fact_emit::writer::Writer;
 use fact_entity::{TypeFuncIndex, TypeTupleIndex};
-use fact_translate::fuel::Fuel;
+use fact_kinds::fuel::Fuel;
 use fact_translate::products::move_tuple;
 use fact_types::{ComponentTypes, InterfaceType};
 use fact_wasm::OutOfMemory;

@@ -1,6 +1,9 @@
 pub mod AdapterKnown
 pub mod AreaMoves
 pub mod BarrierMoves
+pub mod BitCode
+pub mod BitMoves
+pub mod BitSums
 pub mod BroughtLaws
 pub mod CheckMoves
 pub mod ChosenBodies

@@ -1,5 +1,7 @@
 -- Functions that write code of numbers.
 use Rattle.std.proofs.Common.{◌≡◌, ◌≢◌, ℕ, ◌^◌, ◌≤◌, lit<, Bool, List, [], ◌∷◌, ◌++◌, refl, sym, ap, ◌∙◌, subst, append_assoc, Some, None, slice_get}
+use Rattle.std.specs.Prelude.{if◌then◌else◌}
+use Rattle.std.proofs.lemmas.Bool.{eq-eqb, ne_eqb}
 use Rattle.std.proofs.Math.Nat.{pow-le-pow_right}
 use Rattle.fact_wasm.specs.declared.types.ValType.{ValType}
 use Rattle.fact_wasm.specs.declared.types.ValType.TheVariants as val
@@ -9,6 +11,7 @@ use Rattle.fact_wasm.specs.declared.module.WasmModule.{WasmModule}
 use Rattle.fact_wasm.specs.Ranges.{AreRanged}
 use Rattle.fact_moves.specs.Running.{ImportPlaces}
 use Rattle.fact_moves.specs.Sides.{LiftLowerOptions}
+use Rattle.fact_pieces.specs.Code.{scaled_code}
 use Rattle.fact_pieces.specs.Places.{From, InLocals, InMemory, To, Number, N8, N16, N32, N64, FitsNumber, DebugChecks, Off, Setting, is_halved, Readable, code_before, code_behind, read_code, narrow, widen}
 use Rattle.fact_pieces.proofs.Chars.{scalar_is, case_is}
 use Rattle.fact_pieces.specs.Tests.{pointer}
@@ -36,10 +39,21 @@ use Rattle.fact_emit.specs.Places.{checks_at, setting_of, from_of, slots_of_loca
 use Rattle.fact_emit.specs.Scalars.{canonical_code, canonical_of, IsCanonicalFor, number_moves, tested_moves, passes_test, code_of_test, trap_of_test}
 use Rattle.fact_emit.specs.Writers.{taken_in, Wrote}
 use Rattle.fact_emit.proofs.CheckMoves.{guarded_then}
-use Rattle.fact_emit.proofs.Emitting.{emits_as, emits_then, emits_wrote, emits_nothing, wrote_then}
+use Rattle.fact_emit.proofs.Emitting.{emits_as, emits_then, emits_wrote, emits_nothing, wrote_none, wrote_then}
 use Rattle.fact_emit.proofs.NamedLaws.{ranged_append}
 use Rattle.fact_emit.proofs.RangedCode.{before_ranged, behind_ranged, canonical_ranged, get_ranged, kept_ranged, local_ranged, memory_ranged, set_ranged}
 use Rattle.fact_emit.proofs.Using.{free_except}
+
+-- ---- products
+
+pub scaled_put : {a b c : Writer} {factor : ℕ} → factor ≢ 1 → Wrote a b (I.I64Const factor ∷ []) → Wrote b c (I.I64Mul ∷ []) → Wrote a c (scaled_code factor)
+scaled_put {a} {c = c} {factor} many x y = subst (λ (one : Bool). Wrote a c (if one then [] else (I.I64Const factor ∷ I.I64Mul ∷ []))) (sym (ne_eqb factor 1 many)) (wrote_then x y)
+
+pub not_scaled : (a : Writer) {factor : ℕ} → factor ≡ 1 → Wrote a a (scaled_code factor)
+not_scaled a {factor} is = subst (λ (one : Bool). Wrote a a (if one then [] else (I.I64Const factor ∷ I.I64Mul ∷ []))) (sym (eq-eqb factor 1 is)) (wrote_none a)
+
+pub scaled_as : {a b : Writer} {n m : ℕ} → n ≡ m → Wrote a b (scaled_code n) → Wrote a b (scaled_code m)
+scaled_as {a} {b} is x = subst (λ n. Wrote a b (scaled_code n)) is x
 
 -- ---- numbers that are read
 

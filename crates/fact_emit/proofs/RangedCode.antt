@@ -1,5 +1,6 @@
 -- The pieces of code that writing functions put together are in range, and name no function but those of traps.
 use Rattle.std.proofs.Common.{◌≡◌, ℕ, suc, Bool, true, false, List, [], ◌∷◌, ◌++◌, Option, ap, ◌∙◌, arith}
+use Rattle.std.specs.Prelude.{nat_eq, if◌then◌else◌}
 use Rattle.std.specs.List.{filter_map}
 use Rattle.fact_wasm.specs.declared.instr.BlockType.TheVariants.{Empty}
 use Rattle.fact_wasm.specs.declared.instr.Instr.{Instr, the_lemmas}
@@ -8,7 +9,7 @@ use Rattle.fact_wasm.specs.declared.types.ValType.{ValType}
 use Rattle.fact_wasm.specs.declared.types.ValType.TheVariants as val
 use Rattle.fact_wasm.specs.Ranges.{AreRanged}
 use Rattle.fact_pieces.specs.Cases.{tag_code, zero_code, zero_const, zero_slots}
-use Rattle.fact_pieces.specs.Code.{length_code, pages_code, trap_code}
+use Rattle.fact_pieces.specs.Code.{length_code, pages_code, scaled_code, trap_code}
 use Rattle.fact_pieces.specs.Places.{InMemory, Number, N8, N16, N32, N64, Off, Slot, To, ToLocals, ToMemory, code_before, code_behind, from_i32, from_i64, narrow, place_test, read_code, to_i32, to_i64, upper_test, widen}
 use Rattle.fact_pieces.specs.Tests.{aligned_code, bounds_code, pointer}
 use Rattle.fact_emit.specs.declared.scalars.Canonical.{Canonical}
@@ -129,11 +130,15 @@ pages_ranged : (place : ℕ) (memory64 : Bool) → AreRanged 0 0 (pages_code pla
 pages_ranged place true = ranged_none 0 0 (pages_code place true) (simp the_lemmas)
 pages_ranged place false = ranged_none 0 0 (pages_code place false) (simp the_lemmas)
 
-product_ranged : (n : ℕ) → AreRanged 0 0 (I.I64Const n ∷ I.I64Mul ∷ [])
-product_ranged n = ranged_none 0 0 (I.I64Const n ∷ I.I64Mul ∷ []) (simp the_lemmas)
+pub scaled_ranged : (factor : ℕ) → AreRanged 0 0 (scaled_code factor)
+scaled_ranged factor = by_one (nat_eq factor 1)
+  where
+    by_one : (one : Bool) → AreRanged 0 0 (if one then [] else (I.I64Const factor ∷ I.I64Mul ∷ []))
+    by_one true = tt
+    by_one false = ranged_none 0 0 (I.I64Const factor ∷ I.I64Mul ∷ []) (simp the_lemmas)
 
 pub length_ranged : (place : ℕ) (memory64 : Bool) (log2 : Option ℕ) → AreRanged 0 0 (length_code place memory64 log2)
-length_ranged place memory64 log2 = ranged_append 0 0 (pages_code place memory64) _ (pages_ranged place memory64) (product_ranged _)
+length_ranged place memory64 log2 = ranged_append 0 0 (pages_code place memory64) _ (pages_ranged place memory64) (scaled_ranged _)
 
 -- ---- tests
 

@@ -9,13 +9,14 @@ use Rattle.fact_types.specs.declared.outside.Transcode.{Transcode}
 use Rattle.fact_values.specs.Texts.{unit_bytes, utf16_tag}
 use Rattle.fact_moves.specs.Paths.{Amount, SourceUnits, WrittenUnits, Test, AllRead, WrittenIs, HasNoTag, KeepsUnits}
 use Rattle.fact_moves.specs.Transcoders.{TranscodeKind, AllUnits, Counted, Fitting, Narrow, Tagged, Widening, from_encoding}
+use Rattle.fact_pieces.specs.Code.{scaled_code}
 use Rattle.fact_pieces.specs.Lists.{address_code, const_code, put_code}
 use Rattle.fact_pieces.specs.Places.{To, code_behind, code_before}
 use Rattle.fact_pieces.specs.StringCode.{StringMove, add_to_code, amount_code, answer_code, from_address, keep_code, limit_code, no_tag_code, regrow_code, source_code, target_code, test_code, times_code, to_address, untag_code, wrap_code}
 use Rattle.fact_pieces.specs.Tests.{pointer}
 use Rattle.fact_emit.specs.Pairs.{length_to, put_pair_code}
 use Rattle.fact_emit.proofs.NamedLaws.{ranged_append, ranged_more, ranged_none}
-use Rattle.fact_emit.proofs.RangedCode.{before_ranged, behind_ranged, get_ranged, kept_ranged, narrow_ranged, set_ranged, unreachable_ranged, widen_ranged}
+use Rattle.fact_emit.proofs.RangedCode.{before_ranged, behind_ranged, get_ranged, kept_ranged, narrow_ranged, scaled_ranged, set_ranged, unreachable_ranged, widen_ranged}
 use Rattle.fact_emit.proofs.RequestRanged.{address_ranged, const_ranged}
 
 -- ---- single instructions in front of others
@@ -43,8 +44,7 @@ from_address_ranged memory64 = widen_ranged (pointer memory64) val.I64
 
 pub times_ranged : (memory64 : Bool) (factor local : ℕ) → AreRanged 0 0 (times_code memory64 factor local)
 times_ranged memory64 factor local =
-    let product : List Instr = I.LocalGet local ∷ I.I64Const factor ∷ I.I64Mul ∷ [] in
-    ranged_append 0 0 product (wrap_code memory64) (ranged_none 0 0 product (simp the_lemmas)) (wrap_ranged memory64)
+    get_then local (scaled_code factor ++ wrap_code memory64) (ranged_append 0 0 (scaled_code factor) (wrap_code memory64) (scaled_ranged factor) (wrap_ranged memory64))
 
 pub amount_ranged : (x : Amount) (m : StringMove) → AreRanged 0 0 (amount_code m x)
 amount_ranged (SourceUnits factor) m = times_ranged m.to64 factor m.temporaries.units

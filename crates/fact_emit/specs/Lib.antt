@@ -24,6 +24,7 @@ pub mod Options
 pub mod Pairs
 pub mod Parts
 pub mod Pieces
+pub mod PlacedBits
 pub mod Places
 pub mod PlacesOf
 pub mod Requests

@@ -5,11 +5,12 @@ use Rattle.std.specs.Prelude.{◌≡◌, ◌<◌, ◌≤◌, ◌⊎◌, ℕ, Boo
 use Rattle.std.specs.Str.{bytes_eq}
 use Rattle.fact_types.specs.declared.interface.InterfaceType.{InterfaceType}
 use Rattle.fact_types.specs.declared.interface.InterfaceType.TheVariants as ty
-use Rattle.fact_types.specs.Agrees.{chosen}
+use Rattle.fact_types.specs.Agrees.{chosen, names_of}
 use Rattle.fact_types.specs.Fields.{field_of}
 use Rattle.fact_types.specs.Layout.{payloads, record_layout}
 use Rattle.fact_types.specs.Shapes.{Kind, k_record, k_variant, k_list, k_tuple, k_map, k_flags, k_enum, k_fixed, k_option, k_result, k_future, k_stream, Shape, s_plain, s_node, Members, no_members, bare, typed, layout_of, layouts_of}
 use Rattle.fact_types.specs.Sound.{TakesBytes}
+use Rattle.fact_types.specs.Valid.{AreDistinct}
 use Rattle.fact_values.specs.Canonical.{ThereIs}
 use Rattle.fact_values.specs.Limits.{CaseType, case_type}
 use Rattle.fact_values.specs.Places.{count_of_members}
@@ -41,11 +42,12 @@ abbrev pub CanMovePlain : Shape → InterfaceType → Type 0
 CanMovePlain (s_plain a) b = ((a ≡ b) × (is_scalar a ≡ true)) ⊎ (((a ≡ ty.String) × (b ≡ ty.String)) ⊎ CanTransfer a b)
 CanMovePlain (s_node k ms) b = ⊥
 
--- flags of as many names, at least one and at most 32
+-- flags of as many names, at least one and at most 32, each once
 pub record CanMoveFlags (ms ns : Members) : Type 0 where
   pub same : count_of_members ns ≡ count_of_members ms
   pub some : 0 < count_of_members ms
   pub few : count_of_members ms ≤ 32
+  pub alone : AreDistinct (names_of ms)
 
 -- Elements of lists, and entries of maps, are moved member by member. They take at least one byte, as values of valid types do.
 pub record CanMoveElements (ms ns : Members) (Fields : Type 0) : Type 0 where

@@ -3,6 +3,7 @@
 #![tactic(auto)]
 
 pub mod barriers;
+pub mod bits;
 pub mod bodies;
 pub mod calls;
 pub mod checks;

@@ -1,6 +1,7 @@
 //! Numbers, read from a place to the operand stack and written from the operand stack to a place.
 
 ghost use Rattle.std.specs.Prelude.{OnOk, ◌≡◌, ◌∷◌, []};
+ghost use Rattle.fact_pieces.specs.Code.{scaled_code};
 ghost use Rattle.fact_pieces.specs.Places.{InLocals, InMemory, Off, is_halved, load_of, store_of, memarg_at, narrow, widen, read_code, code_before, code_behind};
 ghost use Rattle.fact_pieces.specs.Rows.{load_code, load_align, store_code, store_align};
 ghost use Rattle.fact_emit.specs.Emits.{Emits};
@@ -82,6 +83,17 @@ pub fn put_widened(w: &mut Writer, number: NumberSize, ty: ValType) -> Result<()
         (_, ValType::F32) => w.put(Instr::F32ReinterpretI32),
         _ => Ok(()),
     }
+}
+
+/// An i64 on the operand stack times a number, which needs no product where the number is 1.
+pub fn put_scaled(w: &mut Writer, factor: u64) -> Result<(), OutOfMemory>
+    ensures { OnOk result (Wrote w.old w.new (scaled_code factor)) }
+{
+    if factor != 1 {
+        w.put(Instr::I64Const(factor))?;
+        w.put(Instr::I64Mul)?;
+    }
+    Ok(())
 }
 
 /// Whether the upper half of what a local holds is left out where a number is read of it.

@@ -2,7 +2,7 @@
 
 ghost use Rattle.std.specs.Prelude.{IfOk, OnOk, ◌≡◌, ◌<◌, ◌%◌, ◌^◌};
 ghost use Rattle.fact_machine.specs.Machine.{page_bytes};
-ghost use Rattle.fact_pieces.specs.Code.{length_code};
+ghost use Rattle.fact_pieces.specs.Code.{length_code, pages_code};
 ghost use Rattle.fact_pieces.specs.Tests.{aligned_code, bounds_code, pointer};
 ghost use Rattle.fact_emit.specs.Areas.{AreaCode, ChecksArea, widened_code};
 ghost use Rattle.fact_emit.specs.Checks.{ChecksAligned, ChecksRegion, ReadsPointer};
@@ -12,7 +12,7 @@ ghost use Rattle.fact_emit.specs.Places.{from_of};
 ghost use Rattle.fact_emit.specs.Writers.{Wrote, taken_in};
 
 use crate::checks::put_guard;
-use crate::numbers::{NumberSize, put_widened, read_number};
+use crate::numbers::{NumberSize, put_scaled, put_widened, read_number};
 use crate::places::{LinearMemory, SourcePlace};
 use crate::writer::Writer;
 use fact_types::Trap;
@@ -64,16 +64,23 @@ fn page_size(log2: Option<u32>) -> u64
     }
 }
 
-/// The length of a side's memory in bytes, as an i64.
-fn put_length(w: &mut Writer, linear: LinearMemory) -> Result<(), OutOfMemory>
-    ensures { OnOk result (Wrote w.old w.new (length_code linear.memory linear.memory64 linear.page_size_log2)) }
+/// The number of pages of a side's memory, as an i64.
+fn put_pages(w: &mut Writer, linear: LinearMemory) -> Result<(), OutOfMemory>
+    ensures { OnOk result (Wrote w.old w.new (pages_code linear.memory linear.memory64)) }
 {
     w.put(Instr::MemorySize(linear.memory))?;
     if !linear.memory64 {
         w.put(Instr::I64ExtendI32U)?;
     }
-    w.put(Instr::I64Const(page_size(linear.page_size_log2)))?;
-    w.put(Instr::I64Mul)?;
+    Ok(())
+}
+
+/// The length of a side's memory in bytes, as an i64.
+fn put_length(w: &mut Writer, linear: LinearMemory) -> Result<(), OutOfMemory>
+    ensures { OnOk result (Wrote w.old w.new (length_code linear.memory linear.memory64 linear.page_size_log2)) }
+{
+    put_pages(w, linear)?;
+    put_scaled(w, page_size(linear.page_size_log2))?;
     Ok(())
 }
 

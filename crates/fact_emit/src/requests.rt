@@ -12,7 +12,7 @@ ghost use Rattle.fact_emit.specs.Requests.{IsReallocImported, ask_code_if, AsksR
 ghost use Rattle.fact_emit.specs.Writers.{Wrote, taken_in};
 
 use crate::context::{ContextLocals, restore_context, save_context};
-use crate::numbers::{put_narrowed, put_widened};
+use crate::numbers::{put_narrowed, put_scaled, put_widened};
 use crate::places::LinearMemory;
 use crate::pointers::{AreaLocals, check_region, pointer_number};
 use crate::state::ModuleSections;
@@ -220,8 +220,7 @@ pub fn put_bytes(w: &mut Writer, number: u32, size: u32, bytes: u32) -> Result<(
     ensures { OnOk result (Wrote w.old w.new (bytes_code number size ++ I.LocalSet bytes ∷ [])) }
 {
     w.put(Instr::LocalGet(number))?;
-    w.put(Instr::I64Const(u64::from(size)))?;
-    w.put(Instr::I64Mul)?;
+    put_scaled(w, u64::from(size))?;
     w.put(Instr::LocalSet(bytes))?;
     Ok(())
 }

@@ -16,7 +16,7 @@ ghost use Rattle.fact_emit.specs.Writers.{Wrote};
 
 use crate::checks::put_guard;
 use crate::context::{restore_context, save_context};
-use crate::numbers::{put_narrowed, put_widened};
+use crate::numbers::{put_narrowed, put_scaled, put_widened};
 use crate::paths::{Amount, PathTest, written_alignment};
 use crate::places::{LinearMemory, Sides};
 use crate::pointers::{check_region, pointer_number};
@@ -64,8 +64,7 @@ pub fn put_times(w: &mut Writer, memory64: bool, factor: u32, local: u32) -> Res
     ensures { OnOk result (Wrote w.old w.new (times_code memory64 factor local)) }
 {
     w.put(Instr::LocalGet(local))?;
-    w.put(Instr::I64Const(u64::from(factor)))?;
-    w.put(Instr::I64Mul)?;
+    put_scaled(w, u64::from(factor))?;
     put_wrap(w, memory64)?;
     Ok(())
 }

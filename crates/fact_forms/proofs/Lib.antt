@@ -1,5 +1,6 @@
 pub mod Memories
 pub mod Moving
+pub mod NameCounts
 pub mod Pairs
 pub mod Passed
 pub mod PlanPassed

@@ -8,7 +8,7 @@ use Rattle.fact_entity.specs.declared.table.TypeComponentLocalErrorContextTables
 use Rattle.fact_entity.specs.declared.table.TypeResourceTables.{TypeResourceTables}
 use Rattle.fact_types.specs.declared.interface.InterfaceType.{InterfaceType}
 use Rattle.fact_types.specs.declared.interface.InterfaceType.TheVariants as ty
-use Rattle.fact_types.specs.Agrees.{Agrees, AgreesPlain, AgreesBy, AgreesFields, AgreesCase, AgreesPlaces, BothThere, chosen, named, names_of}
+use Rattle.fact_types.specs.Agrees.{HaveSameNames, Agrees, AgreesPlain, AgreesBy, AgreesFields, AgreesCase, AgreesPlaces, BothThere, chosen, named, names_of}
 use Rattle.fact_types.specs.Fields.{field_of}
 use Rattle.fact_types.specs.FlatShapes.{AreCounted}
 use Rattle.fact_types.specs.Shapes.{Kind, k_record, k_variant, k_list, k_tuple, k_map, k_flags, k_enum, k_option, k_result, k_fixed, k_future, k_stream, Shape, s_plain, s_node, Members, no_members, bare, typed, layouts_of}
@@ -35,6 +35,7 @@ use Rattle.fact_carry.proofs.Tuples.{places_fields}
 use Rattle.fact_carry.proofs.Variants.{case_formed}
 use Rattle.fact_emit.specs.Movable.{CanMove, CanMoveMember, CanMovePlain, CanMoveFields, CanMoveCase, CanMoveCases, CanMoveElements, CanMoveFlags, is_scalar}
 use Rattle.fact_compound.specs.Described.{CanMoveTuple}
+use Rattle.fact_forms.proofs.NameCounts.{names_few}
 
 -- ---- one type
 
@@ -94,10 +95,11 @@ count_names no_members = refl
 count_names (bare n ms) = ap suc (count_names ms)
 count_names (typed n s ms) = ap suc (count_names ms)
 
-flags_move : (ms ns : Members) → names_of ms ≡ names_of ns → (1 ≤ count_of_members ns) × (count_of_members ns ≤ 32) → CanMoveFlags ms ns
-flags_move ms ns e enough =
-    let same : count_of_members ns ≡ count_of_members ms = count_names ns ∙ ap length (sym e) ∙ sym (count_names ms) in
-    record { same = same; some = omega (arith, same, enough.0); few = omega (arith, same, enough.1) }
+flags_move : (ms ns : Members) → HaveSameNames ms ns → AreDistinct (names_of ms) → AreDistinct (names_of ns) → (1 ≤ count_of_members ms) × (count_of_members ms ≤ 32) → CanMoveFlags ms ns
+flags_move ms ns a d e enough =
+    let given = names_few (names_of ms) (names_of ns) d a.given in
+    let asked = names_few (names_of ns) (names_of ms) e a.asked in
+    record { same = omega (arith, count_names ms, count_names ns, given, asked); some = enough.0; few = enough.1; alone = d }
 
 -- elements and entries of valid types take bytes
 element_bytes : (x : List ℕ) (xs : List (List ℕ)) (ms : Members) → names_of ms ≡ x ∷ xs → AreTyped ms → AreValid ms → TakesBytes (record_layout (payloads (layouts_of ms)))
@@ -131,7 +133,7 @@ node_moves k_map (s_node k_map ms) ns a r v w f g go case =
     elements_move (0 ∷ []) ((1 ∷ []) ∷ []) ms ns f.0 g (members_valid k_map ms v) w (go ms (places_fields ms ns a (f.0.0 ∙ sym g.0) r.distinct f.0.1) (members_valid k_map ms v) f.1)
 node_moves (k_fixed n) (s_node (k_fixed m) ms) ns a r v w f g go case =
     (a.0, elements_move [] [] ms ns f.0 g (members_valid (k_fixed m) ms v) w (go ms (places_fields ms ns a.1 (f.0.0 ∙ sym g.0) r.distinct f.0.1) (members_valid (k_fixed m) ms v) f.1))
-node_moves k_flags (s_node k_flags ms) ns a r v w f g go case = flags_move ms ns a r.enough
+node_moves k_flags (s_node k_flags ms) ns a r v w f g go case = flags_move ms ns a v.ruled.0.distinct r.distinct v.ruled.0.enough
 node_moves k_variant (s_node k_variant ms) ns a r v w f g go case = each_moves ms ns (members_valid k_variant ms v) f.1 case (λ n c h. each_agrees ms ns n c a h)
 node_moves k_enum (s_node k_enum ms) ns a r v w f g go case = count_names ns ∙ ap length (sym a) ∙ sym (count_names ms)
 node_moves k_option (s_node k_option ms) ns a r v w f g go case = paired_moves ms ns (members_valid k_option ms v) f.1 case a (f.0 ∙ sym g) r.distinct

@@ -99,7 +99,8 @@ stable_kind k_tuple (s_node k_tuple ms) ns F C P f c p h = p ms h
 stable_kind k_map (s_node k_map ms) ns F C P f c p h = p ms h
 stable_kind k_option (s_node k_option ms) ns F C P f c p h = p ms h
 stable_kind k_result (s_node k_result ms) ns F C P f c p h = p ms h
-stable_kind k_flags (s_node k_flags ms) ns F C P f c p h = stable_names (names_of ms) (names_of ns) h
+stable_kind k_flags (s_node k_flags ms) ns F C P f c p h =
+    record { given = λ x at. stable_contains x (names_of ns) (λ n. h (λ a. n (a.given x at))); asked = λ x at. stable_contains x (names_of ms) (λ n. h (λ a. n (a.asked x at))) }
 stable_kind k_enum (s_node k_enum ms) ns F C P f c p h = stable_names (names_of ms) (names_of ns) h
 stable_kind (k_fixed m) (s_node (k_fixed n) ms) ns F C P f c p h = (stable_nat n m (λ x. h (λ a. x a.0)), p ms (λ x. h (λ a. x a.1)))
 stable_kind (k_future t i) (s_node (k_future u j) ms) ns F C P f c p h = tt

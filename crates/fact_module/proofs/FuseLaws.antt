@@ -35,15 +35,15 @@ use Rattle.fact_emit.specs.declared.tunables.WasmFeatures.{WasmFeatures}
 use Rattle.fact_emit.proofs.ImportLaws.{grown_get}
 use Rattle.fact_emit.proofs.ImportLists.{get-last}
 use Rattle.fact_compound.specs.Entries.{tuple_of_results}
-use Rattle.fact_module.specs.declared.taken.TakenAdapter.{TakenAdapter}
-use Rattle.fact_module.specs.Collected.{AreTaken, Collected, HasTaken, IsTakenAs, KeepsSettings, result_tuple_of, taken_of}
-use Rattle.fact_module.specs.Taking.{IsFirstBehind, IsSoundBehind}
+use Rattle.fact_assembly.specs.declared.taken.TakenAdapter.{TakenAdapter}
+use Rattle.fact_assembly.specs.Collected.{AreTaken, Collected, HasTaken, IsTakenAs, KeepsSettings, result_tuple_of, taken_of}
+use Rattle.fact_assembly.specs.Taking.{IsFirstBehind, IsSoundBehind}
 use Rattle.fact_promises.specs.AsyncRuns.{HandsOver}
-use Rattle.fact_module.specs.Faithful.{Promised}
+use Rattle.fact_assembly.specs.Faithful.{Promised}
 use Rattle.fact_module.specs.declared.fusion.Fused.{Fused}
 use Rattle.fact_module.specs.Fused.{IsFused, features_of, result_tuple, tunables_of}
 use Rattle.fact_module.specs.Fusing.{HasTakenAll, HasTakenTo, IsFor}
-use Rattle.fact_module.proofs.TakeLaws.{is-taken, zip-push}
+use Rattle.fact_assembly.proofs.TakeLaws.{is-taken, zip-push}
 
 -- ---- the numbers of result tuples
 

@@ -12,8 +12,8 @@ use Rattle.fact_promises.specs.Runs.{Behaves}
 use Rattle.fact_promises.specs.Worked.{u32_adapter, u32_imports, u32_module}
 use Rattle.fact_promises.specs.WorkedTexts.{texts_adapter, texts_imports, texts_module}
 use Rattle.fact_module.specs.declared.fusion.Fused.{Fused}
-use Rattle.fact_module.specs.Exports.{exported_as}
-use Rattle.fact_module.specs.Faithful.{adapter_tunables}
+use Rattle.fact_assembly.specs.Exports.{exported_as}
+use Rattle.fact_assembly.specs.Faithful.{adapter_tunables}
 use Rattle.fact_module.specs.Fused.{features_of, tunables_of}
 use Rattle.fact_module.specs.WorkedPlans.{IsWorkedPlan, OneNumberIsPromised, OneTextIsPromised, texts_plan, u32_plan}
 

@@ -8,7 +8,7 @@ use Rattle.fact_plan_types.specs.PlanTypes.{tuple_number}
 use Rattle.fact_module.specs.declared.fusion.Fused.{Fused}
 use Rattle.fact_emit.specs.declared.tunables.Tunables.{Tunables}
 use Rattle.fact_emit.specs.declared.tunables.WasmFeatures.{WasmFeatures}
-use Rattle.fact_module.specs.Faithful.{Promised}
+use Rattle.fact_assembly.specs.Faithful.{Promised}
 
 -- what a module of a plan is made with: the plan's concurrency, debug checks and fuel
 abbrev pub tunables_of : FusePlan → Tunables

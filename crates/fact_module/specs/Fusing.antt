@@ -7,7 +7,7 @@ use Rattle.fact_plan_types.specs.Faults.{Fault}
 use Rattle.fact_plan_types.specs.TypeRules.{most_entries}
 use Rattle.fact_checks.specs.Adapters.{adapters_before, adapters_of}
 use Rattle.fact_checks.specs.AdapterRules.{HasAdapterFault}
-use Rattle.fact_module.specs.Collected.{AreTaken, Collected, result_tuple_of}
+use Rattle.fact_assembly.specs.Collected.{AreTaken, Collected, result_tuple_of}
 use Rattle.fact_module.specs.Fused.{features_of, result_tuple, tunables_of}
 
 -- It was made with what the plan says, over the types in a builder.

@@ -1,16 +1,4 @@
-pub mod Adapted
-pub mod Adding
 pub mod Checked
-pub mod Collected
-pub mod Exports
-pub mod Faithful
 pub mod Fused
 pub mod Fusing
-pub mod Holding
-pub mod InParts
-pub mod Links
-pub mod Order
-pub mod Outlines
-pub mod Taking
-pub mod Typed
 pub mod WorkedPlans

@@ -17,7 +17,7 @@ use Rattle.fact_promises.specs.Runs.{Behaves}
 use Rattle.fact_promises.specs.Worked.{takes_i32, u32_adapter, u32_imports, u32_module}
 use Rattle.fact_promises.specs.WorkedTexts.{pointer_and_length, texts_adapter, texts_callee, texts_export, texts_imports, texts_module, texts_realloc}
 use Rattle.fact_module.specs.declared.fusion.Fused.{Fused}
-use Rattle.fact_module.specs.Faithful.{adapter_tunables}
+use Rattle.fact_assembly.specs.Faithful.{adapter_tunables}
 use Rattle.fact_module.specs.Fused.{IsFused, features_of, tunables_of}
 
 -- The plan has this one adapter, and where the module that is fused of it is this one, with these imports, its first function behaves.

@@ -10,7 +10,7 @@ ghost use Rattle.fact_module.specs.Fused.{IsFused};
 ghost use Rattle.fact_wasm.specs.Ranges.{InRange};
 ghost use Rattle.fact_binary.specs.Spelling.{Spells};
 
-use crate::module::Module;
+use fact_assembly::Module;
 use fact_binary::encode;
 use fact_checks::{FuseError, candidate_of, linked_adapter};
 use fact_emit::tunables::{Tunables, WasmFeatures};

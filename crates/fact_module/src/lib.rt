@@ -3,16 +3,11 @@
 #![tactic(auto)]
 
 mod checked;
-mod dfg;
 mod fusion;
-mod linking;
-mod module;
-mod taken;
-mod typed;
 mod worked;
 
 pub use checked::fused_modules_are_accepted;
-pub use dfg::ComponentDfg;
+pub use fact_assembly::{ComponentDfg, Module};
 pub use fact_checks::{Adapter, AdapterOptionsDfg, FuseError, MemoryOption, Place, check_plan};
 pub use fact_emit::tunables::{Tunables, WasmFeatures};
 pub use fact_plan::{
@@ -24,5 +19,4 @@ pub use fact_types::{
     StringEncoding, TrampolineIndex, Transcode, Trap, UnsafeIntrinsic,
 };
 pub use fusion::{Fused, fuse};
-pub use module::Module;
 pub use worked::laws_of_worked_plans;

@@ -11,6 +11,7 @@ pub mod CheckedMoves
 pub mod Checks
 pub mod Confines
 pub mod Few
+pub mod FlagBits
 pub mod Follows
 pub mod GivenSlots
 mod HonestCases

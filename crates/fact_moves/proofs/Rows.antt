@@ -126,6 +126,9 @@ module _ (instances : Id RuntimeInstances) (table other : Id TypeResourceTables)
   abbrev three : Members
   three = bare (codes "a") (bare (codes "b") (bare (codes "c") no_members))
 
+  abbrev backwards : Members
+  backwards = bare (codes "c") (bare (codes "b") (bare (codes "a") no_members))
+
   -- a payload of 32 bits in a place that has 64
   abbrev either : Shape
   either = s_node k_variant (typed (codes "p") (s_plain ty.Float32) (typed (codes "q") (s_plain ty.Float64) no_members))
@@ -183,6 +186,7 @@ module _ (instances : Id RuntimeInstances) (table other : Id TypeResourceTables)
       ∷ passes x_y z_y_x (words (0 ∷ 9 ∷ [])) (gets (words (2 ∷ 9 ∷ []))) ∷ passes x_y z_y_x (words (1 ∷ 5 ∷ [])) (gets (words (1 ∷ 0 ∷ []))) ∷ passes x_y z_y_x (words (2 ∷ 0 ∷ [])) (traps trap.InvalidDiscriminant)
       ∷ passes (s_node k_enum three) (s_node k_enum three) (I32 2 ∷ []) (gets (I32 2 ∷ [])) ∷ passes (s_node k_enum three) (s_node k_enum three) (I32 3 ∷ []) (traps trap.InvalidDiscriminant)
       ∷ passes (s_node k_flags three) (s_node k_flags three) (I32 255 ∷ []) (gets (I32 7 ∷ []))
+      ∷ passes (s_node k_flags three) (s_node k_flags backwards) (I32 3 ∷ []) (gets (I32 6 ∷ [])) ∷ passes (s_node k_flags three) (s_node k_flags backwards) (I32 13 ∷ []) (gets (I32 5 ∷ []))
       ∷ passes either either (I32 0 ∷ I64 0x1_0000_0001 ∷ []) (gets (I32 0 ∷ I64 1 ∷ []))
       ∷ row (record off { debug = true }) (passing (either ∷ []) (either ∷ [])) (I32 0 ∷ I64 0x1_0000_0001 ∷ []) [] ([] ∷ []) (traps trap.DebugAssertUpperBitsUnset)
       -- lists, maps and tuples through pointers

@@ -4,6 +4,7 @@ pub mod Adapters
 pub mod Alike
 pub mod Calls
 pub mod Confined
+pub mod Flags
 pub mod Honest
 pub mod Laws
 pub mod Moves

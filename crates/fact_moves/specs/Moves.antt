@@ -1,12 +1,13 @@
 -- Moving a value of a source type from its place to a place of a destination type (canonical ABI, "Loading", "Storing", "Flat
 -- Lifting" and "Flat Lowering").
-use Rattle.std.specs.Prelude.{ℕ, suc, ◌+◌, ◌*◌, ◌%◌, ◌^◌, ◌++◌, Bool, true, false, List, [], ◌∷◌, length, take, drop, Option, Some, None, nat_lt, nat_eq, if◌then◌else◌}
+use Rattle.std.specs.Prelude.{ℕ, suc, ◌+◌, ◌*◌, ◌/◌, ◌%◌, ◌^◌, ◌++◌, Bool, true, false, List, [], ◌∷◌, length, take, drop, Option, Some, None, nat_lt, nat_eq, if◌then◌else◌}
 use Rattle.std.specs.Str.{bytes_eq}
 use Rattle.fact_wasm.specs.declared.types.ValType.TheVariants as val
 use Rattle.fact_types.specs.declared.widths.Extent.{Extent}
 use Rattle.fact_types.specs.declared.interface.InterfaceType.{InterfaceType}
 use Rattle.fact_types.specs.declared.interface.InterfaceType.TheVariants as ty
 use Rattle.fact_types.specs.declared.outside.Trap.TheVariants.{ListOutOfBounds, InvalidChar, InvalidDiscriminant, DebugAssertPointerAligned}
+use Rattle.fact_types.specs.Agrees.{names_of}
 use Rattle.fact_types.specs.Layout.{extent, record_layout, payloads}
 use Rattle.fact_types.specs.Shapes.{Kind, k_record, k_variant, k_list, k_tuple, k_map, k_flags, k_enum, k_option, k_result, k_fixed, k_future, k_stream, Shape, s_plain, s_node, Members, no_members, bare, typed, layout_of, layouts_of, plain_layout, place_of, next_of}
 use Rattle.fact_types.specs.FlatShapes.{flat, flat_members}
@@ -84,9 +85,19 @@ move_handle tr f from_table to_table s d =
     read_number tr.debug tr.from 4 s (λ n.
     Ask f (I32 n ∷ I32 from_table ∷ I32 to_table ∷ []) (val.I32 ∷ []) (λ rs. write_number tr.to 4 d (first_bits rs)))
 
--- flags, of which those that have names are moved
+-- the bit at the place of the first flag of a name, and 0 where there is none
+abbrev pub bit_named : List ℕ → (names : List (List ℕ)) → ℕ → ℕ
+bit_named x [] n = 0
+bit_named x (y ∷ names) n = if bytes_eq y x then n % 2 else bit_named x names (n / 2)
+
+-- the number of which each bit is that of the flag of its name, the first name's the lowest
+abbrev pub bits_named : (from to : List (List ℕ)) → ℕ → ℕ
+bits_named from [] n = 0
+bits_named from (x ∷ to) n = bit_named x from n + 2 * bits_named from to n
+
+-- flags: each bit of the destination is that of the source's flag of its name
 abbrev pub move_flags : Transfer → (ms ns : Members) → Source → Target → Action (List CoreValue)
-move_flags tr ms ns s d = move_number tr (flags_bytes ms) (flags_bytes ns) (λ n. n % 2 ^ count_of_members ms) s d
+move_flags tr ms ns s d = move_number tr (flags_bytes ms) (flags_bytes ns) (bits_named (names_of ms) (names_of ns)) s d
 
 -- ---- sums
 

@@ -2,6 +2,7 @@
 
 ghost use Rattle.fact_moves.specs.AdapterLaws.{CallsAreFew, StartCallsAreFew, ReturnCallsAreFew, SyncRunsFollow, CallsAreOrdered, CalleeIsCalledOnce, SourcesAreLeft, TypedRunsStay, TypedStartsStay, TypedReturnsStay, WritesAreOwn, StartWritesAreOwn, ReturnWritesAreOwn, OutcomesAreNamed, StartIsTransfer, ReturnIsTransfer, StartLeavesSource, ReturnLeavesSource, RequestsGrow, ChecksOnlyStop, ValidTypesServe, PlacesAreAligned, StartPlacesAreAligned, ReturnPlacesAreAligned, SameInstanceTraps, TypedSameInstanceStays, AsyncCallsTwice, AsyncCallsWriteNothing, TypedAsyncCallsStay};
 ghost use Rattle.fact_moves.specs.Alike.{MovesAreAlike, MovesFillSlots};
+ghost use Rattle.fact_moves.specs.Flags.{BitsGoByName, OtherBitsAreZero};
 ghost use Rattle.fact_moves.specs.OutlinedRows.{ThreeChars, HelpersAreShared, NestOfLists, FixedLists, FuelOfFunctions, FreeTypes, OrdersOfMembers};
 ghost use Rattle.fact_moves.specs.Laws.{BindsAssociate, BindsRun, RunsFollow, RunsAreNamed};
 
@@ -50,10 +51,12 @@ pub fn laws_of_async_adapters()
     ensures typed_async_calls_stay { TypedAsyncCallsStay }
 {}
 
-/// What holds of moves out of and into core values of other types, for functions that move values for others: one takes each number as
-/// an i64, and gives values of flat types, whatever the slots of the move are. No code calls such a function yet. The call does nothing:
-/// its contract is the laws.
+/// What holds of moves: of flags, whose bits go by name; and of moves out of and into core values of other types, for functions that move
+/// values for others: one takes each number as an i64, and gives values of flat types, whatever the slots of the move are. The call does
+/// nothing: its contract is the laws.
 pub fn laws_of_moves()
+    ensures bits_go_by_name { BitsGoByName }
+    ensures other_bits_are_zero { OtherBitsAreZero }
     ensures moves_are_alike { MovesAreAlike }
     ensures moves_fill_slots { MovesFillSlots }
 {}

@@ -1,5 +1,5 @@
 -- The length of a memory in bytes, from the number of its pages.
-use Rattle.std.proofs.Common.{◌≡◌, ℕ, ◌+◌, ◌*◌, ◌/◌, ◌%◌, ◌^◌, ◌<◌, ◌≤◌, ◌⊎◌, inl, inr, Bool, true, false, List, ◌∷◌, ◌++◌, Option, Some, None, sym, ap, ◌∙◌, subst, arith, length, slice_get}
+use Rattle.std.proofs.Common.{◌≡◌, ℕ, suc, ◌+◌, ◌*◌, ◌/◌, ◌%◌, ◌^◌, ◌<◌, ◌≤◌, ◌⊎◌, inl, inr, Bool, true, false, List, ◌∷◌, ◌++◌, Option, Some, None, sym, ap, ◌∙◌, subst, arith, length, slice_get}
 use Rattle.std.specs.Prelude.{nat_lt, nat_le, if◌then◌else◌}
 use Rattle.std.proofs.lemmas.Bool.{cases_lt, ltb-true, leb-true, eqb-true, lt-ltb}
 use Rattle.std.proofs.Math.Nat.{mod-add-div', mod-eq_of_lt, div-eq_of_lt, div-le_self}
@@ -12,7 +12,7 @@ use Rattle.fact_machine.specs.World.{World}
 use Rattle.fact_machine.specs.Numerics.{imul}
 use Rattle.fact_machine.specs.Machine.{page_bytes, size_value}
 use Rattle.fact_machine.proofs.Laws.{leaves_next, leaves_as}
-use Rattle.fact_machine.proofs.NumericLaws.{leaves_i64_const, leaves_i64_mul, leaves_i64_extend_i32_u}
+use Rattle.fact_machine.proofs.NumericLaws.{leaves_i64_extend_i32_u}
 use Rattle.fact_machine.proofs.MemoryRows as machine
 use Rattle.fact_machine.proofs.MemoryRows.{leaves_memory_size}
 use Rattle.fact_moves.specs.Actions.{Action, MemoryLength}
@@ -22,6 +22,7 @@ use Rattle.fact_pieces.specs.Does.{Locals, Way, EndsOn, Does}
 use Rattle.fact_pieces.specs.Knows.{KnowsMemory}
 use Rattle.fact_pieces.proofs.Runs.{no_heavier}
 use Rattle.fact_pieces.proofs.Rules.{ends_after}
+use Rattle.fact_pieces.proofs.Scaled.{scaled_steps, scaled_few, leaves_scaled}
 use Rattle.fact_pieces.proofs.Worlds.{typed_memory, length_fits, length_pages}
 use Rattle.fact_pieces.proofs.Primitives.{memory_of}
 use Rattle.fact_machine.specs.Exits.{Falls, Leaves}
@@ -51,20 +52,23 @@ module _ {M : WasmModule} {w : World} {vs : List CoreValue} {ls : Locals} {place
   leaves_length : (memory64 : Bool) (h : machine.HasMemory M w place memory64 bytes) → is_memory memory64 h.log2 bytes ≡ true
       → (t : ℕ) × (t ≤ 4) × Leaves M t (length_code place memory64 h.log2) w vs ls (Falls w (I64 (length bytes) ∷ vs) ls) × IsLength memory64 (length bytes)
   leaves_length true h typed =
+      let factor : ℕ = page_bytes h.log2 % 2 ^ 64 in
       let fits : length bytes < 2 ^ 64 = ltb-true (length bytes) (2 ^ 64) (length_fits (true, h.log2) bytes typed) in
       let pages : length bytes / page_bytes h.log2 < 2 ^ 64 = omega (arith, div-le_self (length bytes) (page_bytes h.log2)) in
       let size : size_value true (length bytes / page_bytes h.log2) ≡ Some (I64 (length bytes / page_bytes h.log2)) =
       ap (λ b. if b then Some (I64 (length bytes / page_bytes h.log2)) else None) (lt-ltb (length bytes / page_bytes h.log2) (2 ^ 64) pages) in
       let is : imul 64 (length bytes / page_bytes h.log2) (page_bytes h.log2 % 2 ^ 64) ≡ length bytes = whole_pages (length bytes) (page_bytes h.log2) fits (eqb-true (length bytes % page_bytes h.log2) 0 (length_pages (true, h.log2) bytes typed)) in
-      (3, omega arith, leaves_next (leaves_memory_size h size) (leaves_next leaves_i64_const (leaves_as (ap (λ n. Falls w (I64 n ∷ vs) ls) is) leaves_i64_mul)), fits)
+      (suc (scaled_steps factor), omega (arith, scaled_few factor), leaves_next (leaves_memory_size h size) (leaves_as (ap (λ n. Falls w (I64 n ∷ vs) ls) is) (leaves_scaled factor (length bytes / page_bytes h.log2) (λ one. pages))), fits)
   leaves_length false h typed =
+      let factor : ℕ = page_bytes h.log2 % 2 ^ 64 in
       let both = length_fits (false, h.log2) bytes typed in
       let fits : length bytes ≤ 2 ^ 32 = leb-true (length bytes) (2 ^ 32) (first_of (nat_le (length bytes) (2 ^ 32)) (nat_lt (length bytes / page_bytes h.log2) (2 ^ 32)) both) in
       let wide : length bytes < 2 ^ 64 = omega arith in
       let pages : nat_lt (length bytes / page_bytes h.log2) (2 ^ 32) ≡ true = second_of (nat_le (length bytes) (2 ^ 32)) (nat_lt (length bytes / page_bytes h.log2) (2 ^ 32)) both in
       let size : size_value false (length bytes / page_bytes h.log2) ≡ Some (I32 (length bytes / page_bytes h.log2)) = ap (λ b. if b then Some (I32 (length bytes / page_bytes h.log2)) else None) pages in
       let is : imul 64 (length bytes / page_bytes h.log2) (page_bytes h.log2 % 2 ^ 64) ≡ length bytes = whole_pages (length bytes) (page_bytes h.log2) wide (eqb-true (length bytes % page_bytes h.log2) 0 (length_pages (false, h.log2) bytes typed)) in
-      (4, omega arith, leaves_next (leaves_memory_size h size) (leaves_next leaves_i64_extend_i32_u (leaves_next leaves_i64_const (leaves_as (ap (λ n. Falls w (I64 n ∷ vs) ls) is) leaves_i64_mul))), fits)
+      let below : length bytes / page_bytes h.log2 < 2 ^ 64 = omega (arith, div-le_self (length bytes) (page_bytes h.log2)) in
+      (suc (suc (scaled_steps factor)), omega (arith, scaled_few factor), leaves_next (leaves_memory_size h size) (leaves_next leaves_i64_extend_i32_u (leaves_as (ap (λ n. Falls w (I64 n ∷ vs) ls) is) (leaves_scaled factor (length bytes / page_bytes h.log2) (λ one. below)))), fits)
 
 -- the length of a memory, in front of other code
 pub measure : {A : Type 0} {M : WasmModule} {p : ImportPlaces} {way : Way} {extra spare : ℕ} {ins : List CoreValue} {ls : Locals} {c : List Instr} {out : A → List CoreValue} {Holds : A → Locals → Type 0} {d : CoreDef} {memory64 : Bool} {log2 : Option ℕ} {k : ℕ → Action A} (place : ℕ)

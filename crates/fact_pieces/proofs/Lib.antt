@@ -31,6 +31,7 @@ pub mod Regions
 pub mod Rules
 pub mod Runs
 pub mod Scalars
+pub mod Scaled
 pub mod Slots
 pub mod StringAmounts
 pub mod StringMoves

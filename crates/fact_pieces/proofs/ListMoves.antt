@@ -5,15 +5,17 @@ use Rattle.fact_wasm.specs.declared.types.ValType.{ValType}
 use Rattle.std.proofs.lemmas.Bool.{ltb-true, eqb-false, ne_eqb}
 use Rattle.fact_wasm.specs.declared.instr.Instr.{Instr}
 use Rattle.fact_wasm.specs.declared.instr.Instr.TheVariants as I
+use Rattle.fact_wasm.specs.declared.module.WasmModule.{WasmModule}
 use Rattle.fact_types.specs.declared.outside.CoreDef.{CoreDef}
 use Rattle.fact_types.specs.declared.outside.Trap.TheVariants.{ListOutOfBounds}
 use Rattle.fact_machine.specs.declared.types.CoreValue.{CoreValue}
 use Rattle.fact_machine.specs.declared.types.CoreValue.TheVariants.{I64}
 use Rattle.fact_types.specs.declared.import.Import.TheVariants as import
 use Rattle.fact_moves.specs.Actions.{Action, Give, ◌>>=◌, each}
+use Rattle.fact_moves.specs.Running.{ImportPlaces}
 use Rattle.fact_moves.specs.Sides.{Source, AtAddress, Target, Into, first_bits, write_number}
 use Rattle.fact_pieces.specs.Code.{counted_code}
-use Rattle.fact_pieces.specs.Does.{Locals, Onward, held_types, Does}
+use Rattle.fact_pieces.specs.Does.{Locals, Way, Onward, held_types, Does}
 use Rattle.fact_pieces.specs.Knows.{KnowsFunction}
 use Rattle.fact_pieces.specs.Places.{is_on, Setting, From, To, Readable, Writable, FromUsed, ToUsed, SideMemory, StandsAt, MayGo, Stood, KeepsLocals, size_of, limit_of}
 use Rattle.fact_machine.specs.Typing.{address_bits, address_type, address_operand}
@@ -23,6 +25,7 @@ use Rattle.fact_pieces.proofs.Keeping.{keeps_all, keeps_then}
 use Rattle.fact_pieces.proofs.Temporaries.{Temporaries, standing, Standing, set_temp}
 use Rattle.fact_pieces.proofs.Lengths.{IsLength}
 use Rattle.fact_pieces.proofs.Regions.{pushes_bytes}
+use Rattle.fact_pieces.proofs.Scaled.{scaled_few}
 use Rattle.fact_pieces.proofs.Guards.{few_bytes, checks_few}
 use Rattle.fact_pieces.specs.Tests.{HasUnaligned, pointer, read_into, region_code}
 use Rattle.fact_pieces.proofs.Pointers.{limit_wide, reads_into, region, gets_address}
@@ -117,6 +120,11 @@ list_code S l log1 log2 =
     ++ (few_guard (is_few S.from64 l.size1) (l.temp 1) l.size1 l.outside ++ (few_guard (is_few S.to64 l.size2) (l.temp 1) l.size2 l.outside ++ list_source_code S l log1 log2)))
 
 -- ---- what it does
+
+-- the bytes of a number of things of a size, in front of other code
+gets_bytes : {A : Type 0} {M : WasmModule} {p : ImportPlaces} {way : Way} {extra spare : ℕ} {ins : List CoreValue} {ls : Locals} {c : List Instr} {q : Action A} {out : A → List CoreValue} {Holds : A → Locals → Type 0} (number n size : ℕ) → n * size < 2 ^ 64
+    → slice_get ls number ≡ Some (Some (I64 n)) → Does M p way extra spare (I64 (n * size) ∷ ins) ls c q out Holds → Does M p way (3 + extra) spare ins ls (bytes_code number size ++ c) q out Holds
+gets_bytes number n size lt h d = within (omega (arith, scaled_few size)) (pushing (pushes_bytes number n size lt h) d)
 
 limit_least : (memory64 : Bool) → 2 ^ 32 ≤ limit_of (pointer memory64)
 limit_least true = omega arith
@@ -216,11 +224,10 @@ module _ {S : Setting} {used inner used1 used2 : ℕ → Bool} {l : ListMove} (h
         reads_into h.temps e s0 S.checks S.from S.from64 l.length1 n1 1 (omega arith) refl h.readable2 h.from_used2 st2 (λ n ln ls1 s1.
         checks_few (is_few S.from64 l.size1) (l.temp 1) n l.size1 l.outside (few_bytes S.from64 n l.size1 (below_narrow S.from64 n ln)) h.some1 h.traps s1.holds.0 (λ small1.
         checks_few (is_few S.to64 l.size2) (l.temp 1) n l.size2 l.outside (few_bytes S.to64 n l.size2 (λ narrow. below_product n l.size1 (2 ^ 32) h.some1 small1)) h.some2 h.traps s1.holds.0 (λ small2.
-        let bytes1 = pushes_bytes {M = S.whole} {ls = ls1} (l.temp 1) n l.size1 (omega (arith, small1)) s1.holds.0 in
-        pushing bytes1 (set_temp h.temps e 2 (omega arith) refl s1 (λ ls2 s2.
+        gets_bytes (l.temp 1) n l.size1 (omega (arith, small1)) s1.holds.0 (set_temp h.temps e 2 (omega arith) refl s1 (λ ls2 s2.
         region h.temps e s2 S.from S.from64 l.memory1 l.align1 h.side1 ListOutOfBounds 0 2 4 l.unaligned l.outside from (n * l.size1) (omega arith) (omega arith) (omega arith) (λ z. absurd (omega arith)) (λ z. absurd (omega arith)) refl h.masks1
         (omega (arith, lp, limit_wide S.from64)) (omega (arith, small1)) s2.holds.1.1.0 s2.holds.0 h.aligned1 h.traps (λ length1 is1 fits1 ls3 s3.
-        pushing (pushes_bytes {M = S.whole} {ls = ls3} (l.temp 1) n l.size2 (omega (arith, small2)) s3.holds.1.1.0) (set_temp h.temps e 2 (omega arith) refl s3 (λ ls4 s4.
+        gets_bytes (l.temp 1) n l.size2 (omega (arith, small2)) s3.holds.1.1.0 (set_temp h.temps e 2 (omega arith) refl s3 (λ ls4 s4.
         reallocates h.temps e s4 S.concurrency (slots_of l) h.slots (apart h.temps 8 9 refl refl) (h.temps.typed 8 (omega arith)) (h.temps.typed 9 (omega arith)) (unsaved h) (saved_apart h 2 refl, (saved_apart h 4 refl, (saved_apart h 1 refl, (saved_apart h 0 refl, tt)))) S.to64 l.realloc l.realloc_at l.align2 2 3 (n * l.size2) (omega arith) refl (omega (arith, small2, limit_least S.to64)) s4.holds.0 (saved_apart h 2 refl) h.reallocs (λ rs lq ls5 s5.
         region h.temps e s5 S.to S.to64 l.memory2 l.align2 h.side2 ListOutOfBounds 3 2 4 l.unaligned l.outside (first_bits rs) (n * l.size2) (omega arith) (omega arith) (omega arith) (λ z. absurd (omega arith)) (λ z. absurd (omega arith)) refl h.masks2
         (omega (arith, lq, limit_wide S.to64)) (omega (arith, small2)) s5.holds.0 s5.holds.1.0 h.aligned2 h.traps (λ length2 is2 fits2 ls6 s6.

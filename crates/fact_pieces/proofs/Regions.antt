@@ -1,5 +1,5 @@
 -- Sizes and regions of lists, computed in 64 bits: products, alignment, and bounds.
-use Rattle.std.proofs.Common.{◌≡◌, ℕ, ◌+◌, ◌-◌, ◌*◌, ◌/◌, ◌%◌, ◌^◌, ◌<◌, ◌≤◌, ◌⊎◌, inl, inr, Bool, true, false, ◌&&◌, List, ◌∷◌, Some, refl, sym, ap, ◌∙◌, arith, slice_get}
+use Rattle.std.proofs.Common.{◌≡◌, ℕ, suc, ◌+◌, ◌-◌, ◌*◌, ◌/◌, ◌%◌, ◌^◌, ◌<◌, ◌≤◌, ◌⊎◌, inl, inr, Bool, true, false, ◌&&◌, List, ◌∷◌, Some, refl, sym, ap, ◌∙◌, subst, arith, slice_get}
 use Rattle.std.specs.Prelude.{nat_lt, nat_le, nat_eq, bit_and}
 use Rattle.std.specs.Cmp.{both_ways}
 use Rattle.std.proofs.lemmas.Bool.{ltb-true, lt-ltb, leb-true, le-leb, lt-leb, cases_lt}
@@ -13,9 +13,10 @@ use Rattle.fact_machine.specs.declared.types.CoreValue.TheVariants.{I32, I64}
 use Rattle.fact_machine.specs.Numerics.{truth, isub}
 use Rattle.fact_machine.proofs.Laws.{leaves_next, leaves_as}
 use Rattle.fact_machine.proofs.RowLaws.{leaves_local_get}
-use Rattle.fact_machine.proofs.NumericLaws.{leaves_i64_const, leaves_i64_lt_u, leaves_i64_ge_u, leaves_i64_sub, leaves_i64_mul, leaves_i64_and, leaves_i64_eqz, leaves_i32_and}
+use Rattle.fact_machine.proofs.NumericLaws.{leaves_i64_const, leaves_i64_lt_u, leaves_i64_ge_u, leaves_i64_sub, leaves_i64_and, leaves_i64_eqz, leaves_i32_and}
 use Rattle.fact_pieces.specs.Does.{Locals, PushesValue}
 use Rattle.fact_pieces.specs.Typed.{OnStack, IsTyped}
+use Rattle.fact_pieces.proofs.Scaled.{scaled_steps, leaves_scaled, typed_scaled}
 use Rattle.fact_pieces.proofs.TypingLaws.{typed_next, typed_one}
 use Rattle.fact_pieces.proofs.TypedRows.{takes_plain, takes_local_get}
 use Rattle.fact_machine.specs.Exits.{Falls}
@@ -69,11 +70,12 @@ module _ {M : WasmModule} {ls : Locals} where
         leaves_next (leaves_local_get h) (leaves_next leaves_i64_const (leaves_as (ap (λ b. Falls w (I32 (truth b) ∷ vs) ls) (fits_size n size some)) leaves_i64_lt_u));
   }
 
-  pub pushes_bytes : (number n size : ℕ) → n * size < 2 ^ 64 → slice_get ls number ≡ Some (Some (I64 n)) → PushesValue M 3 ls (bytes_code number size) (I64 (n * size))
-  pushes_bytes number n size lt h = record {
-    by = λ w vs.
-        leaves_next (leaves_local_get h) (leaves_next leaves_i64_const (leaves_as (ap (λ m. Falls w (I64 m ∷ vs) ls) (mod-eq_of_lt lt)) leaves_i64_mul));
-  }
+  pub pushes_bytes : (number n size : ℕ) → n * size < 2 ^ 64 → slice_get ls number ≡ Some (Some (I64 n)) → PushesValue M (suc (scaled_steps size)) ls (bytes_code number size) (I64 (n * size))
+  pushes_bytes number n size lt h =
+      let below : size ≡ 1 → n < 2 ^ 64 = λ one. let bytes : n * 1 < 2 ^ 64 = subst (λ s. n * s < 2 ^ 64) one lt in omega (arith, bytes) in
+      record {
+        by = λ w vs. leaves_next (leaves_local_get h) (leaves_as (ap (λ m. Falls w (I64 m ∷ vs) ls) (mod-eq_of_lt lt)) (leaves_scaled size n below));
+      }
 
   pub pushes_aligned : (pointer p align : ℕ) → ((x : ℕ) → bit_and x (align - 1) ≡ x % align) → slice_get ls pointer ≡ Some (Some (I64 p)) → PushesValue M 4 ls (aligned_code pointer align) (I32 (truth (nat_eq (p % align) 0)))
   pushes_aligned pointer p align masks h = record {
@@ -96,7 +98,7 @@ module _ {M : WasmModule} {locals : List ValType} {labels : List (List ValType)}
   typed_few number size h = typed_next (takes_local_get h) (typed_next (takes_plain (o.I64Const _) (I.outs-I64Const _) refl) (typed_one (takes_plain o.I64LtU I.outs-I64LtU refl)))
 
   pub typed_bytes : (number size : ℕ) → slice_get locals number ≡ Some val.I64 → IsTyped M locals labels (bytes_code number size) ins (OnStack (val.I64 ∷ ins))
-  typed_bytes number size h = typed_next (takes_local_get h) (typed_next (takes_plain (o.I64Const _) (I.outs-I64Const _) refl) (typed_one (takes_plain o.I64Mul I.outs-I64Mul refl)))
+  typed_bytes number size h = typed_next (takes_local_get h) (typed_scaled size)
 
   pub typed_aligned : (pointer align : ℕ) → slice_get locals pointer ≡ Some val.I64 → IsTyped M locals labels (aligned_code pointer align) ins (OnStack (val.I32 ∷ ins))
   typed_aligned pointer align h =

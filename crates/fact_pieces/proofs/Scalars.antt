@@ -18,12 +18,11 @@ use Rattle.fact_machine.specs.Numerics.{truth, extend_s}
 use Rattle.fact_machine.proofs.Laws.{leaves_next, leaves_none, leaves_as}
 use Rattle.fact_machine.proofs.RowLaws.{leaves_i32_const}
 use Rattle.fact_machine.proofs.NumericLaws.{leaves_i32_ne, leaves_i32_and, leaves_i32_extend8_s, leaves_i32_extend16_s}
-use Rattle.fact_values.specs.Places.{flags_bytes, count_of_members}
 use Rattle.fact_moves.specs.Actions.{Action, Visit}
 use Rattle.fact_moves.specs.Running.{ImportPlaces}
 use Rattle.fact_moves.specs.Sides.{Source, Target}
 use Rattle.fact_moves.specs.Moves.{canonical_number, move_number, move}
-use Rattle.fact_types.specs.Shapes.{s_plain, s_node, k_flags, Members}
+use Rattle.fact_types.specs.Shapes.{s_plain}
 use Rattle.fact_pieces.specs.Does.{Locals, Way, Onward, Does}
 use Rattle.fact_pieces.specs.Places.{Setting, transfer, FitsNumber, From, To, StandsAt, MayGo, Stood, KeepsLocals, Moves, Number, N8, N16, N32, N64, size_of, stack_type, stacked, limit_of, read_code, code_before, code_behind, DebugChecks, node_check, FromChecked, ToChecked}
 use Rattle.fact_pieces.specs.Typed.{OnStack, IsTyped}
@@ -33,10 +32,9 @@ use Rattle.fact_pieces.proofs.TypingLaws.{typed_done, typed_then, typed_next, ty
 use Rattle.fact_pieces.proofs.TypedRows.{takes_plain}
 use Rattle.fact_pieces.proofs.TypedPlaces.{typed_read, typed_before, typed_behind}
 use Rattle.fact_machine.specs.Exits.{Falls, Leaves}
-use Rattle.fact_pieces.proofs.Aligned.{Checked, moves_checked, checked_by, one_from, one_to, aligns_one, aligns_two, aligns_four, aligns_eight}
+use Rattle.fact_pieces.proofs.Aligned.{moves_checked, checked_by, one_from, one_to, aligns_one, aligns_two, aligns_four, aligns_eight}
 use lib.Bits.{and_mask}
 use Rattle.std.proofs.Math.Pow.{pow_pos}
-use Rattle.fact_pieces.proofs.FieldMoves.{moves_same}
 
 -- ---- the number that stands for a value at its destination
 
@@ -213,13 +211,3 @@ module _ (S : Setting) (used : ℕ → Bool) (from : From) (to : To) where
   pub moves_f64 : FitsNumber S N64 from to → IsChecked 8 → MovesPlain ty.Float64 8 (number_code S.checks N64 from [] to)
   unfolding move
   moves_f64 h a = moves_checked (checked_by 8 refl refl refl refl aligns_eight a.0 a.1 h.from_typed h.to_typed) (moves_number N64 h (converts_none N64))
-
-  -- flags, whose bytes are as many on both sides: the bits of those that have names
-  pub moves_flags : {ms ns : Members} {from_align to_align : ℕ} (n : Number) → IsNarrow n → flags_bytes ms ≡ size_of n → flags_bytes ns ≡ size_of n → 2 ^ count_of_members ms ≤ 2 ^ 32 → FitsNumber S n from to → Checked S (s_node k_flags ms) (s_node k_flags ns) from_align to_align from to
-      → Moves S used 0 500 from to (move (transfer S) (s_node k_flags ms) (s_node k_flags ns)) (node_check S from_align to_align from to ++ number_code S.checks n from (I.I32Const (2 ^ count_of_members ms - 1) ∷ I.I32And ∷ []) to)
-  unfolding move
-  moves_flags {ms} {ns} n narrow e1 e2 few h c =
-      moves_checked c (moves_same (λ s d.
-      ap (λ z. Visit 1 (move_number (transfer S) z (size_of n) (λ x. x % 2 ^ count_of_members ms) s d)) (sym e1)
-      ∙ ap (λ z. Visit 1 (move_number (transfer S) (flags_bytes ms) z (λ x. x % 2 ^ count_of_members ms) s d)) (sym e2))
-      (moves_number n h (converts_low n narrow (count_of_members ms) few)))

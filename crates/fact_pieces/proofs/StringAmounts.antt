@@ -1,5 +1,5 @@
 -- Numbers of strings' code on the operand stack: products, sums and differences in 64 bits, taken modulo the width of addresses.
-use Rattle.std.proofs.Common.{◌≡◌, ℕ, ◌+◌, ◌-◌, ◌*◌, ◌%◌, ◌^◌, ◌<◌, ◌≤◌, Bool, true, false, List, ◌∷◌, ◌++◌, Some, sym, ap, ◌∙◌, subst, arith, slice_get}
+use Rattle.std.proofs.Common.{◌≡◌, ℕ, suc, ◌+◌, ◌-◌, ◌*◌, ◌%◌, ◌^◌, ◌<◌, ◌≤◌, Bool, true, false, List, ◌∷◌, ◌++◌, Some, sym, ap, ◌∙◌, subst, arith, slice_get}
 use Rattle.std.proofs.Math.Nat.{mod-eq_of_lt}
 use Rattle.std.proofs.lemmas.Nat.{mod_below}
 use Rattle.std.proofs.Common.{lit<}
@@ -12,9 +12,9 @@ use Rattle.fact_machine.specs.Exits.{Falls, Leaves}
 use Rattle.fact_machine.specs.Numerics.{iadd, isub, imul}
 use Rattle.fact_machine.specs.Typing.{address_bits, address_operand}
 use Rattle.fact_machine.specs.World.{World}
-use Rattle.fact_machine.proofs.Laws.{leaves_next, leaves_none, leaves_as, leaves_steps}
+use Rattle.fact_machine.proofs.Laws.{leaves_then, leaves_next, leaves_none, leaves_as}
 use Rattle.fact_machine.proofs.RowLaws.{leaves_local_get}
-use Rattle.fact_machine.proofs.NumericLaws.{leaves_i64_const, leaves_i64_mul, leaves_i64_add, leaves_i64_sub, leaves_i32_wrap_i64, leaves_i64_extend_i32_u}
+use Rattle.fact_machine.proofs.NumericLaws.{leaves_i64_add, leaves_i64_sub, leaves_i32_wrap_i64, leaves_i64_extend_i32_u}
 use Rattle.fact_moves.specs.Actions.{Action}
 use Rattle.fact_moves.specs.Running.{ImportPlaces}
 use Rattle.fact_pieces.specs.Does.{Locals, Way, Does, PushesValue}
@@ -22,6 +22,7 @@ use Rattle.fact_pieces.specs.Places.{limit_of}
 use Rattle.fact_pieces.specs.StringCode.{wrap_code, times_code, to_address}
 use Rattle.fact_pieces.specs.Tests.{pointer}
 use Rattle.fact_pieces.proofs.Rules.{within, stretch, step, pushing}
+use Rattle.fact_pieces.proofs.Scaled.{scaled_steps, scaled_few, leaves_scaled}
 
 -- ---- numbers modulo the width
 
@@ -63,21 +64,28 @@ leaves_wrap {w = w} {vs} {ls} true x lt = leaves_as (ap (λ n. Falls w (I64 n �
 leaves_wrap false x lt = leaves_next leaves_i32_wrap_i64 leaves_i64_extend_i32_u
 
 -- so many times what a local holds
-pub pushes_times : {M : WasmModule} {ls : Locals} (memory64 : Bool) (factor local x : ℕ) → slice_get ls local ≡ Some (Some (I64 x)) → PushesValue M (3 + wrap_steps memory64) ls (times_code memory64 factor local) (I64 ((factor * x) % 2 ^ address_bits memory64))
-pushes_times {ls = ls} memory64 factor local x h =
+abbrev pub times_steps : Bool → (factor : ℕ) → ℕ
+times_steps memory64 factor = suc (scaled_steps factor + wrap_steps memory64)
+
+pub times_few : (memory64 : Bool) (factor : ℕ) → times_steps memory64 factor ≤ 5
+times_few memory64 factor = omega (arith, scaled_few factor, wrap_few memory64)
+
+pub pushes_times : {M : WasmModule} {ls : Locals} (memory64 : Bool) (factor local x : ℕ) → slice_get ls local ≡ Some (Some (I64 x)) → x < 2 ^ 64
+    → PushesValue M (times_steps memory64 factor) ls (times_code memory64 factor local) (I64 ((factor * x) % 2 ^ address_bits memory64))
+pushes_times {ls = ls} memory64 factor local x h lt =
     let is : imul 64 x factor % 2 ^ address_bits memory64 ≡ (factor * x) % 2 ^ address_bits memory64 = wide_first memory64 (x * factor) ∙ ap (λ n. n % 2 ^ address_bits memory64) (omega arith) in
     record {
       by = λ w vs.
-          leaves_steps (omega arith) (leaves_next (leaves_local_get h) (leaves_next leaves_i64_const (leaves_next leaves_i64_mul
-          (leaves_as (ap (λ n. Falls w (I64 n ∷ vs) ls) is) (leaves_wrap memory64 (imul 64 x factor) (mod_below (x * factor) (2 ^ 64) (lit< tt)))))));
+          leaves_next (leaves_local_get h) (leaves_then (leaves_scaled factor x (λ one. lt))
+          (leaves_as (ap (λ n. Falls w (I64 n ∷ vs) ls) is) (leaves_wrap memory64 (imul 64 x factor) (mod_below (x * factor) (2 ^ 64) (lit< tt)))));
     }
 
 -- ---- in front of other code
 
 module _ {A : Type 0} {M : WasmModule} {p : ImportPlaces} {way : Way} {extra spare : ℕ} {ins : List CoreValue} {ls : Locals} {c : List Instr} {q : Action A} {out : A → List CoreValue} {Holds : A → Locals → Type 0} where
-  pub gets_times : (memory64 : Bool) (factor local x : ℕ) → slice_get ls local ≡ Some (Some (I64 x)) → Does M p way extra spare (I64 ((factor * x) % 2 ^ address_bits memory64) ∷ ins) ls c q out Holds
+  pub gets_times : (memory64 : Bool) (factor local x : ℕ) → slice_get ls local ≡ Some (Some (I64 x)) → x < 2 ^ 64 → Does M p way extra spare (I64 ((factor * x) % 2 ^ address_bits memory64) ∷ ins) ls c q out Holds
       → Does M p way (5 + extra) spare ins ls (times_code memory64 factor local ++ c) q out Holds
-  gets_times memory64 factor local x h d = within (omega (arith, wrap_few memory64)) (pushing (pushes_times memory64 factor local x h) d)
+  gets_times memory64 factor local x h lt d = within (omega (arith, times_few memory64 factor)) (pushing (pushes_times memory64 factor local x h lt) d)
 
   pub wraps : (memory64 : Bool) (x : ℕ) → x < 2 ^ 64 → Does M p way extra spare (I64 (x % 2 ^ address_bits memory64) ∷ ins) ls c q out Holds → Does M p way (2 + extra) spare (I64 x ∷ ins) ls (wrap_code memory64 ++ c) q out Holds
   wraps memory64 x lt d = within (omega (arith, wrap_few memory64)) (stretch (λ w below. leaves_wrap memory64 x lt) d)

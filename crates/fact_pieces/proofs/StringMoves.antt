@@ -215,10 +215,10 @@ module _ (S : Setting) (used : ℕ → Bool) (b : StringPlaces) (h : IsString S 
 
   module _ (first : Locals) (e : held_types first ≡ S.locals) where
     -- a text of a form, whose pointer and units stand in their temporaries
-    text_does : (f : TextForm) (p n : ℕ) {ls : Locals} → Standing used 10 (string_temp moved_string) first ls ((1, I64 n) ∷ (0, I64 p) ∷ []) → p < limit_of (pointer S.from64) → NeedsText f S.to.encoding moved_string S.whole S.places h.side1.option.def h.side2.option.def
+    text_does : (f : TextForm) (p n : ℕ) {ls : Locals} → Standing used 10 (string_temp moved_string) first ls ((1, I64 n) ∷ (0, I64 p) ∷ []) → p < limit_of (pointer S.from64) → n < 2 ^ 64 → NeedsText f S.to.encoding moved_string S.whole S.places h.side1.option.def h.side2.option.def
         → Does S.whole S.places Onward 293 0 [] ls (text_code moved_string f S.to.encoding)
         (check_region S.from StringOutOfBounds p (wrap S.from (n * bytes_of_form f)) (align_of_form f) (walk (transfer S) (path f S.to.encoding) (path_start p n))) (λ u. []) (λ u ls'. AtPoint used moved_string first u ls')
-    text_does f p n {ls} s lp needs =
+    text_does f p n {ls} s lp ln needs =
         let bytes : ℕ = (bytes_of_form f * n) % 2 ^ address_bits S.from64 in
         let go : Action PathPoint = walk (transfer S) (path f S.to.encoding) (path_start p n) in
         let rest = begin_path_code moved_string ++ path_code moved_string (align_of S.to.encoding) (path f S.to.encoding) in
@@ -227,7 +227,7 @@ module _ (S : Setting) (used : ℕ → Bool) (b : StringPlaces) (h : IsString S 
         let is : bytes ≡ wrap S.from (n * bytes_of_form f) = ap (λ w. (bytes_of_form f * n) % 2 ^ address_bits w) (sym (wide_is h.side1)) ∙ ap (λ k. wrap S.from k) (omega arith) in
         subst (λ c. Does S.whole S.places Onward 293 0 [] ls c (check_region S.from StringOutOfBounds p (wrap S.from (n * bytes_of_form f)) (align_of_form f) go) (λ u. []) (λ u ls'. AtPoint used moved_string first u ls')) (sym (append_assoc times (I.LocalSet (b.temp 5) ∷ check) rest))
         (subst (λ k. Does S.whole S.places Onward 293 0 [] ls (times ++ (I.LocalSet (b.temp 5) ∷ (check ++ rest))) (check_region S.from StringOutOfBounds p k (align_of_form f) go) (λ u. []) (λ u ls'. AtPoint used moved_string first u ls')) is
-        (within (omega arith) (gets_times S.from64 (bytes_of_form f) (b.temp 1) n s.holds.0 (set_temp is_string_move.temps e 5 (omega arith) refl s (λ ls1 s1.
+        (within (omega arith) (gets_times S.from64 (bytes_of_form f) (b.temp 1) n s.holds.0 ln (set_temp is_string_move.temps e 5 (omega arith) refl s (λ ls1 s1.
         region is_string_move.temps e s1 S.from S.from64 b.memory1 (align_of_form f) h.side1 StringOutOfBounds 0 5 7 (b.trap UnalignedPointer) (b.trap StringOutOfBounds) p bytes (omega arith) (omega arith) (omega arith) (λ z. absurd (omega arith)) (λ z. absurd (omega arith)) refl (masks_of_form f)
         (omega (arith, lp, limit_wide S.from64)) (omega (arith, below_width S.from64 (bytes_of_form f * n), limit_wide S.from64)) s1.holds.1.1.0 s1.holds.0 needs.source.unaligned needs.source.outside (λ length fits inside ls2 s2.
         texts_walk is_string_move e (passes S used moved_string h.side1.option h.side2.option is_string_move first e) (resizes S used moved_string h.side1.option h.side2.option is_string_move first e (align_of S.to.encoding) (masks_of_encoding S.to.encoding)) f p n ls2 s2.keeps s2.holds.1.1.1.0 s2.holds.1.1.0 lp needs.path))))))
@@ -250,18 +250,18 @@ module _ (S : Setting) (used : ℕ → Bool) (b : StringPlaces) (h : IsString S 
 
     text_encoded : (from : StringEncoding) (p n : ℕ) {ls : Locals} → Standing used 10 (string_temp moved_string) first ls ((1, I64 n) ∷ (0, I64 p) ∷ []) → p < limit_of (pointer S.from64) → n < 2 ^ 64
         → NeedsEncoded from S.to.encoding moved_string S.whole S.places h.side1.option.def h.side2.option.def → TextDoes from p n ls
-    text_encoded string.Utf8 p n s lp ln needs = within (omega arith) (text_does AsUtf8 p n s lp needs.0)
-    text_encoded string.Utf16 p n s lp ln needs = within (omega arith) (text_does AsUtf16 p n s lp needs.0)
+    text_encoded string.Utf8 p n s lp ln needs = within (omega arith) (text_does AsUtf8 p n s lp ln needs.0)
+    text_encoded string.Utf16 p n s lp ln needs = within (omega arith) (text_does AsUtf16 p n s lp ln needs.0)
     text_encoded string.CompactUtf16 p n {ls} s lp ln needs = by_tag (has_tag n) refl
       where
         by_tag : (t : Bool) → has_tag n ≡ t → Decided p n ls t
         by_tag true is =
             let test = subst (λ t. PushesValue S.whole 6 ls (no_tag_code (b.temp 1)) (I32 (truth (not t)))) is (pushes_no_tag (b.temp 1) n s.holds.0) in
             within (omega arith) (cases (0 ∷ []) 1 0 compact_codes test refl
-            (pushing (pushes_untagged (b.temp 1) n ln is s.holds.0) (set_temp is_string_move.temps e 1 (omega arith) refl s (λ ls1 s1. text_does AsCompactUtf16 p (n - utf16_tag) s1 lp needs.1.0))))
+            (pushing (pushes_untagged (b.temp 1) n ln is s.holds.0) (set_temp is_string_move.temps e 1 (omega arith) refl s (λ ls1 s1. text_does AsCompactUtf16 p (n - utf16_tag) s1 lp (omega (arith, ln)) needs.1.0))))
         by_tag false is =
             let test = subst (λ t. PushesValue S.whole 6 ls (no_tag_code (b.temp 1)) (I32 (truth (not t)))) is (pushes_no_tag (b.temp 1) n s.holds.0) in
-            within (omega arith) (cases (0 ∷ []) 1 1 compact_codes test refl (text_does AsCompactLatin1 p n s lp needs.0))
+            within (omega arith) (cases (0 ∷ []) 1 1 compact_codes test refl (text_does AsCompactLatin1 p n s lp ln needs.0))
 
     -- the region and what is written go to their places
     pair_goes : (d : Target) → MayGo used first S.to64 (all_to b.to) d → {q n : ℕ} {ls : Locals} → KeepsLocals used first ls → q < limit_of (pointer S.to64) → n < limit_of (pointer S.to64)

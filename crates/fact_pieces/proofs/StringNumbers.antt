@@ -25,7 +25,7 @@ use Rattle.fact_pieces.specs.Does.{Locals, PushesValue}
 use Rattle.fact_pieces.specs.Places.{Setting, limit_of}
 use Rattle.fact_pieces.specs.StringCode.{StringMove, no_tag_code, test_code, limit_code}
 use Rattle.fact_pieces.specs.Tests.{pointer}
-use Rattle.fact_pieces.proofs.StringAmounts.{wrap_steps, wrap_few, pushes_times}
+use Rattle.fact_pieces.proofs.StringAmounts.{times_steps, times_few, pushes_times}
 use Rattle.fact_pieces.proofs.StringPoints.{StringMemory, string_transfer, AtPoint, test_steps, memory_is_wide}
 
 -- ---- what it computes
@@ -89,10 +89,10 @@ module _ (S : Setting) {used : ℕ → Bool} {m : StringMove} {b : MemoryOption}
   pushes_test AllRead = record { steps = 3; few = omega arith; pushes = record { by = λ w vs. leaves_next (leaves_local_get h.read) (leaves_next (leaves_local_get h.units) leaves_i64_eq) } }
   pushes_test (WrittenIs factor) =
       let wide : (factor * v.length) % 2 ^ address_bits m.to64 ≡ (factor * v.length) % 2 ^ address_bits (is_wide S.to.memory) = ap (λ w. (factor * v.length) % 2 ^ address_bits w) (sym (memory_is_wide side)) in
-      let times : PushesValue S.whole (3 + wrap_steps m.to64) ls _ (I64 ((factor * v.length) % 2 ^ address_bits m.to64)) = pushes_times m.to64 factor m.temporaries.units v.length h.units in
+      let times : PushesValue S.whole (times_steps m.to64 factor) ls _ (I64 ((factor * v.length) % 2 ^ address_bits m.to64)) = pushes_times m.to64 factor m.temporaries.units v.length h.units (omega (arith, h.few)) in
       record {
-        steps = suc (3 + wrap_steps m.to64 + 1);
-        few = omega (arith, wrap_few m.to64);
+        steps = suc (times_steps m.to64 factor + 1);
+        few = omega (arith, times_few m.to64 factor);
         pushes = record {
           by = λ w vs.
               leaves_next (leaves_local_get h.written) (leaves_then (times.by w (I64 v.written ∷ vs))

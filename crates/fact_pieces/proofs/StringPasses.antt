@@ -163,7 +163,7 @@ module _ (S : Setting) (used : ℕ → Bool) (m : StringMove) (a b : MemoryOptio
         subst (λ n. Does S.whole S.places Onward extra 0 (address_operand m.from64 n ∷ address_operand m.from64 (sum % 2 ^ address_bits m.from64) ∷ ins) ls c q out Holds) (sym is)
         (subst (λ n. Does S.whole S.places Onward extra 0 (address_operand m.from64 ((v.length + (2 ^ address_bits m.from64 - v.read)) % 2 ^ address_bits m.from64) ∷ address_operand m.from64 n ∷ ins) ls c q out Holds) (sym at) d) in
         subst (λ k. Does S.whole S.places Onward (12 + extra) 0 ins ls (I.LocalGet m.temporaries.source ∷ k) q out Holds) (same_code (times_code m.from64 unit m.temporaries.read) (to_address m.from64))
-        (within (omega arith) (local_get x.source (gets_times m.from64 unit m.temporaries.read v.read x.read (adds (to_addresses m.from64 sum (mod_below (v.source + (unit * v.read) % 2 ^ address_bits m.from64) (2 ^ 64) (lit< tt))
+        (within (omega arith) (local_get x.source (gets_times m.from64 unit m.temporaries.read v.read x.read (omega (arith, x.read_below, limit_wide m.from64)) (adds (to_addresses m.from64 sum (mod_below (v.source + (unit * v.read) % 2 ^ address_bits m.from64) (2 ^ 64) (lit< tt))
         (local_get x.units (local_get x.read (subtracts (to_addresses m.from64 left (mod_below (v.length + (2 ^ 64 - v.read)) (2 ^ 64) (lit< tt)) told)))))))))
       where
         same_code : (f g : List Instr) → f ++ (I.I64Add ∷ (g ++ (I.LocalGet m.temporaries.units ∷ I.LocalGet m.temporaries.read ∷ I.I64Sub ∷ (g ++ c)))) ≡ (f ++ (I.I64Add ∷ (g ++ (I.LocalGet m.temporaries.units ∷ I.LocalGet m.temporaries.read ∷ I.I64Sub ∷ g)))) ++ c
@@ -180,7 +180,7 @@ module _ (S : Setting) (used : ℕ → Bool) (m : StringMove) (a b : MemoryOptio
         → Does S.whole S.places Onward (9 + extra) 0 ins ls (target_code m Fitting false room ++ c) q out Holds
     tells_first_room room d =
         subst (λ k. Does S.whole S.places Onward (9 + extra) 0 ins ls k q out Holds) (same_code (address_code m.to64 m.temporaries.region) (times_code m.to64 room m.temporaries.units) (to_address m.to64))
-        (within (omega arith) (tells_region x (gets_times m.to64 room m.temporaries.units v.length x.units (tells_number (told_room v room) (below_width m.to64 (room * v.length)) (tells_first 1 d)))))
+        (within (omega arith) (tells_region x (gets_times m.to64 room m.temporaries.units v.length x.units (omega (arith, x.few)) (tells_number (told_room v room) (below_width m.to64 (room * v.length)) (tells_first 1 d)))))
       where
         same_code : (f g k : List Instr) → f ++ (g ++ (k ++ I.I32Const 1 ∷ c)) ≡ (f ++ (g ++ (k ++ I.I32Const 1 ∷ []))) ++ c
         same_code f g k = ap (λ l. f ++ l) (ap (λ l. g ++ l) (sym (append_assoc k (I.I32Const 1 ∷ []) c)) ∙ sym (append_assoc g (k ++ I.I32Const 1 ∷ []) c)) ∙ sym (append_assoc f (g ++ (k ++ I.I32Const 1 ∷ [])) c)
@@ -197,7 +197,7 @@ module _ (S : Setting) (used : ℕ → Bool) (m : StringMove) (a b : MemoryOptio
         subst (λ n. Does S.whole S.places Onward extra 0 (I32 0 ∷ address_operand m.to64 n ∷ address_operand m.to64 (sum % 2 ^ address_bits m.to64) ∷ ins) ls c q out Holds) (sym is)
         (subst (λ n. Does S.whole S.places Onward extra 0 (I32 0 ∷ address_operand m.to64 ((told_room v room + (2 ^ address_bits m.to64 - v.written)) % 2 ^ address_bits m.to64) ∷ address_operand m.to64 n ∷ ins) ls c q out Holds) (sym at) d) in
         subst (λ k. Does S.whole S.places Onward (13 + extra) 0 ins ls (I.LocalGet m.temporaries.region ∷ I.LocalGet m.temporaries.written ∷ I.I64Add ∷ k) q out Holds) (same_code (to_address m.to64) (times_code m.to64 room m.temporaries.units))
-        (within (omega arith) (local_get x.region (local_get x.written (adds (to_addresses m.to64 sum (mod_below (v.region + v.written) (2 ^ 64) (lit< tt)) (gets_times m.to64 room m.temporaries.units v.length x.units
+        (within (omega arith) (local_get x.region (local_get x.written (adds (to_addresses m.to64 sum (mod_below (v.region + v.written) (2 ^ 64) (lit< tt)) (gets_times m.to64 room m.temporaries.units v.length x.units (omega (arith, x.few))
         (local_get x.written (subtracts (to_addresses m.to64 left (mod_below (told_room v room + (2 ^ 64 - v.written)) (2 ^ 64) (lit< tt)) (tells_first 0 told))))))))))
       where
         same_code : (f g : List Instr) → f ++ (g ++ (I.LocalGet m.temporaries.written ∷ I.I64Sub ∷ (f ++ I.I32Const 0 ∷ c))) ≡ (f ++ (g ++ (I.LocalGet m.temporaries.written ∷ I.I64Sub ∷ (f ++ I.I32Const 0 ∷ [])))) ++ c
@@ -210,7 +210,7 @@ module _ (S : Setting) (used : ℕ → Bool) (m : StringMove) (a b : MemoryOptio
         → Does S.whole S.places Onward (10 + extra) 0 ins ls (target_code m Widening false room ++ c) q out Holds
     tells_wide_room room d =
         subst (λ k. Does S.whole S.places Onward (10 + extra) 0 ins ls k q out Holds) (same_code (address_code m.to64 m.temporaries.region) (times_code m.to64 room m.temporaries.units) (to_address m.to64) (address_code m.to64 m.temporaries.written))
-        (within (omega arith) (tells_region x (gets_times m.to64 room m.temporaries.units v.length x.units (tells_number (told_room v room) (below_width m.to64 (room * v.length))
+        (within (omega arith) (tells_region x (gets_times m.to64 room m.temporaries.units v.length x.units (omega (arith, x.few)) (tells_number (told_room v room) (below_width m.to64 (room * v.length))
         (gets_address m.to64 m.temporaries.written v.written x.written_below x.written d)))))
       where
         same_code : (f g k l : List Instr) → f ++ (g ++ (k ++ (l ++ c))) ≡ (f ++ (g ++ (k ++ l))) ++ c

@@ -1,5 +1,5 @@
 -- Requests of memory for a string: realloc of its region, and the check of what it answers.
-use Rattle.std.proofs.Common.{◌≡◌, ℕ, ◌+◌, ◌-◌, ◌*◌, ◌%◌, ◌<◌, ◌≤◌, Bool, true, false, List, [], ◌∷◌, ◌++◌, Option, Some, None, refl, sym, ap, ◌∙◌, subst, arith, append_assoc, reverse, slice_get}
+use Rattle.std.proofs.Common.{◌≡◌, ℕ, ◌+◌, ◌-◌, ◌*◌, ◌%◌, ◌^◌, ◌<◌, ◌≤◌, Bool, true, false, List, [], ◌∷◌, ◌++◌, Option, Some, None, refl, sym, ap, ◌∙◌, subst, arith, append_assoc, reverse, slice_get}
 use Rattle.std.specs.Prelude.{bit_and, nat_lt}
 use Rattle.fact_wasm.specs.declared.instr.Instr.{Instr}
 use Rattle.fact_wasm.specs.declared.instr.Instr.TheVariants as I
@@ -100,10 +100,10 @@ module _ (S : Setting) (used : ℕ → Bool) (m : StringMove) (a b : MemoryOptio
 
     -- so many times what a temporary holds, in front of other code
     gets_amount : {A : Type 0} {extra : ℕ} {ins : List CoreValue} {ls : Locals} {c : List Instr} {q : Action A} {out : A → List CoreValue} {Holds : A → Locals → Type 0} (x : Amount) (v : PathPoint)
-        → slice_get ls m.temporaries.units ≡ Some (Some (I64 v.length)) → slice_get ls m.temporaries.written ≡ Some (Some (I64 v.written)) → Does S.whole S.places Onward extra 0 (I64 (amount (tr target_side) x v) ∷ ins) ls c q out Holds
+        → slice_get ls m.temporaries.units ≡ Some (Some (I64 v.length)) → slice_get ls m.temporaries.written ≡ Some (Some (I64 v.written)) → v.length < 2 ^ 64 → v.written < 2 ^ 64 → Does S.whole S.places Onward extra 0 (I64 (amount (tr target_side) x v) ∷ ins) ls c q out Holds
         → Does S.whole S.places Onward (5 + extra) 0 ins ls (amount_code m x ++ c) q out Holds
-    gets_amount (SourceUnits factor) v hu hw d = gets_times m.to64 factor m.temporaries.units v.length hu d
-    gets_amount (WrittenUnits factor) v hu hw d = gets_times m.to64 factor m.temporaries.written v.written hw d
+    gets_amount (SourceUnits factor) v hu hw lu lw d = gets_times m.to64 factor m.temporaries.units v.length hu lu d
+    gets_amount (WrittenUnits factor) v hu hw lu lw d = gets_times m.to64 factor m.temporaries.written v.written hw lw d
 
     amount_below : (x : Amount) (v : PathPoint) → amount (tr target_side) x v < limit_of (pointer m.to64)
     amount_below (SourceUnits factor) v = below_width m.to64 (factor * v.length)
@@ -143,10 +143,12 @@ module _ (S : Setting) (used : ℕ → Bool) (m : StringMove) (a b : MemoryOptio
           let check = region_code m.to_memory m.to64 m.to_log2 align m.temporaries.region m.temporaries.bytes m.temporaries.length (m.trap UnalignedPointer) (m.trap StringOutOfBounds) in
           let asked = regrow_code (Some place) m.to64 m.temporaries.region m.temporaries.before align m.temporaries.bytes in
           let action = reallocate m.concurrency target_side StringOutOfBounds v.region before align bytes k in
+          let few : v.length < 2 ^ 64 = omega (arith, p.few) in
+          let below : v.written < 2 ^ 64 = omega (arith, p.written_below, limit_wide m.to64) in
           let inner = save_code m.concurrency m.slots ++ (asked ++ (restore_code m.concurrency m.slots ++ (from_address m.to64 ++ (I.LocalSet m.temporaries.region ∷ check)))) in
           subst (λ l. Does S.whole S.places Onward (resize_steps + extra) 0 [] ls l action out Holds) (same_code (amount_code m x) (amount_code m y) inner c)
-          (within (omega arith) (gets_amount x v p.units p.written (set_temp h.temps e 6 (omega arith) refl (point_stands p) (λ ls1 s1.
-          gets_amount y v s1.holds.1.1.1.1.0 s1.holds.1.0 (set_temp h.temps e 5 (omega arith) refl s1 (λ ls2 s2.
+          (within (omega arith) (gets_amount x v p.units p.written few below (set_temp h.temps e 6 (omega arith) refl (point_stands p) (λ ls1 s1.
+          gets_amount y v s1.holds.1.1.1.1.0 s1.holds.1.0 few below (set_temp h.temps e 5 (omega arith) refl s1 (λ ls2 s2.
           subst (λ l. Does S.whole S.places Onward (22 + (22 + extra)) 0 [] ls2 l action out Holds) (asked_code (save_code m.concurrency m.slots) asked (restore_code m.concurrency m.slots) (from_address m.to64) check c)
           (subst (λ r. Does S.whole S.places Onward (22 + (22 + extra)) 0 [] ls2 (((save_code m.concurrency m.slots ++ (asked ++ restore_code m.concurrency m.slots)) ++ (from_address m.to64 ++ I.LocalSet m.temporaries.region ∷ [])) ++ (check ++ c)) r out Holds)
           (reallocate_is m.concurrency m.to64 S.to b f StringOutOfBounds v.region before align bytes k)

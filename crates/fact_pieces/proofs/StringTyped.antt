@@ -32,6 +32,7 @@ use Rattle.fact_pieces.specs.Typed.{OnStack, IsTyped}
 use Rattle.fact_pieces.proofs.TypingLaws.{typed_done, typed_then, typed_next, typed_one}
 use Rattle.fact_pieces.proofs.TypedRows.{takes_plain, takes_local_get, takes_local_set, takes_import}
 use Rattle.fact_pieces.proofs.TypedShapes.{takes_guard, typed_cases}
+use Rattle.fact_pieces.proofs.Scaled.{typed_scaled}
 use Rattle.fact_pieces.proofs.Slots.{typed_save, typed_restore}
 use Rattle.fact_pieces.proofs.ListTyped.{takes_const, typed_as_address, typed_region}
 use Rattle.fact_pieces.proofs.StringPoints.{string_temp, IsStringMove, memory_side}
@@ -61,7 +62,7 @@ module _ {M : WasmModule} {locals : List ValType} {labels : List (List ValType)}
   typed_operand memory64 i h = typed_next (takes_local_get h) (typed_to_address memory64)
 
   typed_times : (memory64 : Bool) (factor i : ℕ) → slice_get locals i ≡ Some val.I64 → IsTyped M locals labels (times_code memory64 factor i) ins (OnStack (val.I64 ∷ ins))
-  typed_times memory64 factor i h = typed_next (takes_local_get h) (typed_next (takes_plain (o.I64Const _) (I.outs-I64Const _) refl) (typed_next (takes_plain o.I64Mul I.outs-I64Mul refl) (typed_wrap memory64)))
+  typed_times memory64 factor i h = typed_next (takes_local_get h) (typed_then (typed_scaled factor) (typed_wrap memory64))
 
   typed_no_tag : (i : ℕ) → slice_get locals i ≡ Some val.I64 → IsTyped M locals labels (no_tag_code i) ins (OnStack (val.I32 ∷ ins))
   typed_no_tag i h =

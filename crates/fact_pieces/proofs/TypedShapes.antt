@@ -1,5 +1,5 @@
 -- The shapes of code are typed where their parts are.
-use Rattle.std.proofs.Common.{◌≡◌, ℕ, zero, suc, ◌≤◌, Bool, true, false, ◌&&◌, List, [], ◌∷◌, ◌++◌, Option, Some, None, refl, ap, ◌∙◌, arith, append_assoc, length, reverse, slice_get}
+use Rattle.std.proofs.Common.{◌≡◌, ℕ, zero, suc, ◌%◌, ◌^◌, ◌≤◌, Bool, true, false, ◌&&◌, List, [], ◌∷◌, ◌++◌, Option, Some, None, refl, ap, ◌∙◌, arith, append_assoc, length, reverse, slice_get}
 use Rattle.std.specs.Prelude.{nat_eq, is_some, option_and_then}
 use Rattle.std.specs.List.{list_all, AllByRecursion}
 use Rattle.fact_wasm.specs.declared.types.ValType.{ValType}
@@ -17,10 +17,12 @@ use Rattle.fact_types.specs.declared.import.Import.TheVariants as import
 use Rattle.fact_moves.specs.Running.{ImportPlaces}
 use Rattle.fact_pieces.specs.Code.{trap_code, guard_code, arms, cases_code, turn_code, counted_code, barrier_code, length_code}
 use Rattle.fact_pieces.specs.Knows.{KnowsFunction, KnowsMemory}
+use Rattle.fact_machine.specs.Machine.{page_bytes}
 use Rattle.fact_machine.specs.Typing.{Typing, typing, Operands, Known, Open, only_if, pop_all, jump, is_empty, ends, is_target, is_catch, Context, declares_numbers, code_typing, local_types, function_context, is_typed_body, is_typed_function}
 use Rattle.fact_pieces.specs.Typed.{OperandsBehind, OnStack, Never, operands_behind, context, IsTyped}
 use Rattle.fact_pieces.proofs.TypingLaws.{typed_then, Takes, by_row, typed_next, typed_one}
 use Rattle.fact_machine.proofs.TypingRows.{typing_is, row_of, popped, sequence_is}
+use Rattle.fact_pieces.proofs.Scaled.{typed_scaled}
 use Rattle.fact_pieces.proofs.TypedRows.{takes_plain, takes_br, takes_br_if, takes_import, takes_unreachable, takes_memory_size}
 use Rattle.fact_machine.specs.Exits.{nest}
 use Rattle.fact_machine.proofs.TypingRows.{typing_is, row_of, popped}
@@ -156,10 +158,8 @@ module _ {M : WasmModule} {locals : List ValType} {labels : List (List ValType)}
       typed_one (takes_block tt all)
 
   pub typed_length : {p : ImportPlaces} {d : CoreDef} {log2 : Option ℕ} {place : ℕ} (memory64 : Bool) → KnowsMemory M p d place memory64 log2 → IsTyped M locals labels (length_code place memory64 log2) ins (OnStack (I64 ∷ ins))
-  typed_length true h = typed_next (takes_memory_size h) (typed_next (takes_plain (o.I64Const _) (I.outs-I64Const _) refl) (typed_one (takes_plain o.I64Mul I.outs-I64Mul refl)))
-  typed_length false h =
-      typed_next (takes_memory_size h) (typed_next (takes_plain o.I64ExtendI32U I.outs-I64ExtendI32U refl)
-      (typed_next (takes_plain (o.I64Const _) (I.outs-I64Const _) refl) (typed_one (takes_plain o.I64Mul I.outs-I64Mul refl))))
+  typed_length {log2 = log2} true h = typed_next (takes_memory_size h) (typed_scaled (page_bytes log2 % 2 ^ 64))
+  typed_length {log2 = log2} false h = typed_next (takes_memory_size h) (typed_next (takes_plain o.I64ExtendI32U I.outs-I64ExtendI32U refl) (typed_scaled (page_bytes log2 % 2 ^ 64)))
 
 -- ---- functions
 

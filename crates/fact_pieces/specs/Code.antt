@@ -1,5 +1,5 @@
 -- Shapes of code that pieces are made of.
-use Rattle.std.specs.Prelude.{ℕ, zero, suc, ◌%◌, ◌^◌, Bool, true, false, List, [], ◌∷◌, ◌++◌, length, Option}
+use Rattle.std.specs.Prelude.{ℕ, zero, suc, ◌%◌, ◌^◌, nat_eq, Bool, true, false, List, [], ◌∷◌, ◌++◌, length, Option, if◌then◌else◌}
 use Rattle.fact_wasm.specs.declared.instr.BlockType.TheVariants.{Empty}
 use Rattle.fact_wasm.specs.declared.instr.FuncName.TheVariants as func
 use Rattle.fact_wasm.specs.declared.instr.Instr.{Instr}
@@ -44,6 +44,10 @@ counted_code test body = I.Block Empty (I.Loop Empty (turn_code test body) ∷ [
 abbrev pub barrier_code : List Instr → ℕ → List Instr
 barrier_code body place = I.Block Empty (I.Block Empty (I.TryTable Empty (0 ∷ []) body ∷ I.Br 1 ∷ []) ∷ trap_code place) ∷ []
 
+-- an i64 times a number, which needs no product where the number is 1
+abbrev pub scaled_code : ℕ → List Instr
+scaled_code factor = if nat_eq factor 1 then [] else (I.I64Const factor ∷ I.I64Mul ∷ [])
+
 -- the number of a memory's pages, as an i64
 abbrev pub pages_code : ℕ → Bool → List Instr
 pages_code place true = I.MemorySize place ∷ []
@@ -51,4 +55,4 @@ pages_code place false = I.MemorySize place ∷ I.I64ExtendI32U ∷ []
 
 -- The length of a memory in bytes, as an i64. A memory whose pages have 2 to the power of 64 bytes or more has none of them.
 abbrev pub length_code : ℕ → Bool → Option ℕ → List Instr
-length_code place memory64 log2 = pages_code place memory64 ++ I.I64Const (page_bytes log2 % 2 ^ 64) ∷ I.I64Mul ∷ []
+length_code place memory64 log2 = pages_code place memory64 ++ scaled_code (page_bytes log2 % 2 ^ 64)

@@ -4,7 +4,7 @@ use Rattle.fact_wasm.specs.declared.types.ValType.TheVariants as val
 use Rattle.fact_wasm.specs.declared.instr.FuncName.TheVariants as func
 use Rattle.fact_wasm.specs.declared.instr.Instr.{Instr}
 use Rattle.fact_wasm.specs.declared.instr.Instr.TheVariants as I
-use Rattle.fact_pieces.specs.Code.{guard_code}
+use Rattle.fact_pieces.specs.Code.{guard_code, scaled_code}
 use Rattle.fact_pieces.specs.Places.{To, narrow, code_before, code_behind}
 use Rattle.fact_pieces.specs.Tests.{pointer}
 
@@ -14,7 +14,7 @@ few_code number size = I.LocalGet number ∷ I.I64Const ((2 ^ 32 - 1) / size + 1
 
 -- their bytes
 abbrev pub bytes_code : (number size : ℕ) → List Instr
-bytes_code number size = I.LocalGet number ∷ I.I64Const size ∷ I.I64Mul ∷ []
+bytes_code number size = I.LocalGet number ∷ scaled_code size
 
 -- a number of things of a size have fewer than 2 to the power of 32 bytes, which needs no test where they are single bytes and the
 -- addresses of their side have 32 bits

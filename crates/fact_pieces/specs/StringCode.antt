@@ -17,7 +17,7 @@ use Rattle.fact_values.specs.Texts.{unit_bytes, utf16_tag}
 use Rattle.fact_moves.specs.Paths.{Amount, SourceUnits, WrittenUnits, Test, AllRead, WrittenIs, HasNoTag, KeepsUnits, Path, End, Limit, Resize, Pass, If, Tag, Assert, TextForm, AsUtf8, AsUtf16, AsCompactLatin1, AsCompactUtf16, align_of, path}
 use Rattle.fact_moves.specs.Strings.{most_string_bytes}
 use Rattle.fact_moves.specs.Transcoders.{TranscodeKind, AllUnits, Counted, Fitting, Narrow, Tagged, Widening, transcode_kind, from_encoding, transcode_types}
-use Rattle.fact_pieces.specs.Code.{cases_code, guard_code}
+use Rattle.fact_pieces.specs.Code.{cases_code, guard_code, scaled_code}
 use Rattle.fact_pieces.specs.Context.{ContextSlots, save_code, restore_code}
 use Rattle.fact_pieces.specs.Lists.{address_code, const_code, put_code}
 use Rattle.fact_pieces.specs.Places.{From, To, narrow, widen, DebugChecks, is_on}
@@ -72,7 +72,7 @@ from_address memory64 = widen (pointer memory64) val.I64
 
 -- so many times what a local holds, modulo the width
 abbrev pub times_code : Bool → (factor local : ℕ) → List Instr
-times_code memory64 factor local = I.LocalGet local ∷ I.I64Const factor ∷ I.I64Mul ∷ wrap_code memory64
+times_code memory64 factor local = I.LocalGet local ∷ (scaled_code factor ++ wrap_code memory64)
 
 abbrev pub amount_code : StringMove → Amount → List Instr
 amount_code m (SourceUnits factor) = times_code m.to64 factor m.temporaries.units

@@ -1,7 +1,8 @@
 -- Moves of all types ask of realloc what the parts of their values do.
-use Rattle.std.proofs.Common.{◌≡◌, ℕ, suc, ◌+◌, ◌*◌, ◌%◌, ◌^◌, Bool, true, false, List, [], ◌∷◌, ◌++◌, Option, Some, None, refl, sym, ap, subst}
+use Rattle.std.proofs.Common.{◌≡◌, ℕ, suc, ◌+◌, ◌*◌, ◌^◌, Bool, true, false, List, [], ◌∷◌, ◌++◌, Option, Some, None, refl, sym, ap, subst}
 use Rattle.std.specs.Prelude.{nat_lt}
 use Rattle.std.specs.Str.{bytes_eq}
+use Rattle.fact_types.specs.Agrees.{names_of}
 use Rattle.fact_wasm.specs.declared.types.ValType.TheVariants as val
 use Rattle.fact_types.specs.Fields.{Field, field_of}
 use Rattle.fact_types.specs.Shapes.{Kind, k_record, k_variant, k_list, k_tuple, k_map, k_flags, k_enum, k_option, k_result, k_fixed, k_future, k_stream, Shape, s_plain, s_node, Members, no_members, bare, typed, next_of}
@@ -22,7 +23,7 @@ use Rattle.fact_values.specs.Numbers.{is_scalar_value}
 use Rattle.fact_values.specs.Places.{count_of_members, flags_bytes, case_bytes, payload_place}
 use Rattle.fact_moves.specs.Actions.{Action, Give, Unreachable, ◌>>=◌, trap, each}
 use Rattle.fact_moves.specs.Calls.{is_import_of}
-use Rattle.fact_moves.specs.Moves.{canonical_number, plain_size, move_number, move_char, move_handle, move_enum, write_case, entry_extent, element_flats, move_list, move_fixed, move_plain, move_to_plain, aligned_source, aligned_target, aligned_node, MovingMembers, move_sum, move_node, move_to_node, weight_of, with_field, part, spot, past, payload_part, payload_spot, padded, move, move_fields, move_case}
+use Rattle.fact_moves.specs.Moves.{canonical_number, plain_size, move_number, move_char, move_handle, move_enum, write_case, entry_extent, element_flats, move_list, move_fixed, move_plain, move_to_plain, aligned_source, aligned_target, aligned_node, MovingMembers, move_sum, move_node, move_to_node, weight_of, with_field, part, spot, past, payload_part, payload_spot, padded, move, move_fields, move_case, bits_named}
 use Rattle.fact_moves.specs.Requests.{RequestPart, is_transcode}
 use Rattle.fact_moves.specs.Sides.{Source, Values, AtAddress, Target, Slots, Into, width_of_side, first_bits, write_number, nth_part, side_abi}
 use Rattle.fact_carry.specs.Regions.{TransferSetting}
@@ -123,7 +124,7 @@ module _ (c : TransferSetting) (known : HasKnownSides c) where
   kinds_ask k_option ms k_option ns m f g s d h = sum_asks ms m (λ x s2. g ms x s2) s d (λ k. h.case ms k s d)
   kinds_ask k_result ms k_result ns m f g s d h = sum_asks ms m (λ x s2. g ms x s2) s d (λ k. h.case ms k s d)
   kinds_ask k_enum ms k_enum ns m f g s d h = enum_asks ms ns s d
-  kinds_ask k_flags ms k_flags ns m f g s d h = number_asks (flags_bytes ms) (flags_bytes ns) (λ n. n % 2 ^ count_of_members ms) s d
+  kinds_ask k_flags ms k_flags ns m f g s d h = number_asks (flags_bytes ms) (flags_bytes ns) (bits_named (names_of ms) (names_of ns)) s d
   kinds_ask k_list ms k_list ns m f g s d h = list_asks ms ns (m.fields ms) (f ms) s d (λ s2 d2. h.fields ms s2 d2)
   kinds_ask k_map ms k_map ns m f g s d h = list_asks ms ns (m.fields ms) (f ms) s d (λ s2 d2. h.fields ms s2 d2)
   kinds_ask (k_fixed n) ms (k_fixed n') ns m f g s d h = fixed_asks n' ms ns (m.fields ms) (f ms) s d (λ s2 d2. h.fields ms s2 d2)

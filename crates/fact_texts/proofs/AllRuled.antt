@@ -1,7 +1,8 @@
 -- What holds of the parts of moves, and of texts, holds of moves of all types.
-use Rattle.std.proofs.Common.{◌≡◌, ℕ, suc, ◌+◌, ◌*◌, ◌%◌, ◌^◌, Bool, true, false, List, [], ◌∷◌, ◌++◌, Option, Some, None, refl}
+use Rattle.std.proofs.Common.{◌≡◌, ℕ, suc, ◌+◌, ◌*◌, ◌^◌, Bool, true, false, List, [], ◌∷◌, ◌++◌, Option, Some, None, refl}
 use Rattle.std.specs.Prelude.{nat_lt, if◌then◌else◌}
 use Rattle.std.specs.Str.{bytes_eq}
+use Rattle.fact_types.specs.Agrees.{names_of}
 use Rattle.fact_wasm.specs.declared.types.ValType.{ValType}
 use Rattle.fact_wasm.specs.declared.types.ValType.TheVariants as val
 use Rattle.fact_types.specs.Fields.{Field, field_of}
@@ -19,7 +20,7 @@ use Rattle.fact_values.specs.Numbers.{is_scalar_value}
 use Rattle.fact_values.specs.Places.{count_of_members, flags_bytes, case_bytes, payload_place}
 use Rattle.fact_moves.specs.Actions.{Action, Give, Visit, Ask, Unreachable, ◌>>=◌, trap, unless, each, each_from}
 use Rattle.fact_moves.specs.Calls.{is_import_of}
-use Rattle.fact_moves.specs.Moves.{canonical_number, plain_size, move_number, move_char, move_handle, move_enum, write_case, entry_extent, move_list, move_plain, move_to_plain, aligned_source, aligned_target, aligned_node, MovingMembers, move_sum, move_node, move_to_node, weight_of, with_field, part, spot, past, payload_part, payload_spot, padded, move, move_fields, move_case}
+use Rattle.fact_moves.specs.Moves.{canonical_number, plain_size, move_number, move_char, move_handle, move_enum, write_case, entry_extent, move_list, move_plain, move_to_plain, aligned_source, aligned_target, aligned_node, MovingMembers, move_sum, move_node, move_to_node, weight_of, with_field, part, spot, past, payload_part, payload_spot, padded, move, move_fields, move_case, bits_named}
 use Rattle.fact_moves.specs.Regions.{Position}
 use Rattle.fact_moves.specs.Requests.{is_transcode}
 use Rattle.fact_moves.specs.Running.{ImportPlaces, Call}
@@ -132,7 +133,7 @@ module _ (c : TransferSetting) (Ruled : (A : Type 0) → Action A → Type 0) (r
   ruled_kinds k_option ms k_option ns m s d h = ruled_sum ms m s d (λ k. h.case ms k s d)
   ruled_kinds k_result ms k_result ns m s d h = ruled_sum ms m s d (λ k. h.case ms k s d)
   ruled_kinds k_enum ms k_enum ns m s d h = ruled_enum ms ns s d
-  ruled_kinds k_flags ms k_flags ns m s d h = ruled_number (flags_bytes ms) (flags_bytes ns) (λ n. n % 2 ^ count_of_members ms) s d
+  ruled_kinds k_flags ms k_flags ns m s d h = ruled_number (flags_bytes ms) (flags_bytes ns) (bits_named (names_of ms) (names_of ns)) s d
   ruled_kinds k_list ms k_list ns m s d h = ruled_list ms ns (m.fields ms) s d (λ s2 d2. h.fields ms s2 d2)
   ruled_kinds k_map ms k_map ns m s d h = ruled_list ms ns (m.fields ms) s d (λ s2 d2. h.fields ms s2 d2)
   ruled_kinds (k_fixed n) ms (k_fixed n') ns m s d h = r.eachs _ 0 n' _ (λ i. h.fields ms _ _)

@@ -47,20 +47,20 @@ use Rattle.fact_emit.specs.Requests.{ServesLists}
 use Rattle.fact_emit.specs.Writers.{taken_in}
 use Rattle.fact_emit.proofs.Emitting.{emits_as, emits_nothing, emits_then, grew_nothing, grew_on}
 use Rattle.fact_emit.proofs.PartPlaces.{room_length}
-use Rattle.fact_translate.specs.declared.fixed.FixedElements.{FixedElements}
-use Rattle.fact_translate.specs.Asks.{AreAsked, MovesHelped}
-use Rattle.fact_translate.specs.FixedLists.{nth_from, nth_to}
-use Rattle.fact_translate.specs.Moved.{MovedValue}
-use Rattle.fact_translate.specs.MovedFixed.{AreFixedElements, MovedElements, fixed_of}
-use Rattle.fact_translate.specs.declared.fuel.Fuel.{Fuel}
-use Rattle.fact_translate.specs.Translations.{TranslatesAs, place_of_source, place_of_target}
-use Rattle.fact_translate.proofs.Asking.{asked_both}
-use Rattle.fact_translate.proofs.FieldJoin.{apart_dst, slots_behind, slots_front, using_past, using_spot}
-use Rattle.fact_translate.proofs.FixedJoin.{fixed_bytes}
-use Rattle.fact_translate.proofs.Found.{flat_is}
-use Rattle.fact_translate.proofs.ListMembers.{first_place, single}
-use Rattle.fact_translate.proofs.WithinRooms.{part_within, past_within, spot_within}
-use Rattle.fact_translate.proofs.Translating.{both_translated, nothing_translated, part_place, past_place, spot_place, translated_at}
+use Rattle.fact_kinds.specs.declared.fixed.FixedElements.{FixedElements}
+use Rattle.fact_kinds.specs.Asks.{AreAsked, MovesHelped}
+use Rattle.fact_kinds.specs.FixedLists.{nth_from, nth_to}
+use Rattle.fact_kinds.specs.Moved.{MovedValue}
+use Rattle.fact_kinds.specs.MovedFixed.{AreFixedElements, MovedElements, fixed_of}
+use Rattle.fact_kinds.specs.declared.fuel.Fuel.{Fuel}
+use Rattle.fact_kinds.specs.Translations.{TranslatesAs, place_of_source, place_of_target}
+use Rattle.fact_kinds.proofs.Asking.{asked_both}
+use Rattle.fact_kinds.proofs.FieldJoin.{apart_dst, slots_behind, slots_front, using_past, using_spot}
+use Rattle.fact_kinds.proofs.FixedJoin.{fixed_bytes}
+use Rattle.fact_kinds.proofs.Found.{flat_is}
+use Rattle.fact_kinds.proofs.ListMembers.{first_place, single}
+use Rattle.fact_kinds.proofs.WithinRooms.{part_within, past_within, spot_within}
+use Rattle.fact_kinds.proofs.Translating.{both_translated, nothing_translated, part_place, past_place, spot_place, translated_at}
 
 -- ---- what is left of a list
 

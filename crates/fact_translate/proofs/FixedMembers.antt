@@ -29,20 +29,20 @@ use Rattle.fact_emit.specs.Places.{from_of, to_of}
 use Rattle.fact_emit.specs.Writers.{AreDistinctNumbers, Began, TookAll, FreedAll, Wrote, taken_in}
 use Rattle.fact_emit.proofs.Emitting.{emits_as, grew_wrote}
 use Rattle.fact_emit.proofs.ImportLaws.{extended_none}
-use Rattle.fact_translate.specs.declared.fixed.FixedElements.{FixedElements}
-use Rattle.fact_translate.specs.declared.fixed.FixedLocals.{FixedLocals}
-use Rattle.fact_translate.specs.FixedLists.{ClosesFixed, fixed_begin_code, fixed_numbers, fixed_slots}
-use Rattle.fact_translate.specs.Moved.{MovedNode, MovedValue}
-use Rattle.fact_translate.specs.MovedFixed.{AreFixedElements, MovedElements, fixed_of}
-use Rattle.fact_translate.specs.declared.fuel.Fuel.{Fuel}
-use Rattle.fact_translate.specs.Translations.{IsRouteOf}
-use Rattle.fact_translate.proofs.Asking.{asked_below, asked_later}
-use Rattle.fact_translate.proofs.FixedJoin.{fixed_emits, fixed_grew, fixed_taken}
-use Rattle.fact_translate.proofs.ListMembers.{list_element, single, single_moved, takes_bytes}
+use Rattle.fact_kinds.specs.declared.fixed.FixedElements.{FixedElements}
+use Rattle.fact_kinds.specs.declared.fixed.FixedLocals.{FixedLocals}
+use Rattle.fact_kinds.specs.FixedLists.{ClosesFixed, fixed_begin_code, fixed_numbers, fixed_slots}
+use Rattle.fact_kinds.specs.Moved.{MovedNode, MovedValue}
+use Rattle.fact_kinds.specs.MovedFixed.{AreFixedElements, MovedElements, fixed_of}
+use Rattle.fact_kinds.specs.declared.fuel.Fuel.{Fuel}
+use Rattle.fact_kinds.specs.Translations.{IsRouteOf}
+use Rattle.fact_kinds.proofs.Asking.{asked_below, asked_later}
+use Rattle.fact_kinds.proofs.FixedJoin.{fixed_emits, fixed_grew, fixed_taken}
+use Rattle.fact_kinds.proofs.ListMembers.{list_element, single, single_moved, takes_bytes}
 use Rattle.fact_emit.proofs.FreedLocals.{all_distinct}
-use Rattle.fact_translate.proofs.TypeKinds.{fixed_kind, fixed_members, fixed_size, fixed_type}
-use Rattle.fact_translate.proofs.Translating.{then_none, translated_at, translated_with}
-use Rattle.fact_translate.proofs.TranslatedShapes.{times_are, translated_shapes}
+use Rattle.fact_kinds.proofs.TypeKinds.{fixed_kind, fixed_members, fixed_size, fixed_type}
+use Rattle.fact_kinds.proofs.Translating.{then_none, translated_at, translated_with}
+use Rattle.fact_kinds.proofs.TranslatedShapes.{times_are, translated_shapes}
 use Rattle.fact_moves.specs.Outlining.{Route, translates, translates_times, turns_of}
 
 -- ---- by a loop

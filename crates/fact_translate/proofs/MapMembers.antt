@@ -34,23 +34,23 @@ use Rattle.fact_emit.specs.Parts.{bytes_by, from_behind, to_behind}
 use Rattle.fact_emit.specs.Writers.{taken_in, Began, TookAll, FreedAll, Wrote}
 use Rattle.fact_emit.proofs.Emitting.{emits_then, grew_on, grew_wrote}
 use Rattle.fact_emit.proofs.ImportLaws.{extended_none}
-use Rattle.fact_translate.specs.declared.lists.Elements.{Elements}
-use Rattle.fact_translate.specs.declared.lists.ListLocals.{ListLocals}
-use Rattle.fact_translate.specs.Asks.{MovesHelped, MovesHelpedFields}
-use Rattle.fact_translate.specs.Lists.{list_slots, list_numbers, OpensList, ClosesList, IsEntryOf}
-use Rattle.fact_translate.specs.MemberPairs.{Member}
-use Rattle.fact_translate.specs.Moved.{MovedNode, MovedValue}
-use Rattle.fact_translate.specs.declared.fuel.Fuel.{Fuel}
-use Rattle.fact_translate.specs.Translations.{TranslatesAs, place_of_source, place_of_target}
-use Rattle.fact_translate.proofs.Asking.{asked_below, asked_both, asked_later}
-use Rattle.fact_translate.proofs.FieldJoin.{fields_join, fields_join_paid}
-use Rattle.fact_translate.proofs.Found.{flat_is}
-use Rattle.fact_translate.proofs.ListJoin.{entry_layout}
-use Rattle.fact_translate.proofs.ListMembers.{AreEntries, entries_grew, first_bytes, first_next, first_place, map_emits}
-use Rattle.fact_translate.proofs.MemberRuns.{NextMember, open_next, none_left, nothing_moves}
-use Rattle.fact_translate.proofs.TypeKinds.{map_kind, map_type}
-use Rattle.fact_translate.proofs.Translating.{both_translated, translated_at, translated_in_memories, translated_with}
-use Rattle.fact_translate.proofs.TranslatedShapes.{entry_members, translated_shapes}
+use Rattle.fact_kinds.specs.declared.lists.Elements.{Elements}
+use Rattle.fact_kinds.specs.declared.lists.ListLocals.{ListLocals}
+use Rattle.fact_kinds.specs.Asks.{MovesHelped, MovesHelpedFields}
+use Rattle.fact_kinds.specs.Lists.{list_slots, list_numbers, OpensList, ClosesList, IsEntryOf}
+use Rattle.fact_kinds.specs.MemberPairs.{Member}
+use Rattle.fact_kinds.specs.Moved.{MovedNode, MovedValue}
+use Rattle.fact_kinds.specs.declared.fuel.Fuel.{Fuel}
+use Rattle.fact_kinds.specs.Translations.{TranslatesAs, place_of_source, place_of_target}
+use Rattle.fact_kinds.proofs.Asking.{asked_below, asked_both, asked_later}
+use Rattle.fact_kinds.proofs.FieldJoin.{fields_join, fields_join_paid}
+use Rattle.fact_kinds.proofs.Found.{flat_is}
+use Rattle.fact_kinds.proofs.ListJoin.{entry_layout}
+use Rattle.fact_kinds.proofs.ListMembers.{AreEntries, entries_grew, first_bytes, first_next, first_place, map_emits}
+use Rattle.fact_kinds.proofs.MemberRuns.{NextMember, open_next, none_left, nothing_moves}
+use Rattle.fact_kinds.proofs.TypeKinds.{map_kind, map_type}
+use Rattle.fact_kinds.proofs.Translating.{both_translated, translated_at, translated_in_memories, translated_with}
+use Rattle.fact_kinds.proofs.TranslatedShapes.{entry_members, translated_shapes}
 
 -- ---- entries
 

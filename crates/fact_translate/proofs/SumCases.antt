@@ -21,14 +21,14 @@ use Rattle.fact_moves.specs.Actions as action
 use Rattle.fact_moves.specs.Moves.{padded, write_case, move, move_case}
 use Rattle.fact_moves.specs.Sides.{Transfer, Source, Target, write_number}
 use Rattle.fact_moves.specs.Outlining.{Route, translates, translates_case, translates_none}
-use Rattle.fact_translate.specs.declared.sums.NumberedCase.{NumberedCase}
-use Rattle.fact_translate.specs.declared.sums.PairedCase.{PairedCase}
-use Rattle.fact_translate.specs.declared.sums.Sum.{Sum}
+use Rattle.fact_kinds.specs.declared.sums.NumberedCase.{NumberedCase}
+use Rattle.fact_kinds.specs.declared.sums.PairedCase.{PairedCase}
+use Rattle.fact_kinds.specs.declared.sums.Sum.{Sum}
 use Rattle.fact_emit.specs.Movable.{CanMoveMember, CanMoveCase}
 use Rattle.fact_translate.specs.MovedSums.{IsLiveNumbered, HasPayloadShape, numbered_height, payload_height}
-use Rattle.fact_translate.specs.Sums.{numbered_case, case_at_name, paired_case, paired_cases, IsSumKind, IsSumOf}
+use Rattle.fact_kinds.specs.Sums.{numbered_case, case_at_name, paired_case, paired_cases, IsSumKind, IsSumOf}
 use Rattle.fact_translate.proofs.SumRoom.{IsPayload, bare_payload, typed_payload}
-use Rattle.fact_translate.proofs.TypeKinds.{node_members}
+use Rattle.fact_kinds.proofs.TypeKinds.{node_members}
 
 -- ---- the case of a name
 

@@ -51,24 +51,24 @@ use Rattle.fact_emit.proofs.NumberMoves.{ReadsThen, reads_then}
 use Rattle.fact_emit.proofs.RangedCode.{set_ranged, tag_ranged, zeros_ranged}
 use Rattle.fact_emit.proofs.ScalarMoves.{moves_as}
 use Rattle.fact_emit.proofs.Using.{moves_around}
-use Rattle.fact_translate.specs.declared.sums.NumberedCase.{NumberedCase}
-use Rattle.fact_translate.specs.declared.sums.PairedCase.{PairedCase}
-use Rattle.fact_translate.specs.declared.sums.Sum.{Sum}
-use Rattle.fact_translate.specs.Asks.{AreAsked, MovesHelped}
-use Rattle.fact_translate.specs.Kinds.{discriminant_number_of}
-use Rattle.fact_translate.specs.Moved.{MovedValue, MovedNode}
-use Rattle.fact_translate.specs.MovedSums.{HasPayloadShape, MovesPayload, numbered_height, payload_height, MovedSome, MovedPayload, MovesCaseOf, IsCaseOf, MovedCase, AreCaseBodies, WroteBodies, MovedSumBy, MovedSum, translates_by_case, translates_first}
-use Rattle.fact_translate.specs.Sums.{numbered_case, case_at_name, IsSumOf}
-use Rattle.fact_translate.specs.declared.fuel.Fuel.{Fuel}
-use Rattle.fact_translate.specs.Translations.{TranslatesAs, place_of_source, place_of_target}
-use Rattle.fact_translate.proofs.Asking.{asked_both, asked_later, asked_on, emits_ended, grew_ended}
-use Rattle.fact_translate.proofs.Found.{flat_is}
+use Rattle.fact_kinds.specs.declared.sums.NumberedCase.{NumberedCase}
+use Rattle.fact_kinds.specs.declared.sums.PairedCase.{PairedCase}
+use Rattle.fact_kinds.specs.declared.sums.Sum.{Sum}
+use Rattle.fact_kinds.specs.Asks.{AreAsked, MovesHelped}
+use Rattle.fact_kinds.specs.Kinds.{discriminant_number_of}
+use Rattle.fact_kinds.specs.Moved.{MovedValue, MovedNode}
+use Rattle.fact_translate.specs.MovedSums.{HasPayloadShape, MovesPayload, numbered_height, payload_height, MovedSome, MovedPayload, MovesCaseOf, IsCaseOf, MovedCase, AreCaseBodies, WroteBodies, MovedSumBy, MovedSum, translates_by_case}
+use Rattle.fact_kinds.specs.Sums.{numbered_case, case_at_name, IsSumOf}
+use Rattle.fact_kinds.specs.declared.fuel.Fuel.{Fuel}
+use Rattle.fact_kinds.specs.Translations.{TranslatesAs, place_of_source, place_of_target, translates_first}
+use Rattle.fact_kinds.proofs.Asking.{asked_both, asked_later, asked_on, emits_ended, grew_ended}
+use Rattle.fact_kinds.proofs.Found.{flat_is}
 use Rattle.fact_translate.proofs.SumCases.{FoundBare, FoundTyped, found_case, case_counted, paired_with, paired_count, sum_info}
 use Rattle.fact_translate.proofs.SumJoin.{bare_case, some_case, sum_join}
 use Rattle.fact_translate.proofs.SumRoom.{IsPayload}
-use Rattle.fact_translate.proofs.TypeKinds.{node_members, variant_kind, option_kind, result_kind, variant_type, option_type, result_type}
-use Rattle.fact_translate.proofs.Translating.{both_translated, nothing_translated, part_place, past_place, spot_place, translated_at, translated_with}
-use Rattle.fact_translate.proofs.TranslatedShapes.{first_all, first_more, translated_shapes}
+use Rattle.fact_kinds.proofs.TypeKinds.{node_members, variant_kind, option_kind, result_kind, variant_type, option_type, result_type}
+use Rattle.fact_kinds.proofs.Translating.{both_translated, nothing_translated, part_place, past_place, spot_place, translated_at, translated_with}
+use Rattle.fact_kinds.proofs.TranslatedShapes.{first_all, first_more, translated_shapes}
 
 -- ---- payloads
 

@@ -37,13 +37,13 @@ use Rattle.fact_emit.specs.Parts.{from_behind, bytes_by}
 use Rattle.fact_emit.specs.Places.{setting_of, checks_at, Using}
 use Rattle.fact_emit.proofs.NumberMoves.{narrow_of, readable}
 use Rattle.fact_emit.proofs.Using.{free_except, using_more}
-use Rattle.fact_translate.specs.Asks.{MovesHelped}
-use Rattle.fact_translate.specs.Kinds.{discriminant_number_of}
+use Rattle.fact_kinds.specs.Asks.{MovesHelped}
+use Rattle.fact_kinds.specs.Kinds.{discriminant_number_of}
 use Rattle.fact_translate.specs.MovedSums.{MovesPayload, MovesCaseOf, AreCaseBodies}
-use Rattle.fact_translate.proofs.FieldJoin.{apart_dst, using_past, using_spot}
-use Rattle.fact_translate.proofs.FlagMoves.{case_size, discriminant_short}
+use Rattle.fact_kinds.proofs.FieldJoin.{apart_dst, using_past, using_spot}
+use Rattle.fact_kinds.proofs.FlagMoves.{case_size, discriminant_short}
 use Rattle.fact_translate.proofs.SumRoom.{IsPayload, payload_holds, tag_readable, tag_writable, zeros_behind, zeros_fit, payload_read, payload_write, payload_part as part_is, payload_spot as spot_is, payload_past as past_is, payload_within}
-use Rattle.fact_translate.proofs.WithinRooms.{part_within, past_within, spot_within}
+use Rattle.fact_kinds.proofs.WithinRooms.{part_within, past_within, spot_within}
 
 -- ---- the places of payloads
 

@@ -1,10 +1,1 @@
-pub mod Asks
-pub mod FixedLists
-pub mod Kinds
-pub mod Lists
-pub mod MemberPairs
-pub mod Moved
-pub mod MovedFixed
 pub mod MovedSums
-pub mod Sums
-pub mod Translations

@@ -1,5 +1,5 @@
 -- What the functions that move variants, options and results ensure.
-use Rattle.std.specs.Prelude.{◌≡◌, ℕ, zero, suc, ◌≤◌, Bool, List, ◌++◌, length, Option, Some, None, slice_get}
+use Rattle.std.specs.Prelude.{◌≡◌, ℕ, suc, ◌≤◌, Bool, List, ◌++◌, length, Option, Some, None, slice_get}
 use Rattle.fact_wasm.specs.declared.types.ValType.{ValType}
 use Rattle.fact_wasm.specs.declared.types.ValType.TheVariants as val
 use Rattle.fact_wasm.specs.declared.instr.Instr.{Instr}
@@ -10,12 +10,12 @@ use Rattle.fact_types.specs.declared.widths.MemoryWidth.{MemoryWidth}
 use Rattle.fact_types.specs.FlatShapes.{flat, IsCounted, AreCounted}
 use Rattle.fact_types.specs.Heights.{height}
 use Rattle.fact_types.specs.Layout.{variant_info}
-use Rattle.fact_types.specs.Shapes.{Kind, k_variant, Shape, s_node, Members, no_members, bare, typed, layouts_of}
+use Rattle.fact_types.specs.Shapes.{Kind, k_variant, Shape, s_node, Members, layouts_of}
 use Rattle.fact_types.specs.Signatures.{width}
 use Rattle.fact_types.specs.Tables.{Tables, IsLiveMember, HasShape, HasMembers}
 use Rattle.fact_values.specs.Limits.{CaseType, case_type}
 use Rattle.fact_moves.specs.Moves.{move_case}
-use Rattle.fact_moves.specs.Outlining.{Route, Translating, translates, translates_case, translates_cases, translates_if, translates_none, translates_then}
+use Rattle.fact_moves.specs.Outlining.{Route, Translating, translates, translates_case, translates_cases, translates_if, translates_none}
 use Rattle.fact_moves.specs.Running.{ImportPlaces}
 use Rattle.fact_moves.specs.Sides.{LiftLowerOptions}
 use Rattle.fact_pieces.specs.Cases.{zero_code}
@@ -31,12 +31,12 @@ use Rattle.fact_emit.specs.MovesValue.{MovesValue, except, HasLocal}
 use Rattle.fact_emit.specs.Parts.{from_behind, to_behind, bytes_by}
 use Rattle.fact_emit.specs.Places.{setting_of, Using}
 use Rattle.fact_emit.specs.Writers.{taken_in}
-use Rattle.fact_translate.specs.Asks.{AreAsked, MovesHelped}
-use Rattle.fact_translate.specs.declared.fuel.Fuel.{Fuel}
-use Rattle.fact_translate.specs.declared.sums.NumberedCase.{NumberedCase}
-use Rattle.fact_translate.specs.declared.sums.PairedCase.{PairedCase}
-use Rattle.fact_translate.specs.Sums.{case_at_name}
-use Rattle.fact_translate.specs.Translations.{TranslatesAs}
+use Rattle.fact_kinds.specs.Asks.{AreAsked, MovesHelped}
+use Rattle.fact_kinds.specs.declared.fuel.Fuel.{Fuel}
+use Rattle.fact_kinds.specs.declared.sums.NumberedCase.{NumberedCase}
+use Rattle.fact_kinds.specs.declared.sums.PairedCase.{PairedCase}
+use Rattle.fact_kinds.specs.Sums.{case_at_name}
+use Rattle.fact_kinds.specs.Translations.{TranslatesAs, translates_first}
 
 -- ---- payloads
 
@@ -114,13 +114,6 @@ pub record IsCaseOf (t : Tables) (ms ns : Members) (paired : PairedCase) (c : Ca
 -- what is translated of a case: its payload, if it has one
 abbrev pub translates_by_case : (initial : ℕ) → Route → CaseType → Members → Translating
 translates_by_case i r c ns = translates_if c.payload (λ s m. translates_case i r c.name s ns m)
-
--- the first cases of a source, so many
-abbrev pub translates_first : ℕ → Members → (List ℕ → Shape → Translating) → Translating
-translates_first zero ms payload = translates_none
-translates_first (suc n) no_members payload = translates_none
-translates_first (suc n) (bare x ms) payload = translates_first n ms payload
-translates_first (suc n) (typed x s ms) payload = translates_then (payload x s) (translates_first n ms payload)
 
 -- Code was written that moves a case, where it can be moved.
 pub record MovedCase (t : Tables) (source destination : VariantInfo) (paired : PairedCase) (sides : Sides) (src : From) (dst : To) (before after : Fuel) (old new : Writer) : Type 0 where

@@ -7,39 +7,38 @@ ghost use Rattle.fact_pieces.specs.Places.{InMemory, ToMemory};
 ghost use Rattle.fact_emit.specs.Handles.{handle_transfer as transfer_of};
 ghost use Rattle.fact_emit.specs.Places.{from_of, to_of};
 ghost use Rattle.fact_emit.specs.StringPieces.{AreSidesImported};
-ghost use Rattle.fact_translate.specs.Asks.{AreSidesTold};
-ghost use Rattle.fact_translate.specs.Moved.{MovedNode, MovedTuple, MovedInPlace, MovedValue, MovedMember, IsLiveFound};
-ghost use Rattle.fact_translate.specs.MovedFixed.{MovedElements};
+ghost use Rattle.fact_kinds.specs.Asks.{AreSidesTold};
+ghost use Rattle.fact_kinds.specs.Moved.{MovedNode, MovedTuple, MovedInPlace, MovedValue, MovedMember, IsLiveFound};
+ghost use Rattle.fact_kinds.specs.MovedFixed.{MovedElements};
 ghost use Rattle.fact_translate.specs.MovedSums.{IsLiveNumbered, MovedSome, MovedPayload, MovedCase, WroteBodies, MovedSumBy, MovedSum};
-ghost use Rattle.fact_translate.specs.MemberPairs.{ArePairs, MovedPairs};
-ghost use Rattle.fact_translate.specs.Sums.{IsSumOf};
+ghost use Rattle.fact_kinds.specs.MemberPairs.{ArePairs, MovedPairs};
+ghost use Rattle.fact_kinds.specs.Sums.{IsSumOf};
 
-use crate::fixed::{
-    FixedElements, close_fixed, free_fixed_locals, nth_source, nth_target, open_fixed,
-    take_fixed_locals,
-};
-use crate::flags::{discriminant_number, move_enum, move_flags};
-use crate::fuel::{Fuel, cost};
-use crate::helpers::call_helper;
-use crate::layouts::{alignment, byte_count, byte_place, flat_length, next_place};
-use crate::lists::{Elements, close_list, free_list_locals, open_list, take_list_locals};
-use crate::maps::{entries, value_place};
-use crate::members::{MemberPair, pair_fields, pair_members};
-use crate::places::check_places;
-use crate::strings::move_string;
-use crate::sums::{
-    PairedCase, Sum, option_sum, payload_place, put_left_over, put_tag, result_sum, variant_sum,
-};
 use fact_builder::ComponentTypesBuilder;
 use fact_emit::bodies::put_cases;
 use fact_emit::handles::{handle_transfer, move_handle};
 use fact_emit::numbers::read_number;
 use fact_emit::places::{Address, Sides, SourcePlace, TargetPlace};
-use fact_emit::scalars::move_scalar;
 use fact_emit::writer::Writer;
 use fact_entity::{
     TypeFixedLengthListIndex, TypeListIndex, TypeMapIndex, TypeOptionIndex, TypeRecordIndex,
     TypeResultIndex, TypeTupleIndex, TypeVariantIndex,
+};
+use fact_kinds::fixed::{
+    FixedElements, close_fixed, free_fixed_locals, nth_source, nth_target, open_fixed,
+    take_fixed_locals,
+};
+use fact_kinds::flags::discriminant_number;
+use fact_kinds::fuel::{Fuel, cost};
+use fact_kinds::helpers::call_helper;
+use fact_kinds::layouts::{alignment, byte_count, byte_place, flat_length, next_place};
+use fact_kinds::leaves::move_leaf;
+use fact_kinds::lists::{Elements, close_list, free_list_locals, open_list, take_list_locals};
+use fact_kinds::maps::{entries, value_place};
+use fact_kinds::members::{MemberPair, pair_fields, pair_members};
+use fact_kinds::places::check_places;
+use fact_kinds::sums::{
+    PairedCase, Sum, option_sum, payload_place, put_left_over, put_tag, result_sum, variant_sum,
 };
 use fact_types::{ComponentTypes, FieldPlace, InterfaceType, VariantInfo};
 use fact_wasm::{Instr, OutOfMemory, Seq, ValType};
@@ -172,13 +171,7 @@ fn move_node(
             }
             _ => w.put(Instr::Unreachable)?,
         },
-        InterfaceType::Flags(i) => move_flags(types, w, sides, i, source, target)?,
-        InterfaceType::Enum(i) => move_enum(types, w, sides, i, source, target)?,
-        InterfaceType::String => match to {
-            InterfaceType::String => move_string(w, sides, source, target)?,
-            _ => w.put(Instr::Unreachable)?,
-        },
-        _ => move_scalar(w, sides, from, source, target)?,
+        _ => move_leaf(types, w, sides, from, to, source, target)?,
     }
     Ok(())
 }
@@ -293,13 +286,13 @@ fn move_list(
     ensures { OnOk result (MovedNode types.now (ty.List from) (ty.List to) sides (from_of sides.from source.entry) (to_of sides.to target.entry) fuel.old fuel.new w.old w.new) }
 {
     types.reveal();
-    let from_item = types[from].element;
-    let to_item = types[to].element;
+    let from_ty = types[from].element;
+    let to_ty = types[to].element;
     let elements = Elements {
-        from_size: byte_count(types, &from_item, sides.from.memory64),
-        from_align: alignment(types, &from_item, sides.from.memory64),
-        to_size: byte_count(types, &to_item, sides.to.memory64),
-        to_align: alignment(types, &to_item, sides.to.memory64),
+        from_size: byte_count(types, &from_ty, sides.from.memory64),
+        from_align: alignment(types, &from_ty, sides.from.memory64),
+        to_size: byte_count(types, &to_ty, sides.to.memory64),
+        to_align: alignment(types, &to_ty, sides.to.memory64),
     };
     let locals = take_list_locals(w, sides)?;
     open_list(w, sides, elements, locals, source)?;
@@ -312,9 +305,7 @@ fn move_list(
         local: locals.target,
         offset: 0,
     });
-    translate(
-        types, builder, w, fuel, sides, from_item, to_item, part, spot,
-    )?;
+    translate(types, builder, w, fuel, sides, from_ty, to_ty, part, spot)?;
     close_list(w, sides, elements, locals, outer, target)?;
     free_list_locals(w, locals)?;
     Ok(())
@@ -347,7 +338,7 @@ fn move_map(
     let locals = take_list_locals(w, sides)?;
     open_list(w, sides, elements, locals, source)?;
     let outer = w.begin();
-    let entry = SourcePlace::Memory(Address {
+    let key = SourcePlace::Memory(Address {
         local: locals.source,
         offset: 0,
     });
@@ -357,10 +348,8 @@ fn move_map(
     });
     let from_key = from_map.key;
     let to_key = to_map.key;
-    translate(
-        types, builder, w, fuel, sides, from_key, to_key, entry, spot,
-    )?;
-    let value = entry.part(0, 0, value_place(from_map, sides.from.memory64));
+    translate(types, builder, w, fuel, sides, from_key, to_key, key, spot)?;
+    let value = key.part(0, 0, value_place(from_map, sides.from.memory64));
     let value_spot = spot.part(0, 0, value_place(to_map, sides.to.memory64));
     let from_value = from_map.value;
     let to_value = to_map.value;
@@ -393,29 +382,27 @@ fn move_fixed_list(
     ensures { OnOk result (MovedNode types.now (ty.FixedLengthList from) (ty.FixedLengthList to) sides (from_of sides.from source.entry) (to_of sides.to target.entry) fuel.old fuel.new w.old w.new) }
 {
     types.reveal();
-    let from_item = types[from].element;
-    let to_item = types[to].element;
+    let from_ty = types[from].element;
+    let to_ty = types[to].element;
     let e = FixedElements {
         count: types[to].size,
-        from_size: byte_count(types, &from_item, sides.from.memory64),
-        to_size: byte_count(types, &to_item, sides.to.memory64),
+        from_size: byte_count(types, &from_ty, sides.from.memory64),
+        to_size: byte_count(types, &to_ty, sides.to.memory64),
     };
     match source {
-        SourcePlace::Memory(begin) => match target {
+        SourcePlace::Memory(at) => match target {
             TargetPlace::Memory(spot) => {
-                move_by_loop(
-                    types, builder, w, fuel, sides, from_item, to_item, e, begin, spot,
-                )?
+                move_by_loop(types, builder, w, fuel, sides, from_ty, to_ty, e, at, spot)?
             }
             TargetPlace::Locals(_) => {
                 move_one_by_one(
-                    types, builder, w, fuel, sides, from_item, to_item, e, source, target,
+                    types, builder, w, fuel, sides, from_ty, to_ty, e, source, target,
                 )?
             }
         },
         SourcePlace::Locals(_) => {
             move_one_by_one(
-                types, builder, w, fuel, sides, from_item, to_item, e, source, target,
+                types, builder, w, fuel, sides, from_ty, to_ty, e, source, target,
             )?
         }
     }
@@ -667,13 +654,8 @@ fn move_sum_by(
     ensures { OnOk result (MovedSumBy types.now from to local sides (from_of sides.from source.entry) (to_of sides.to target.entry) fuel.old fuel.new w.old w.new) }
 {
     types.reveal();
-    read_number(
-        w,
-        sides.debug,
-        sides.from,
-        discriminant_number(sum.from.size),
-        source,
-    )?;
+    let size = discriminant_number(sum.from.size);
+    read_number(w, sides.debug, sides.from, size, source)?;
     w.put(Instr::LocalSet(local))?;
     let bodies = case_bodies(
         types, builder, w, fuel, sides, from, to, sum, source, target,
@@ -740,17 +722,10 @@ fn move_case(
         Some(found) => {
             let size = discriminant_number(infos.1.size);
             put_tag(w, sides.to, size, found.number, target)?;
+            let from = case.payload;
+            let to = found.payload;
             move_payload(
-                types,
-                builder,
-                w,
-                fuel,
-                sides,
-                infos,
-                case.payload,
-                found.payload,
-                source,
-                target,
+                types, builder, w, fuel, sides, infos, from, to, source, target,
             )?;
         }
         None => w.put(Instr::Unreachable)?,

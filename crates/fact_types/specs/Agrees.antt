@@ -1,5 +1,5 @@
 -- Which types a value can cross between: a source type agrees with a destination type. The fields of records, the cases
--- of variants and the members of other types pair up by name or by place; resources, parameter names and the payloads of
+-- of variants and flags pair up by name, and the members of other types by place; resources, parameter names and the payloads of
 -- futures and streams are not compared.
 use Rattle.std.specs.Prelude.{◌≡◌, ℕ, List, [], ◌∷◌, Option, Some, None, Bool, true, false}
 use Rattle.std.specs.Str.{bytes_eq}
@@ -46,6 +46,11 @@ pub record AgreeFields (ms ns : Members) (Fields : Type 0) : Type 0 where
   pub fields : Fields
   pub names : (x : List ℕ) → Contains (names_of ms) x → Contains (names_of ns) x
 
+-- Members have the same names, in whatever order.
+pub record HaveSameNames (ms ns : Members) : Type 0 where
+  pub given : (x : List ℕ) → Contains (names_of ms) x → Contains (names_of ns) x
+  pub asked : (x : List ℕ) → Contains (names_of ns) x → Contains (names_of ms) x
+
 -- Each case of the source, with its payload, is one of the destination.
 abbrev pub EachCase : Members → (List ℕ → Option Shape → Type 0) → Type 0
 EachCase no_members Case = Unit {0}
@@ -62,7 +67,7 @@ AgreesBy k_tuple (s_node k_tuple ms) ns Fields Case Places = Places ms
 AgreesBy k_map (s_node k_map ms) ns Fields Case Places = Places ms
 AgreesBy k_option (s_node k_option ms) ns Fields Case Places = Places ms
 AgreesBy k_result (s_node k_result ms) ns Fields Case Places = Places ms
-AgreesBy k_flags (s_node k_flags ms) ns Fields Case Places = names_of ms ≡ names_of ns
+AgreesBy k_flags (s_node k_flags ms) ns Fields Case Places = HaveSameNames ms ns
 AgreesBy k_enum (s_node k_enum ms) ns Fields Case Places = names_of ms ≡ names_of ns
 AgreesBy (k_fixed m) (s_node (k_fixed n) ms) ns Fields Case Places = (n ≡ m) × Places ms
 AgreesBy (k_future t i) (s_node (k_future u j) ms) ns Fields Case Places = Unit {0}

@@ -6,7 +6,7 @@ use Rattle.fact_entity.specs.declared.table.TypeResourceTables.{TypeResourceTabl
 use Rattle.fact_entity.specs.declared.table.TypeComponentLocalErrorContextTables.{TypeComponentLocalErrorContextTables}
 use Rattle.fact_types.specs.declared.interface.InterfaceType.{InterfaceType}
 use Rattle.fact_types.specs.declared.interface.InterfaceType.TheVariants as ty
-use Rattle.fact_types.specs.Agrees.{names_of, AgreesPlain, AgreeFields, EachCase, AgreesBy}
+use Rattle.fact_types.specs.Agrees.{names_of, AgreesPlain, AgreeFields, EachCase, AgreesBy, HaveSameNames}
 use Rattle.fact_types.specs.Shapes.{k_record, k_variant, k_list, k_tuple, k_map, k_flags, k_enum, k_option, k_result, k_fixed, k_future, k_stream, Shape, s_plain, s_node, Members}
 use Rattle.fact_values.specs.declared.value.HandleKind.{HandleKind}
 use Rattle.fact_values.specs.declared.value.HandleKind.TheVariants.{Own, Borrow, ErrorContext}
@@ -75,7 +75,7 @@ module _ (ns : Members) (F : Members → Type 0) (C : List ℕ → Option Shape 
   fixed_source m (s_node (k_fixed n) ms) a = (n, ms, refl, a.0, a.1)
   fixed_source m _ a = absurd a
 
-  pub flags_source : (s : Shape) → AgreesBy k_flags s ns F C P → (ms : Members) × (s ≡ s_node k_flags ms) × (names_of ms ≡ names_of ns)
+  pub flags_source : (s : Shape) → AgreesBy k_flags s ns F C P → (ms : Members) × (s ≡ s_node k_flags ms) × HaveSameNames ms ns
   flags_source (s_node k_flags ms) a = (ms, refl, a)
   flags_source _ a = absurd a
 

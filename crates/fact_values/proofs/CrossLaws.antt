@@ -1,9 +1,10 @@
 -- A value of a type crosses to each type that agrees: what it asks for, and that it gives a value of that type.
 use Rattle.std.proofs.Common.{◌≡◌, ℕ, suc, ◌⊎◌, inl, inr, List, [], ◌∷◌, length, map, Option, Some, None, refl, sym, ap, ◌∙◌, subst, arith}
+use Rattle.std.specs.List.{Contains}
 use Rattle.std.specs.Prelude.{Bool, true, false, if◌then◌else◌}
 use Rattle.std.specs.List.{AllByRecursion, zip}
 use Rattle.std.specs.Str.{bytes_eq}
-use Rattle.fact_types.specs.Agrees.{chosen, first_of, names_of, named, BothThere, EachCase, Agrees, AgreesFields, AgreesCase, AgreesPlaces}
+use Rattle.fact_types.specs.Agrees.{chosen, first_of, names_of, named, BothThere, EachCase, Agrees, AgreesFields, AgreesCase, AgreesPlaces, HaveSameNames}
 use Rattle.fact_types.specs.Shapes.{k_record, k_variant, k_list, k_tuple, k_map, k_flags, k_enum, k_option, k_result, k_fixed, k_future, k_stream, Shape, s_plain, s_node, Members, no_members, bare, typed}
 use Rattle.fact_types.proofs.ShapeLaws.{same_some, none_some}
 use Rattle.fact_values.specs.declared.value.HandleKind.TheVariants.{Future, Stream}
@@ -16,7 +17,7 @@ use Rattle.fact_values.specs.Load.{entry_of}
 use Rattle.fact_values.specs.Opened.{fields_in, members_in, elements_in, map_entries_in, case_in}
 use Rattle.fact_values.specs.Places.{typed_names}
 use Rattle.fact_values.proofs.CarryLaws.{record_held, tuple_held, list_held, fixed_list_held, map_held, case_held, record_source, tuple_source, list_source, map_source, fixed_source, flags_source, enum_source, variant_source, option_source, result_source, future_source, stream_source, crosses_handle, crosses_plain}
-use Rattle.fact_values.proofs.FlagLaws.{flags_held, flags_are, same_names}
+use Rattle.fact_values.proofs.FlagLaws.{flags_held, flags_are, names_there}
 use Rattle.fact_values.proofs.IsALaws.{bytes_are, record_is, tuple_is, list_is, fixed_list_is, map_is, case_is}
 use Rattle.fact_values.proofs.StepLaws.{Crosses, crosses_give, crosses_map, crosses_some, crosses_also, crosses_weaker, crosses_pair}
 
@@ -286,10 +287,10 @@ case_crosses ms ns v h f =
     (crosses_weaker (f x vs has) (λ u c. case_is (λ x ps. HasCase ns x ps) x c.0 u c.2 c.1))
 
 -- flags of the same names
-flags_cross : (ms ns : Members) (v : Value) → names_of ms ≡ names_of ns → IsFlags ms (out-Value v) → Crosses (λ S ask. cross_flags ns v) Any (λ u. IsFlags ns (out-Value u))
+flags_cross : (ms ns : Members) (v : Value) → HaveSameNames ms ns → IsFlags ms (out-Value v) → Crosses (λ S ask. cross_flags ns v) Any (λ u. IsFlags ns (out-Value u))
 flags_cross ms ns v e h =
     let (fs, there, nm) = flags_held ms (out-Value v) h in
-    let n = same_names (names_of ns) fs (nm ∙ e) in
+    let n = names_there (names_of ns) fs (λ x c. subst (λ l. Contains l x) (sym nm) (e.asked x c)) in
     subst (λ o. Crosses (λ S ask. given o (λ fs. given (flags_named (names_of ns) fs) (λ gs. done_step (value.Flags gs)))) Any (λ u. IsFlags ns (out-Value u))) (sym there)
     (subst (λ o. Crosses (λ S ask. given o (λ gs. done_step (value.Flags gs))) Any (λ u. IsFlags ns (out-Value u))) (sym n.found)
     (crosses_give (value.Flags n.flags) tt (flags_are ns n.flags (value.Flags n.flags) n.names refl)))

@@ -3,7 +3,7 @@ use Rattle.fact_emit.specs.declared.places.Sides.{Sides}
 use Rattle.fact_emit.specs.Places.{slots_of_locals}
 use Rattle.fact_emit.specs.StringPieces.{AreSidesImported}
 use Rattle.fact_emit.proofs.SidesImported.{sides_same}
-use Rattle.fact_translate.specs.Asks.{AreSidesTold}
+use Rattle.fact_kinds.specs.Asks.{AreSidesTold}
 use Rattle.fact_compound.specs.Functions.{params_among}
 use Rattle.fact_compound.specs.Passing.{tuple_from, tuple_to}
 use Rattle.fact_compound.proofs.HelperBodies.{helper_body_by}

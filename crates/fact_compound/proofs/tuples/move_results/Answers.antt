@@ -2,7 +2,7 @@ use Rattle.std.proofs.Common.{refl, subst, sym}
 use Rattle.fact_emit.specs.declared.places.Sides.{Sides}
 use Rattle.fact_emit.specs.StringPieces.{AreSidesImported}
 use Rattle.fact_emit.proofs.SidesImported.{sides_later}
-use Rattle.fact_translate.specs.Asks.{AreSidesTold}
+use Rattle.fact_kinds.specs.Asks.{AreSidesTold}
 use Rattle.fact_compound.proofs.TuplesWritten.{moved_results}
 use Rattle.fact_compound.proofs.tuples.move_results.Goals as goal
 

@@ -15,27 +15,25 @@ use Rattle.fact_emit.specs.Places.{from_of, to_of}
 use Rattle.fact_emit.proofs.Emitting.{grew_on}
 use Rattle.fact_emit.proofs.RangedCode.{unreachable_ranged}
 use Rattle.fact_emit.proofs.SidesImported.{sides_later, sides_same}
-use Rattle.fact_translate.specs.MemberPairs.{members_at}
-use Rattle.fact_translate.specs.Moved.{CalledHelper, MovedNode}
-use Rattle.fact_translate.specs.declared.fuel.Fuel.{Fuel}
-use Rattle.fact_translate.specs.Translations.{place_of_source, place_of_target}
+use Rattle.fact_kinds.specs.MemberPairs.{members_at}
+use Rattle.fact_kinds.specs.Moved.{CalledHelper, MovedNode}
+use Rattle.fact_kinds.specs.declared.fuel.Fuel.{Fuel}
+use Rattle.fact_kinds.specs.Translations.{place_of_source, place_of_target}
 use Rattle.fact_translate.proofs.ElementRuns.{element_passed, elements_begin, elements_end}
 use Rattle.fact_translate.proofs.FixedMembers.{fixed_alone, fixed_locals_taken, fixed_moved, loop_at, loop_moved}
-use Rattle.fact_translate.proofs.ListMembers.{list_moved, list_alone, locals_taken}
+use Rattle.fact_kinds.proofs.ListMembers.{list_moved, list_alone, locals_taken}
 use Rattle.fact_translate.proofs.MapMembers.{map_alone, map_laid, map_moved}
-use Rattle.fact_translate.proofs.MemberPairs.{bare_pair, no_pair, pair_at, record_of_pairs, tuple_of_pairs}
-use Rattle.fact_translate.proofs.MemberRuns.{members_begin, member_passed, next_fits, next_member, pairs_moved}
+use Rattle.fact_kinds.proofs.MemberPairs.{bare_pair, no_pair, pair_at, record_of_pairs, tuple_of_pairs}
+use Rattle.fact_kinds.proofs.MemberRuns.{members_begin, member_passed, next_fits, next_member, pairs_moved}
 use Rattle.fact_emit.proofs.HandleMoves.{transfers_handles}
-use Rattle.fact_translate.proofs.HandleMoves.{handle_moved}
-use Rattle.fact_translate.proofs.Helped.{moved_in_place, value_called}
-use Rattle.fact_translate.proofs.NodeMoves.{value_moved, record_alone, tuple_alone, tuple_as_node, from_moved, scalar_moved, member_emits, member_missing}
+use Rattle.fact_kinds.proofs.HandleMoves.{handle_moved}
+use Rattle.fact_kinds.proofs.Helped.{moved_in_place, value_called}
+use Rattle.fact_kinds.proofs.NodeMoves.{value_moved, record_alone, tuple_alone, tuple_as_node, leaf_besides, leaf_moved, member_emits, member_missing}
 use Rattle.fact_translate.proofs.SumCases.{bare_case, pair_fits}
 use Rattle.fact_translate.proofs.SumEmits.{some_emits, payload_some, payload_alone, payload_none, case_moved, case_missing, bodies_begin, bodies_on, bodies_end, sum_by_emits, sum_around, variant_moved, variant_alone, option_moved, option_alone, result_moved, result_alone}
-use Rattle.fact_translate.proofs.StringMoves.{string_alone, string_moved}
-use Rattle.fact_translate.proofs.TypeKinds.{list_members, map_members}
+use Rattle.fact_kinds.proofs.TypeKinds.{list_members, map_members}
 use Rattle.fact_translate.proofs.products.+moving.Goals as goal
-use Rattle.fact_translate.proofs.Translating.{turns_from_stack, turns_in_memories, turns_to_stack}
-use Rattle.fact_translate.proofs.TranslatedShapes.{enum_leaf, flags_leaf}
+use Rattle.fact_kinds.proofs.Translating.{turns_from_stack, turns_in_memories, turns_to_stack}
 
 -- a node by what its two types are
 kinds_moved : {t : Tables} {from to kind kind' : InterfaceType} {sides : Sides} {src : From} {dst : To} {before after : Fuel} {first last : Writer} → from ≡ kind → to ≡ kind'
@@ -134,12 +132,6 @@ pub move_node-returns-in_ok-put-in_default-to-2 : goal.move_node-returns-in_ok-p
 move_node-returns-in_ok-put-in_default-to-2 t c =
     tuple_alone unreachable_ranged c.in-Tuple.i c.args.to c.in-Tuple.is c.in_default-to-2.not-Tuple c.in_ok-put-in_default-to-2.ensures
 
-pub move_node-returns-in_ok-move_flags-in-Flags : goal.move_node-returns-in_ok-move_flags-in-Flags
-move_node-returns-in_ok-move_flags-in-Flags t c = from_moved c.in-Flags.is (flags_leaf _ c.in-Flags.i) c.in_ok-move_flags-in-Flags.ensures
-
-pub move_node-returns-in_ok-move_enum-in-Enum : goal.move_node-returns-in_ok-move_enum-in-Enum
-move_node-returns-in_ok-move_enum-in-Enum t c = from_moved c.in-Enum.is (enum_leaf _ c.in-Enum.i) c.in_ok-move_enum-in-Enum.ensures
-
 pub move_node-returns-in_ok-put-in_default-to-3 : goal.move_node-returns-in_ok-put-in_default-to-3
 move_node-returns-in_ok-put-in_default-to-3 t c =
     variant_alone unreachable_ranged c.in-Variant.i c.args.to c.in-Variant.is c.in_default-to-3.not-Variant c.in_ok-put-in_default-to-3.ensures
@@ -164,16 +156,14 @@ pub move_node-returns-in_ok-put-in_default-to-8 : goal.move_node-returns-in_ok-p
 move_node-returns-in_ok-put-in_default-to-8 t c =
     fixed_alone unreachable_ranged c.in-FixedLengthList.i c.args.to c.in-FixedLengthList.is c.in_default-to-8.not-FixedLengthList c.in_ok-put-in_default-to-8.ensures
 
-pub move_node-returns-in_ok-move_string-in-String-to : goal.move_node-returns-in_ok-move_string-in-String-to
-move_node-returns-in_ok-move_string-in-String-to t c = string_moved c.in-String.is c.in-String-to.is c.in_ok-move_string-in-String-to.ensures
+pub move_node-move_leaf-requires-clause-leaf : goal.move_node-move_leaf-requires-clause-leaf
+move_node-move_leaf-requires-clause-leaf t c =
+    leaf_besides c.args.types.now c.in_default.not-Record c.in_default.not-Tuple c.in_default.not-Variant c.in_default.not-Option c.in_default.not-Result c.in_default.not-List c.in_default.not-Map c.in_default.not-FixedLengthList
 
-pub move_node-returns-in_ok-put-in_default-to-9 : goal.move_node-returns-in_ok-put-in_default-to-9
-move_node-returns-in_ok-put-in_default-to-9 t c = string_alone unreachable_ranged c.args.to c.in-String.is c.in_default-to-9.not-String c.in_ok-put-in_default-to-9.ensures
-
-pub move_node-returns-in_ok-move_scalar-in_default : goal.move_node-returns-in_ok-move_scalar-in_default
-move_node-returns-in_ok-move_scalar-in_default t c =
-    scalar_moved c.in_default.not-Record c.in_default.not-Tuple c.in_default.not-Flags c.in_default.not-Enum c.in_default.not-Variant c.in_default.not-Option c.in_default.not-Result c.in_default.not-List c.in_default.not-Map c.in_default.not-FixedLengthList c.in_default.not-String
-    c.requires.no_handle c.in_ok-move_scalar-in_default.ensures
+pub move_node-returns-in_ok-move_leaf-in_default : goal.move_node-returns-in_ok-move_leaf-in_default
+move_node-returns-in_ok-move_leaf-in_default t c =
+    leaf_moved (leaf_besides c.args.types.now c.in_default.not-Record c.in_default.not-Tuple c.in_default.not-Variant c.in_default.not-Option c.in_default.not-Result c.in_default.not-List c.in_default.not-Map c.in_default.not-FixedLengthList)
+    c.in_ok-move_leaf-in_default.ensures
 
 pub move_member-returns-in_ok-translate-in-Some : goal.move_member-returns-in_ok-translate-in-Some
 move_member-returns-in_ok-translate-in-Some t c =
@@ -252,7 +242,7 @@ move_sum-returns t c = sum_around c.in_ok-local.ensures c.in_ok-move_sum_by.ensu
 
 pub move_sum_by-returns : goal.move_sum_by-returns
 move_sum_by-returns t c =
-    sum_by_emits c.args.local c.reveal.ensures.sound c.requires.cases c.discriminant_number.ensures c.in_ok-read_number.ensures c.in_ok-put.ensures c.in_ok-bodies.ensures c.in_ok-put_cases.ensures
+    sum_by_emits c.args.local c.reveal.ensures.sound c.requires.cases c.discriminant_number-size.ensures c.in_ok-read_number.ensures c.in_ok-put.ensures c.in_ok-bodies.ensures c.in_ok-put_cases.ensures
 
 pub case_bodies-loop-case-init : goal.case_bodies-loop-case-init
 case_bodies-loop-case-init t c = (rw c.new-bodies.ensures.items bodies_begin, omega arith)
@@ -370,7 +360,7 @@ move_fixed_list-move_one_by_one-requires-in-Locals t c =
 
 pub move_fixed_list-returns-in_ok-move_by_loop-in-Memory-target : goal.move_fixed_list-returns-in_ok-move_by_loop-in-Memory-target
 move_fixed_list-returns-in_ok-move_by_loop-in-Memory-target t c =
-    fixed_moved (loop_at c.in-Memory.begin c.in-Memory-target.spot c.in-Memory.is c.in-Memory-target.is c.in_ok-move_by_loop-in-Memory-target.ensures)
+    fixed_moved (loop_at c.in-Memory.at c.in-Memory-target.spot c.in-Memory.is c.in-Memory-target.is c.in_ok-move_by_loop-in-Memory-target.ensures)
     (ap (λ (e : TypeFixedLengthList). e.size) (same_some _ c.index-3.result.now c.index-2.result.now c.index-3.ensures c.index-2.ensures))
     (turns_in_memories _ (ap place_of_source (ap (from_of c.args.sides.from) c.in-Memory.is)) (ap place_of_target (ap (to_of c.args.sides.to) c.in-Memory-target.is)))
     (record { some = c.byte_count.ensures.some; is = c.byte_count.ensures.is }) (record { some = c.byte_count-2.ensures.some; is = c.byte_count-2.ensures.is }) c.args.from c.args.to c.index.ensures c.index-2.ensures

@@ -4,7 +4,7 @@ use Rattle.fact_types.specs.Heights.{height}
 use Rattle.fact_emit.specs.Places.{from_of, to_of}
 use Rattle.fact_translate.specs.MovedSums.{WroteBodies, numbered_height, payload_height}
 use Rattle.fact_translate.proofs.ElementRuns.{ElementsRun}
-use Rattle.fact_translate.proofs.MemberRuns.{MembersRun}
+use Rattle.fact_kinds.proofs.MemberRuns.{MembersRun}
 use Rattle.fact_translate.proofs.products.+moving.Given as goal
 
 abbrev pub decreases-translate : goal.decreases-translate

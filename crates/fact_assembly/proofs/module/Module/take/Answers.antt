@@ -1,0 +1,69 @@
+use Rattle.std.proofs.Common.{[], ◌∷◌, ◌++◌, ap, sym, ◌∙◌, subst, refl}
+use Rattle.fact_types.specs.Tables.{IsSound, Tables}
+use Rattle.fact_plan_types.specs.PlanTypes.{told}
+use Rattle.fact_types.specs.Adapters.{LinkedAdapter}
+use Rattle.fact_checks.specs.Linked.{IsLinked, NamesTypesOf}
+use Rattle.fact_forms.specs.Sound.{HasValidSides}
+use Rattle.fact_assembly.specs.Collected.{Collected, taken_of}
+use Rattle.fact_assembly.specs.Taking.{IsSoundBehind}
+use Rattle.fact_assembly.proofs.TakeLaws.{extends-more, helpers-here, linkable-here, linked-of, made-more, refused-behind, sound-behind}
+use Rattle.fact_assembly.proofs.module.Module.take.Goals as goal
+
+pub returns-else-is_memory-clause-refused : goal.returns-else-is_memory-clause-refused
+returns-else-is_memory-clause-refused c = refused-behind _ _ _ c.self.inside.state.sections _ _ (told _) c.self.view_is c.self.invariant.0 c.requires.whole c.in-Err.ensures.refused
+
+pub emit-requires-clause-linkable : goal.emit-requires-clause-linkable
+emit-requires-clause-linkable c =
+    let whole = ap (λ (v : Collected). v.whole) c.self.view_is ∙ c.requires.whole in
+    let typed = subst (λ (v : Collected). NamesTypesOf v.builder c.args.candidate.now.adapter.now) (sym c.self.view_is) c.requires.typed in
+    let valid = subst (λ (v : Collected). (a : LinkedAdapter) → IsLinked v.builder c.args.candidate.now a → HasValidSides a) (sym c.self.view_is) c.requires.valid in
+    let sound = subst (λ (t : Tables). IsSound t) c.component_types.ensures c.reveal-2.ensures.sound in
+    linkable-here _ c.self.inside.checks c.check.new.self c.self.inside.state.sections c.self.inside.state.sections c.args.candidate.now c.self.invariant.0 whole sound typed valid c.in_default.ensures.sound
+
+pub emit-requires-clause-linked : goal.emit-requires-clause-linked
+emit-requires-clause-linked c =
+    let typed = subst (λ (v : Collected). NamesTypesOf v.builder c.args.candidate.now.adapter.now) (sym c.self.view_is) c.requires.typed in
+    let sound = subst (λ (t : Tables). IsSound t) c.component_types.ensures c.reveal-2.ensures.sound in
+    linked-of c.self.inside.state.builder.now sound c.args.candidate.now typed
+
+pub emit-requires-clause-helpers : goal.emit-requires-clause-helpers
+emit-requires-clause-helpers c =
+    let whole = ap (λ (v : Collected). v.whole) c.self.view_is ∙ c.requires.whole in
+    helpers-here _ c.self.inside.checks c.self.inside.state.sections c.self.invariant.0 whole
+
+pub invariant_of-self-in-Ok : goal.invariant_of-self-in-Ok
+invariant_of-self-in-Ok c =
+    let whole = ap (λ (v : Collected). v.whole) c.self.view_is ∙ c.requires.whole in
+    let typed = subst (λ (v : Collected). NamesTypesOf v.builder c.args.candidate.now.adapter.now) (sym c.self.view_is) c.requires.typed in
+    let valid = subst (λ (v : Collected). (a : LinkedAdapter) → IsLinked v.builder c.args.candidate.now a → HasValidSides a) (sym c.self.view_is) c.requires.valid in
+    let sound = subst (λ (t : Tables). IsSound t) c.component_types.ensures c.reveal-2.ensures.sound in
+    let kept = c.emit.ensures.keeps in
+    let made = made-more _ c.self.inside.checks c.check.new.self c.self.inside.state.sections c.emit.new.state.sections c.args.candidate.now c.self.invariant.0 whole sound typed valid c.in_default.ensures.sound
+    _ kept.builder kept.tunables kept.features c.in-Ok.ensures.taken c.in_default.ensures.builder c.in_default.ensures.concurrency c.in-Ok.ensures.emitted in
+    (made, c.self.invariant.1 ∙ sym kept.builder)
+
+pub returns-in-Ok-clause-taken : goal.returns-in-Ok-clause-taken
+returns-in-Ok-clause-taken c =
+    record {
+      taken = c.in-Ok.ensures.taken ∙ ap (λ (v : Collected). v.taken ++ taken_of c.args.candidate.now ∷ []) c.self.view_is;
+      whole = ap (λ (v : Collected). v.whole) c.self.view_is ∙ c.requires.whole;
+    }
+
+pub returns-in-Ok-clause-extends : goal.returns-in-Ok-clause-extends
+returns-in-Ok-clause-extends c =
+    let whole = ap (λ (v : Collected). v.whole) c.self.view_is ∙ c.requires.whole in
+    let typed = subst (λ (v : Collected). NamesTypesOf v.builder c.args.candidate.now.adapter.now) (sym c.self.view_is) c.requires.typed in
+    let valid = subst (λ (v : Collected). (a : LinkedAdapter) → IsLinked v.builder c.args.candidate.now a → HasValidSides a) (sym c.self.view_is) c.requires.valid in
+    let sound = subst (λ (t : Tables). IsSound t) c.component_types.ensures c.reveal-2.ensures.sound in
+    rw (← c.self.view_is)
+    (extends-more _ c.self.inside.checks c.check.new.self c.self.inside.state.sections c.emit.new.state.sections c.args.candidate.now c.self.invariant.0 whole sound typed valid c.in_default.ensures.sound
+    _ _ refl refl refl refl c.in-Ok.ensures.emitted)
+
+pub returns-in-Ok-clause-sound : goal.returns-in-Ok-clause-sound
+returns-in-Ok-clause-sound c =
+    let whole = ap (λ (v : Collected). v.whole) c.self.view_is ∙ c.requires.whole in
+    let typed = subst (λ (v : Collected). NamesTypesOf v.builder c.args.candidate.now.adapter.now) (sym c.self.view_is) c.requires.typed in
+    let valid = subst (λ (v : Collected). (a : LinkedAdapter) → IsLinked v.builder c.args.candidate.now a → HasValidSides a) (sym c.self.view_is) c.requires.valid in
+    let sound = subst (λ (t : Tables). IsSound t) c.component_types.ensures c.reveal-2.ensures.sound in
+    subst (λ (v : Collected). IsSoundBehind v c.args.candidate.now) c.self.view_is
+    (sound-behind _ c.self.inside.checks c.check.new.self c.self.inside.state.sections c.self.inside.state.sections c.args.candidate.now c.self.invariant.0 whole sound typed valid c.in_default.ensures.sound)

@@ -1,0 +1,12 @@
+pub mod Adapted
+pub mod Adding
+pub mod Collected
+pub mod Exports
+pub mod Faithful
+pub mod Holding
+pub mod InParts
+pub mod Links
+pub mod Order
+pub mod Outlines
+pub mod Taking
+pub mod Typed

@@ -1,0 +1,5 @@
+use Rattle.fact_emit.proofs.TakenLocals.{took_none, took_more, took_typed}
+use Rattle.fact_kinds.proofs.fixed.take_fixed_locals.Goals as goal
+
+pub returns : goal.returns
+returns c = took_more (took_typed c.address_type.ensures c.in_ok-source.ensures) (took_more (took_typed c.address_type-2.ensures c.in_ok-target.ensures) (took_more c.in_ok-left.ensures took_none))

@@ -1,0 +1,10 @@
+pub mod Asks
+pub mod FixedLists
+pub mod FlagPlaces
+pub mod Kinds
+pub mod Lists
+pub mod MemberPairs
+pub mod Moved
+pub mod MovedFixed
+pub mod Sums
+pub mod Translations

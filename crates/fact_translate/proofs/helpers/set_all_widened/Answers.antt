@@ -1,5 +1,0 @@
-use Rattle.fact_translate.proofs.HelperCodes.{took_begin}
-use Rattle.fact_translate.proofs.helpers.set_all_widened.Goals as goal
-
-pub loop-left-init : goal.loop-left-init
-loop-left-init c = took_begin _ _ _ _ c.min-left.ensures

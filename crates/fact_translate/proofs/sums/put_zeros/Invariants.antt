@@ -1,5 +1,0 @@
-use Rattle.fact_translate.proofs.ZeroCode.{ZerosLeft}
-use Rattle.fact_translate.proofs.sums.put_zeros.Given as goal
-
-abbrev pub invariant-loop-local : goal.invariant-loop-local
-invariant-loop-local l = ZerosLeft l.locals l.local-index l.fn.w l.w
