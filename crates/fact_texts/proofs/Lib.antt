@@ -33,6 +33,7 @@ mod Passes
 mod PastLimits
 mod RangeLaw
 mod Ranging
+mod Prefixes
 mod Reading
 mod Reallocs
 mod RequestCases

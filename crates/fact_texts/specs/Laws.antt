@@ -1,5 +1,5 @@
 -- Laws of texts in adapters: where transcoders alone answer honestly, in honest runs, and in those that are honest until a trap.
-use Rattle.std.specs.Prelude.{◌≡◌, ◌≢◌, ℕ, ◌/◌, ◌<◌, true, false, List, [], ◌∷◌, Some}
+use Rattle.std.specs.Prelude.{◌≡◌, ◌≢◌, ℕ, ◌/◌, ◌<◌, true, false, List, [], ◌∷◌, ◌++◌, Some}
 use Rattle.fact_types.specs.Adapters.{LinkedAdapter}
 use Rattle.fact_machine.specs.declared.types.CoreValue.{CoreValue}
 use Rattle.fact_types.specs.declared.import.Import.TheVariants as import
@@ -27,7 +27,7 @@ use Rattle.fact_moves.specs.Requests.{request_of, parts_requests, is_transcode, 
 use Rattle.fact_moves.specs.Running.{ImportPlaces, Call, Ended, Halted, calls_in, is_state, moved_weight, run}
 use Rattle.fact_moves.specs.Sides.{Source, Target, Transfer, options_of}
 use Rattle.fact_moves.specs.Strings.{PathPoint, form_in, most_string_bytes, move_string, walk}
-use Rattle.fact_carry.specs.Faithful.{IsFaithful, WhereGiven, IsInLimits, ComesToEnd, ParamsAreThere, params_given, weight_of_values, whole_weight}
+use Rattle.fact_carry.specs.Faithful.{IsFaithful, IsTransferred, WhereGiven, IsInLimits, ComesToEnd, ParamsAreThere, params_given, params_passed, weight_of_values, whole_weight}
 use Rattle.fact_carry.specs.FaithfulLaws.{quiet, IsCheckedAdapter, HasSyncSides, TextsMove}
 use Rattle.fact_carry.specs.TransferLaws.{results_handed, HandedAreThere, EndsInFew}
 use Rattle.fact_carry.specs.Law.{HasPointers}
@@ -143,6 +143,15 @@ CheckedReturnsComeToEnd =
     (p : ImportPlaces) (u : AdapterTunables) (a : LinkedAdapter) (args : List CoreValue) (w : World)
     → ResultsPassChecks u a args → IsCheckedAdapter p a → IsHonestReturn p a args w.state (run p (async_return u a args) w)
     → HandedAreThere p a args w.state → IsAreaSound p a args w.state → EndsInFew (weight_of_values a.lift.results (results_handed p a args w.state)) (run p (async_return u a args) w)
+
+-- Without debug checks, the callee of a run whose answers before its call are honest is given the parameters, carried to its types: where it answers,
+-- and where it is answered by a trap too.
+abbrev pub CalleesAreGiven : Type 0
+CalleesAreGiven =
+    (p : ImportPlaces) (u : AdapterTunables) (a : LinkedAdapter) (args : List CoreValue) (w : World)
+    → u.debug ≡ false → flag_in p a.lower.instance w.state.globals ≢ I32 0 → IsCheckedAdapter p a → HasSyncSides a → IsHonestUntilTrap p a args w.state (ended_sync p u a args w)
+    → (before : List Call) (callee : Call) (behind : List Call) → calls_in (ended_sync p u a args w) ≡ before ++ (callee ∷ behind) → callee.what ≡ import.CoreDef a.callee
+    → IsTransferred a.lower.params a.lift.params (params_given p a args w.state) (params_passed p a callee) before
 
 -- ---- debug checks
 

@@ -5,6 +5,7 @@ use Rattle.fact_texts.proofs.Means.{transcoders_need_means}
 use Rattle.fact_texts.proofs.PastLimits.{limits_are_those_of_paths, long_walks_trap, texts_past_limits_trap, some_texts_outgrow}
 use Rattle.fact_texts.proofs.Requests.{requests_are_called_for}
 use Rattle.fact_texts.proofs.FirstRequest.{first_request_is_called_for}
+use Rattle.fact_texts.proofs.Prefixes.{callees_are_given}
 use Rattle.fact_texts.proofs.Trapped.{answers_are_so_far}
 use Rattle.fact_texts.proofs.FlaggedRequests.{start_requests_are_called_for, return_requests_are_called_for}
 use Rattle.fact_texts.proofs.laws.laws_of_texts.Goals as goal
@@ -37,4 +38,5 @@ returns c = record {
   return_requests_are_called_for = return_requests_are_called_for;
   first_request_is_called_for = first_request_is_called_for;
   answers_are_so_far = answers_are_so_far;
+  callees_are_given = callees_are_given;
 }
