@@ -5,6 +5,7 @@ pub mod FewCalls
 pub mod FineRuns
 pub mod Fronts
 pub mod FunctionRuns
+pub mod GoingOn
 pub mod ImportNumbers
 pub mod LoggedImports
 pub mod NamedImports

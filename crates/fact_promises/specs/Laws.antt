@@ -1,10 +1,10 @@
 -- Laws of the runs of adapters.
-use Rattle.std.specs.Prelude.{◌≡◌, ◌≢◌, ◌⊎◌, ℕ, ◌+◌, ◌*◌, ◌≤◌, List, None, filter, length, slice_get}
+use Rattle.std.specs.Prelude.{◌≡◌, ◌≢◌, ◌⊎◌, ℕ, zero, suc, ◌+◌, ◌*◌, ◌≤◌, List, [], ◌∷◌, ◌++◌, None, filter, length, slice_get}
 use Rattle.fact_wasm.specs.declared.module.WasmModule.{WasmModule}
 use Rattle.fact_wasm.specs.declared.types.ValType.{ValType}
 use Rattle.fact_machine.specs.declared.types.Answer.{Answer}
 use Rattle.fact_machine.specs.declared.types.CoreValue.{CoreValue}
-use Rattle.fact_machine.specs.declared.types.End.TheVariants.{Going}
+use Rattle.fact_machine.specs.declared.types.End.TheVariants.{Going, Lacks}
 use Rattle.fact_machine.specs.declared.types.MachineState.{MachineState}
 use Rattle.fact_machine.specs.Causes.{answers_of}
 use Rattle.fact_machine.specs.Machine.{run_of}
@@ -80,6 +80,28 @@ abbrev pub RunsStayShort : Type 0
 RunsStayShort =
     (m : WasmModule) (is : List Import) (u : AdapterTunables) (a : LinkedAdapter) (f : ℕ) (args : List CoreValue) (before : MachineState) (answers : List Answer)
     → Behaves m is u a f → IsAnswered m is u a f args before answers → StaysShort m is a f args before answers
+
+-- ---- runs that lack an answer
+
+-- Answers to an adapter's function as `IsAnswered` says, the values of which weigh at most so much. Wherever the run lacks one more, there is one
+-- of which something holds.
+pub record IsFollowed (m : WasmModule) (is : List Import) (u : AdapterTunables) (a : LinkedAdapter) (f : ℕ) (args : List CoreValue) (before : MachineState) (most : ℕ) (answers : List Answer) (More : Answer → Type 0) : Type 0 where
+  pub answered : IsAnswered m is u a f args before answers
+  pub light : (steps : ℕ) (calls : List Call) → AreCalls m is (run_of m f args before answers steps).log calls → whole_weight (places_in m is) a args before calls ≤ most
+  pub next : (steps : ℕ) → (run_of m f args before answers steps).end ≡ Lacks → (answer : Answer) × More answer
+
+-- So it is, so many times, with each next answer behind those before.
+abbrev pub GoesOnFor : WasmModule → List Import → AdapterTunables → LinkedAdapter → ℕ → List CoreValue → MachineState → (most times : ℕ) → List Answer → Type 0
+GoesOnFor m is u a f args before most zero answers = Unit {0}
+GoesOnFor m is u a f args before most (suc times) answers = IsFollowed m is u a f args before most answers (λ answer. GoesOnFor m is u a f args before most times (answers ++ answer ∷ []))
+
+-- Where a run could go on so as often as its values account for calls, it is over within the steps that they account for, also where an answer
+-- is lacking: with all that it lacks it would return within them.
+abbrev pub LackingRunsEndSoon : Type 0
+LackingRunsEndSoon =
+    (m : WasmModule) (is : List Import) (u : AdapterTunables) (a : LinkedAdapter) (f : ℕ) (args : List CoreValue) (before : MachineState) (most : ℕ) (answers : List Answer)
+    → Behaves m is u a f → GoesOnFor m is u a f args before most (2 + 30 * (most + 1)) answers
+    → IsOver (run_of m f args before answers (1000 * (most + 1))).end
 
 -- ---- one number of steps for all
 

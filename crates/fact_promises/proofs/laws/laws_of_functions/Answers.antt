@@ -4,6 +4,7 @@ use Rattle.fact_promises.proofs.AtOne.{answered_at_one, part_answered_at_one, ty
 use Rattle.fact_promises.proofs.Behaviour.{functions_behave}
 use Rattle.fact_promises.proofs.EntryFunctions.{entry_functions_hand_over}
 use Rattle.fact_promises.proofs.FewCalls.{no_second_call, runs_stay_short}
+use Rattle.fact_promises.proofs.GoingOn.{lacking_runs_end_soon}
 use Rattle.fact_promises.proofs.ImportNumbers.{named_log}
 use Rattle.fact_promises.proofs.LoggedImports.{run_told}
 use Rattle.fact_promises.proofs.PartFunctions.{part_functions_transfer}
@@ -19,6 +20,7 @@ returns c = record {
   events_are_named = λ m is adapters f args before answers steps names. named_log m is (mentions adapters) names.named (run_of m f args before answers steps).log (run_told m f args before answers steps);
   no_second_call = no_second_call;
   runs_stay_short = runs_stay_short;
+  lacking_runs_end_soon = lacking_runs_end_soon;
   typed_at_one = typed_at_one;
   answered_at_one = answered_at_one;
   part_answered_at_one = part_answered_at_one;
