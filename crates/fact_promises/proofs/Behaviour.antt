@@ -1,9 +1,10 @@
 -- A function that does its adapter's action behaves. Where a run has ended, and is typed there, it is what the action comes to; so
 -- each law of the actions of adapters is one of its runs.
-use Rattle.std.proofs.Common.{◌≡◌, ◌≢◌, ℕ, ◌+◌, ◌*◌, ◌≤◌, true, List, [], Some, sym, ap, ◌∙◌, subst, arith, inl, inr, length, map, reverse, ◌++◌}
+use Rattle.std.proofs.Common.{◌≡◌, ◌≢◌, ℕ, ◌+◌, ◌*◌, ◌≤◌, true, false, List, [], ◌∷◌, Some, sym, ap, ◌∙◌, subst, arith, inl, inr, length, map, reverse, ◌++◌}
 use Rattle.fact_wasm.specs.declared.module.WasmModule.{WasmModule}
 use Rattle.fact_machine.specs.declared.types.Answer.{Answer}
 use Rattle.fact_machine.specs.declared.types.CoreValue.{CoreValue}
+use Rattle.fact_machine.specs.declared.types.CoreValue.TheVariants.{I32}
 use Rattle.fact_machine.specs.declared.types.End.{End}
 use Rattle.fact_machine.specs.declared.types.End.TheVariants.{Returned, Going, Stuck}
 use Rattle.fact_machine.specs.declared.types.Event.{Event}
@@ -16,12 +17,13 @@ use Rattle.fact_machine.specs.World.{Trap, Throw, Lack, calls}
 use Rattle.fact_machine.proofs.Grows.{run_log}
 use Rattle.fact_machine.proofs.Laws.{IsOver as HasEnded, over_or_going}
 use Rattle.fact_types.specs.declared.import.Import.{Import}
+use Rattle.fact_types.specs.declared.import.Import.TheVariants as import
 use Rattle.fact_types.specs.Adapters.{LinkedAdapter}
 use Rattle.fact_moves.specs.Adapters.{AdapterTunables, lower_signature_of}
 use Rattle.fact_moves.specs.Confined.{AreOwnWrites, AreRangedSync, HaveHonestTranscoders, room_in}
 use Rattle.fact_moves.specs.Honest.{IsHonestFrom, IsHonestRun, IsStraight}
 use Rattle.fact_moves.specs.Laws.{call_event}
-use Rattle.fact_moves.specs.Order.{AreOrderedCalls}
+use Rattle.fact_moves.specs.Order.{AreOrderedCalls, flag_in}
 use Rattle.fact_moves.specs.Plain.{ended_sync, named_outcome}
 use Rattle.fact_moves.specs.Regions.{landed, params_landing, sync_moved_on}
 use Rattle.fact_moves.specs.Running.{Call, Ended, Gave, Halted, Strayed, calls_in, is_state, moved_weight, world_in}
@@ -30,7 +32,7 @@ use Rattle.fact_moves.proofs.Confines.{confined}
 use Rattle.fact_moves.proofs.Ordered.{ordered_calls}
 use Rattle.fact_moves.proofs.Stays.{typed_runs_stay}
 use Rattle.fact_pieces.specs.Runs.{RunReturns, RunsAs}
-use Rattle.fact_carry.specs.Faithful.{IsFaithful, IsInLimits, WhereGiven, whole_weight}
+use Rattle.fact_carry.specs.Faithful.{IsFaithful, IsInLimits, IsTransferred, WhereGiven, params_given, params_passed, whole_weight}
 use Rattle.fact_carry.proofs.Ending.{honest_returned}
 use Rattle.fact_carry.proofs.Stopping.{AreReturned}
 use Rattle.fact_texts.specs.Answerable.{CanBeAnswered}
@@ -40,6 +42,7 @@ use Rattle.fact_texts.proofs.AdapterRanges.{transcoders_are_ranged, transcoders_
 use Rattle.fact_texts.specs.PassingChecks.{PassChecks}
 use Rattle.fact_texts.proofs.ChecksPass.{adapters_come_to_end}
 use Rattle.fact_texts.proofs.Finished.{adapters_are_faithful, adapters_weigh}
+use Rattle.fact_texts.proofs.Prefixes.{callees_are_given}
 use Rattle.fact_texts.proofs.Requests.{requests_are_called_for}
 use Rattle.fact_promises.specs.Functions.{IsAdapterFunction, core_results, start_results}
 use Rattle.fact_promises.specs.Laws.{FunctionsBehave}
@@ -253,6 +256,15 @@ module _ (m : WasmModule) (is : List Import) (u : AdapterTunables) (a : LinkedAd
           let requested = requests_are_called_for (places_in m is) u a args (first_world before (its_answers m f args before answers steps)) h.checked honest_end in
           subst (HasAsked (places_in m is) u a args before Going) (sym same) (asked_so_far (so_far steps) e.goes_straight requested)
 
+  passes : (steps : ℕ) (honest : IsHonestToTrapSoFar m is a args before (at steps).log) → u.debug ≡ false → flag_in (places_in m is) a.lower.instance before.globals ≢ I32 0
+      → (front : List Call) (callee : Call) (behind : List Call) → honest.calls ≡ front ++ (callee ∷ behind) → callee.what ≡ import.CoreDef a.callee
+      → IsTransferred a.lower.params a.lift.params (params_given (places_in m is) a args before) (params_passed (places_in m is) a callee) front
+  passes steps honest off may front callee behind parted called =
+      let e = called_so_far steps honest.typed in
+      let same = e.its_calls honest.calls honest.are_calls in
+      callees_are_given (places_in m is) u a args (first_world before (its_answers m f args before answers steps)) off may h.checked h.sync_sides
+      (honest_at (so_far steps) steps honest.typed e.goes_straight honest.calls same honest.honest) front callee behind (sym same ∙ parted) called
+
   -- ---- traps
 
   calls_no_trap : (steps : ℕ) (honest : IsHonestSoFar m is a args before (at steps).log) → IsOver (at steps).end → CallNoTrap honest.calls
@@ -295,6 +307,7 @@ functions_behave m is u a adapters f h = record {
   takes_few_steps = λ args before answers steps results honest returns. takes_few_steps m is u a adapters f h args before answers steps results honest returns;
   is_ordered = λ args before answers steps results calls typed are returns. is_ordered m is u a adapters f h args before answers steps results typed returns calls are;
   asks = λ args before answers steps honest. asks m is u a adapters f h args before answers steps honest;
+  passes = λ args before answers steps honest off may front callee behind parted called. passes m is u a adapters f h args before answers steps honest off may front callee behind parted called;
   calls_no_trap = λ args before answers steps honest over. calls_no_trap m is u a adapters f h args before answers steps honest over;
   is_confined = λ args before answers steps cs typed are. is_confined m is u a adapters f h args before answers steps typed cs are;
   is_ranged = λ args before answers steps cs typed are honest. is_ranged m is u a adapters f h args before answers steps cs typed are honest;

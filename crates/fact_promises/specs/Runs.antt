@@ -1,5 +1,5 @@
 -- What is promised of the runs of an adapter's function in the machine: what they do, and what they carry.
-use Rattle.std.specs.Prelude.{◌≡◌, ◌≢◌, ◌⊎◌, ℕ, ◌+◌, ◌*◌, ◌≤◌, Bool, true, false, List, [], All, filter, length}
+use Rattle.std.specs.Prelude.{◌≡◌, ◌≢◌, ◌⊎◌, ℕ, ◌+◌, ◌*◌, ◌≤◌, Bool, true, false, List, [], ◌∷◌, ◌++◌, All, filter, length}
 use Rattle.std.specs.List.{AllZip}
 use Rattle.fact_wasm.specs.declared.module.WasmModule.{WasmModule}
 use Rattle.fact_wasm.specs.declared.types.ValType.{ValType}
@@ -27,7 +27,7 @@ use Rattle.fact_moves.specs.Plain.{NamedOutcome, sync_outcome}
 use Rattle.fact_moves.specs.Regions.{landed, params_landing, sync_moved_on}
 use Rattle.fact_moves.specs.Running.{ImportPlaces, Call}
 use Rattle.fact_pieces.specs.Runs.{IsPlainRun, numbered_outcome}
-use Rattle.fact_carry.specs.Faithful.{IsFaithful, IsInLimits, whole_weight}
+use Rattle.fact_carry.specs.Faithful.{IsFaithful, IsInLimits, IsTransferred, params_given, params_passed, whole_weight}
 use Rattle.fact_texts.specs.Answerable.{CanBeAnswered}
 use Rattle.fact_texts.specs.Requested.{AreFinished, AreSoFar}
 use Rattle.fact_texts.specs.Trapped.{AreHonestUntilTrap}
@@ -136,6 +136,12 @@ pub record Behaves (m : WasmModule) (is : List Import) (u : AdapterTunables) (a 
   pub asks : (args : List CoreValue) (before : MachineState) (answers : List Answer) (steps : ℕ)
       → (h : IsHonestToTrapSoFar m is a args before (run_of m f args before answers steps).log)
       → HasAsked (places_in m is) u a args before (run_of m f args before answers steps).end h.calls
+  -- Without debug checks, the callee of such a run was given the arguments, carried to its types, be it the one that was answered by a trap.
+  pub passes : (args : List CoreValue) (before : MachineState) (answers : List Answer) (steps : ℕ)
+      → (h : IsHonestToTrapSoFar m is a args before (run_of m f args before answers steps).log)
+      → u.debug ≡ false → flag_in (places_in m is) a.lower.instance before.globals ≢ I32 0
+      → (front : List Call) (callee : Call) (behind : List Call) → h.calls ≡ front ++ (callee ∷ behind) → callee.what ≡ import.CoreDef a.callee
+      → IsTransferred a.lower.params a.lift.params (params_given (places_in m is) a args before) (params_passed (places_in m is) a callee) front
   -- Where an honest run returned, or an answer is lacking, it has called no trap.
   pub calls_no_trap : (args : List CoreValue) (before : MachineState) (answers : List Answer) (steps : ℕ)
       → (h : IsHonestSoFar m is a args before (run_of m f args before answers steps).log)

@@ -33,7 +33,7 @@ mod Passes
 mod PastLimits
 mod RangeLaw
 mod Ranging
-mod Prefixes
+pub mod Prefixes
 mod Reading
 mod Reallocs
 mod RequestCases
