@@ -67,7 +67,7 @@ flat_map_length F g Is h (x ∷ xs) all = omega (arith, length-append (F x) (fla
 -- ---- what is known of fields and cases of values
 
 -- the field of a name
-member_named : (ms : Members) (vs : List Value) (x : List ℕ) (s : Shape) (v : Value) → AreTyped ms → AreMembers ms vs → named x ms ≡ Some s → value_named x (zip (typed_names ms) vs) ≡ Some v → IsA s v
+pub member_named : (ms : Members) (vs : List Value) (x : List ℕ) (s : Shape) (v : Value) → AreTyped ms → AreMembers ms vs → named x ms ≡ Some s → value_named x (zip (typed_names ms) vs) ≡ Some v → IsA s v
 unfolding AreMembers
 member_named no_members vs x s v t are e f = absurd (none_some None s refl e)
 member_named (bare n ms) vs x s v t are e f = absurd t
@@ -79,7 +79,7 @@ member_named (typed n u ms) (w ∷ vs) x s v t are e f = go (bytes_eq n x) e f (
     go false e f more = more e f
 
 -- what is known of a field
-named_known : (x : List ℕ) (ms : Members) → AreRuled ms → AreWellFormed ms → (s : Shape) → named x ms ≡ Some s → IsRuled s × IsWellFormed s
+pub named_known : (x : List ℕ) (ms : Members) → AreRuled ms → AreWellFormed ms → (s : Shape) → named x ms ≡ Some s → IsRuled s × IsWellFormed s
 named_known x no_members r f s e = absurd (none_some None s refl e)
 named_known x (bare n ms) r f s e = named_known x ms r f s e
 named_known x (typed n u ms) r f s e = go (bytes_eq n x) e (named_known x ms r.1 f.1 s)
@@ -126,7 +126,7 @@ case_number (typed n s ms) x vs h = go (bytes_eq n x) refl h (λ h. case_number 
     go true e h more = record { number = 0; case = record { name = n; payload = Some s }; is = refl; name = (bytes_eq-Decides n x).0 e; payload = one_payload s vs h }
     go false e h more = numbered_typed n s ms x vs (more h)
 
-zip_parts : (fs : List (List ℕ × Value)) → zip (map (λ f. f.0) fs) (map (λ f. f.1) fs) ≡ fs
+pub zip_parts : (fs : List (List ℕ × Value)) → zip (map (λ f. f.0) fs) (map (λ f. f.1) fs) ≡ fs
 zip_parts [] = refl
 zip_parts (f ∷ fs) = ap (λ l. f ∷ l) (zip_parts fs)
 

@@ -184,16 +184,16 @@ module _ (c : TransferSetting) (n : ℕ) (s u : Shape) (formed_s : IsWellFormed 
   to_size : size_on c.transfer.to to_kind ≡ n * f
   to_size = fixed_size (width_of_side c.transfer.to) (layout_of u) n ∙ ap (λ x. n * x.size) (sym (to_extent c s u))
 
-  fixed_source : (src : Source) → IsSource c (length (flat (width_of_side c.transfer.from) from_kind)) src → IsSource c (n * flats_from c (one [] s) (one [] u)) src
+  pub fixed_source : (src : Source) → IsSource c (length (flat (width_of_side c.transfer.from) from_kind)) src → IsSource c (n * flats_from c (one [] s) (one [] u)) src
   fixed_source src h = subst (λ k. IsSource c k src) (length-times n (flat_members (width_of_side c.transfer.from) (one [] s))) h
 
   -- the value of a list at a source
-  record FixedTaken (src : Source) (v : Value) : Type 0 where
-    values : List Value
-    spans : spans_taken c (one [] s) (one [] u) e f n src ≡ Some (map row values)
-    is : value.List values ≡ v
+  pub record FixedTaken (src : Source) (v : Value) : Type 0 where
+    pub values : List Value
+    pub spans : spans_taken c (one [] s) (one [] u) e f n src ≡ Some (map row values)
+    pub is : value.List values ≡ v
 
-  fixed_taken : (src : Source) (v : Value) → IsSource c (n * flats_from c (one [] s) (one [] u)) src → value_at_source c from_kind src ≡ Some v → FixedTaken src v
+  pub fixed_taken : (src : Source) (v : Value) → IsSource c (n * flats_from c (one [] s) (one [] u)) src → value_at_source c from_kind src ≡ Some v → FixedTaken src v
   unfolding load lift_leading lift_element load_element
   fixed_taken (Values vs) v is h =
       let r = mapped (each_of n (length (flat (width_of_side c.transfer.from) s)) (λ cs. lift_leading (from_side c) c.source s cs) vs) (λ vs. value.List vs) v h in

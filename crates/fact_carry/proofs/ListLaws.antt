@@ -148,7 +148,7 @@ pub record ListTaken (c : TransferSetting) (s : Shape) (src : Source) (v : Value
   pub elements : ElementsOf c.source (extent (width_of_side c.transfer.from) (layout_of s)) (λ a. load_element (from_side c) c.source (one [] s) a) pair values
   pub is : value.List values ≡ v
 
-list_taken : (c : TransferSetting) (s : Shape) (src : Source) (v : Value) → value_at_source c (s_node k_list (one [] s)) src ≡ Some v → ListTaken c s src v
+pub list_taken : (c : TransferSetting) (s : Shape) (src : Source) (v : Value) → value_at_source c (s_node k_list (one [] s)) src ≡ Some v → ListTaken c s src v
 unfolding load lift_leading load_element
 list_taken c s (Values vs) v h =
     let q = both (leading_pair (from_side c) vs) _ v h in

@@ -129,7 +129,7 @@ pub record MapTaken (c : TransferSetting) (ms : Members) (src : Source) (v : Val
   pub elements : ElementsOf c.source (entry_extent c.transfer.from ms) (entry_at (from_side c) c.source ms) pair entries
   pub is : value.Map entries ≡ v
 
-map_taken : (c : TransferSetting) (ms : Members) (src : Source) (v : Value) → value_at_source c (s_node k_map ms) src ≡ Some v → MapTaken c ms src v
+pub map_taken : (c : TransferSetting) (ms : Members) (src : Source) (v : Value) → value_at_source c (s_node k_map ms) src ≡ Some v → MapTaken c ms src v
 unfolding load lift_leading load_members
 map_taken c ms (Values vs) v h =
     let q = both (leading_pair (from_side c) vs) _ v h in

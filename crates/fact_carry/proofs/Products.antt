@@ -51,7 +51,7 @@ fields_of fs = ap fields_in (value.outs-Record fs)
 
 -- ---- records
 
-record_taken : (c : TransferSetting) (ms : Members) (s : Source) (v : Value) → value_at_source c (s_node k_record ms) s ≡ Some v → Mapped (members_taken c ms s) (λ vs. value.Record (zip (typed_names ms) vs)) v
+pub record_taken : (c : TransferSetting) (ms : Members) (s : Source) (v : Value) → value_at_source c (s_node k_record ms) s ≡ Some v → Mapped (members_taken c ms s) (λ vs. value.Record (zip (typed_names ms) vs)) v
 unfolding load lift_leading
 record_taken c ms (Values vs) v h = mapped (members_taken c ms (Values vs)) (λ vs. value.Record (zip (typed_names ms) vs)) v h
 record_taken c ms (AtAddress a) v h = mapped (members_taken c ms (AtAddress a)) (λ vs. value.Record (zip (typed_names ms) vs)) v h
@@ -124,7 +124,7 @@ record_law c g ms ns fields weights = record {
 pub members_of_tuple : (vs : List Value) → members_in (out-Value (value.Tuple vs)) ≡ Some vs
 members_of_tuple vs = ap members_in (value.outs-Tuple vs)
 
-tuple_taken : (c : TransferSetting) (ms : Members) (s : Source) (v : Value) → value_at_source c (s_node k_tuple ms) s ≡ Some v → Mapped (members_taken c ms s) (λ vs. value.Tuple vs) v
+pub tuple_taken : (c : TransferSetting) (ms : Members) (s : Source) (v : Value) → value_at_source c (s_node k_tuple ms) s ≡ Some v → Mapped (members_taken c ms s) (λ vs. value.Tuple vs) v
 unfolding load lift_leading
 tuple_taken c ms (Values vs) v h = mapped (members_taken c ms (Values vs)) (λ vs. value.Tuple vs) v h
 tuple_taken c ms (AtAddress a) v h = mapped (members_taken c ms (AtAddress a)) (λ vs. value.Tuple vs) v h

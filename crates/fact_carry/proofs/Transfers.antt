@@ -93,7 +93,7 @@ slots_hold b limit ss ts h = go (flat_each (width b) ss) refl h
 
 -- ---- leading core values
 
-take_within : {A : Type 0} (n k : ℕ) (vs xs : List A) → k + n ≤ length vs → take n (drop k (vs ++ xs)) ≡ take n (drop k vs)
+pub take_within : {A : Type 0} (n k : ℕ) (vs xs : List A) → k + n ≤ length vs → take n (drop k (vs ++ xs)) ≡ take n (drop k vs)
 take_within n k vs xs le = ap (take n) (drop-append-le k vs xs (omega (arith, le))) ∙ take-append-le n (drop k vs) xs (omega (arith, length-drop k vs, le))
 
 -- fields are moved from those core values that stand for them, whatever is behind

@@ -146,7 +146,7 @@ payload_one : (read : Shape → Option Value) (q : Option Shape) (ps : List Valu
 payload_one read None ps p = p
 payload_one read (Some s) ps p = (p.0, p.1)
 
-sum_taken : {k : Kind} → SumKind k → (c : TransferSetting) (ms : Members) (s : Source) (v : Value) → AreWellFormed ms → IsSource c (length (flat (width_of_side c.transfer.from) (s_node k ms))) s → value_at_source c (s_node k ms) s ≡ Some v → SumTaken c ms s v
+pub sum_taken : {k : Kind} → SumKind k → (c : TransferSetting) (ms : Members) (s : Source) (v : Value) → AreWellFormed ms → IsSource c (length (flat (width_of_side c.transfer.from) (s_node k ms))) s → value_at_source c (s_node k ms) s ≡ Some v → SumTaken c ms s v
 sum_taken {k} kind c ms (AtAddress a) v formed is h =
     let b = both (number_in c.source (case_bytes ms) a) _ v (sym (loads_sum kind (from_side c) c.source ms a) ∙ h) in
     let r = case_is (λ s. load (from_side c) c.source s (a + payload_place (from_side c) ms)) ms b.mid v (sym (loads_by (from_side c) c.source ms b.mid (a + payload_place (from_side c) ms)) ∙ b.last) in

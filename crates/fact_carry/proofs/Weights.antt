@@ -103,7 +103,7 @@ in_removed x z [] ne h = h
 in_removed x z (y ∷ ys) ne h = stays_by x z y ys (bytes_eq y x) refl ne h (in_removed x z ys ne)
 
 -- distinct names among others weigh no more
-less_of : (g : List ℕ → ℕ) (xs ys : List (List ℕ)) → AreDistinct xs → ((z : List ℕ) → In z xs → In z ys) → sum_by g xs ≤ sum_by g ys
+pub less_of : (g : List ℕ → ℕ) (xs ys : List (List ℕ)) → AreDistinct xs → ((z : List ℕ) → In z xs → In z ys) → sum_by g xs ≤ sum_by g ys
 less_of g [] ys d f = omega arith
 less_of g (x ∷ xs) ys d f =
     let r = less_of g xs (removed x ys) (distinct_later x xs d) (λ z h. in_removed x z ys (λ e. apart z h e) (f z (inr h))) in
@@ -134,7 +134,7 @@ named_in x (typed y t ms) s h = go (bytes_eq y x) refl h (named_in x ms s)
     go true e h more = inl ((bytes_eq-Decides y x).0 e)
     go false e h more = inr (more h)
 
-fields_in_source : (ms ns : Members) (z : List ℕ) → AreTyped ns → AgreesFields ms ns → In z (names_of ns) → In z (names_of ms)
+pub fields_in_source : (ms ns : Members) (z : List ℕ) → AreTyped ns → AgreesFields ms ns → In z (names_of ns) → In z (names_of ms)
 fields_in_source ms no_members z t a h = absurd h
 fields_in_source ms (bare x ns) z t a h = absurd t
 fields_in_source ms (typed x u ns) z t a (inl h) = there (named x ms) refl a.0

@@ -28,6 +28,7 @@ mod IntoUtf8
 mod Invariant
 mod Limited
 mod PartAsks
+pub mod PartRooms
 mod Means
 mod Passes
 mod PastLimits
@@ -37,6 +38,7 @@ pub mod Prefixes
 mod Reading
 mod Reallocs
 mod RequestCases
+pub mod RequestRooms
 pub mod Requests
 mod Served
 mod SparedMoves
@@ -47,11 +49,13 @@ mod Splits
 mod Stages
 mod States
 mod TextLaw
+mod TextRooms
 pub mod Thrown
 mod Trails
 mod Trapped
 mod Transfers
 mod Trapping
+pub mod TupleRooms
 mod TypedTexts
 mod Unread
 mod WalkAsks

@@ -1,6 +1,9 @@
 -- Laws of texts in adapters: where transcoders alone answer honestly, in honest runs, and in those that are honest until a trap.
-use Rattle.std.specs.Prelude.{◌≡◌, ◌≢◌, ℕ, ◌/◌, ◌<◌, true, false, List, [], ◌∷◌, ◌++◌, Some}
+use Rattle.std.specs.Prelude.{◌≡◌, ◌≢◌, ℕ, ◌+◌, ◌/◌, ◌<◌, ◌≤◌, true, false, List, [], ◌∷◌, ◌++◌, length, get_or, Some}
 use Rattle.fact_types.specs.Adapters.{LinkedAdapter}
+use Rattle.fact_types.specs.FlatShapes.{flat}
+use Rattle.fact_types.specs.Shapes.{Shape}
+use Rattle.fact_types.specs.Tuples.{tuple_members}
 use Rattle.fact_machine.specs.declared.types.CoreValue.{CoreValue}
 use Rattle.fact_types.specs.declared.import.Import.TheVariants as import
 use Rattle.fact_types.specs.declared.outside.CoreDef.{CoreDef}
@@ -10,35 +13,40 @@ use Rattle.fact_machine.specs.declared.types.Answer.TheVariants.{Traps}
 use Rattle.fact_machine.specs.declared.types.CoreValue.TheVariants.{I32}
 use Rattle.fact_machine.specs.declared.types.MachineState.{MachineState}
 use Rattle.fact_machine.specs.Trace.{Grows}
+use Rattle.fact_machine.specs.Typed.{are_values}
 use Rattle.fact_machine.specs.World.{World, Stop}
+use Rattle.fact_values.specs.declared.value.Value.{Value}
 use Rattle.fact_values.specs.Limits.{most_units}
 use Rattle.fact_values.specs.Places.{Pair}
 use Rattle.fact_values.specs.Texts.{AreSpelled, form_of, units_of_text}
+use Rattle.fact_values.specs.Tuples.{lift_result_values}
 use Rattle.fact_moves.specs.Actions.{trap}
-use Rattle.fact_moves.specs.Adapters.{AdapterTunables, params_transfer, results_transfer, move_params, move_results, async_start, async_return}
-use Rattle.fact_moves.specs.Calls.{HasOwnCallee}
+use Rattle.fact_moves.specs.Adapters.{AdapterTunables, lower_signature_of, lift_signature_of, params_transfer, results_transfer, move_params, move_results, async_start, async_return}
+use Rattle.fact_moves.specs.Calls.{HasOwnCallee, side_memory}
 use Rattle.fact_moves.specs.Confined.{HaveHonestTranscoders, AreRangedSync, AreRangedStart, AreRangedReturn}
 use Rattle.fact_moves.specs.Honest.{AreHonest, IsStraight, IsHonestRun, IsHonestStart, IsHonestReturn}
 use Rattle.fact_moves.specs.Order.{flag_in}
 use Rattle.fact_moves.specs.Paths.{TextForm, path}
 use Rattle.fact_moves.specs.Plain.{ended_sync}
 use Rattle.fact_moves.specs.Regions.{Region, Position, Landing, IsAreaSound, params_landing, results_landing}
-use Rattle.fact_moves.specs.Requests.{request_of, parts_requests, is_transcode, answers_in}
+use Rattle.fact_moves.specs.Requests.{RequestPart, tuple_part, request_of, parts_requests, is_transcode, answers_in}
 use Rattle.fact_moves.specs.Running.{ImportPlaces, Call, Ended, Halted, calls_in, is_state, moved_weight, run}
-use Rattle.fact_moves.specs.Sides.{Source, Target, Transfer, options_of}
+use Rattle.fact_moves.specs.Sides.{Source, Target, Transfer, options_of, side_abi, width_of_side}
 use Rattle.fact_moves.specs.Strings.{PathPoint, form_in, most_string_bytes, move_string, walk}
 use Rattle.fact_carry.specs.Faithful.{IsFaithful, IsTransferred, WhereGiven, IsInLimits, ComesToEnd, ParamsAreThere, params_given, params_passed, weight_of_values, whole_weight}
 use Rattle.fact_carry.specs.FaithfulLaws.{quiet, IsCheckedAdapter, HasSyncSides, TextsMove}
 use Rattle.fact_carry.specs.TransferLaws.{results_handed, HandedAreThere, EndsInFew}
 use Rattle.fact_carry.specs.Law.{HasPointers}
-use Rattle.fact_carry.specs.Lawful.{Texts}
-use Rattle.fact_carry.specs.Places.{HoldsMemories, IsGrounded, HasKnownMemory, IsSource}
+use Rattle.fact_carry.specs.Items.{items, items_places}
+use Rattle.fact_carry.specs.Lawful.{AreTypesOfMove, Texts}
+use Rattle.fact_carry.specs.Places.{to_side, value_at_source, HoldsMemories, IsGrounded, HasKnownMemory, IsSource}
 use Rattle.fact_carry.specs.Regions.{TransferSetting}
 use Rattle.fact_texts.specs.Answerable.{CanBeAnswered}
-use Rattle.fact_texts.specs.Parts.{pair_of_source}
+use Rattle.fact_texts.specs.Parts.{pair_of_source, parts_of}
 use Rattle.fact_texts.specs.PastLimits.{first_factor, greatest_factor, OutgrowsFirst, IsPastLimit, EndsAtTrap}
 use Rattle.fact_texts.specs.Premises.{KnowsMemories, HasMeans}
 use Rattle.fact_texts.specs.Requested.{AsksFor, params_parts, results_parts, AreRequested}
+use Rattle.fact_texts.specs.Rooms.{part_bytes, parts_bytes, items_bytes, requests_bytes, AllCutsShrink}
 use Rattle.fact_texts.specs.Trapped.{LastTraps, answers_so_far, IsHonestUntilTrap, IsHonestStartUntilTrap, IsHonestReturnUntilTrap}
 use Rattle.fact_texts.specs.PassingChecks.{PassChecks, ParamsPassChecks, ResultsPassChecks}
 
@@ -237,3 +245,34 @@ abbrev pub AnswersAreSoFar : Type 0
 AnswersAreSoFar =
     (p : ImportPlaces) (a : LinkedAdapter) (next : Call → Position → Position) (x : Position) (l : Landing) (cs : List Call)
     → (AreHonest p a next x cs → answers_so_far l cs ≡ answers_in l cs) × ((t : LastTraps (AreHonest p a next x) cs) → answers_so_far l cs ≡ answers_in l t.front)
+
+-- ---- room
+
+-- The regions that the parts of a value ask for take no more bytes than what the value calls for, wherever it stands: those of its lists and maps,
+-- and up to 16 bytes for each scalar value of its texts, and 8 for each text.
+abbrev pub PartsTakeNoMore : Type 0
+PartsTakeNoMore =
+    (c : TransferSetting) → ((j : ℕ) → get_or c.source j 0 < 256) → (t u : Shape) → AreTypesOfMove c t u → (s : Source) (v : Value)
+    → IsSource c (length (flat (width_of_side c.transfer.from) t)) s → value_at_source c t s ≡ Some v
+    → parts_bytes c.transfer.to.encoding (parts_of c t u s) ≤ items_bytes (items (to_side c) t u v)
+
+-- So do those of parameters, behind the region of a tuple that is passed through a new pointer, and those of results.
+abbrev pub ParamsTakeNoMore : Type 0
+ParamsTakeNoMore =
+    (p : ImportPlaces) (u : AdapterTunables) (a : LinkedAdapter) (args : List CoreValue) (first : MachineState) (vs : List Value)
+    → IsCheckedAdapter p a → HasSyncSides a → is_state p first ≡ true → are_values args (lower_signature_of a).params ≡ true → params_given p a args first ≡ Some vs
+    → parts_bytes (options_of a.lift).encoding (params_parts p u a args first)
+    ≤ part_bytes (options_of a.lift).encoding (tuple_part (options_of a.lift) a.lift.params) + items_bytes (items_places (side_abi (options_of a.lift)) (tuple_members a.lower.params) vs (tuple_members a.lift.params))
+
+abbrev pub ResultsTakeNoMore : Type 0
+ResultsTakeNoMore =
+    (p : ImportPlaces) (u : AdapterTunables) (a : LinkedAdapter) (args given : List CoreValue) (left : MachineState) (vs : List Value)
+    → IsCheckedAdapter p a → HasSyncSides a → is_state p left ≡ true → are_values given (lift_signature_of a).results ≡ true
+    → lift_result_values a.lift.async_side (side_abi (options_of a.lift)) (side_memory p (options_of a.lift) left) a.lift.results given ≡ Some vs
+    → parts_bytes (options_of a.lower).encoding (results_parts p u a args given left) ≤ items_bytes (items_places (side_abi (options_of a.lower)) (tuple_members a.lift.results) vs (tuple_members a.lower.results))
+
+-- The requests of parts take no more bytes than the parts, by all answers so far by which cut regions do not grow.
+abbrev pub RequestsTakeNoMore : Type 0
+RequestsTakeNoMore =
+    (tr : Transfer) (parts : List RequestPart) (answers : List (List CoreValue)) → AllCutsShrink tr parts answers
+    → requests_bytes (parts_requests tr parts answers) ≤ parts_bytes tr.to.encoding parts

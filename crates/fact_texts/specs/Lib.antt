@@ -5,4 +5,5 @@ pub mod PastLimits
 pub mod PassingChecks
 pub mod Premises
 pub mod Requested
+pub mod Rooms
 pub mod Trapped

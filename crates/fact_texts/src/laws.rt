@@ -1,11 +1,11 @@
 //! Laws of the moves of texts.
 
-ghost use Rattle.fact_texts.specs.Laws.{TranscodersAreRanged, StartTranscodersAreRanged, ReturnTranscodersAreRanged, TranscodersCanBeAnswered, StartTranscodersCanBeAnswered, ReturnTranscodersCanBeAnswered, TranscodersNeedMeans, TextsAreMoved, TextsMoveInAdapters, AdaptersAreFaithful, AdaptersWeigh, AdaptersComeToEnd, CheckedStartsComeToEnd, CheckedReturnsComeToEnd, ChecksPass, StartChecksPass, ReturnChecksPass, RequestsAreCalledFor, StartRequestsAreCalledFor, ReturnRequestsAreCalledFor, FirstRequestIsCalledFor, AnswersAreSoFar, CalleesAreGiven, LimitsAreThoseOfPaths, LongWalksTrap, TextsPastLimitsTrap, SomeTextsOutgrow};
+ghost use Rattle.fact_texts.specs.Laws.{TranscodersAreRanged, StartTranscodersAreRanged, ReturnTranscodersAreRanged, TranscodersCanBeAnswered, StartTranscodersCanBeAnswered, ReturnTranscodersCanBeAnswered, TranscodersNeedMeans, TextsAreMoved, TextsMoveInAdapters, AdaptersAreFaithful, AdaptersWeigh, AdaptersComeToEnd, CheckedStartsComeToEnd, CheckedReturnsComeToEnd, ChecksPass, StartChecksPass, ReturnChecksPass, RequestsAreCalledFor, StartRequestsAreCalledFor, ReturnRequestsAreCalledFor, FirstRequestIsCalledFor, AnswersAreSoFar, CalleesAreGiven, PartsTakeNoMore, ParamsTakeNoMore, ResultsTakeNoMore, RequestsTakeNoMore, LimitsAreThoseOfPaths, LongWalksTrap, TextsPastLimitsTrap, SomeTextsOutgrow};
 
 /// What holds of the moves of texts: of the ranges of their transcoders, and that each can be answered honestly, but for malformed
 /// text, whatever all others answer; in honest runs of what is moved, and that no debug check fails where upper halves are 0; of
-/// texts past the limits, which end in a trap; and of what is asked of realloc, and what the callee is given, in runs that are honest
-/// but for a last call that may trap. The call does nothing: its contract is the laws.
+/// texts past the limits, which end in a trap; of what is asked of realloc, and what the callee is given, in runs that are honest
+/// but for a last call that may trap; and of how many bytes that takes. The call does nothing: its contract is the laws.
 pub fn laws_of_texts()
     ensures transcoders_are_ranged { TranscodersAreRanged }
     ensures start_transcoders_are_ranged { StartTranscodersAreRanged }
@@ -34,4 +34,8 @@ pub fn laws_of_texts()
     ensures first_request_is_called_for { FirstRequestIsCalledFor }
     ensures answers_are_so_far { AnswersAreSoFar }
     ensures callees_are_given { CalleesAreGiven }
+    ensures parts_take_no_more { PartsTakeNoMore }
+    ensures params_take_no_more { ParamsTakeNoMore }
+    ensures results_take_no_more { ResultsTakeNoMore }
+    ensures requests_take_no_more { RequestsTakeNoMore }
 {}

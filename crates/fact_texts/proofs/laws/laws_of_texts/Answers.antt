@@ -3,10 +3,13 @@ use Rattle.fact_texts.proofs.Finished.{texts_are_moved, texts_move, adapters_are
 use Rattle.fact_texts.proofs.ChecksPass.{adapters_come_to_end, starts_come_to_end, returns_come_to_end, checks_pass, start_checks_pass, return_checks_pass}
 use Rattle.fact_texts.proofs.Means.{transcoders_need_means}
 use Rattle.fact_texts.proofs.PastLimits.{limits_are_those_of_paths, long_walks_trap, texts_past_limits_trap, some_texts_outgrow}
+use Rattle.fact_texts.proofs.RequestRooms.{requests_take_no_more}
 use Rattle.fact_texts.proofs.Requests.{requests_are_called_for}
 use Rattle.fact_texts.proofs.FirstRequest.{first_request_is_called_for}
+use Rattle.fact_texts.proofs.PartRooms.{parts_take_no_more}
 use Rattle.fact_texts.proofs.Prefixes.{callees_are_given}
 use Rattle.fact_texts.proofs.Trapped.{answers_are_so_far}
+use Rattle.fact_texts.proofs.TupleRooms.{params_take_no_more, results_take_no_more}
 use Rattle.fact_texts.proofs.FlaggedRequests.{start_requests_are_called_for, return_requests_are_called_for}
 use Rattle.fact_texts.proofs.laws.laws_of_texts.Goals as goal
 
@@ -39,4 +42,8 @@ returns c = record {
   first_request_is_called_for = first_request_is_called_for;
   answers_are_so_far = answers_are_so_far;
   callees_are_given = callees_are_given;
+  parts_take_no_more = parts_take_no_more;
+  params_take_no_more = params_take_no_more;
+  results_take_no_more = results_take_no_more;
+  requests_take_no_more = requests_take_no_more;
 }
