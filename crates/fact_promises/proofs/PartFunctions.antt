@@ -262,10 +262,10 @@ module _ (x : AsyncPart) (m : WasmModule) (is : List Import) (u : AdapterTunable
 
     asked_by : (e : Ended (List CoreValue)) → IsStraight e → AsksFor (part_transfer x u a) (part_landing x a args) (request_parts x p u a args before) e
         → HasAskedFor (part_transfer x u a) (part_landing x a args) (request_parts x p u a args before) (named_outcome e).end (calls_in e)
-    asked_by (Gave n cs vs w) s r = r
-    asked_by (Halted n cs Trap w) s r = r
-    asked_by (Halted n cs Throw w) s r = r
-    asked_by (Halted n cs Lack w) s r = r
+    asked_by (Gave n cs vs w) s r = r.0
+    asked_by (Halted n cs Trap w) s r = r.0
+    asked_by (Halted n cs Throw w) s r = r.0
+    asked_by (Halted n cs Lack w) s r = r.0
     asked_by (Strayed n cs w) s r = absurd s
 
     abbrev Asked : End → List Call → Type 0

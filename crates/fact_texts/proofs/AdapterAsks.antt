@@ -23,12 +23,14 @@ use Rattle.fact_carry.specs.Regions.{TransferSetting, AreBytesOf}
 use Rattle.fact_texts.specs.Parts.{source_of_types, parts_of_fields, parts_of_params, parts_of_results}
 use Rattle.fact_texts.specs.Premises.{KnowsMemories}
 use Rattle.fact_texts.specs.Requested.{AsksFor}
+use Rattle.fact_texts.specs.Rooms.{AllCutsShrink}
 use Rattle.fact_texts.specs.Trapped.{AreHonestUntilTrap, answers_so_far}
 use Rattle.fact_texts.proofs.AllAsked.{fields_ask}
 use Rattle.fact_texts.proofs.Answered.{position}
 use Rattle.fact_texts.proofs.Asking.{Answers, AsksEnd}
+use Rattle.fact_texts.proofs.Cutting.{TellsEnd}
 use Rattle.fact_texts.proofs.Fine.{HasKnownSides}
-use Rattle.fact_texts.proofs.PartAsks.{AsksParts, parts_then, parts_alone, handed, parts_give, parts_check, parts_reallocate, parts_first}
+use Rattle.fact_texts.proofs.PartAsks.{AsksParts, anything, parts_then, parts_alone, handed, parts_give, parts_check, parts_reallocate, parts_first}
 use Rattle.fact_texts.proofs.Trapped.{GivesReturned, gives_returned, all_honest, all_answers}
 
 -- ---- ends
@@ -46,15 +48,23 @@ module _ (c : TransferSetting) (known : HasKnownSides c) where
   parts_are xs l = ap (λ l. parts_then c.transfer xs l (λ more. [])) (append-nil l) ∙ parts_alone c.transfer xs l
 
   pub asks_for : (xs : List RequestPart) (q : Action (List CoreValue)) (w : World) → A xs q → AreBytesOf c.places c.transfer.from w.state c.source → HonestlyAsks c xs (run c.places q w)
-  asks_for xs q w h bytes = by_end (run c.places q w) (gives_returned c.places q w) (h.asks.by [] w bytes)
+  asks_for xs q w h bytes = by_end (run c.places q w) (gives_returned c.places q w) (h.asks.by [] w bytes) ((h.cuts []).by [] w bytes)
     where
-      by_end : (e : Ended (List CoreValue)) → GivesReturned e → AsksEnd c known handed [] (λ l k. parts_then c.transfer xs l k) e → HonestlyAsks c xs e
-      by_end (Gave n cs vs w') returned j = λ o.
+      cuts_are : (l : Answers) → AllCutsShrink c.transfer (xs ++ []) l → AllCutsShrink c.transfer xs l
+      cuts_are l h = subst (λ xs. AllCutsShrink c.transfer xs l) (append-nil xs) h
+
+      by_end : (e : Ended (List CoreValue)) → GivesReturned e → AsksEnd c known handed [] (λ l k. parts_then c.transfer xs l k) e → TellsEnd c known anything (λ a. AllCutsShrink c.transfer []) [] (AllCutsShrink c.transfer (xs ++ [])) e → HonestlyAsks c xs e
+      by_end (Gave n cs vs w') returned j t = λ o.
+          let l = (position c []).landing in
           let asked = (j (all_honest (AreHonestCalls c []) cs returned o)).0 [] (λ more. []) in
-          sym (append-nil (requests_in (position c []).landing cs)) ∙ sym asked ∙ parts_are xs (answers_so_far (position c []).landing cs)
-          ∙ ap (parts_requests c.transfer xs) (all_answers (position c []).landing cs returned)
-      by_end (Halted n cs s w') returned j = λ o. subst (λ l. Grows (requests_in (position c []).landing cs) l) (parts_are xs (answers_so_far (position c []).landing cs)) (j o [] (λ more. []))
-      by_end (Strayed n cs w') returned j = λ o. tt
+          let cut = (t (all_honest (AreHonestCalls c []) cs returned o)).1 [] tt in (
+            sym (append-nil (requests_in l cs)) ∙ sym asked ∙ parts_are xs (answers_so_far l cs) ∙ ap (parts_requests c.transfer xs) (all_answers l cs returned),
+            subst (AllCutsShrink c.transfer xs) (append-nil (answers_so_far l cs) ∙ all_answers l cs returned) (cuts_are (answers_so_far l cs ++ []) cut),
+          )
+      by_end (Halted n cs s w') returned j t = λ o.
+          let l = (position c []).landing in
+          (subst (λ l2. Grows (requests_in l cs) l2) (parts_are xs (answers_so_far l cs)) (j o [] (λ more. [])), cuts_are (answers_so_far l cs) (t o))
+      by_end (Strayed n cs w') returned j t = λ o. tt
 
   -- ---- tuples
 

@@ -54,7 +54,7 @@ module _ (l : Landing) where
       ap (map results) (filter-append (λ c. is_request l c || is_transcode c.what) cs ds)
       ∙ map-append results (filter (λ c. is_request l c || is_transcode c.what) cs) (filter (λ c. is_request l c || is_transcode c.what) ds)
 
-  so_far_append : (cs ds : List Call) → answers_so_far l (cs ++ ds) ≡ answers_so_far l cs ++ answers_so_far l ds
+  pub so_far_append : (cs ds : List Call) → answers_so_far l (cs ++ ds) ≡ answers_so_far l cs ++ answers_so_far l ds
   so_far_append cs ds = ap (answers_in l) (filter-append has_returned cs ds) ∙ answers_append (filter has_returned cs) (filter has_returned ds)
 
 -- ---- the source
@@ -74,7 +74,7 @@ bytes_kept p s s' bytes (Some m) there e b =
     y.1 ∙ ap (λ z. Some z) (sym (get_or_from_slice_get s'.memories (p.memory m.def) y.0 [] y.1) ∙ e ∙ get_or_from_slice_get s.memories (p.memory m.def) bytes [] b)
 
 -- the bytes of the source are as before, where they are the same in a typed state
-source_kept : (c : TransferSetting) → HasKnownSides c → (s s' : MachineState) → is_state c.places s' ≡ true → side_memory c.places c.transfer.from s' ≡ side_memory c.places c.transfer.from s
+pub source_kept : (c : TransferSetting) → HasKnownSides c → (s s' : MachineState) → is_state c.places s' ≡ true → side_memory c.places c.transfer.from s' ≡ side_memory c.places c.transfer.from s
     → AreBytesOf c.places c.transfer.from s c.source → AreBytesOf c.places c.transfer.from s' c.source
 source_kept c known s s' typed same bytes =
     bytes_kept c.places s s' c.source c.transfer.from.memory (λ m e. (typed_is_there c.places c.transfer.from s' known.from typed).at m e) same bytes
@@ -83,7 +83,7 @@ same_side : (c : TransferSetting) (before after : MachineState) → after.memori
 same_side c before after h = ap (λ ms. elim c.transfer.from.memory as (λ x. List ℕ) [ None ↦ [] | Some m ↦ get_or ms (c.places.memory m.def) [] ]) h
 
 -- an honest answer leaves it
-honest_leaves : (c : TransferSetting) (gs : List Region) (i : Import) (args rs : List CoreValue) (before after : MachineState) → IsHonestResult c gs i args rs before after → side_memory c.places c.transfer.from after ≡ side_memory c.places c.transfer.from before
+pub honest_leaves : (c : TransferSetting) (gs : List Region) (i : Import) (args rs : List CoreValue) (before after : MachineState) → IsHonestResult c gs i args rs before after → side_memory c.places c.transfer.from after ≡ side_memory c.places c.transfer.from before
 honest_leaves c gs (import.CoreDef f) args rs before after h = h.source
 honest_leaves c gs (import.Transcode o from from64 to to64) args rs before after h = h.source
 honest_leaves c gs import.ResourceTransferOwn args rs before after h = same_side c before after h
@@ -123,12 +123,12 @@ module _ (c : TransferSetting) (known : HasKnownSides c) where
     pub record Puts (cs : List Call) (S T : Answers → K → List Request) : Type 0 where
       pub is : (more : Answers) (k : K) → S (told_to cs ++ more) k ≡ asked_of cs ++ T more k
 
-  honest_split : (gs : List Region) (cs ds : List Call) → AreHonestCalls c gs (cs ++ ds) → AreHonestCalls c gs cs × AreHonestCalls c (regions_after gs cs) ds
+  pub honest_split : (gs : List Region) (cs ds : List Call) → AreHonestCalls c gs (cs ++ ds) → AreHonestCalls c gs cs × AreHonestCalls c (regions_after gs cs) ds
   honest_split gs [] ds h = (tt, h)
   honest_split gs (x ∷ cs) ds h = let r = honest_split (regions_by x.what x.args x.answer gs) cs ds h.1 in ((h.0, r.0), r.1)
 
   -- The calls behind those that returned are honest until a trap too.
-  until_split : (gs : List Region) (cs ds : List Call) → AreReturned cs → AreHonestUntilTrap (AreHonestCalls c gs) (cs ++ ds) → AreHonestCalls c gs cs × AreHonestUntilTrap (AreHonestCalls c (regions_after gs cs)) ds
+  pub until_split : (gs : List Region) (cs ds : List Call) → AreReturned cs → AreHonestUntilTrap (AreHonestCalls c gs) (cs ++ ds) → AreHonestCalls c gs cs × AreHonestUntilTrap (AreHonestCalls c (regions_after gs cs)) ds
   until_split gs cs ds returned (inl h) = let r = honest_split gs cs ds h in (r.0, inl r.1)
   until_split gs cs ds returned (inr t) = by (last_behind cs ds t.front t.last t.calls_are)
     where
@@ -143,7 +143,7 @@ module _ (c : TransferSetting) (known : HasKnownSides c) where
   asks_heavier app gs n S (Halted m ds s w) h = h
   asks_heavier app gs n S (Strayed m ds w) h = tt
 
-  no_request : (r : Option CoreDef) (k : Call) → ((d : CoreDef) → is_import_of d k.what ≡ false) → is_call_of_any r k ≡ false
+  pub no_request : (r : Option CoreDef) (k : Call) → ((d : CoreDef) → is_import_of d k.what ≡ false) → is_call_of_any r k ≡ false
   no_request None k h = refl
   no_request (Some d) k h = h d
 

@@ -58,9 +58,9 @@ in_params p u a args first c f is other traps h = by h
 
     by : AreSoFar p u a args first (c ∷ []) → B (c ∷ [])
     by (StopsEntering o) = absurd (no_outside o.0)
-    by (StopsInParams enter params o e k b) = entering enter params o e b
+    by (StopsInParams enter params o e k b d) = entering enter params o e b
     by (StopsCalling t others o e) = absurd (behind t others o t.enter t.params refl refl e)
-    by (StopsInResults t back e o b) = absurd (answered t back e t.passed.enter t.passed.params refl refl e)
+    by (StopsInResults t back e o b d) = absurd (answered t back e t.passed.enter t.passed.params refl refl e)
     by (StopsFinishing t) = absurd (answered t.answered (t.back ++ t.finish) t.calls_are t.answered.passed.enter t.answered.passed.params refl refl t.calls_are)
 
 pub first_request_is_called_for : FirstRequestIsCalledFor

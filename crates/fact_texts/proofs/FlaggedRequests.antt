@@ -11,12 +11,13 @@ use Rattle.fact_moves.specs.Actions.{Action, Give, SetFlags, ◌>>=◌}
 use Rattle.fact_moves.specs.Adapters.{params_transfer, results_transfer, cleared, get_flags, last_bits, move_params, move_results}
 use Rattle.fact_moves.specs.Honest.{AreHonest, IsStraight}
 use Rattle.fact_moves.specs.Regions.{Landing, landed, params_landing, results_landing, moved_on}
-use Rattle.fact_moves.specs.Requests.{RequestPart, AreRequests, parts_requests}
+use Rattle.fact_moves.specs.Requests.{RequestPart, AreRequests, answers_in, parts_requests}
 use Rattle.fact_moves.specs.Running.{ImportPlaces, Ended, Gave, Halted, Strayed, heavier, later, then_ended, or_strayed, calls_in, run}
 use Rattle.fact_moves.specs.Sides.{Transfer}
 use Rattle.fact_moves.proofs.Binds.{binds_run}
 use Rattle.fact_texts.specs.Laws.{StartRequestsAreCalledFor, ReturnRequestsAreCalledFor}
 use Rattle.fact_texts.specs.Requested.{AsksFor, params_parts, results_parts}
+use Rattle.fact_texts.specs.Rooms.{AllCutsShrink}
 use Rattle.fact_texts.specs.Trapped.{AreHonestUntilTrap, BeginRequestsSoFar}
 use Rattle.fact_texts.proofs.Requests.{params_asked, results_asked}
 use Rattle.fact_texts.proofs.Trapped.{GivesReturned, all_answers, gives_returned}
@@ -34,7 +35,7 @@ module _ (p : ImportPlaces) (a : LinkedAdapter) (tr : Transfer) (l : Landing) (x
       where
         by_flag : (o : Option CoreValue) → Honestly (heavier n (later cs (or_strayed w o (λ v. run p (Give r) (set_global (p.flags i) (I32 saved) w)))))
         by_flag None = λ k. tt
-        by_flag (Some v) = λ k. subst (λ ds. AreRequests tr l xs ds) (sym (append-nil cs)) (h (subst (λ ds. AreHonestUntilTrap (AreHonest p a moved_on (landed l)) ds) (append-nil cs) k))
+        by_flag (Some v) = λ k. subst (λ ds. AreRequests tr l xs ds × AllCutsShrink tr xs (answers_in l ds)) (sym (append-nil cs)) (h (subst (λ ds. AreHonestUntilTrap (AreHonest p a moved_on (landed l)) ds) (append-nil cs) k))
     restored saved (Halted n cs s w) h = h
     restored saved (Strayed n cs w) h = λ k. tt
 
@@ -71,8 +72,8 @@ return_requests_are_called_for p u a args w known honest =
 
 -- what an end has asked for is so far a front of what is called for, also where it gave something
 begun_by : (tr : Transfer) (l : Landing) (xs : List RequestPart) (e : Ended (List CoreValue)) → IsStraight e → GivesReturned e → AsksFor tr l xs e → BeginRequestsSoFar tr l xs (calls_in e)
-begun_by tr l xs (Gave n cs vs w) s returned asked = record { more = []; is = ap (parts_requests tr xs) (all_answers l cs returned) ∙ sym asked ∙ sym (append-nil _) }
-begun_by tr l xs (Halted n cs t w) s returned asked = asked
+begun_by tr l xs (Gave n cs vs w) s returned asked = record { more = []; is = ap (parts_requests tr xs) (all_answers l cs returned) ∙ sym asked.0 ∙ sym (append-nil _) }
+begun_by tr l xs (Halted n cs t w) s returned asked = asked.0
 begun_by tr l xs (Strayed n cs w) s returned asked = absurd s
 
 pub asks_so_far : (p : ImportPlaces) (tr : Transfer) (l : Landing) (xs : List RequestPart) (q : Action (List CoreValue)) (w : World) → IsStraight (run p q w) → AsksFor tr l xs (run p q w) → BeginRequestsSoFar tr l xs (calls_in (run p q w))

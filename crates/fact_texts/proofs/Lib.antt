@@ -12,6 +12,7 @@ mod Bounds
 mod CheckedRows
 pub mod ChecksPass
 mod Copies
+mod Cutting
 mod Decoded
 mod Encoded
 mod Equipped
@@ -48,6 +49,7 @@ mod Spelled
 mod Splits
 mod Stages
 mod States
+mod TextCuts
 mod TextLaw
 mod TextRooms
 pub mod Thrown

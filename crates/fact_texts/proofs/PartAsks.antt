@@ -1,5 +1,5 @@
 -- Parts of moves ask of realloc what the parts of their values do.
-use Rattle.std.proofs.Common.{◌≡◌, ℕ, zero, suc, ◌+◌, ◌*◌, ◌%◌, ◌^◌, Bool, true, false, List, [], ◌∷◌, ◌++◌, length, Option, Some, None, refl, sym, ap, ◌∙◌, subst, arith}
+use Rattle.std.proofs.Common.{◌≡◌, ℕ, zero, suc, ◌+◌, ◌*◌, ◌%◌, ◌^◌, Bool, true, false, List, [], ◌∷◌, ◌++◌, length, Option, Some, None, refl, sym, ap, ◌∙◌, subst, arith, append_assoc}
 use Rattle.std.specs.Prelude.{slice_get, slice_set, nat_eq, nat_le, nat_lt, if◌then◌else◌}
 use Rattle.std.proofs.lemmas.List.{append-nil}
 use Rattle.fact_wasm.specs.declared.types.ValType.{ValType}
@@ -11,6 +11,8 @@ use Rattle.fact_types.specs.Steps.{◌>>=◌ as and_then}
 use Rattle.fact_types.specs.declared.import.Import.{Import}
 use Rattle.fact_types.specs.declared.outside.CoreDef.{CoreDef}
 use Rattle.fact_types.specs.declared.outside.MemoryOption.{MemoryOption}
+use Rattle.fact_types.specs.declared.outside.StringEncoding.{StringEncoding}
+use Rattle.fact_types.specs.declared.outside.StringEncoding.TheVariants as string
 use Rattle.fact_types.specs.declared.outside.Trap.{Trap as TrapCode}
 use Rattle.fact_types.specs.declared.outside.Trap.TheVariants.{StringOutOfBounds}
 use Rattle.fact_machine.specs.World.{World, Done, Halt, Trap, read, write, written, with_number, number_at}
@@ -22,18 +24,21 @@ use Rattle.fact_values.specs.Places.{Pair, pointer_bytes}
 use Rattle.fact_values.specs.Texts.{form_of}
 use Rattle.fact_moves.specs.Actions.{Action, Give, Visit, Read, Ask, Unreachable, ◌>>=◌, unless, each_from}
 use Rattle.fact_moves.specs.Calls.{is_import_of}
-use Rattle.fact_moves.specs.Paths.{TextForm, path}
+use Rattle.fact_moves.specs.Paths.{TextForm, AsUtf8, AsUtf16, AsCompactLatin1, AsCompactUtf16, path}
 use Rattle.fact_moves.specs.Regions.{Region}
 use Rattle.fact_moves.specs.Requests.{Request, RequestPart, RegionPart, TextPart, new_region, next_answer, path_requests, parts_requests, is_transcode}
 use Rattle.fact_moves.specs.Running.{Ended, Gave, Halted, Strayed, or_strayed, ended, run}
 use Rattle.fact_moves.specs.Adapters.{none}
-use Rattle.fact_moves.specs.Sides.{LiftLowerOptions, Transfer, Source, Values, AtAddress, Target, Slots, Into, with_memory, low_half, bytes_of_addresses, nth_part, nth_spot, read_number, write_number, read_pair, write_pair, check_region, reallocate}
+use Rattle.fact_moves.specs.Sides.{LiftLowerOptions, Transfer, Source, Values, AtAddress, Target, Slots, Into, with_memory, low_half, bytes_of_addresses, first_bits, nth_part, nth_spot, read_number, write_number, read_pair, write_pair, check_region, reallocate}
 use Rattle.fact_moves.specs.Strings.{PathPoint, path_start, walk, form_in, move_string}
 use Rattle.fact_carry.proofs.Bytes.{get_set_other}
 use Rattle.fact_carry.specs.Regions.{TransferSetting, AreBytesOf}
 use Rattle.fact_texts.specs.Parts.{pair_of_source, parts_of_some, parts_of_each}
+use Rattle.fact_texts.specs.Rooms.{CutsShrink, AllCutsShrink}
 use Rattle.fact_texts.proofs.Asking.{Answers, Asks, AsksEnd, HasBytesOf, asks_give, asks_stop, asks_visit, asks_like, asks_other, asks_unless, asks_with, asks_bind}
+use Rattle.fact_texts.proofs.Cutting.{Tells, TellsEnd, tells_give, tells_stop, tells_visit, tells_like, tells_other, tells_unless, tells_with, tells_check, tells_reallocate, tells_bind}
 use Rattle.fact_texts.proofs.Fine.{HasKnownSides}
+use Rattle.fact_texts.proofs.TextCuts.{walk_tells, path_shrinks, cuts_apart}
 use Rattle.fact_texts.proofs.WalkAsks.{at_point, asks_check, asks_reallocate, walk_asks, source_apart, next_same}
 
 -- ---- parts, and what is asked for behind them
@@ -64,35 +69,70 @@ some_pair p n = Some (record { pointer = p; count = n })
 pair_same : {p n x y : ℕ} → Some x ≡ Some p → Some y ≡ Some n → some_pair x y ≡ some_pair p n
 pair_same {p} {n} {x} {y} e f = ap (λ z. some_pair z y) (same_some (Some x) x p refl e) ∙ ap (λ z. some_pair p z) (same_some (Some y) y n refl f)
 
+-- where nothing is answered yet
+pub unanswered : (tr : Transfer) (xs : List RequestPart) → AllCutsShrink tr xs []
+unanswered tr [] = tt
+unanswered tr (RegionPart align size ∷ xs) = tt
+unanswered tr (TextPart f n ∷ xs) = by_path f tr.to.encoding
+  where
+    by_path : (f : TextForm) (e : StringEncoding) → CutsShrink tr (path f e) (path_start 0 n) [] (λ v more. AllCutsShrink tr xs more)
+    by_path AsUtf8 string.Utf8 = (tt, tt)
+    by_path AsUtf8 string.Utf16 = (tt, tt)
+    by_path AsUtf8 string.CompactUtf16 = (tt, tt)
+    by_path AsUtf16 string.Utf8 = (tt, tt)
+    by_path AsUtf16 string.Utf16 = (tt, tt)
+    by_path AsUtf16 string.CompactUtf16 = (tt, tt)
+    by_path AsCompactLatin1 string.Utf8 = (tt, tt)
+    by_path AsCompactLatin1 string.Utf16 = (tt, tt)
+    by_path AsCompactLatin1 string.CompactUtf16 = (tt, tt)
+    by_path AsCompactUtf16 string.Utf8 = (tt, tt)
+    by_path AsCompactUtf16 string.Utf16 = (tt, tt)
+    by_path AsCompactUtf16 string.CompactUtf16 = (tt, tt)
+
+-- nothing is known of what is given
+abbrev pub anything : {A : Type 0} → A → Type 0
+anything a = Unit {0}
+
 module _ (c : TransferSetting) (known : HasKnownSides c) where
-  -- An action by honest calls asks for what these parts ask for.
+  -- No region is cut by answers so that it grows, where none is behind what is given.
+  abbrev cuts_of : List RequestPart → Answers → Type 0
+  cuts_of xs l = AllCutsShrink c.transfer xs l
+
+  abbrev pub CutsBehind : {A : Type 0} → (xs behind : List RequestPart) → Action A → Type 0
+  CutsBehind xs ys q = Tells c known anything (λ a. cuts_of ys) (cuts_of (xs ++ ys)) q
+
+  -- An action by honest calls asks for what these parts ask for, and no region that it cuts grows.
   pub record AsksParts {A : Type 0} (xs : List RequestPart) (q : Action A) : Type 0 where
     pub asks : Asks c known handed (λ l k. parts_then c.transfer xs l k) q
+    pub cuts : (behind : List RequestPart) → CutsBehind xs behind q
 
   module _ {A : Type 0} where
     pub parts_give : (a : A) → AsksParts [] (Give a)
-    parts_give a = record { asks = asks_give c known a }
+    parts_give a = record { asks = asks_give c known a; cuts = λ ys. tells_give c known a tt (unanswered c.transfer ys) (λ more x. x) }
 
     pub parts_stop : (xs : List RequestPart) → AsksParts {A = A} xs Unreachable
-    parts_stop xs = record { asks = asks_stop c known _ }
+    parts_stop xs = record { asks = asks_stop c known _; cuts = λ ys. tells_stop c known (unanswered c.transfer (xs ++ ys)) }
 
     pub parts_visit : (n : ℕ) {xs : List RequestPart} {q : Action A} → AsksParts xs q → AsksParts xs (Visit n q)
-    parts_visit n {xs} {q} h = record { asks = asks_visit c known n _ q h.asks }
+    parts_visit n {xs} {q} h = record { asks = asks_visit c known n _ q h.asks; cuts = λ ys. tells_visit c known n (h.cuts ys) }
 
     pub parts_unless : (t : TrapCode) (b : Bool) {xs : List RequestPart} {q : Action A} → (b ≡ true → AsksParts xs q) → AsksParts xs (unless t b q)
-    parts_unless t b {xs} {q} h = record { asks = asks_unless c known _ t b q (λ e. (h e).asks) }
+    parts_unless t b {xs} {q} h = record { asks = asks_unless c known _ t b q (λ e. (h e).asks); cuts = λ ys. tells_unless c known t b (unanswered c.transfer (xs ++ ys)) (λ e. (h e).cuts ys) }
 
     pub parts_with : (o : LiftLowerOptions) {xs : List RequestPart} {k : MemoryOption → Action A} → ((m : MemoryOption) → o.memory ≡ Some m → AsksParts xs (k m)) → AsksParts xs (with_memory o k)
-    parts_with o {xs} {k} h = record { asks = asks_with c known _ o k (λ m is. (h m is).asks) }
+    parts_with o {xs} {k} h = record { asks = asks_with c known _ o k (λ m is. (h m is).asks); cuts = λ ys. tells_with c known o (unanswered c.transfer (xs ++ ys)) (λ m is. (h m is).cuts ys) }
 
     pub parts_check : (o : LiftLowerOptions) (t : TrapCode) (p n align : ℕ) {xs : List RequestPart} {q : Action A} → AsksParts xs q → AsksParts xs (check_region o t p n align q)
-    parts_check o t p n align {xs} {q} h = record { asks = asks_check c known _ o t p n align q h.asks }
+    parts_check o t p n align {xs} {q} h = record { asks = asks_check c known _ o t p n align q h.asks; cuts = λ ys. tells_check c known o t p n align (h.cuts ys) }
 
     pub parts_other : (i : Import) (args : List CoreValue) (ts : List ValType) {xs : List RequestPart} {k : List CoreValue → Action A} → ((d : CoreDef) → is_import_of d i ≡ false) → is_transcode i ≡ false → ((rs : List CoreValue) → AsksParts xs (k rs)) → AsksParts xs (Ask i args ts k)
-    parts_other i args ts {xs} {k} apart other h = record { asks = asks_other c known _ i args ts k apart other (λ rs. (h rs).asks) }
+    parts_other i args ts {xs} {k} apart other h = record { asks = asks_other c known _ i args ts k apart other (λ rs. (h rs).asks); cuts = λ ys. tells_other c known i args ts apart other (unanswered c.transfer (xs ++ ys)) (λ rs. (h rs).cuts ys) }
 
     pub parts_reallocate : (t : TrapCode) (align size : ℕ) {xs : List RequestPart} {k : ℕ → Action A} → ((q : ℕ) → AsksParts xs (k q)) → AsksParts (RegionPart align size ∷ xs) (reallocate c.transfer.concurrency c.transfer.to t 0 0 align size k)
-    parts_reallocate t align size {xs} {k} h = record { asks = asks_reallocate c known _ (λ q l z. parts_then c.transfer xs l z) t 0 0 align size k (λ l z. refl) (λ q. (h q).asks) }
+    parts_reallocate t align size {xs} {k} h = record {
+      asks = asks_reallocate c known _ (λ q l z. parts_then c.transfer xs l z) t 0 0 align size k (λ l z. refl) (λ q. (h q).asks);
+      cuts = λ ys. tells_reallocate c known t 0 0 align size k (unanswered c.transfer (RegionPart align size ∷ (xs ++ ys))) (λ rs. (h (first_bits rs)).cuts ys);
+    }
 
     pub parts_either : (b : Bool) {xs ys : List RequestPart} {q r : Action A} → AsksParts xs q → AsksParts ys r → AsksParts (if b then xs else ys) (if b then q else r)
     parts_either true h k = h
@@ -142,6 +182,15 @@ module _ (c : TransferSetting) (known : HasKnownSides c) where
         within true e = (h (number_at size c.source a) (ap (λ b. if b then Some (number_at size c.source a) else None) e)).asks.by gs w bytes
         within false e = λ o more z. record { more = parts_then c.transfer xs more z; is = refl }
 
+    read_cuts : (size : ℕ) (m : CoreDef) (a : ℕ) {xs : List RequestPart} (ys : List RequestPart) (k : ℕ → Action A) (gs : List Region) (w : World) → slice_get w.state.memories (c.places.memory m) ≡ Some c.source → AreBytesOf c.places c.transfer.from w.state c.source
+        → ((x : ℕ) → number_in c.source size a ≡ Some x → AsksParts xs (k x)) → TellsEnd c known anything (λ u. cuts_of ys) gs (cuts_of (xs ++ ys)) (run c.places (Read size m a k) w)
+    read_cuts size m a {xs} ys k gs w there bytes h =
+        subst (λ o. TellsEnd c known anything (λ u. cuts_of ys) gs (cuts_of (xs ++ ys)) (or_strayed w o (λ b. ended (read size b a w) (λ x w'. run c.places (k x) w')))) (sym there) (within (nat_le (a + size) (length c.source)) refl)
+      where
+        within : (b : Bool) → nat_le (a + size) (length c.source) ≡ b → TellsEnd c known anything (λ u. cuts_of ys) gs (cuts_of (xs ++ ys)) (ended (if b then Done (number_at size c.source a) w else Halt Trap w) (λ x w'. run c.places (k x) w'))
+        within true e = ((h (number_at size c.source a) (ap (λ b. if b then Some (number_at size c.source a) else None) e)).cuts ys).by gs w bytes
+        within false e = λ o. unanswered c.transfer (xs ++ ys)
+
     pub parts_number : (size : ℕ) (s : Source) {xs : List RequestPart} {k : ℕ → Action A} → ((x : ℕ) → number_of_source size s ≡ Some x → AsksParts xs (k x)) → AsksParts xs (read_number c.transfer.debug c.transfer.from size s k)
     parts_number size (Values []) {xs} h = parts_stop xs
     parts_number size (Values (v ∷ vs)) {xs} {k} h = by_size (nat_eq size 8) (λ x e. h x e)
@@ -153,6 +202,10 @@ module _ (c : TransferSetting) (known : HasKnownSides c) where
       asks = record {
         by = λ gs w bytes.
             read_parts size m.def a k gs w (subst (HasBytesOf c.places w.state c.source) is bytes) bytes h;
+      };
+      cuts = λ ys. record {
+        starts = unanswered c.transfer (xs ++ ys);
+        by = λ gs w bytes. read_cuts size m.def a ys k gs w (subst (HasBytesOf c.places w.state c.source) is bytes) bytes h;
       };
     })
 
@@ -169,6 +222,7 @@ module _ (c : TransferSetting) (known : HasKnownSides c) where
     asks =
         asks_like c known _ (λ l k. parts_then c.transfer xs l (λ more. parts_then c.transfer ys more k)) _ (λ l k. parts_append c.transfer xs ys l k)
         (asks_bind c known (λ l k. parts_then c.transfer xs l k) (λ a l k. parts_then c.transfer ys l k) (λ k more. parts_then c.transfer ys more k) (λ k a more. refl) q f h.asks (λ a. (g a).asks));
+    cuts = λ zs. subst (λ all. Tells c known anything (λ b. cuts_of zs) (cuts_of all) (q >>= f)) (sym (append_assoc xs ys zs)) (tells_bind c known (h.cuts (ys ++ zs)) (λ a known_of. (g a).cuts zs));
   }
 
   pub parts_first : {A B : Type 0} {xs : List RequestPart} (q : Action A) (f : A → Action B) → AsksParts xs q → ((a : A) → AsksParts [] (f a)) → AsksParts xs (q >>= f)
@@ -183,7 +237,10 @@ module _ (c : TransferSetting) (known : HasKnownSides c) where
   pub parts_write : (size : ℕ) (d : Target) (n : ℕ) → AsksParts [] (write_number c.transfer.to size d n)
   parts_write size (Slots []) n = parts_give []
   parts_write size (Slots (t ∷ ts)) n = parts_give _
-  parts_write size (Into a) n = parts_with c.transfer.to (λ m is. record { asks = record { by = λ gs w bytes. by_memory m is gs w bytes (slice_get w.state.memories (c.places.memory m.def)) } })
+  parts_write size (Into a) n = parts_with c.transfer.to (λ m is. record {
+    asks = record { by = λ gs w bytes. by_memory m is gs w bytes (slice_get w.state.memories (c.places.memory m.def)) };
+    cuts = λ ys. record { starts = unanswered c.transfer ys; by = λ gs w bytes. cuts_by m is ys gs w bytes (slice_get w.state.memories (c.places.memory m.def)) };
+  })
     where
       kept : (m : MemoryOption) → c.transfer.to.memory ≡ Some m → (w : World) (y : List ℕ) (x : Option MemoryOption) → ((k : MemoryOption) → x ≡ Some k → c.transfer.from.memory ≡ Some k)
           → HasBytesOf c.places w.state c.source x → HasBytesOf c.places (record { memories = slice_set w.state.memories (c.places.memory m.def) y; globals = w.state.globals }) c.source x
@@ -199,6 +256,15 @@ module _ (c : TransferSetting) (known : HasKnownSides c) where
           within true = λ o. (λ more z. refl, kept m is w (with_number size b a n) c.transfer.from.memory (λ k e. e) bytes)
           within false = λ o more z. record { more = z more; is = refl }
 
+      cuts_by : (m : MemoryOption) → c.transfer.to.memory ≡ Some m → (ys : List RequestPart) (gs : List Region) (w : World) → AreBytesOf c.places c.transfer.from w.state c.source → (o : Option (List ℕ))
+          → TellsEnd c known anything (λ u. cuts_of ys) gs (cuts_of ys) (or_strayed w o (λ b. ended (write size (c.places.memory m.def) b a n w) (λ u w'. run c.places (none) w')))
+      cuts_by m is ys gs w bytes None = tt
+      cuts_by m is ys gs w bytes (Some b) = within (nat_le (a + size) (length b))
+        where
+          within : (t : Bool) → TellsEnd c known anything (λ u. cuts_of ys) gs (cuts_of ys) (ended (if t then Done (tt {0}) (written size (c.places.memory m.def) b a n w) else Halt Trap w) (λ u w'. run c.places (none) w'))
+          within true = λ o. (tt, λ more x. x, kept m is w (with_number size b a n) c.transfer.from.memory (λ k e. e) bytes)
+          within false = λ o. unanswered c.transfer ys
+
   pub parts_write_pair : (d : Target) (p n : ℕ) → AsksParts [] (write_pair c.transfer.to d p n)
   parts_write_pair d p n =
       parts_bind _ _ (parts_write (bytes_of_addresses c.transfer.to) (nth_spot 1 (bytes_of_addresses c.transfer.to) 0 d) p) (λ us.
@@ -211,6 +277,9 @@ module _ (c : TransferSetting) (known : HasKnownSides c) where
   walk_parts f p n = record {
     asks = asks_like c known _ _ _ (λ l k. sym (source_apart c.transfer p (path f c.transfer.to.encoding) (path_start 0 n) l (λ v more. k more) (λ v more. k more) (λ v more. refl)))
         (erased (walk_asks c known (path f c.transfer.to.encoding) (path_start p n)));
+    cuts = λ ys.
+        tells_like c known (λ l h. cuts_apart c.transfer p (path f c.transfer.to.encoding) (path_start 0 n) l (λ v more. cuts_of ys more) (λ v more. cuts_of ys more) (λ v more x. x) h)
+        (walk_tells c known (path f c.transfer.to.encoding) (path_start p n) anything (λ v more. cuts_of ys more) (λ v x. unanswered c.transfer ys) (path_shrinks c.transfer f c.transfer.to.encoding (path_start p n)));
   }
     where
       S : Answers → (PathPoint → Answers → List Request) → List Request

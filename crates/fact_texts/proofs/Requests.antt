@@ -35,10 +35,12 @@ use Rattle.fact_carry.proofs.Stopping.{Stopping, AreReturned, IsEntered, IsPasse
 use Rattle.fact_texts.specs.Laws.{RequestsAreCalledFor}
 use Rattle.fact_texts.specs.Premises.{KnowsMemories}
 use Rattle.fact_texts.specs.Requested.{AsksFor, IsOwnRealloc, CallOwnRealloc, params_parts, results_parts, IsOutsideTransfers, AreOutsideTransfers, AreFromCallee, ArePassed, AreAnswered, AreFinished, AreSoFar, StopsEntering, StopsInParams, StopsCalling, StopsInResults, StopsFinishing, AreRequested}
-use Rattle.fact_texts.specs.Trapped.{LastTraps, AreHonestUntilTrap, BeginRequestsSoFar}
+use Rattle.fact_texts.specs.Rooms.{AllCutsShrink}
+use Rattle.fact_texts.specs.Trapped.{LastTraps, AreHonestUntilTrap, answers_so_far, BeginRequestsSoFar}
 use Rattle.fact_texts.proofs.AdapterAsks.{HonestlyAsks, asks_for, params_sides, results_sides, params_ask, results_ask}
 use Rattle.fact_texts.proofs.Answered.{position}
 use Rattle.fact_texts.proofs.Halting.{HaltsAt, AtEntry, AtParams, AtCallee, AtResults, AtEnd, FromCallee, halts_sync}
+use Rattle.fact_texts.proofs.PartAsks.{unanswered}
 use Rattle.fact_texts.proofs.Thrown.{Unthrown, never_thrown, none_before, none_threw}
 use Rattle.fact_texts.proofs.Trapped.{IsBehind, last_behind, no_last, all_honest, GivesReturned, gives_returned, returned_all}
 
@@ -158,6 +160,8 @@ module _ (p : ImportPlaces) (u : AdapterTunables) (a : LinkedAdapter) (x : IsChe
   finished : (n : ℕ) (cs : List Call) (vs : List CoreValue) (w' : World) → IsParted p u a args w n cs vs w' → AreHonestSync p a args cs → AreFinished p u a args w.state cs
   finished n cs vs w' k honest =
       let parts = honest_parts p u a args w n cs vs w' x k honest in
+      let asked = params_asked p u a known args w.state typed k.before_params parts.begins (Gave k.params_weight k.params k.core k.behind_params) k.params_run (inl parts.params) in
+      let back = results_asked p u a known args (results k.callee) (state_after k.callee) k.answer_state k.before_results parts.returns (Gave k.results_weight k.back vs k.behind_results) k.results_run (inl parts.results) in
       record {
         answered = record {
           passed = record {
@@ -166,7 +170,8 @@ module _ (p : ImportPlaces) (u : AdapterTunables) (a : LinkedAdapter) (x : IsChe
             enter_is = are_beside None k.enter k.entered.around;
             params_are = params_own p u a k.before_params args (Gave k.params_weight k.params k.core k.behind_params) k.params_run;
             params_return = returned_all k.params (subst GivesReturned k.params_run (gives_returned p (move_params u a args) k.before_params));
-            params_ask = params_asked p u a known args w.state typed k.before_params parts.begins (Gave k.params_weight k.params k.core k.behind_params) k.params_run (inl parts.params);
+            params_ask = asked.0;
+            params_shrink = asked.1;
           };
           callee = k.callee;
           between = k.between;
@@ -178,7 +183,8 @@ module _ (p : ImportPlaces) (u : AdapterTunables) (a : LinkedAdapter) (x : IsChe
         calls_are = k.calls_are;
         back_is = results_own p u a k.before_results (results k.callee) (last_bits args) (Gave k.results_weight k.back vs k.behind_results) k.results_run;
         back_returns = returned_all k.back (subst GivesReturned k.results_run (gives_returned p (move_results u a (results k.callee) (last_bits args)) k.before_results));
-        back_asks = results_asked p u a known args (results k.callee) (state_after k.callee) k.answer_state k.before_results parts.returns (Gave k.results_weight k.back vs k.behind_results) k.results_run (inl parts.results);
+        back_asks = back.0;
+        back_shrinks = back.1;
         finish_is = are_beside a.lift.post_return k.finish k.finished.around;
       }
 
@@ -199,13 +205,15 @@ module _ (p : ImportPlaces) (u : AdapterTunables) (a : LinkedAdapter) (x : IsChe
   abbrev passed : (t : IsPassedOn p u a args w) (others : List Call) → AreHonestSync p a args (calls_before p u a args w t others) → ArePassed p u a args w.state
   passed t others h =
       let r = passed_apart t others h in
+      let asked = params_asked p u a known args w.state typed t.start.before_params r.begins (Gave t.params_weight t.params t.core t.behind_params) t.params_run (inl r.params) in
       record {
         enter = t.start.enter;
         params = t.params;
         enter_is = are_beside None t.start.enter t.start.entered.around;
         params_are = params_own p u a t.start.before_params args (Gave t.params_weight t.params t.core t.behind_params) t.params_run;
         params_return = returned_all t.params (params_returned t);
-        params_ask = params_asked p u a known args w.state typed t.start.before_params r.begins (Gave t.params_weight t.params t.core t.behind_params) t.params_run (inl r.params);
+        params_ask = asked.0;
+        params_shrink = asked.1;
       }
 
   abbrev answered : (t : IsAnswered p u a args w) (others : List Call) → AreHonestSync p a args (answered_calls p u a args w t others) → AreAnswered p u a args w.state
@@ -243,8 +251,8 @@ module _ (p : ImportPlaces) (u : AdapterTunables) (a : LinkedAdapter) (x : IsChe
   at_params : (t : IsEntered p u a args w) (n : ℕ) (params : List Call) (s : Stop) (v : World) → run p (move_params u a args) t.before_params ≡ Halted n params s v → (cs : List Call) → cs ≡ t.enter ++ params → AreUntilTrap cs → AreSoFar p u a args w.state cs
   at_params t n params s v is cs e o = by_honest o
     where
-      stops : BeginRequestsSoFar (params_transfer u a) (params_landing a) (params_parts p u a args w.state) params → AreSoFar p u a args w.state cs
-      stops h = StopsInParams t.enter params (are_beside None t.enter t.entered.around) e (params_own p u a t.before_params args (Halted n params s v) is) h
+      stops : BeginRequestsSoFar (params_transfer u a) (params_landing a) (params_parts p u a args w.state) params × AllCutsShrink (params_transfer u a) (params_parts p u a args w.state) (answers_so_far (params_landing a) params) → AreSoFar p u a args w.state cs
+      stops h = StopsInParams t.enter params (are_beside None t.enter t.entered.around) e (params_own p u a t.before_params args (Halted n params s v) is) h.0 h.1
 
       asked : (rest : List Call) → NoneCalls a rest → AreHonestSync p a args (t.enter ++ rest) → (AreHonest p a moved_on (landed (params_landing a)) rest → AreHonestUntilTrap (AreHonest p a moved_on (landed (params_landing a))) params) → AreSoFar p u a args w.state cs
       asked rest none h until =
@@ -255,7 +263,10 @@ module _ (p : ImportPlaces) (u : AdapterTunables) (a : LinkedAdapter) (x : IsChe
       none = params_none args t.before_params _ is
 
       by_behind : (k : LastTraps (AreHonestSync p a args) cs) → ((params ≡ []) × (t.enter ≡ k.front ++ k.last ∷ [])) ⊎ IsBehind t.enter params k.front k.last → AreSoFar p u a args w.state cs
-      by_behind k (inl m) = stops (subst (λ l. BeginRequestsSoFar (params_transfer u a) (params_landing a) (params_parts p u a args w.state) l) (sym m.0) (record { more = _; is = refl }))
+      by_behind k (inl m) = stops (
+        subst (λ l. BeginRequestsSoFar (params_transfer u a) (params_landing a) (params_parts p u a args w.state) l) (sym m.0) (record { more = _; is = refl }),
+        subst (λ l. AllCutsShrink (params_transfer u a) (params_parts p u a args w.state) (answers_so_far (params_landing a) l)) (sym m.0) (unanswered (params_transfer u a) (params_parts p u a args w.state)),
+      )
       by_behind k (inr b) =
           asked b.rest (none_front b.rest (k.last ∷ []) (subst (NoneCalls a) b.ds_is none)) (subst (AreHonestSync p a args) b.front_is k.front_honest)
           (λ h. inr (record { front = b.rest; last = k.last; calls_are = b.ds_is; front_honest = h; last_traps = k.last_traps }))
@@ -290,8 +301,8 @@ module _ (p : ImportPlaces) (u : AdapterTunables) (a : LinkedAdapter) (x : IsChe
       asked : (rest : List Call) → NoneCalls a rest → AreHonestSync p a args (answered_calls p u a args w t rest) → (AreHonest p a moved_on (landed (results_landing a args)) rest → AreHonestUntilTrap (AreHonest p a moved_on (landed (results_landing a args))) back) → AreSoFar p u a args w.state cs
       asked rest none h until =
           let r = back_apart t rest [] none (subst (λ l. AreHonestSync p a args (answered_calls p u a args w t l)) (sym (append-nil rest)) h) in
-          StopsInResults (answered t rest h) back e (results_own p u a t.before_results (results t.callee) (last_bits args) (Halted n back s v) is)
-          (results_asked p u a known args (results t.callee) (state_after t.callee) t.answer_state t.before_results r.returns (Halted n back s v) is (until r.back_honest))
+          let q = results_asked p u a known args (results t.callee) (state_after t.callee) t.answer_state t.before_results r.returns (Halted n back s v) is (until r.back_honest) in
+          StopsInResults (answered t rest h) back e (results_own p u a t.before_results (results t.callee) (last_bits args) (Halted n back s v) is) q.0 q.1
 
       none : NoneCalls a back
       none = results_none (results t.callee) t.before_results _ is
@@ -316,6 +327,7 @@ module _ (p : ImportPlaces) (u : AdapterTunables) (a : LinkedAdapter) (x : IsChe
       finishes : (rest : List Call) → AreHonestSync p a args (answered_calls p u a args w t (back ++ rest)) → AreSoFar p u a args w.state cs
       finishes rest h =
           let r = back_apart t back rest (results_none (results t.callee) t.before_results _ is) h in
+          let q = results_asked p u a known args (results t.callee) (state_after t.callee) t.answer_state t.before_results r.returns (Gave n back vs v) is (inl r.back_honest) in
           StopsFinishing (record {
             answered = answered t (back ++ rest) h;
             back = back;
@@ -323,7 +335,8 @@ module _ (p : ImportPlaces) (u : AdapterTunables) (a : LinkedAdapter) (x : IsChe
             calls_are = e;
             back_is = results_own p u a t.before_results (results t.callee) (last_bits args) (Gave n back vs v) is;
             back_returns = returned_all back returned;
-            back_asks = results_asked p u a known args (results t.callee) (state_after t.callee) t.answer_state t.before_results r.returns (Gave n back vs v) is (inl r.back_honest);
+            back_asks = q.0;
+            back_shrinks = q.1;
             finish_is = are_beside a.lift.post_return others around;
           })
 

@@ -101,20 +101,20 @@ module _ (c : TransferSetting) (known : HasKnownSides c) where
 -- ---- what is asked for does not depend on where the source lies
 
 module _ (tr : Transfer) (a : ℕ) where
-  abbrev moved : PathPoint → PathPoint
+  abbrev pub moved : PathPoint → PathPoint
   moved v = record v { source = a }
 
   amount_same : (x : Amount) (v : PathPoint) → amount tr x (moved v) ≡ amount tr x v
   amount_same (SourceUnits n) v = refl
   amount_same (WrittenUnits n) v = refl
 
-  holds_same : (t : Test) (v : PathPoint) → holds tr t (moved v) ≡ holds tr t v
+  pub holds_same : (t : Test) (v : PathPoint) → holds tr t (moved v) ≡ holds tr t v
   holds_same AllRead v = refl
   holds_same (WrittenIs n) v = refl
   holds_same HasNoTag v = refl
   holds_same KeepsUnits v = refl
 
-  passed_same : (k : TranscodeKind) (rest : Bool) (rs : List CoreValue) (v : PathPoint) → passed tr k rest rs (moved v) ≡ moved (passed tr k rest rs v)
+  pub passed_same : (k : TranscodeKind) (rest : Bool) (rs : List CoreValue) (v : PathPoint) → passed tr k rest rs (moved v) ≡ moved (passed tr k rest rs v)
   passed_same AllUnits rest rs v = refl
   passed_same Counted rest rs v = refl
   passed_same Narrow rest rs v = refl

@@ -270,11 +270,11 @@ module _ (instances : Id RuntimeInstances) where
     where
       not_so_far : AreSoFar at off idle [] at_first (other_asked ∷ []) → ⊥
       not_so_far (StopsEntering out) = none_some None _ refl out.0
-      not_so_far (StopsInParams enter params out calls own begin) = nowhere enter params [] (calls ∙ ap (λ l. enter ++ l) (sym (append-nil params))) out own tt
+      not_so_far (StopsInParams enter params out calls own begin shrink) = nowhere enter params [] (calls ∙ ap (λ l. enter ++ l) (sym (append-nil params))) out own tt
       not_so_far (StopsCalling t others from calls) = nowhere t.enter t.params others calls t.enter_is t.params_are (at_callee others from)
         where
           at_callee : (cs : List Call) → AreFromCallee idle cs → BeginsAtCallee cs
           at_callee [] h = tt
           at_callee (c ∷ cs) h = h.0
-      not_so_far (StopsInResults t back calls own begin) = nowhere t.passed.enter t.passed.params _ calls t.passed.enter_is t.passed.params_are t.callee_is
+      not_so_far (StopsInResults t back calls own begin shrink) = nowhere t.passed.enter t.passed.params _ calls t.passed.enter_is t.passed.params_are t.callee_is
       not_so_far (StopsFinishing t) = let q = t.answered in nowhere q.passed.enter q.passed.params _ t.calls_are q.passed.enter_is q.passed.params_are q.callee_is

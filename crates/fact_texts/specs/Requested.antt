@@ -1,5 +1,5 @@
 -- What the transfers of an adapter ask of realloc, in a run that is honest until a trap: all that the parts of their values ask for,
--- or so far a front of it.
+-- or so far a front of it; and no region that is cut to what was written grows.
 use Rattle.std.specs.Prelude.{◌≡◌, ◌≢◌, true, List, [], ◌∷◌, ◌++◌, Option, Some, None}
 use Rattle.fact_types.specs.Adapters.{LinkedAdapter, same_def}
 use Rattle.fact_types.specs.declared.import.Import.{Import}
@@ -12,19 +12,21 @@ use Rattle.fact_moves.specs.Adapters.{AdapterTunables, params_transfer, results_
 use Rattle.fact_moves.specs.Calls.{results, side_memory, state_after}
 use Rattle.fact_moves.specs.Order.{flag_in}
 use Rattle.fact_moves.specs.Regions.{Landing, params_landing, results_landing, return_area}
-use Rattle.fact_moves.specs.Requests.{RequestPart, AreRequests}
+use Rattle.fact_moves.specs.Requests.{RequestPart, AreRequests, answers_in}
 use Rattle.fact_moves.specs.Running.{ImportPlaces, Call, Ended, Gave, Halted, Strayed}
 use Rattle.fact_moves.specs.Sides.{LiftLowerOptions, Transfer, options_of}
 use Rattle.fact_carry.specs.FaithfulLaws.{setting_of_params, setting_of_results}
 use Rattle.fact_texts.specs.Parts.{parts_of_params, parts_of_results}
-use Rattle.fact_texts.specs.Trapped.{HaveReturned, BeginRequestsSoFar}
+use Rattle.fact_texts.specs.Rooms.{AllCutsShrink}
+use Rattle.fact_texts.specs.Trapped.{HaveReturned, answers_so_far, BeginRequestsSoFar}
 
 -- ---- one transfer
 
--- The calls of an end ask for all that these parts ask for, where it gave something, and else so far for a front of it.
+-- The calls of an end ask for all that these parts ask for, where it gave something, and else so far for a front of it; and no region
+-- that they cut to what was written grows.
 abbrev pub AsksFor : Transfer → Landing → List RequestPart → Ended (List CoreValue) → Type 0
-AsksFor tr l xs (Gave n cs vs w) = AreRequests tr l xs cs
-AsksFor tr l xs (Halted n cs s w) = BeginRequestsSoFar tr l xs cs
+AsksFor tr l xs (Gave n cs vs w) = AreRequests tr l xs cs × AllCutsShrink tr xs (answers_in l cs)
+AsksFor tr l xs (Halted n cs s w) = BeginRequestsSoFar tr l xs cs × AllCutsShrink tr xs (answers_so_far l cs)
 AsksFor tr l xs (Strayed n cs w) = Unit {0}
 
 -- The parts of parameters, in the state in which their transfer begins, and those of results, in the state that the callee left.
@@ -70,6 +72,7 @@ pub record ArePassed (p : ImportPlaces) (u : AdapterTunables) (a : LinkedAdapter
   pub params_are : CallOwnRealloc (options_of a.lift) params
   pub params_return : HaveReturned params
   pub params_ask : AreRequests (params_transfer u a) (params_landing a) (params_parts p u a args first) params
+  pub params_shrink : AllCutsShrink (params_transfer u a) (params_parts p u a args first) (answers_in (params_landing a) params)
 
 abbrev pub calls_until_callee : {p : ImportPlaces} {u : AdapterTunables} {a : LinkedAdapter} {args : List CoreValue} {first : MachineState} → ArePassed p u a args first → (others : List Call) → List Call
 calls_until_callee t others = t.enter ++ (t.params ++ others)
@@ -97,14 +100,17 @@ pub record AreFinished (p : ImportPlaces) (u : AdapterTunables) (a : LinkedAdapt
   pub back_is : CallOwnRealloc (options_of a.lower) back
   pub back_returns : HaveReturned back
   pub back_asks : AreRequests (results_transfer u a) (results_landing a args) (answered_parts answered) back
+  pub back_shrinks : AllCutsShrink (results_transfer u a) (answered_parts answered) (answers_in (results_landing a args) back)
   pub finish_is : AreOutsideTransfers a.lift.post_return finish
 
 -- How far calls came that do not end a run.
 pub data AreSoFar (p : ImportPlaces) (u : AdapterTunables) (a : LinkedAdapter) (args : List CoreValue) (first : MachineState) (calls : List Call) : Type 0 where
   StopsEntering : AreOutsideTransfers None calls → AreSoFar p u a args first calls
-  StopsInParams : (enter params : List Call) → AreOutsideTransfers None enter → calls ≡ enter ++ params → CallOwnRealloc (options_of a.lift) params → BeginRequestsSoFar (params_transfer u a) (params_landing a) (params_parts p u a args first) params → AreSoFar p u a args first calls
+  StopsInParams : (enter params : List Call) → AreOutsideTransfers None enter → calls ≡ enter ++ params → CallOwnRealloc (options_of a.lift) params → BeginRequestsSoFar (params_transfer u a) (params_landing a) (params_parts p u a args first) params
+      → AllCutsShrink (params_transfer u a) (params_parts p u a args first) (answers_so_far (params_landing a) params) → AreSoFar p u a args first calls
   StopsCalling : (t : ArePassed p u a args first) (others : List Call) → AreFromCallee a others → calls ≡ calls_until_callee t others → AreSoFar p u a args first calls
-  StopsInResults : (t : AreAnswered p u a args first) (back : List Call) → calls ≡ calls_until_results t back → CallOwnRealloc (options_of a.lower) back → BeginRequestsSoFar (results_transfer u a) (results_landing a args) (answered_parts t) back → AreSoFar p u a args first calls
+  StopsInResults : (t : AreAnswered p u a args first) (back : List Call) → calls ≡ calls_until_results t back → CallOwnRealloc (options_of a.lower) back → BeginRequestsSoFar (results_transfer u a) (results_landing a args) (answered_parts t) back
+      → AllCutsShrink (results_transfer u a) (answered_parts t) (answers_so_far (results_landing a args) back) → AreSoFar p u a args first calls
   StopsFinishing : AreFinished p u a args first calls → AreSoFar p u a args first calls
 
 -- So it is of the end of a run; of one that stops, where the lower side may be left.
