@@ -1,4 +1,3 @@
--- Cited by private clauses alone.
 -- What walks over values find: places of names, members by their names, and what is left of a walk.
 use Rattle.std.specs.Prelude.{◌≡◌, ℕ, zero, suc, ◌↔◌, List, [], ◌∷◌, drop, Option, Some, None, Bool, true, false, if◌then◌else◌, slice_get}
 use Rattle.std.specs.List.{AllByRecursion}

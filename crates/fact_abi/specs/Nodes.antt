@@ -1,4 +1,3 @@
--- Cited by private clauses alone.
 -- What a walk over the values of a type knows of it: its kind and its members.
 use Rattle.std.specs.Prelude.{◌≡◌, ℕ, List, [], ◌∷◌, map, Option, Some, None, slice_get}
 use Rattle.fact_types.specs.declared.interface.InterfaceType.{InterfaceType}

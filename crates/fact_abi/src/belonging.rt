@@ -181,7 +181,7 @@ pub(crate) fn is_name_at(names: &Seq<Text>, place: usize, name: &Text) -> bool
 }
 
 /// The place of the first of some names that is a name, or `None` where none is.
-pub(crate) fn index_of_name(names: &Seq<Text>, name: &Text) -> Option<usize>
+pub fn index_of_name(names: &Seq<Text>, name: &Text) -> Option<usize>
     ensures { IsIndexOf name.now names.now result }
 {
     for place in 0..names.len() {
@@ -193,7 +193,7 @@ pub(crate) fn index_of_name(names: &Seq<Text>, name: &Text) -> Option<usize>
 }
 
 /// The type of the member of a place, or `None` where it has none.
-pub(crate) fn member_type(node: &Node, place: usize) -> Option<InterfaceType>
+pub fn member_type(node: &Node, place: usize) -> Option<InterfaceType>
     ensures { result ≡ member_type_at node.now.types place }
 {
     match node.types.get(place) {
@@ -203,7 +203,7 @@ pub(crate) fn member_type(node: &Node, place: usize) -> Option<InterfaceType>
 }
 
 /// The value of a list of one value.
-pub(crate) fn only_value(values: &Seq<Value>) -> Option<&Value>
+pub fn only_value(values: &Seq<Value>) -> Option<&Value>
     ensures { option_copied result ≡ only_one values.now }
 {
     if values.len() == 1 {
@@ -225,7 +225,7 @@ fn is_nothing(values: &Seq<Value>) -> bool
 
 /// Whether a value is of a live type.
 #[cycle(belonging)]
-pub(crate) fn is_value_of(
+pub fn is_value_of(
     alloc: Global,
     types: &ComponentTypes,
     ty: &InterfaceType,

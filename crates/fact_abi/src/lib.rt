@@ -11,8 +11,11 @@ mod numbers;
 mod standing;
 mod texts;
 
+pub use belonging::{index_of_name, is_value_of, member_type, only_value};
 pub use carrying::carry;
 pub use fact_values::{HandleKind, SideAbi, Value, laws_of_values};
 pub use fact_wasm::OutOfMemory;
 pub use lifting::lift;
 pub use loading::load;
+pub use nodes::{Node, NodeKind, node_of_type};
+pub use texts::decoded;

@@ -18,7 +18,7 @@ use std::alloc::Global;
 /// The kinds of types that have members. A list has the type of its elements, a list of fixed length its length too, and a
 /// map the types of its keys and values; a future or a stream has the number of its table and that of the table's instance.
 #[derive(Clone, Copy)]
-pub(crate) enum NodeKind {
+pub enum NodeKind {
     Record,
     Variant,
     List(InterfaceType),
@@ -35,14 +35,14 @@ pub(crate) enum NodeKind {
 
 /// A type with members: its kind, the names by which members pair up, and the types of those that have one.
 #[derive(Drop)]
-pub(crate) struct Node {
+pub struct Node {
     pub kind: NodeKind,
     pub names: Seq<Text>,
     pub types: Seq<Option<InterfaceType>>,
 }
 
 /// The members of a live type, or `None` where it has none.
-pub(crate) fn node_of_type(
+pub fn node_of_type(
     alloc: Global,
     types: &ComponentTypes,
     ty: &InterfaceType,

@@ -104,7 +104,7 @@ fn unit_bytes(encoding: FixedEncoding) -> u128
 }
 
 /// The text that bytes spell, or `None` where they spell none.
-fn decoded(
+pub fn decoded(
     alloc: Global,
     encoding: FixedEncoding,
     bytes: &[u8],
