@@ -1,0 +1,4 @@
+mod FlatLaws
+mod RoomKinds
+mod RoomLaws
+mod TupleSizes

@@ -1,0 +1,12 @@
+pub mod FloatLaws
+pub mod NameLaws
+pub mod NodeLaws
+pub mod OfTypeLaws
+pub mod PrintLaws
+pub mod PrintWalkLaws
+pub mod ReadLaws
+pub mod RoundLaws
+pub mod StepLaws
+pub mod TypeLaws
+pub mod ValuesLaws
+pub mod WalkLaws

@@ -1,0 +1,5 @@
+pub mod JsonLaws
+pub mod Lines
+pub mod Printing
+pub mod Reading
+pub mod Walks
