@@ -7,7 +7,8 @@ even with nothing beside it, most likely for memory, at which the others are end
 
 The longest chain of crates goes first: of what can begin, the crate with the longest one from it to the program gets a process for each
 processor, another two where its chain is at least half as long, else one. A check uses one processor while it reads libraries and while it
-writes its own, so that twice as many processes as processors are begun where there are several, as far as memory reaches.
+writes its own, so that twice as many processes as processors are begun where there are several, as far as memory reaches. What is not on the longest
+chain gives way: it runs with a niceness of ASIDE, and so has the processors that the longest chain leaves.
 
 Two calls of `rt lib` would wait for one another, since each locks the folders of all crates that it reads as if it wrote there. Here a crate is
 locked so while it is built, and the libraries below it, which are there, as readers lock.
@@ -32,6 +33,8 @@ ENDING = (signal.SIGINT, signal.SIGTERM, signal.SIGHUP)
 PR_SET_PDEATHSIG = 1
 # More processes do little for one crate, by the prover's own help.
 MOST = 8
+# How nice a library is that others need not wait for: one of 0 beside it gets some nine times its share of a processor.
+ASIDE = 10
 # How rt ends where the prover was killed, most likely for memory.
 KILLED = 256 - signal.SIGKILL
 
@@ -175,9 +178,9 @@ class Build:
                 # What stands on a shorter chain does not take its place.
                 return
             self.left.remove(library)
-            self.begin(library, processes)
+            self.begin(library, processes, 0 if library.chain >= longest else ASIDE)
 
-    def begin(self, library, processes):
+    def begin(self, library, processes, niceness):
         parent = os.getpid()
         child = os.fork()
         if child:
@@ -191,6 +194,7 @@ class Build:
             for it in range(3):
                 os.dup2(nothing, it)
             os.chdir(library.folder)
+            os.nice(niceness)
             if end_with(parent):
                 status = self.rt.main(["lib", "--jobs", str(processes)])
         except SystemExit as it:
