@@ -7,8 +7,10 @@ even with nothing beside it, most likely for memory, at which the others are end
 
 The longest chain of crates goes first: of what can begin, the crate with the longest one from it to the program gets a process for each
 processor, another two where its chain is at least half as long, else one. A check uses one processor while it reads libraries and while it
-writes its own, so that twice as many processes as processors are begun where there are several, as far as memory reaches. What is not on the longest
-chain gives way: it runs with a niceness of ASIDE, and so has the processors that the longest chain leaves.
+writes its own, so that twice as many processes as processors are begun where there are several, as far as memory reaches. Each process reads
+for itself what its functions speak of, the more the more definitions and laws there are, so that a crate gets no more than share its work
+well: with four in place of one the crates above `fact_translate` took twice the processor time. What is not on the longest chain gives way: it
+runs with a niceness of ASIDE, and so has the processors that the longest chain leaves.
 
 Two calls of `rt lib` would wait for one another, since each locks the folders of all crates that it reads as if it wrote there. Here a crate is
 locked so while it is built, and the libraries below it, which are there, as readers lock.
@@ -111,17 +113,22 @@ def lines_of(path):
         return it.read().count(b"\n")
 
 
+def lines_in(rtlib, crate, end):
+    return sum(lines_of(it) for it in rtlib.files_of(crate.folder) if it.endswith(end))
+
+
 class Library:
     """A library of the program, with what its proof is likely to take by the lines of its files."""
 
     def __init__(self, rtlib, crate):
         self.name, self.folder, self.below = crate.name, crate.folder, [it.name for it in crate.below()]
-        files = list(rtlib.files_of(crate.folder))
-        code = sum(lines_of(it) for it in files if it.endswith(".rt"))
-        laws = sum(lines_of(it) for it in files if it.endswith(".antt"))
+        code, laws = lines_in(rtlib, crate, ".rt"), lines_in(rtlib, crate, ".antt")
+        read = laws + sum(lines_in(rtlib, it, ".antt") for it in crate.below())
         # In processor minutes and gigabytes.
-        self.work = 0.5 + 0.0025 * code + 0.0002 * laws
+        self.work = 0.5 + 0.003 * code + 0.0002 * laws
         self.memory = 1 + 0.0006 * code + 0.0001 * laws
+        # As many processes as take at most half as much again of the processors as one does.
+        self.most = 1 + int(0.5 * self.work / (0.000015 * read + 0.01))
         # The work of the longest chain from it to the program, which `in_order` sums up.
         self.chain = self.work
         self.is_alone = False
@@ -154,6 +161,7 @@ class Build:
     def processes_for(self, library, longest):
         """How many processes the library gets now, or 0 where it has to wait."""
         most = min(self.processors, MOST) if library.chain >= longest else 2 if 2 * library.chain >= longest else 1
+        most = min(most, library.most)
         if not self.running:
             room = self.memory
         elif library.is_alone or any(it.is_alone for it, _ in self.running.values()):
