@@ -9,8 +9,8 @@ The longest chain of crates goes first: of what can begin, the crate with the lo
 processor, another two where its chain is at least half as long, else one. A check uses one processor while it reads libraries and while it
 writes its own, so that twice as many processes as processors are begun where there are several, as far as memory reaches. Each process reads
 for itself what its functions speak of, the more the more definitions and laws there are, so that a crate gets no more than share its work
-well: with four in place of one the crates above `fact_translate` took twice the processor time. What is not on the longest chain gives way: it
-runs with a niceness of ASIDE, and so has the processors that the longest chain leaves.
+well (docs/GATE.md, "The first build"). What is not on the longest chain gives way: it runs with a niceness of ASIDE, and so has the processors
+that the longest chain leaves.
 
 Two calls of `rt lib` would wait for one another, since each locks the folders of all crates that it reads as if it wrote there. Here a crate is
 locked so while it is built, and the libraries below it, which are there, as readers lock.
