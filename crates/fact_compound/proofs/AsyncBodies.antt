@@ -35,7 +35,9 @@ use Rattle.fact_emit.proofs.NamedLaws.{ranged_append}
 use Rattle.fact_kinds.specs.declared.fuel.Fuel.{Fuel}
 use Rattle.fact_compound.specs.AsyncParts.{PartSlots, part_type}
 use Rattle.fact_compound.specs.Asyncs.{EmitsPart, HasPartLocals, part_flags}
-use Rattle.fact_compound.specs.Code.{cleared_code, pushed_code, saved_code, slot_types}
+use Rattle.fact_steps.proofs.RangedSteps.{back_ranged, pushed_ranged, started_ranged}
+use Rattle.fact_steps.specs.Code.{back_code, pushed_code, saved_code, started_code}
+use Rattle.fact_compound.specs.Code.{cleared_code, slot_types}
 use Rattle.fact_compound.specs.Described.{DescribesTransfers, KnowsAdapterData, linear_of}
 use Rattle.fact_compound.specs.Passed.{MovedPart, MovesParams, MovesResults, TranslatesParams, TranslatesResults}
 use Rattle.fact_compound.specs.Passing.{tuple_size}
@@ -45,14 +47,12 @@ use Rattle.fact_compound.specs.declared.asyncs.AsyncPart.TheVariants as part
 use Rattle.fact_compound.proofs.Flats.{are_flat, lowered_flat}
 use Rattle.fact_compound.proofs.KeptLocals.{among_self, among_used, distinct_behind, distinct_front, locals_behind, locals_front, none_of, unused_behind, used_behind, used_front}
 use Rattle.fact_compound.proofs.ParamMoves.{ParamLocals, params_moved, params_typed}
-use Rattle.fact_compound.proofs.RangedSteps.{back_ranged, pushed_ranged, saved_ranged, zero_ranged}
 use Rattle.fact_compound.proofs.ResultPlaces.{ResultPlaces, lower_pointer_flat, lower_results_flat, results_code_typed, results_do, results_front}
 use Rattle.fact_compound.proofs.Slots.{held_parts}
 use Rattle.fact_compound.proofs.StepRules.{clears, held_others, pushes}
 use Rattle.fact_compound.proofs.SyncBodies.{few_slots, flat_few}
 use Rattle.fact_compound.proofs.SyncSteps.{AreUnused, among, held_have_types}
 use Rattle.fact_compound.proofs.SyncTyping.{typed_cleared, typed_pushed}
-use Rattle.fact_compound.proofs.SyncWritten.{back_code, zero_code}
 use Rattle.fact_compound.proofs.AsksLaws.{asks_before, asks_behind, new_none}
 
 -- the flags are kept, the values are moved with the flags at 0, and what is given stands on the stack
@@ -224,68 +224,67 @@ module _ {t : Tables} {d : AdapterData} {debug concurrency : Bool} {u : AdapterT
 -- ---- as it is written
 
 -- the flags are kept and cleared, values are moved, the flags are set back, and what is given is pushed
-part_emits : {asks : List AskedHelper} {P : Piece} {a b c e f g : Writer} (flags saved : ℕ) (given : List Slot) → Wrote a b (saved_code flags saved) → Wrote b c (zero_code flags) → EmitsAsking asks c e P → Wrote e f (back_code flags saved) → Wrote f g (pushed_code given)
-    → EmitsAsking (asks ++ []) a g (λ M p locals code. (moves : List Instr) × (code ≡ part_code flags saved given moves) × P M p locals moves)
-part_emits {P = P} flags saved given x1 x2 x3 x4 x5 =
-    let front = emits_wrote (ranged_append 0 0 (saved_code flags saved) (zero_code flags) (saved_ranged flags saved) (zero_ranged flags)) (wrote_then x1 x2) in
-    let back = emits_wrote (ranged_append 0 0 (back_code flags saved) (pushed_code given) (back_ranged flags saved) (pushed_ranged given)) (wrote_then x4 x5) in
-    emits_then {P = Is (saved_code flags saved ++ zero_code flags)} {Q = λ M p locals code. (moves : List Instr) × (code ≡ moves ++ (back_code flags saved ++ pushed_code given)) × P M p locals moves}
-    (λ M p locals code more y z. (z.0, (λ i. y i ++ z.1 i) ∙ ap (λ c. (saved_code flags saved ++ zero_code flags) ++ c) (sym (append_assoc z.0 (back_code flags saved) (pushed_code given))), z.2))
+part_emits : {asks : List AskedHelper} {P : Piece} {a b c e f : Writer} (flags saved : ℕ) (given : List Slot) → Wrote a b (started_code flags saved) → EmitsAsking asks b c P → Wrote c e (back_code flags saved) → Wrote e f (pushed_code given)
+    → EmitsAsking (asks ++ []) a f (λ M p locals code. (moves : List Instr) × (code ≡ part_code flags saved given moves) × P M p locals moves)
+part_emits {P = P} flags saved given x1 x2 x3 x4 =
+    let front = emits_wrote (started_ranged flags saved) x1 in
+    let back = emits_wrote (ranged_append 0 0 (back_code flags saved) (pushed_code given) (back_ranged flags saved) (pushed_ranged given)) (wrote_then x3 x4) in
+    emits_then {P = Is (started_code flags saved)} {Q = λ M p locals code. (moves : List Instr) × (code ≡ moves ++ (back_code flags saved ++ pushed_code given)) × P M p locals moves}
+    (λ M p locals code more y z. (z.0, (λ i. y i ++ z.1 i) ∙ ap (λ c. started_code flags saved ++ c) (sym (append_assoc z.0 (back_code flags saved) (pushed_code given))), z.2))
     front
-    (emits_then {Q = Is (back_code flags saved ++ pushed_code given)} (λ M p locals code more y z. (code, ap (λ c. code ++ c) z, y)) x3 back)
+    (emits_then {Q = Is (back_code flags saved ++ pushed_code given)} (λ M p locals code more y z. (code, ap (λ c. code ++ c) z, y)) x2 back)
 
 -- What was written does that part of the adapter.
-pub emits_part : {t : Tables} {d : AdapterData} {debug concurrency : Bool} (x : AsyncPart) (l : PartSlots) {before after : Fuel} {a b c e f g : Writer} → Wrote a b (saved_code (part_flags x d) l.saved) → Wrote b c (zero_code (part_flags x d)) → MovedPart t d debug concurrency x l before after c e
-    → Wrote e f (back_code (part_flags x d) l.saved) → Wrote f g (pushed_code l.given) → EmitsPart t d debug concurrency x l before after a g
-emits_part {t} {d} {debug} {concurrency} part.Start l {before} {after} {a} {b} {c} {e} {f} {g} x1 x2 x3 x4 x5 = record {
-  grew = grew_on front (grew_on x3.grew back);
-  asks = x3.asks ++ [];
-  translated = subst (λ (xs : List AskedHelper). TranslatesParams t d debug concurrency before after xs) (sym (append-nil x3.asks)) x3.translated;
-  asked = asks_behind (new_none (x2.imports ∙ x1.imports)) (asks_before back.imports x3.asked (new_none (x5.imports ∙ x4.imports)));
+pub emits_part : {t : Tables} {d : AdapterData} {debug concurrency : Bool} (x : AsyncPart) (l : PartSlots) {before after : Fuel} {a b c e f : Writer} → Wrote a b (started_code (part_flags x d) l.saved) → MovedPart t d debug concurrency x l before after b c
+    → Wrote c e (back_code (part_flags x d) l.saved) → Wrote e f (pushed_code l.given) → EmitsPart t d debug concurrency x l before after a f
+emits_part {t} {d} {debug} {concurrency} part.Start l {before} {after} {a} {b} {c} {e} {f} x1 x2 x3 x4 = record {
+  grew = grew_on front (grew_on x2.grew back);
+  asks = x2.asks ++ [];
+  translated = subst (λ (xs : List AskedHelper). TranslatesParams t d debug concurrency before after xs) (sym (append-nil x2.asks)) x2.translated;
+  asked = asks_behind (new_none x1.imports) (asks_before back.imports x2.asked (new_none (x4.imports ∙ x3.imports)));
   emits = λ u s h on.
-      let moved : EmitsAsking x3.asks c e (MovesParams d debug concurrency l.values l.given (taken_in a) s.lower.params s.lift.params) =
-      subst (λ taken. EmitsAsking x3.asks c e (MovesParams d debug concurrency l.values l.given taken s.lower.params s.lift.params)) taken_c (x3.emits s.lower.params s.lower.results s.lift.params s.lift.results h.lower.signature h.lift.signature h.params) in
+      let moved : EmitsAsking x2.asks b c (MovesParams d debug concurrency l.values l.given (taken_in a) s.lower.params s.lift.params) =
+      subst (λ taken. EmitsAsking x2.asks b c (MovesParams d debug concurrency l.values l.given taken s.lower.params s.lift.params)) taken_b (x2.emits s.lower.params s.lower.results s.lift.params s.lift.results h.lower.signature h.lift.signature h.params) in
       emits_as (λ M p locals code r. record {
         does = λ links room args ls held there. subst (λ k. Does M p Onward 1000 0 [] ls k (async_start u s args) reverse (HaveResultTypes (part_type part.Start s))) (sym r.1) (start_does h (sym on) links l room r.2 args ls held there);
         typed = λ links room. subst (λ k. IsTyped M locals [] k [] (OnStack (reverse (part_type part.Start s).results))) (sym r.1) (start_typed h (sym on) links l room r.2);
-      }) (part_emits d.lift.flags.number l.saved l.given x1 x2 moved x4 x5);
+      }) (part_emits d.lift.flags.number l.saved l.given x1 moved x3 x4);
 }
   where
-    front : Grew a c
-    front = (emits_wrote (ranged_append 0 0 (saved_code d.lift.flags.number l.saved) (zero_code d.lift.flags.number) (saved_ranged d.lift.flags.number l.saved) (zero_ranged d.lift.flags.number)) (wrote_then x1 x2)).grew
+    front : Grew a b
+    front = (emits_wrote (started_ranged d.lift.flags.number l.saved) x1).grew
 
-    back : Grew e g
-    back = (emits_wrote (ranged_append 0 0 (back_code d.lift.flags.number l.saved) (pushed_code l.given) (back_ranged d.lift.flags.number l.saved) (pushed_ranged l.given)) (wrote_then x4 x5)).grew
+    back : Grew c f
+    back = (emits_wrote (ranged_append 0 0 (back_code d.lift.flags.number l.saved) (pushed_code l.given) (back_ranged d.lift.flags.number l.saved) (pushed_ranged l.given)) (wrote_then x3 x4)).grew
 
-    taken_c : taken_in c ≡ taken_in a
-    taken_c = λ n. λ i. (front.still i) n
-emits_part {t} {d} {debug} {concurrency} part.Return l {before} {after} {a} {b} {c} {e} {f} {g} x1 x2 x3 x4 x5 = record {
-  grew = grew_on front (grew_on x3.grew back);
-  asks = x3.asks ++ [];
-  translated = subst (λ (xs : List AskedHelper). TranslatesResults t d debug concurrency before after xs) (sym (append-nil x3.asks)) x3.translated;
-  asked = asks_behind (new_none (x2.imports ∙ x1.imports)) (asks_before back.imports x3.asked (new_none (x5.imports ∙ x4.imports)));
+    taken_b : taken_in b ≡ taken_in a
+    taken_b = λ n. λ i. (front.still i) n
+emits_part {t} {d} {debug} {concurrency} part.Return l {before} {after} {a} {b} {c} {e} {f} x1 x2 x3 x4 = record {
+  grew = grew_on front (grew_on x2.grew back);
+  asks = x2.asks ++ [];
+  translated = subst (λ (xs : List AskedHelper). TranslatesResults t d debug concurrency before after xs) (sym (append-nil x2.asks)) x2.translated;
+  asked = asks_behind (new_none x1.imports) (asks_before back.imports x2.asked (new_none (x4.imports ∙ x3.imports)));
   emits = λ u s h on.
-      let moved : EmitsAsking x3.asks c e (MovesResults d debug concurrency l.values l.given l.args (taken_in a) s.lift.results s.lower.results) =
-      subst (λ taken. EmitsAsking x3.asks c e (MovesResults d debug concurrency l.values l.given l.args taken s.lift.results s.lower.results)) taken_c (x3.emits s.lower.params s.lower.results s.lift.params s.lift.results h.lower.signature h.lift.signature h.results) in
-      let lift_size = x3.lift_size s.lift.params s.lift.results h.lift.signature in
-      let lower_size = x3.lower_size s.lower.params s.lower.results h.lower.signature in
+      let moved : EmitsAsking x2.asks b c (MovesResults d debug concurrency l.values l.given l.args (taken_in a) s.lift.results s.lower.results) =
+      subst (λ taken. EmitsAsking x2.asks b c (MovesResults d debug concurrency l.values l.given l.args taken s.lift.results s.lower.results)) taken_b (x2.emits s.lower.params s.lower.results s.lift.params s.lift.results h.lower.signature h.lift.signature h.results) in
+      let lift_size = x2.lift_size s.lift.params s.lift.results h.lift.signature in
+      let lower_size = x2.lower_size s.lower.params s.lower.results h.lower.signature in
       emits_as (λ M p locals code r. record {
         does = λ links room args ls held there. subst (λ k. Does M p Onward 1000 0 [] ls k (async_return u s args) reverse (HaveResultTypes (part_type part.Return s))) (sym r.1) (return_does h (sym on) links l room lift_size lower_size r.2 args ls held there);
         typed = λ links room. subst (λ k. IsTyped M locals [] k [] (OnStack (reverse (part_type part.Return s).results))) (sym r.1) (return_typed h (sym on) links l room lift_size lower_size r.2);
-      }) (part_emits d.lower.flags.number l.saved l.given x1 x2 moved x4 x5);
+      }) (part_emits d.lower.flags.number l.saved l.given x1 moved x3 x4);
 }
   where
-    front : Grew a c
-    front = (emits_wrote (ranged_append 0 0 (saved_code d.lower.flags.number l.saved) (zero_code d.lower.flags.number) (saved_ranged d.lower.flags.number l.saved) (zero_ranged d.lower.flags.number)) (wrote_then x1 x2)).grew
+    front : Grew a b
+    front = (emits_wrote (started_ranged d.lower.flags.number l.saved) x1).grew
 
-    back : Grew e g
-    back = (emits_wrote (ranged_append 0 0 (back_code d.lower.flags.number l.saved) (pushed_code l.given) (back_ranged d.lower.flags.number l.saved) (pushed_ranged l.given)) (wrote_then x4 x5)).grew
+    back : Grew c f
+    back = (emits_wrote (ranged_append 0 0 (back_code d.lower.flags.number l.saved) (pushed_code l.given) (back_ranged d.lower.flags.number l.saved) (pushed_ranged l.given)) (wrote_then x3 x4)).grew
 
-    taken_c : taken_in c ≡ taken_in a
-    taken_c = λ n. λ i. (front.still i) n
+    taken_b : taken_in b ≡ taken_in a
+    taken_b = λ n. λ i. (front.still i) n
 
 -- the flags are those of the instance that values go to
-pub emits_part_by : {t : Tables} {d : AdapterData} {debug concurrency : Bool} (x : AsyncPart) (l : PartSlots) {flags : ℕ} {before after : Fuel} {a b c e f g : Writer} → flags ≡ part_flags x d → Wrote a b (saved_code flags l.saved) → Wrote b c (zero_code flags) → MovedPart t d debug concurrency x l before after c e
-    → Wrote e f (back_code flags l.saved) → Wrote f g (pushed_code l.given) → EmitsPart t d debug concurrency x l before after a g
-emits_part_by x l {a = a} {b} {c} {e} {f} {g} same x1 x2 x3 x4 x5 =
-    emits_part x l (subst (λ n. Wrote a b (saved_code n l.saved)) same x1) (subst (λ n. Wrote b c (zero_code n)) same x2) x3 (subst (λ n. Wrote e f (back_code n l.saved)) same x4) x5
+pub emits_part_by : {t : Tables} {d : AdapterData} {debug concurrency : Bool} (x : AsyncPart) (l : PartSlots) {flags : ℕ} {before after : Fuel} {a b c e f : Writer} → flags ≡ part_flags x d → Wrote a b (started_code flags l.saved) → MovedPart t d debug concurrency x l before after b c
+    → Wrote c e (back_code flags l.saved) → Wrote e f (pushed_code l.given) → EmitsPart t d debug concurrency x l before after a f
+emits_part_by x l {a = a} {b} {c} {e} {f} same x1 x2 x3 x4 = emits_part x l (subst (λ n. Wrote a b (started_code n l.saved)) same x1) x2 (subst (λ n. Wrote c e (back_code n l.saved)) same x3) x4

@@ -33,7 +33,7 @@ use Rattle.fact_pieces.proofs.Slots.{ask_none}
 use Rattle.fact_pieces.proofs.TypedRows.{takes_import, takes_plain}
 use Rattle.fact_pieces.proofs.TypingLaws.{Takes, by_row, typed_done, typed_next, typed_one, typed_then}
 use Rattle.fact_emit.specs.TaskTypes.{prepare_call_type, prepare_fixed_types, start_call_type}
-use Rattle.fact_compound.specs.Code.{pushed_code}
+use Rattle.fact_steps.specs.Code.{pushed_code}
 use Rattle.fact_compound.specs.Entries.{IsHandedOn, arguments_code, constants_code, entry_code}
 use Rattle.fact_compound.specs.Functions.{slots_from}
 use Rattle.fact_compound.specs.declared.entries.EntryPlaces.{EntryPlaces}

@@ -31,7 +31,7 @@ use Rattle.fact_machine.proofs.TypingRows.{changed}
 use Rattle.fact_pieces.specs.Typed.{OnStack}
 use Rattle.fact_pieces.proofs.TypingLaws.{Takes, by_row}
 use Rattle.fact_pieces.specs.Does.{EndsOn}
-use Rattle.fact_compound.specs.Code.{may_leave_code}
+use Rattle.fact_steps.specs.Code.{may_leave_code}
 use Rattle.fact_pieces.proofs.Blocks.{ends_target}
 use Rattle.fact_pieces.proofs.Rules.{ends_after, early_stop, strays_early, follows, is_set}
 use Rattle.fact_pieces.proofs.Runs.{no_heavier}

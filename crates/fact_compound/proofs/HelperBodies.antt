@@ -51,7 +51,9 @@ use Rattle.fact_kinds.specs.Asks.{IsAsked, params_at}
 use Rattle.fact_kinds.specs.Moved.{MovedInPlace}
 use Rattle.fact_kinds.specs.declared.fuel.Fuel.{Fuel}
 use Rattle.fact_compound.specs.Asks.{sides_between}
-use Rattle.fact_compound.specs.Code.{pushed_code, slot_types}
+use Rattle.fact_steps.proofs.RangedSteps.{pushed_ranged}
+use Rattle.fact_steps.specs.Code.{pushed_code}
+use Rattle.fact_compound.specs.Code.{slot_types}
 use Rattle.fact_compound.specs.Functions.{AddedLocals, params_among, slots_from}
 use Rattle.fact_compound.specs.Helpers.{AreLower, DoesHelper, UsesHelper, WroteHelperBody, asked_as, helper_params, helper_results, is_on_stack, results_at, target_params}
 use Rattle.fact_compound.specs.Passing.{last_local, tuple_from, tuple_to}
@@ -59,7 +61,6 @@ use Rattle.fact_compound.proofs.AsksLaws.{asks_kept, asks_of_moves, asks_same, n
 use Rattle.fact_compound.proofs.KeyLaws.{helper_keys, located_source, located_target}
 use Rattle.fact_compound.proofs.HelperPlaces.{IsFromAt, IsToAt, among_params, from_room, from_used, from_within, goes_own, kept_param, kept_taken, free_behind, keeps_params, own_from, own_to, last_is, reads_own, results_few, stands_own, target_distinct, target_taken, to_room, to_used, to_within, used_slots, writes_few, writes_own}
 use Rattle.fact_compound.proofs.LocalsAdded.{added_then, types_from}
-use Rattle.fact_compound.proofs.RangedSteps.{pushed_ranged}
 use Rattle.fact_compound.proofs.SlotsFrom.{locals_from, same_place, used_types}
 use Rattle.fact_compound.proofs.SyncTyping.{typed_pushed}
 

@@ -30,7 +30,7 @@ use Rattle.fact_compound.specs.Described.{DescribesTransfers, linear_of}
 use Rattle.fact_compound.specs.Helpers.{is_on_stack}
 use Rattle.fact_compound.specs.Keys.{AmongParams, AmongResults, IsKeyOfAdapter, TranslatesPart, TranslatesSync, part_asks, sync_asks}
 use Rattle.fact_compound.specs.Passed.{TranslatesParams, TranslatesResults, params_sides, results_sides}
-use Rattle.fact_compound.specs.PassedOn.{ArePassedOn, is_passed_on}
+use Rattle.fact_steps.specs.PassedOn.{ArePassedOn, is_passed_on}
 use Rattle.fact_compound.specs.Passing.{tuple_from, tuple_to}
 use Rattle.fact_compound.specs.Translated.{IsFullFuel, TranslatesTuple, place_of_flat}
 use Rattle.fact_compound.specs.declared.adapters.AdapterData.{AdapterData}

@@ -21,7 +21,8 @@ use Rattle.fact_pieces.specs.Does.{Locals, Onward, Does}
 use Rattle.fact_pieces.specs.Places.{Slot, AreHeld, KeepsLocals}
 use Rattle.fact_pieces.proofs.Keeping.{keeps_all}
 use Rattle.fact_pieces.proofs.Rules.{done, visit}
-use Rattle.fact_compound.specs.PassedOn.{ArePassedOn, visits, core_type_of, is_passed_on}
+use Rattle.fact_steps.specs.PassedOn.{ArePassedOn, is_passed_on}
+use Rattle.fact_compound.specs.PassedOn.{visits, core_type_of}
 use Rattle.fact_compound.proofs.Flats.{are_flat, flat_values_some}
 use Rattle.fact_compound.proofs.PassedOnMoves.{flats_are, passed_on}
 use Rattle.fact_compound.proofs.Slots.{held_parts, values_long}

@@ -27,7 +27,8 @@ use Rattle.fact_moves.specs.Adapters.{AdapterTunables, params_transfer, move_par
 use Rattle.fact_moves.specs.Moves.{aligned_source, aligned_target, part, spot, past, with_field, move, move_fields}
 use Rattle.fact_moves.specs.Sides.{LiftLowerOptions, Transfer, Values, Slots, low_half, width_of_side}
 use Rattle.fact_kinds.proofs.SourceMembers.{same_place, other_place}
-use Rattle.fact_compound.specs.PassedOn.{is_passed_on, core_type_of, ArePassedOn, visits}
+use Rattle.fact_steps.specs.PassedOn.{ArePassedOn, is_passed_on}
+use Rattle.fact_compound.specs.PassedOn.{core_type_of, visits}
 use Rattle.fact_compound.proofs.Flats.{are_flat}
 use Rattle.fact_compound.proofs.ParamMoves.{params_are}
 

@@ -27,7 +27,8 @@ use Rattle.fact_pieces.proofs.Keeping.{keeps_all, keeps_then}
 use Rattle.fact_pieces.proofs.Numbers.{value_type, set_keeps}
 use Rattle.fact_pieces.proofs.Primitives.{set_flags}
 use Rattle.fact_pieces.proofs.Rules.{within, in_turn, pushing, local_get, local_set, done, IsSet}
-use Rattle.fact_compound.specs.Code.{pushed_code, popped_code, cleared_code}
+use Rattle.fact_steps.specs.Code.{popped_code, pushed_code}
+use Rattle.fact_compound.specs.Code.{cleared_code}
 
 -- ---- weight
 

@@ -30,8 +30,10 @@ use Rattle.fact_emit.specs.RuntimeCalls.{slots_of}
 use Rattle.fact_emit.specs.declared.context.ContextLocals.{ContextLocals}
 use Rattle.fact_emit.specs.declared.imported.RuntimeFunction.TheVariants as runtime
 use Rattle.fact_kinds.specs.declared.fuel.Fuel.{Fuel}
-use Rattle.fact_compound.specs.Code.{SyncParts, pushed_code, sync_code, with_barrier}
-use Rattle.fact_compound.specs.Events.{AreCallOptions, CanFinish, CanReturnPost, KnowsRuntimeIf}
+use Rattle.fact_steps.specs.Code.{pushed_code}
+use Rattle.fact_steps.specs.Steps.{CanFinish, CanReturnPost, KnowsRuntimeIf}
+use Rattle.fact_compound.specs.Code.{SyncParts, sync_code, with_barrier}
+use Rattle.fact_compound.specs.Events.{AreCallOptions}
 use Rattle.fact_compound.specs.Described.{DescribesAdapter, KnowsAdapterData, KnowsPostReturn, linear_of}
 use Rattle.fact_compound.specs.Passing.{tuple_size}
 use Rattle.fact_compound.specs.Syncs.{EmitsSync, EndsAsSync}

@@ -39,7 +39,8 @@ use Rattle.fact_machine.proofs.RowLaws.{leaves_i32_const}
 use Rattle.fact_pieces.proofs.Rules.{within, ends_within, in_turn, local_get, local_set, pushing, done}
 use Rattle.fact_pieces.proofs.Slots.{ask_none}
 use Rattle.fact_emit.specs.Places.{AreDistinctSlots}
-use Rattle.fact_compound.specs.Code.{SyncParts, may_leave_code, call_steps_code, return_steps_code, enter_code, exit_code, finish_code, with_barrier, started_code, cleared_code, pushed_code, popped_code, call_code, steps_code, sync_code}
+use Rattle.fact_steps.specs.Code.{call_code, enter_code, exit_code, finish_code, may_leave_code, popped_code, pushed_code, started_code}
+use Rattle.fact_compound.specs.Code.{SyncParts, call_steps_code, return_steps_code, with_barrier, cleared_code, steps_code, sync_code}
 pub use Rattle.fact_compound.specs.Code.{slot_types}
 use Rattle.fact_compound.specs.Written.{KnowsUncaught}
 use Rattle.fact_compound.proofs.FlagGuards.{guards_flags}

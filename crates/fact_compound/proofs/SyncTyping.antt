@@ -20,7 +20,8 @@ use Rattle.fact_pieces.proofs.TypedRows.{takes_plain, takes_local_get, takes_loc
 use Rattle.fact_pieces.proofs.TypedShapes.{takes_guard, typed_barrier}
 use Rattle.fact_pieces.proofs.ContextSteps.{typed_reads, typed_writes}
 use Rattle.fact_pieces.proofs.TypingLaws.{typed_done, typed_then, typed_next, typed_one}
-use Rattle.fact_compound.specs.Code.{SyncParts, enter_code, exit_code, finish_code, with_barrier, cleared_code, pushed_code, popped_code, call_code, steps_code, sync_code}
+use Rattle.fact_steps.specs.Code.{call_code, enter_code, exit_code, finish_code, popped_code, pushed_code}
+use Rattle.fact_compound.specs.Code.{SyncParts, with_barrier, cleared_code, steps_code, sync_code}
 use Rattle.fact_compound.proofs.FlagGuards.{takes_local_tee}
 use Rattle.fact_compound.proofs.SyncSteps.{slot_types, SyncLocals, TellsIf, IsPostReturn, SyncImports}
 use Rattle.fact_compound.specs.Written.{KnowsUncaught}

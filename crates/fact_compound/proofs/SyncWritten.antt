@@ -2,7 +2,6 @@
 use Rattle.std.proofs.Common.{◌≡◌, ℕ, ◌<◌, ◌≤◌, Bool, true, false, List, [], ◌∷◌, ◌++◌, Option, Some, None, refl, sym, ap, ◌∙◌, subst, arith, append_assoc, append-nil, length, length-append, slice_get}
 use Rattle.fact_entity.specs.declared.id.Id.{Id}
 use Rattle.fact_entity.specs.declared.table.Funcs.{Funcs}
-use Rattle.fact_wasm.specs.declared.instr.FuncName.TheVariants as func
 use Rattle.fact_wasm.specs.declared.instr.Instr.{Instr}
 use Rattle.fact_wasm.specs.declared.instr.Instr.TheVariants as I
 use Rattle.fact_wasm.specs.declared.module.WasmModule.{WasmModule}
@@ -11,16 +10,12 @@ use Rattle.fact_types.specs.Functions.{HasSignature}
 use Rattle.fact_types.specs.Shapes.{Shape}
 use Rattle.fact_types.specs.Tables.{Tables}
 use Rattle.fact_types.specs.declared.import.Import.TheVariants as import
-use Rattle.fact_types.specs.declared.outside.Trap.TheVariants.{CannotLeaveComponent}
 use Rattle.fact_moves.specs.Running.{ImportPlaces}
-use Rattle.fact_pieces.specs.Code.{guard_code}
-use Rattle.fact_pieces.specs.Context.{read_slots_code, restore_code, CanWriteSlotsIf}
-use Rattle.fact_pieces.specs.Places.{Slot}
+use Rattle.fact_pieces.specs.Context.{read_slots_code}
 use Rattle.fact_emit.specs.Barriers.{WroteBarrier}
-use Rattle.fact_emit.specs.Checks.{Guarded}
 use Rattle.fact_emit.specs.Asked.{AskedHelper}
 use Rattle.fact_emit.specs.Emits.{Grew, Emits, EmitsAsking, GrewAsking}
-use Rattle.fact_emit.specs.RuntimeCalls.{CallsRuntime, ReadsSlots, WritesSlots, slots_of}
+use Rattle.fact_emit.specs.RuntimeCalls.{ReadsSlots, slots_of}
 use Rattle.std.specs.Prelude.{IfSome}
 use Rattle.fact_emit.specs.Imports.{Extended}
 use Rattle.fact_emit.specs.Options.{number_if_any}
@@ -32,83 +27,23 @@ use Rattle.fact_emit.specs.declared.context.ContextLocals.{ContextLocals}
 use Rattle.fact_emit.specs.declared.imported.RuntimeFunction.TheVariants as runtime
 use Rattle.fact_emit.specs.declared.writer.Writer.{Writer}
 use Rattle.fact_emit.proofs.BarrierMoves.{barrier_emits, grew_barrier}
-use Rattle.fact_emit.proofs.CheckMoves.{guarded_as}
-use Rattle.fact_emit.proofs.Emitting.{emits_as, emits_before, emits_nothing, emits_then, emits_wrote, wrote_then, grew_on}
-use Rattle.fact_emit.proofs.NamedLaws.{ranged_append}
+use Rattle.fact_emit.proofs.Emitting.{emits_before, emits_then, emits_wrote, grew_on}
 use Rattle.fact_compound.specs.Asks.{AsksFor}
-use Rattle.fact_compound.specs.Code.{saved_code, started_code, cleared_code, pushed_code, call_code, enter_code, exit_code, finish_code}
+use Rattle.fact_steps.proofs.RangedSteps.{call_ranged, pushed_ranged, started_ranged, zero_ranged}
+use Rattle.fact_steps.specs.Code.{back_code, call_code, enter_code, exit_code, finish_code, pushed_code, started_code, zero_code}
+use Rattle.fact_steps.specs.Steps.{CanFinish, ChecksMayLeave, EntersCall, ExitsCall, KnowsRuntimeIf, RestoresAndFinishes}
+use Rattle.fact_compound.specs.Code.{cleared_code}
 use Rattle.fact_compound.specs.Described.{CanMoveTuple, linear_of}
-use Rattle.fact_compound.specs.Events.{CanFinish, EntersCall, ExitsCall, FinishesCall, KnowsRuntimeIf, ReturnsPost}
 use Rattle.fact_kinds.specs.declared.fuel.Fuel.{Fuel}
 use Rattle.fact_compound.specs.Keys.{TranslatesSync}
 use Rattle.fact_compound.specs.Passed.{ParamsCode, PassedParams, MovesResults, MovedResults, TranslatesParams, TranslatesResults}
-use Rattle.fact_compound.specs.Passing.{ChecksMayLeave, tuple_size}
+use Rattle.fact_compound.specs.Passing.{tuple_size}
 use Rattle.fact_compound.specs.Written.{IsReturnCode, IsStepsCode, IsSyncCode, KnowsUncaught, SyncPlaces, WrittenBarred, WrittenCall, WrittenReturn, WrittenSteps}
 use Rattle.fact_compound.specs.declared.adapters.AdapterData.{AdapterData}
 use Rattle.fact_compound.specs.declared.syncs.CallOptions.{CallOptions}
-use Rattle.fact_compound.proofs.RangedSteps.{back_ranged, call_ranged, constants_ranged, post_ranged, pushed_ranged, saved_ranged, zero_ranged}
-use Rattle.fact_compound.proofs.AsksLaws.{asks_before, asks_behind, asks_kept, asks_on, asks_same, emits_new, new_on, runtime_new}
-
--- the test whether an instance may be left
-pub may_leave_emits : {a b : Writer} {test : List Instr} (flags saved : ℕ) → test ≡ I.GlobalGet flags ∷ I.LocalTee saved ∷ [] → Emits a b (Guarded test CannotLeaveComponent []) → Emits a b (ChecksMayLeave flags saved)
-may_leave_emits flags saved same x =
-    emits_as (λ M p locals code g. record { trap = g.place; has = g.has; is = g.is ∙ append-nil (guard_code (I.GlobalGet flags ∷ I.LocalTee saved ∷ []) g.place) }) (guarded_as same x)
-
--- ---- the steps that not every adapter has
-
--- the runtime is told of the call, or is not
-pub enter_emits : {a b c e : Writer} (told : Bool) (instance : ℕ) → told ≡ true → Wrote a b (I.I32Const 0 ∷ []) → Wrote b c (I.I32Const instance ∷ []) → Emits c e (CallsRuntime runtime.EnterSyncCall) → Emits a e (EntersCall told instance)
-enter_emits true instance is x y z =
-    emits_then {P = Is (I.I32Const 0 ∷ I.I32Const instance ∷ [])} (λ M p locals code more e g. record { is = λ i. e i ++ g.is i; has = g.has }) (emits_wrote (constants_ranged 0 instance) (wrote_then x y)) z
-enter_emits false instance is x y z = absurd (let no : false ≡ true = is in cc)
-
-pub no_enter : (a : Writer) (told : Bool) (instance : ℕ) → told ≡ false → Emits a a (EntersCall told instance)
-no_enter a false instance is = emits_nothing (λ M p locals. record { is = refl; has = tt })
-no_enter a true instance is = absurd (let no : true ≡ false = is in cc)
-
-pub exit_emits : {a b : Writer} (told : Bool) → told ≡ true → Emits a b (CallsRuntime runtime.ExitSyncCall) → Emits a b (ExitsCall told)
-exit_emits true is x = emits_as (λ M p locals code g. record { is = g.is; has = g.has }) x
-exit_emits false is x = absurd (let no : false ≡ true = is in cc)
-
-pub no_exit : (a : Writer) (told : Bool) → told ≡ false → Emits a a (ExitsCall told)
-no_exit a false is = emits_nothing (λ M p locals. record { is = refl; has = tt })
-no_exit a true is = absurd (let no : true ≡ false = is in cc)
-
--- the post-return, whose place was there before
-pub post_emits : {a b c e f g : Writer} (function : ℕ) (context : Bool) (callee own : ContextLocals) (given : List Slot) → function < length (functions_of a.imports)
-    → Emits a b (ReadsSlots context own) → Emits b c (WritesSlots context callee) → Wrote c e (pushed_code given) → Wrote e f (I.Call (func.Import function) ∷ []) → Emits f g (WritesSlots context own)
-    → Emits a g (ReturnsPost function context callee own given)
-post_emits {a} {b} {c} {e} {f} {g} function context callee own given below x y z v w =
-    let grew_c : Grew a c = grew_on x.grew y.grew in
-    let imports : ℕ = length (functions_of c.imports) in
-    let there : function < imports = omega (arith, below, ap length grew_c.imports.functions.is, length-append (functions_of a.imports) grew_c.imports.functions.more) in
-    let call = emits_before (post_ranged imports function given there) (wrote_then z v) in
-    let Last : WasmModule → ImportPlaces → List ValType → List Instr → Type 0 = λ M p locals code. (code ≡ (pushed_code given ++ I.Call (func.Import function) ∷ []) ++ restore_code context (slots_of p own)) × CanWriteSlotsIf context M p (slots_of p own) in
-    let last : Emits c g Last = emits_then {P = Is (pushed_code given ++ I.Call (func.Import function) ∷ [])} (λ M p locals code more is r. (λ i. is i ++ r.is i, r.can)) call w in
-    let Middle : WasmModule → ImportPlaces → List ValType → List Instr → Type 0 = λ M p locals code.
-    (code ≡ restore_code context (slots_of p callee) ++ ((pushed_code given ++ I.Call (func.Import function) ∷ []) ++ restore_code context (slots_of p own))) × CanWriteSlotsIf context M p (slots_of p callee) × CanWriteSlotsIf context M p (slots_of p own) in
-    let middle : Emits b g Middle = emits_then {Q = Last} (λ M p locals code more r is. (λ i. r.is i ++ is.0 i, r.can, is.1)) y last in
-    emits_then {Q = Middle} (λ M p locals code more r is. record {
-      is = (λ i. r.is i ++ is.0 i)
-          ∙ ap (λ c. read_slots_code context (slots_of p own) ++ (restore_code context (slots_of p callee) ++ c)) (append_assoc (pushed_code given) (I.Call (func.Import function) ∷ []) (restore_code context (slots_of p own)));
-      can = record { reads_own = r.can; writes = is.1; writes_own = is.2 };
-    }) x middle
-
-pub finish_emits : {a b : Writer} (o : Option (Id Funcs)) (f : Id Funcs) (context : Bool) (callee own : ContextLocals) (given : List Slot) → o ≡ Some f → Emits a b (ReturnsPost f.number context callee own given) → Emits a b (FinishesCall o context callee own given)
-finish_emits {a} {b} o f context callee own given is x =
-    subst (λ o. Emits a b (FinishesCall o context callee own given)) (sym is) (emits_as (λ M p locals code r. record { is = r.is; can = r.can }) x)
-
-pub no_finish : (a : Writer) (o : Option (Id Funcs)) (context : Bool) (callee own : ContextLocals) (given : List Slot) → o ≡ None → Emits a a (FinishesCall o context callee own given)
-no_finish a None context callee own given is = emits_nothing (λ M p locals. record { is = refl; can = tt })
-no_finish a (Some f) context callee own given is = absurd (let no : Some f ≡ None = is in cc)
+use Rattle.fact_compound.proofs.AsksLaws.{asks_before, asks_behind, asks_kept, asks_on, asks_same, emits_new, runtime_new}
 
 -- ---- up to the call
-
-abbrev pub zero_code : ℕ → List Instr
-zero_code flags = I.I32Const 0 ∷ I.GlobalSet flags ∷ []
-
-abbrev pub back_code : (flags saved : ℕ) → List Instr
-back_code flags saved = I.LocalGet saved ∷ I.GlobalSet flags ∷ []
 
 abbrev callee_code : AdapterData → SyncPlaces → List Instr
 callee_code d l = call_code l.core d.lift.flags.number l.lift_saved d.callee.number l.given
@@ -125,26 +60,26 @@ record EnterOn (d : AdapterData) (debug : Bool) (o : CallOptions) (l : SyncPlace
   enters : KnowsRuntimeIf o.told M p runtime.EnterSyncCall
   moves_params : ParamsCode l.passed d debug o.concurrency l.params l.core taken ps qs M p locals params
 
-pub written_call : {t : Tables} (d : AdapterData) (debug : Bool) (o : CallOptions) (l : SyncPlaces) {before after : Fuel} {a b c e f g h : Writer} → d.callee.number < length (functions_of a.imports)
-    → Emits a b (ChecksMayLeave d.lower.flags.number l.saved) → Emits b c (EntersCall o.told d.lift.instance.number) → Wrote c e (saved_code d.lift.flags.number l.lift_saved) → Wrote e f (zero_code d.lift.flags.number)
-    → PassedParams t d debug o.concurrency l.passed l.params l.core before after f g → Wrote g h (callee_code d l) → WrittenCall t d debug o l before after a h
-written_call {t} d debug o l {before} {after} {a} {b} {c} {e} {f} {g} {h} callee x1 x2 x3 x4 x5 x6 =
-    let front = emits_wrote (ranged_append 0 0 (saved_code d.lift.flags.number l.lift_saved) (zero_code d.lift.flags.number) (saved_ranged d.lift.flags.number l.lift_saved) (zero_ranged d.lift.flags.number)) (wrote_then x3 x4) in
-    let grew_f : Grew a f = grew_on x1.grew (grew_on x2.grew front.grew) in
-    let grew_g : GrewAsking x5.asks a g = grew_on grew_f x5.grew in
-    let imports : ℕ = length (functions_of g.imports) in
-    let there : d.callee.number < imports = omega (arith, callee, ap length grew_g.imports.functions.is, length-append (functions_of a.imports) grew_g.imports.functions.more) in
-    let call = emits_before (call_ranged imports d.lift.flags.number l.lift_saved d.callee.number l.core l.given there) x6 in
-    let taken_f : taken_in f ≡ taken_in a = λ n. λ i. (grew_f.still i) n in
+pub written_call : {t : Tables} (d : AdapterData) (debug : Bool) (o : CallOptions) (l : SyncPlaces) {before after : Fuel} {a b c e f g : Writer} → d.callee.number < length (functions_of a.imports)
+    → Emits a b (ChecksMayLeave d.lower.flags.number l.saved) → Emits b c (EntersCall o.told d.lift.instance.number) → Wrote c e (started_code d.lift.flags.number l.lift_saved)
+    → PassedParams t d debug o.concurrency l.passed l.params l.core before after e f → Wrote f g (callee_code d l) → WrittenCall t d debug o l before after a g
+written_call {t} d debug o l {before} {after} {a} {b} {c} {e} {f} {g} callee x1 x2 x3 x4 x5 =
+    let front = emits_wrote (started_ranged d.lift.flags.number l.lift_saved) x3 in
+    let grew_e : Grew a e = grew_on x1.grew (grew_on x2.grew front.grew) in
+    let grew_f : GrewAsking x4.asks a f = grew_on grew_e x4.grew in
+    let imports : ℕ = length (functions_of f.imports) in
+    let there : d.callee.number < imports = omega (arith, callee, ap length grew_f.imports.functions.is, length-append (functions_of a.imports) grew_f.imports.functions.more) in
+    let call = emits_before (call_ranged imports d.lift.flags.number l.lift_saved d.callee.number l.core l.given there) x5 in
+    let taken_e : taken_in e ≡ taken_in a = λ n. λ i. (grew_e.still i) n in
     record {
-      grew = grew_on grew_g call.grew;
-      asks = x5.asks ++ [];
-      translated = λ moved. subst (λ (xs : List AskedHelper). TranslatesParams t d debug o.concurrency before after xs) (sym (append-nil x5.asks)) (x5.translated moved);
-      none = λ passed. (append-nil x5.asks ∙ (x5.none passed).0, (x5.none passed).1);
-      asked = asks_behind (emits_new x1) (asks_behind (emits_new x2) (asks_behind (emits_new front) (asks_before call.grew.imports x5.asked (emits_new call))));
+      grew = grew_on grew_f call.grew;
+      asks = x4.asks ++ [];
+      translated = λ moved. subst (λ (xs : List AskedHelper). TranslatesParams t d debug o.concurrency before after xs) (sym (append-nil x4.asks)) (x4.translated moved);
+      none = λ passed. (append-nil x4.asks ∙ (x4.none passed).0, (x4.none passed).1);
+      asked = asks_behind (emits_new x1) (asks_behind (emits_new x2) (asks_behind (emits_new front) (asks_before call.grew.imports x4.asked (emits_new call))));
       emits = λ ps rs qs ss hl hf can.
-          let params : EmitsAsking x5.asks f g (ParamsCode l.passed d debug o.concurrency l.params l.core (taken_in a) ps qs) =
-          subst (λ taken. EmitsAsking x5.asks f g (ParamsCode l.passed d debug o.concurrency l.params l.core taken ps qs)) taken_f (x5.emits ps rs qs ss hl hf can) in
+          let params : EmitsAsking x4.asks e f (ParamsCode l.passed d debug o.concurrency l.params l.core (taken_in a) ps qs) =
+          subst (λ taken. EmitsAsking x4.asks e f (ParamsCode l.passed d debug o.concurrency l.params l.core taken ps qs)) taken_e (x4.emits ps rs qs ss hl hf can) in
           emits_then {P = ChecksMayLeave d.lower.flags.number l.saved} {Q = EnterOn d debug o l (taken_in a) ps qs}
           (λ M p locals code more y z. record { may_leave = y.trap; params = z.params; is = λ i. y.is i ++ z.is i; has = y.has; enters = z.enters; moves_params = z.moves_params })
           x1
@@ -176,26 +111,22 @@ record ExitOn (d : AdapterData) (debug : Bool) (o : CallOptions) (l : SyncPlaces
 back_assoc : (flags saved : ℕ) (front results finish : List Instr) → front ++ (zero_code flags ++ (results ++ (back_code flags saved ++ finish))) ≡ front ++ (cleared_code flags saved results ++ finish)
 back_assoc flags saved front results finish = ap (λ c. front ++ I.I32Const 0 ∷ I.GlobalSet flags ∷ c) (sym (append_assoc results (back_code flags saved) finish))
 
-pub written_return : {t : Tables} (d : AdapterData) (debug : Bool) (o : CallOptions) (l : SyncPlaces) {before after : Fuel} {a b c e f g h : Writer} → Emits a b (ReadsSlots o.context l.callee_context) → Emits b c (ExitsCall o.told) → Wrote c e (zero_code d.lower.flags.number)
-    → MovedResults t d debug o.concurrency l.given l.results l.args before after e f → Wrote f g (back_code d.lower.flags.number l.saved) → Emits g h (FinishesCall d.lift.post_return o.context l.callee_context l.own_context l.given) → WrittenReturn t d debug o l before after a h
-written_return {t} d debug o l {before} {after} {a} {b} {c} {e} {f} {g} {h} x1 x2 x3 x4 x5 x6 =
+pub written_return : {t : Tables} (d : AdapterData) (debug : Bool) (o : CallOptions) (l : SyncPlaces) {before after : Fuel} {a b c e f g : Writer} → Emits a b (ReadsSlots o.context l.callee_context) → Emits b c (ExitsCall o.told) → Wrote c e (zero_code d.lower.flags.number)
+    → MovedResults t d debug o.concurrency l.given l.results l.args before after e f → Emits f g (RestoresAndFinishes d.lower.flags.number l.saved d.lift.post_return o.context l.callee_context l.own_context l.given) → WrittenReturn t d debug o l before after a g
+written_return {t} d debug o l {before} {after} {a} {b} {c} {e} {f} {g} x1 x2 x3 x4 x5 =
     let zero = emits_wrote (zero_ranged d.lower.flags.number) x3 in
-    let back = emits_wrote (back_ranged d.lower.flags.number l.saved) x5 in
     let grew_e : Grew a e = grew_on x1.grew (grew_on x2.grew zero.grew) in
     let taken_e : taken_in e ≡ taken_in a = λ n. λ i. (grew_e.still i) n in
     record {
-      grew = grew_on grew_e (grew_on x4.grew (grew_on back.grew x6.grew));
+      grew = grew_on grew_e (grew_on x4.grew x5.grew);
       asks = x4.asks ++ [];
       translated = subst (λ (xs : List AskedHelper). TranslatesResults t d debug o.concurrency before after xs) (sym (append-nil x4.asks)) x4.translated;
-      asked = asks_behind (emits_new x1) (asks_behind (emits_new x2) (asks_behind (emits_new zero) (asks_before (grew_on back.grew x6.grew).imports x4.asked (new_on (emits_new back) (emits_new x6)))));
+      asked = asks_behind (emits_new x1) (asks_behind (emits_new x2) (asks_behind (emits_new zero) (asks_before x5.grew.imports x4.asked (emits_new x5))));
       lift_size = x4.lift_size;
       lower_size = x4.lower_size;
       emits = λ ps rs qs ss hl hf can.
           let results : EmitsAsking x4.asks e f (MovesResults d debug o.concurrency l.given l.results l.args (taken_in a) ss rs) =
           subst (λ taken. EmitsAsking x4.asks e f (MovesResults d debug o.concurrency l.given l.results l.args taken ss rs)) taken_e (x4.emits ps rs qs ss hl hf can) in
-          let Last : WasmModule → ImportPlaces → List ValType → List Instr → Type 0 = λ M p locals code.
-          (code ≡ back_code d.lower.flags.number l.saved ++ finish_code o.context (number_if_any d.lift.post_return) (slots_of p l.callee_context) (slots_of p l.own_context) l.given) × CanFinish d.lift.post_return o.context l.callee_context l.own_context M p in
-          let last : Emits f h Last = emits_then {P = Is (back_code d.lower.flags.number l.saved)} (λ M p locals code more y z. (λ i. y i ++ z.is i, z.can)) back x6 in
           emits_then {P = ReadsSlots o.context l.callee_context} {Q = ExitOn d debug o l (taken_in a) rs ss}
           (λ M p locals code more y z. record {
             results = z.results;
@@ -212,7 +143,8 @@ written_return {t} d debug o l {before} {after} {a} {b} {c} {e} {f} {g} {h} x1 x
           x2
           (emits_then {P = Is (zero_code d.lower.flags.number)} {Q = ResultsOn d debug o l (taken_in a) rs ss []} (λ M p locals code more y z. record { results = z.results; is = λ i. y i ++ z.is i; finishes = z.finishes; moves_results = z.moves_results })
           zero
-          (emits_then {Q = Last} (λ M p locals code more y z. record { results = code; is = ap (λ c. code ++ c) z.0; finishes = z.1; moves_results = y }) results last)));
+          (emits_then {Q = RestoresAndFinishes d.lower.flags.number l.saved d.lift.post_return o.context l.callee_context l.own_context l.given}
+          (λ M p locals code more y z. record { results = code; is = ap (λ c. code ++ c) z.is; finishes = z.can; moves_results = y }) results x5)));
     }
 
 -- a function that was imported before is imported still
@@ -223,9 +155,9 @@ some_there (Some f) a b x h = omega (arith, h, ap length x.functions.is, length-
 pub return_there : {t : Tables} {d : AdapterData} {debug : Bool} {o : CallOptions} {l : SyncPlaces} {before after : Fuel} {a b : Writer} (post : Option (Id Funcs)) → WrittenCall t d debug o l before after a b → IfSome post (λ (f : Id Funcs). f.number < length (functions_of a.imports)) → IfSome post (λ (f : Id Funcs). f.number < length (functions_of b.imports))
 return_there {a = a} {b} post x h = some_there post a.imports b.imports x.grew.imports h
 
-pub finish_there : {context told : Bool} {c0 : ContextLocals} {a b c e f g : Writer} {xs ys : List Instr} {asks : List AskedHelper} (post : Option (Id Funcs)) → Emits a b (ReadsSlots context c0) → Emits b c (ExitsCall told) → Wrote c e xs → GrewAsking asks e f → Wrote f g ys
+pub finish_there : {context told : Bool} {c0 : ContextLocals} {a b c e g : Writer} {xs : List Instr} {asks : List AskedHelper} (post : Option (Id Funcs)) → Emits a b (ReadsSlots context c0) → Emits b c (ExitsCall told) → Wrote c e xs → GrewAsking asks e g
     → IfSome post (λ (f : Id Funcs). f.number < length (functions_of a.imports)) → IfSome post (λ (f : Id Funcs). f.number < length (functions_of g.imports))
-finish_there {a = a} {g = g} post x y z r w h = some_there post a.imports g.imports (extended_on x.grew.imports (extended_on y.grew.imports (extended_on (extended_none z.imports) (extended_on r.imports (extended_none w.imports))))) h
+finish_there {a = a} {g = g} post x y z r h = some_there post a.imports g.imports (extended_on x.grew.imports (extended_on y.grew.imports (extended_on (extended_none z.imports) r.imports))) h
 
 -- ---- all steps, and a barrier around them
 

@@ -32,7 +32,7 @@ use Rattle.fact_compound.specs.Events.{AreCallOptions}
 use Rattle.fact_compound.specs.Syncs.{EndsAsSync}
 use Rattle.fact_compound.specs.declared.syncs.CallOptions.{CallOptions}
 use Rattle.fact_compound.specs.Code.{slot_types}
-use Rattle.fact_compound.specs.PassedOn.{ArePassedOn}
+use Rattle.fact_steps.specs.PassedOn.{ArePassedOn}
 use Rattle.fact_compound.specs.Written.{CoreLocals, HasLocals, all_slots, kept_slots, outs_slots}
 use Rattle.fact_types.specs.Functions.{HasSignature}
 use Rattle.fact_compound.proofs.Runs.{numbers_append, numbers_front, numbers_behind}

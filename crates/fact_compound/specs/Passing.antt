@@ -9,10 +9,6 @@ use Rattle.fact_types.specs.Shapes.{Shape, layout_of}
 use Rattle.fact_types.specs.Signatures.{width}
 use Rattle.fact_types.specs.Tuples.{tuple_of}
 use Rattle.fact_moves.specs.Running.{ImportPlaces}
-use Rattle.fact_types.specs.declared.import.Import.TheVariants as import
-use Rattle.fact_types.specs.declared.outside.Trap.TheVariants.{CannotLeaveComponent}
-use Rattle.fact_pieces.specs.Knows.{KnowsFunction}
-use Rattle.fact_compound.specs.Code.{may_leave_code}
 use Rattle.fact_pieces.specs.Places.{Slot, From, InLocals, InMemory, To, ToLocals, ToMemory}
 use Rattle.fact_emit.specs.Areas.{ChecksArea}
 use Rattle.fact_emit.specs.NewAreas.{AsksArea}
@@ -50,9 +46,3 @@ ChecksTuple m taken false address size align M p locals code = ChecksArea m take
 abbrev pub AsksTuple : (concurrency : Bool) → LinearMemory → (ℕ → Bool) → (flat : Bool) → (address size align : ℕ) → WasmModule → ImportPlaces → List ValType → List Instr → Type 0
 AsksTuple concurrency m taken true address size align M p locals code = code ≡ []
 AsksTuple concurrency m taken false address size align M p locals code = AsksArea concurrency m taken address size align M p locals code
-
--- the flags of an instance are kept in a local, with a trap where they are 0
-pub record ChecksMayLeave (flags saved : ℕ) (M : WasmModule) (p : ImportPlaces) (locals : List ValType) (code : List Instr) : Type 0 where
-  pub trap : ℕ
-  pub has : KnowsFunction M p (import.Trap CannotLeaveComponent) trap [] []
-  pub is : code ≡ may_leave_code flags saved trap

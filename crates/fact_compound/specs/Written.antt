@@ -29,13 +29,14 @@ use Rattle.fact_emit.specs.Places.{slots_of_locals}
 use Rattle.fact_emit.specs.Writers.{taken_in}
 use Rattle.fact_emit.specs.declared.writer.Writer.{Writer}
 use Rattle.fact_compound.specs.Asks.{AsksFor}
-use Rattle.fact_compound.specs.Code.{SyncParts, call_steps_code, pushed_code, return_steps_code, slot_types, with_barrier}
-use Rattle.fact_compound.specs.Events.{CanFinish, KnowsRuntimeIf}
+use Rattle.fact_steps.specs.Code.{pushed_code}
+use Rattle.fact_steps.specs.PassedOn.{ArePassedOn}
+use Rattle.fact_steps.specs.Steps.{CanFinish, KnowsRuntimeIf}
+use Rattle.fact_compound.specs.Code.{SyncParts, call_steps_code, return_steps_code, slot_types, with_barrier}
 use Rattle.fact_compound.specs.Described.{CanMoveTuple, linear_of}
 use Rattle.fact_kinds.specs.declared.fuel.Fuel.{Fuel}
 use Rattle.fact_compound.specs.Keys.{TranslatesSync}
 use Rattle.fact_compound.specs.Passed.{ParamsCode, MovesResults, TranslatesParams, TranslatesResults}
-use Rattle.fact_compound.specs.PassedOn.{ArePassedOn}
 use Rattle.fact_compound.specs.Passing.{tuple_size}
 use Rattle.fact_compound.specs.declared.adapters.AdapterData.{AdapterData}
 use Rattle.fact_compound.specs.declared.syncs.CallOptions.{CallOptions}

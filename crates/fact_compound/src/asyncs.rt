@@ -12,13 +12,13 @@ ghost use Rattle.fact_compound.specs.Passed.{MovedPart};
 use crate::adapters::AdapterData;
 use crate::entries::compile_entry;
 use crate::functions::{add_locals, function_of, params_of};
-use crate::steps::{clear_flags, push_locals, restore_flags, save_flags};
 use crate::tuples::{are_flat_results, move_params, move_results, tuples_of};
 use fact_builder::ComponentTypesBuilder;
 use fact_emit::places::TypedLocal;
 use fact_emit::state::ModuleSections;
 use fact_emit::writer::Writer;
 use fact_kinds::fuel::Fuel;
+use fact_steps::steps::{hold_flags, push_locals, restore_flags};
 use fact_types::{ComponentTypes, Signature};
 use fact_wasm::{FuncName, OutOfMemory, ValType, WasmFunc};
 use std::alloc::Global;
@@ -169,8 +169,7 @@ fn put_part(
     ensures { OnOk result (EmitsPart types.now adapter.now debug concurrency part (part_locals locals.entry) fuel.old fuel.new w.old w.new) }
 {
     let flags = part_flags(adapter, part);
-    save_flags(w, flags, locals.saved)?;
-    clear_flags(w, flags)?;
+    hold_flags(w, flags, locals.saved)?;
     move_part(
         types,
         builder,

@@ -16,7 +16,6 @@ ghost use Rattle.fact_compound.specs.Functions.{AddedContext, AddedLocals, Added
 use crate::adapters::{AdapterData, AdapterOptions};
 use crate::asyncs::compile_async;
 use crate::helpers::compile_helpers;
-use crate::passing::are_passed_on;
 use crate::same_instance::compile_same_instance;
 use crate::syncs::{CallOptions, SyncLocals, put_sync};
 use crate::tuples::{are_flat_results, tuples_of};
@@ -26,6 +25,7 @@ use fact_emit::places::TypedLocal;
 use fact_emit::state::{ModuleSections, ModuleState};
 use fact_emit::writer::{Local, Writer};
 use fact_kinds::fuel::Fuel;
+use fact_steps::passing::are_passed_on;
 use fact_types::{ComponentTypes, InterfaceType, SideSig, Signature, TypeFuncIndex};
 use fact_wasm::{FuncName, Instr, OutOfMemory, Seq, ValType, WasmFunc};
 use std::alloc::Global;

@@ -9,7 +9,6 @@ ghost use Rattle.fact_compound.specs.Asks.{CanBeWritten, sides_between};
 ghost use Rattle.fact_compound.specs.Helpers.{AreWritable, CompiledHelpers, IsHelperSignature, IsTurn, WroteHelper, WroteHelperBody, WroteHelpers, is_on_stack as is_on_stack_at, results_of_helper, target_params as target_params_of};
 
 use crate::functions::{add_locals, function_of, params_of};
-use crate::steps::push_locals;
 use crate::tuples::{tuple_source, tuple_target};
 use fact_builder::ComponentTypesBuilder;
 use fact_emit::helpers::{Helper, HelperLocation, HelperType};
@@ -19,6 +18,7 @@ use fact_emit::writer::Writer;
 use fact_kinds::fuel::Fuel;
 use fact_kinds::helpers::{flat_types, helper_params};
 use fact_kinds::lists::address_type;
+use fact_steps::steps::push_locals;
 use fact_translate::products::translate_in_place;
 use fact_types::{ComponentTypes, Signature};
 use fact_wasm::{OutOfMemory, Seq, ValType, WasmFunc};

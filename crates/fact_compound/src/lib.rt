@@ -7,8 +7,6 @@ pub mod asyncs;
 pub mod entries;
 pub mod functions;
 pub mod helpers;
-pub mod passing;
 pub mod same_instance;
-pub mod steps;
 pub mod syncs;
 pub mod tuples;

@@ -8,10 +8,6 @@ ghost use Rattle.fact_compound.specs.Syncs.{EmitsSync};
 ghost use Rattle.fact_compound.specs.Written.{WrittenBarred, WrittenCall, WrittenReturn, WrittenSteps, sync_places};
 
 use crate::adapters::AdapterData;
-use crate::steps::{
-    call_callee, check_may_leave, clear_flags, enter_call, exit_call, finish_call, push_locals,
-    restore_flags, save_flags,
-};
 use crate::tuples::{move_results, pass_params};
 use fact_builder::ComponentTypesBuilder;
 use fact_emit::barriers::put_barrier;
@@ -19,6 +15,10 @@ use fact_emit::context::{ContextLocals, read_context};
 use fact_emit::places::TypedLocal;
 use fact_emit::writer::Writer;
 use fact_kinds::fuel::Fuel;
+use fact_steps::steps::{
+    call_callee, check_may_leave, clear_flags, enter_call, exit_call, hold_flags, push_locals,
+    restore_and_finish,
+};
 use fact_types::ComponentTypes;
 use fact_wasm::OutOfMemory;
 
@@ -70,8 +70,7 @@ fn put_call(
 {
     check_may_leave(w, adapter.lower.flags.number, locals.saved)?;
     enter_call(w, options.told, adapter.lift.instance.number)?;
-    save_flags(w, adapter.lift.flags.number, locals.lift_saved)?;
-    clear_flags(w, adapter.lift.flags.number)?;
+    hold_flags(w, adapter.lift.flags.number, locals.lift_saved)?;
     pass_params(
         types,
         builder,
@@ -131,8 +130,16 @@ fn put_return(
         locals.results,
         locals.args,
     )?;
-    restore_flags(w, adapter.lower.flags.number, locals.saved)?;
-    finish_call(w, post_return, options.context, callee, own, locals.given)?;
+    restore_and_finish(
+        w,
+        adapter.lower.flags.number,
+        locals.saved,
+        post_return,
+        options.context,
+        callee,
+        own,
+        locals.given,
+    )?;
     Ok(())
 }
 

@@ -12,8 +12,8 @@ move_results-requires c = record {
   sides = sides_same c.in_ok-clear_flags.ensures.imports (sides_later c.in_ok-exit_call.ensures.grew.imports (sides_later c.in_ok-read_context.ensures.grew.imports (results_imported c.requires.options_imported)));
 }
 
-pub finish_call-requires : goal.finish_call-requires
-finish_call-requires c = finish_there _ c.in_ok-read_context.ensures c.in_ok-exit_call.ensures c.in_ok-clear_flags.ensures c.in_ok-move_results.ensures.grew c.in_ok-restore_flags.ensures c.requires.post_return
+pub restore_and_finish-requires : goal.restore_and_finish-requires
+restore_and_finish-requires c = finish_there _ c.in_ok-read_context.ensures c.in_ok-exit_call.ensures c.in_ok-clear_flags.ensures c.in_ok-move_results.ensures.grew c.requires.post_return
 
 pub returns : goal.returns
-returns c = written_return c.args.adapter.now c.args.debug c.args.options (sync_places c.args.locals) c.in_ok-read_context.ensures c.in_ok-exit_call.ensures c.in_ok-clear_flags.ensures c.in_ok-move_results.ensures c.in_ok-restore_flags.ensures c.in_ok-finish_call.ensures
+returns c = written_return c.args.adapter.now c.args.debug c.args.options (sync_places c.args.locals) c.in_ok-read_context.ensures c.in_ok-exit_call.ensures c.in_ok-clear_flags.ensures c.in_ok-move_results.ensures c.in_ok-restore_and_finish.ensures

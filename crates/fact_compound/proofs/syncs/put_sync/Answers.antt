@@ -1,6 +1,6 @@
 use Rattle.std.proofs.Common.{subst, sym}
 use Rattle.fact_emit.specs.Writers.{Wrote}
-use Rattle.fact_compound.specs.Code.{pushed_code}
+use Rattle.fact_steps.specs.Code.{pushed_code}
 use Rattle.fact_compound.specs.Written.{sync_places}
 use Rattle.fact_compound.proofs.SyncBodies.{sync_emits}
 use Rattle.fact_compound.proofs.SyncWritten.{WrittenSync, sync_alone, sync_barred}

@@ -1,0 +1,4 @@
+pub mod LocalRuns
+pub mod RangedSteps
+pub mod SameNumbers
+pub mod WrittenSteps

@@ -1,0 +1,7 @@
+//! The steps of adapters around the moves of values: the flags of instances are tested, kept, set to 0 and set back, callees and post-returns are
+//! called, and the runtime is told of calls; and whether parameters are handed on as they are. What each function ensures is the code that it
+//! has written.
+#![tactic(auto)]
+
+pub mod passing;
+pub mod steps;
