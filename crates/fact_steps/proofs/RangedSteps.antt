@@ -1,7 +1,7 @@
 -- The steps of adapters are in range, and name no function but the callee.
 use Rattle.std.proofs.Common.{ℕ, ◌<◌, List, [], ◌∷◌, ◌++◌, arith}
 use Rattle.fact_wasm.specs.declared.instr.FuncName.TheVariants as func
-use Rattle.fact_wasm.specs.declared.instr.Instr.{Instr, the_lemmas}
+use Rattle.fact_wasm.specs.declared.instr.Instr.{the_lemmas}
 use Rattle.fact_wasm.specs.declared.instr.Instr.TheVariants as I
 use Rattle.fact_wasm.specs.Ranges.{AreRanged}
 use Rattle.fact_pieces.specs.Places.{Slot}
