@@ -3,7 +3,7 @@
 use fact_wasm::{Seq, Text};
 
 /// The kinds of handles (Component Model, "Type Definitions").
-#[derive(Clone, Copy, PartialEq, Eq, Debug)]
+#[derive(Clone, Copy, PartialEq, Eq)]
 pub enum HandleKind {
     Own,
     Borrow,
@@ -15,7 +15,7 @@ pub enum HandleKind {
 /// A value of a component type (Component Model, "Type Definitions"). An integer is of at most 64 bits. Floats are bits, and a
 /// NaN keeps its own. The value of an option is a case `none` or `some`, that of a result a case `ok` or `error`, that of an
 /// enum a case without payload, and that of a list of fixed length a list.
-#[derive(Drop, Debug)]
+#[derive(Drop)]
 pub enum Value {
     Bool(bool),
     Int(i128),
