@@ -28,51 +28,51 @@ module _ (bytes rest : List ℕ) where
   two a b xs e p = p ∙ ap (λ (ys : List Arg). args ys ++ rest) e ∙ ap (λ (t : List ℕ). t ++ rest) (args-two a b) ∙ append_assoc (arg a) (arg b) rest
 
   pub an_index : (xs : List Arg) → map kind xs ≡ AnIndex ∷ [] → AllByRecursion IsArg xs → bytes ≡ args xs ++ rest → (n : ℕ) × (n < 2 ^ 32) × (bytes ≡ unsigned n ++ rest)
-  an_index [] k h e = absurd cc
+  an_index [] k _ _ = absurd cc
   an_index (Index n ∷ []) k h e = (n, h.0, one (Index n) _ refl e)
-  an_index (_ ∷ _) k h e = absurd cc
+  an_index (_ ∷ _) k _ _ = absurd cc
 
   pub a_memory : (xs : List Arg) → map kind xs ≡ AMemory ∷ [] → AllByRecursion IsArg xs → bytes ≡ args xs ++ rest → (m : MemArg) × IsMemArg m × (bytes ≡ memarg m ++ rest)
-  a_memory [] k h e = absurd cc
+  a_memory [] k _ _ = absurd cc
   a_memory (Memory m ∷ []) k h e = (m, h.0, one (Memory m) _ refl e)
-  a_memory (_ ∷ _) k h e = absurd cc
+  a_memory (_ ∷ _) k _ _ = absurd cc
 
   pub an_int32 : (xs : List Arg) → map kind xs ≡ AnInt32 ∷ [] → AllByRecursion IsArg xs → bytes ≡ args xs ++ rest → (n : ℕ) × (n < 2 ^ 32) × (bytes ≡ signed (cast_signed w32 n) ++ rest)
-  an_int32 [] k h e = absurd cc
+  an_int32 [] k _ _ = absurd cc
   an_int32 (Int32 n ∷ []) k h e = (n, h.0, one (Int32 n) _ refl e)
-  an_int32 (_ ∷ _) k h e = absurd cc
+  an_int32 (_ ∷ _) k _ _ = absurd cc
 
   pub an_int64 : (xs : List Arg) → map kind xs ≡ AnInt64 ∷ [] → AllByRecursion IsArg xs → bytes ≡ args xs ++ rest → (n : ℕ) × (n < 2 ^ 64) × (bytes ≡ signed (cast_signed w64 n) ++ rest)
-  an_int64 [] k h e = absurd cc
+  an_int64 [] k _ _ = absurd cc
   an_int64 (Int64 n ∷ []) k h e = (n, h.0, one (Int64 n) _ refl e)
-  an_int64 (_ ∷ _) k h e = absurd cc
+  an_int64 (_ ∷ _) k _ _ = absurd cc
 
   pub a_float32 : (xs : List Arg) → map kind xs ≡ AFloat32 ∷ [] → AllByRecursion IsArg xs → bytes ≡ args xs ++ rest → (n : ℕ) × (n < 2 ^ 32) × (bytes ≡ to_le_bytes w32 n ++ rest)
-  a_float32 [] k h e = absurd cc
+  a_float32 [] k _ _ = absurd cc
   a_float32 (Float32 n ∷ []) k h e = (n, h.0, one (Float32 n) _ refl e)
-  a_float32 (_ ∷ _) k h e = absurd cc
+  a_float32 (_ ∷ _) k _ _ = absurd cc
 
   pub a_float64 : (xs : List Arg) → map kind xs ≡ AFloat64 ∷ [] → AllByRecursion IsArg xs → bytes ≡ args xs ++ rest → (n : ℕ) × (n < 2 ^ 64) × (bytes ≡ to_le_bytes w64 n ++ rest)
-  a_float64 [] k h e = absurd cc
+  a_float64 [] k _ _ = absurd cc
   a_float64 (Float64 n ∷ []) k h e = (n, h.0, one (Float64 n) _ refl e)
-  a_float64 (_ ∷ _) k h e = absurd cc
+  a_float64 (_ ∷ _) k _ _ = absurd cc
 
   pub some_labels : (xs : List Arg) → map kind xs ≡ SomeLabels ∷ AnIndex ∷ [] → AllByRecursion IsArg xs → bytes ≡ args xs ++ rest
       → (ls : List ℕ) × (n : ℕ) × IsList IsIndex ls × (n < 2 ^ 32) × (bytes ≡ list unsigned ls ++ (unsigned n ++ rest))
-  some_labels [] k h e = absurd cc
+  some_labels [] k _ _ = absurd cc
   some_labels (Labels ls ∷ Index n ∷ []) k h e = (ls, n, h.0, h.1.0, two (Labels ls) (Index n) _ refl e)
-  some_labels (_ ∷ _) k h e = absurd cc
+  some_labels (_ ∷ _) k _ _ = absurd cc
 
   pub a_type : (xs : List Arg) → map kind xs ≡ ATyp ∷ [] → AllByRecursion IsArg xs → bytes ≡ args xs ++ rest → (t : BlockType) × IsBlockType t × (xs ≡ Typ t ∷ []) × (bytes ≡ block_type t ++ rest)
-  a_type [] k h e = absurd cc
+  a_type [] k _ _ = absurd cc
   a_type (Typ t ∷ []) k h e = (t, h.0, refl, one (Typ t) _ refl e)
-  a_type (_ ∷ _) k h e = absurd cc
+  a_type (_ ∷ _) k _ _ = absurd cc
 
   pub some_catches : (xs : List Arg) → map kind xs ≡ ATyp ∷ SomeCatches ∷ [] → AllByRecursion IsArg xs → bytes ≡ args xs ++ rest
       → (t : BlockType) × (ls : List ℕ) × IsBlockType t × IsList IsIndex ls × (xs ≡ Typ t ∷ Catches ls ∷ []) × (bytes ≡ block_type t ++ (list catch_all ls ++ rest))
-  some_catches [] k h e = absurd cc
+  some_catches [] k _ _ = absurd cc
   some_catches (Typ t ∷ Catches ls ∷ []) k h e = (t, ls, h.0, h.1.0, refl, two (Typ t) (Catches ls) _ refl e)
-  some_catches (_ ∷ _) k h e = absurd cc
+  some_catches (_ ∷ _) k _ _ = absurd cc
 
   -- the type before a body
   pub head_type : (r : BodyRow) (xs : List Arg) → map kind xs ≡ body_kinds r → AllByRecursion IsArg xs → bytes ≡ args xs ++ rest → (t : BlockType) × (more : List ℕ) × IsBlockType t × (bytes ≡ block_type t ++ more)

@@ -60,18 +60,18 @@ memory_unique l l2 true true (Some a) (Some b) r s h k e =
     let u = both unsigned unsigned (λ n. n < 2 ^ 64) IsIndex unsigned_unique index_unique l l2 a b r s h.0 k.0 h.1 k.1 (heads _ _ _ _ e).1 in (u.0, refl, ap Some u.1, u.2)
 memory_unique l l2 false false (Some a) (Some b) r s h k e =
     let u = both unsigned unsigned (λ n. n < 2 ^ 64) IsIndex unsigned_unique index_unique l l2 a b r s h.0 k.0 h.1 k.1 (heads _ _ _ _ e).1 in (u.0, refl, ap Some u.1, u.2)
-memory_unique l l2 true true None (Some b) r s h k e = absurd cc
-memory_unique l l2 true true (Some a) None r s h k e = absurd cc
-memory_unique l l2 false false None (Some b) r s h k e = absurd cc
-memory_unique l l2 false false (Some a) None r s h k e = absurd cc
-memory_unique l l2 true false None None r s h k e = absurd cc
-memory_unique l l2 true false None (Some b) r s h k e = absurd cc
-memory_unique l l2 true false (Some a) None r s h k e = absurd cc
-memory_unique l l2 true false (Some a) (Some b) r s h k e = absurd cc
-memory_unique l l2 false true None None r s h k e = absurd cc
-memory_unique l l2 false true None (Some b) r s h k e = absurd cc
-memory_unique l l2 false true (Some a) None r s h k e = absurd cc
-memory_unique l l2 false true (Some a) (Some b) r s h k e = absurd cc
+memory_unique l l2 true true None (Some b) r s _ _ e = absurd cc
+memory_unique l l2 true true (Some a) None r s _ _ e = absurd cc
+memory_unique l l2 false false None (Some b) r s _ _ e = absurd cc
+memory_unique l l2 false false (Some a) None r s _ _ e = absurd cc
+memory_unique l l2 true false None None r s _ _ e = absurd cc
+memory_unique l l2 true false None (Some b) r s _ _ e = absurd cc
+memory_unique l l2 true false (Some a) None r s _ _ e = absurd cc
+memory_unique l l2 true false (Some a) (Some b) r s _ _ e = absurd cc
+memory_unique l l2 false true None None r s _ _ e = absurd cc
+memory_unique l l2 false true None (Some b) r s _ _ e = absurd cc
+memory_unique l l2 false true (Some a) None r s _ _ e = absurd cc
+memory_unique l l2 false true (Some a) (Some b) r s _ _ e = absurd cc
 
 mutability_unique : (a b : Bool) → mutability a ≡ mutability b → a ≡ b
 mutability_unique true true e = refl
@@ -88,7 +88,7 @@ import_type_unique (import.Global t a) (import.Global u b) r s p q e =
     let h = heads (val_type t) (val_type u) (mutability a ∷ r) (mutability b ∷ s) (heads _ _ _ _ e).1 in
     let k = heads (mutability a) (mutability b) r s h.1 in
     (ap (λ (x : ValType). import.Global x a) (val_type-unique t u h.0) ∙ ap (λ (x : Bool). import.Global u x) (mutability_unique a b k.0), k.1)
-import_type_unique _ _ r s p q e = absurd cc
+import_type_unique _ _ r s _ _ e = absurd cc
 
 pub import_unique : IsPrefixFree import_item IsImport
 import_unique x y r s p q e =

@@ -245,16 +245,20 @@ arg-unique (Typ m) (Typ n) r s k p q e = let u = type-unique m n r s p q e in (a
 arg-unique (Memory m) (Memory n) r s k p q e = let u = mem-unique m n r s p q e in (ap Memory u.0, u.1)
 arg-unique (Labels m) (Labels n) r s k p q e = let u = lists-unique unsigned IsIndex index_unique m n r s p.0 q.0 p.1 q.1 e in (ap Labels u.0, u.1)
 arg-unique (Catches m) (Catches n) r s k p q e = let u = lists-unique catch_all IsIndex catch_unique m n r s p.0 q.0 p.1 q.1 e in (ap Catches u.0, u.1)
-arg-unique _ _ r s k p q e = absurd cc
+arg-unique _ _ r s k _ _ _ = absurd cc
+
+first_and_rest : {A : Type 0} (a b : A) (xs ys : List A) → a ∷ xs ≡ b ∷ ys → (a ≡ b) × (xs ≡ ys)
+first_and_rest a b xs ys e = (cc, cc)
 
 pub args-unique : (xs ys : List Arg) (r s : List ℕ) → map kind xs ≡ map kind ys → AllByRecursion IsArg xs → AllByRecursion IsArg ys → args xs ++ r ≡ args ys ++ s → (xs ≡ ys) × (r ≡ s)
 args-unique [] [] r s k p q e = (refl, e)
-args-unique [] (y ∷ ys) r s k p q e = absurd cc
-args-unique (x ∷ xs) [] r s k p q e = absurd cc
+args-unique [] (y ∷ ys) r s k _ _ _ = absurd cc
+args-unique (x ∷ xs) [] r s k _ _ _ = absurd cc
 args-unique (x ∷ xs) (y ∷ ys) r s k p q e =
     let split = rw (flat_map-cons arg x xs, flat_map-cons arg y ys, append_assoc, append_assoc) at e in
-    let first = arg-unique x y (args xs ++ r) (args ys ++ s) (cc) p.0 q.0 split in
-    let rest = args-unique xs ys r s (cc) p.1 q.1 first.1 in
+    let kinds = first_and_rest (kind x) (kind y) (map kind xs) (map kind ys) k in
+    let first = arg-unique x y (args xs ++ r) (args ys ++ s) kinds.0 p.0 q.0 split in
+    let rest = args-unique xs ys r s kinds.1 p.1 q.1 first.1 in
     (cc (first.0, rest.0), rest.1)
 
 -- ---- instructions

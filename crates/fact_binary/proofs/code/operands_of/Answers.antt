@@ -83,6 +83,38 @@ returns-in-I32Load-clause-shown c = (seen-memory c).0
 pub returns-in-I32Load-clause-points : goal.returns-in-I32Load-clause-points
 returns-in-I32Load-clause-points c = (seen-memory c).1
 
+pub returns-in-I32Const-clause-shown : goal.returns-in-I32Const-clause-shown
+unfolding shape
+returns-in-I32Const-clause-shown c = (row (o.Int32 c.in-I32Const.x) _ (v.rolls-I32Const _) (λ n. (refl, refl)) refl c.in-I32Const.is).0
+
+pub returns-in-I32Const-clause-points : goal.returns-in-I32Const-clause-points
+unfolding shape
+returns-in-I32Const-clause-points c = (row (o.Int32 c.in-I32Const.x) _ (v.rolls-I32Const _) (λ n. (refl, refl)) refl c.in-I32Const.is).1
+
+pub returns-in-I64Const-clause-shown : goal.returns-in-I64Const-clause-shown
+unfolding shape
+returns-in-I64Const-clause-shown c = (row (o.Int64 c.in-I64Const.x) _ (v.rolls-I64Const _) (λ n. (refl, refl)) refl c.in-I64Const.is).0
+
+pub returns-in-I64Const-clause-points : goal.returns-in-I64Const-clause-points
+unfolding shape
+returns-in-I64Const-clause-points c = (row (o.Int64 c.in-I64Const.x) _ (v.rolls-I64Const _) (λ n. (refl, refl)) refl c.in-I64Const.is).1
+
+pub returns-in-F32Const-clause-shown : goal.returns-in-F32Const-clause-shown
+unfolding shape
+returns-in-F32Const-clause-shown c = (row (o.Float32 c.in-F32Const.x) _ (v.rolls-F32Const _) (λ n. (refl, refl)) refl c.in-F32Const.is).0
+
+pub returns-in-F32Const-clause-points : goal.returns-in-F32Const-clause-points
+unfolding shape
+returns-in-F32Const-clause-points c = (row (o.Float32 c.in-F32Const.x) _ (v.rolls-F32Const _) (λ n. (refl, refl)) refl c.in-F32Const.is).1
+
+pub returns-in-F64Const-clause-shown : goal.returns-in-F64Const-clause-shown
+unfolding shape
+returns-in-F64Const-clause-shown c = (row (o.Float64 c.in-F64Const.x) _ (v.rolls-F64Const _) (λ n. (refl, refl)) refl c.in-F64Const.is).0
+
+pub returns-in-F64Const-clause-points : goal.returns-in-F64Const-clause-points
+unfolding shape
+returns-in-F64Const-clause-points c = (row (o.Float64 c.in-F64Const.x) _ (v.rolls-F64Const _) (λ n. (refl, refl)) refl c.in-F64Const.is).1
+
 -- what no arm takes is a row of its opcode alone
 seen-none : (c : In_default) (x : Instr-F Instr) → c.args.instr.now ≡ roll-Instr x → IsSeen o.None c.args.instr.now
 unfolding shape
