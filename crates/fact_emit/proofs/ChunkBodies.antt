@@ -80,3 +80,14 @@ fewer_codes {number} {trap} h many =
 
 pub chosen_in_chunks : {number : List Instr} {trap : ℕ} {bodies codes : List (List Instr)} {all : List Instr} → AreChunkCodes number trap bodies codes → 64 < length bodies → all ≡ sum_code (chunk_number number) trap codes → IsChoice number trap bodies all
 chosen_in_chunks {number} {trap} h many is = InChunks h.chunks h.rest many h.are (is ∙ ap (sum_code (chunk_number number) trap) h.is)
+
+none_left : {X : Type 0} (xs : List X) → length xs ≡ 0 → xs ≡ []
+none_left [] e = refl
+none_left (x ∷ xs) e = absurd (omega (arith, e))
+
+-- The code of those behind the chunks goes behind the codes, once no body is left.
+pub all_put : {number pushed code block : List Instr} {trap : ℕ} {bodies done codes chunk all : List (List Instr)} (rest : List (List Instr)) → bodies ≡ done ++ rest → length rest ≡ 0 → pushed ≡ place_in_chunk number → code ≡ sum_code pushed trap chunk → block ≡ code
+    → all ≡ codes ++ block ∷ [] → HasChunks number done codes chunk → AreChunkCodes number trap bodies all
+all_put {number} {trap = trap} {bodies = bodies} {done = done} {codes = codes} {chunk = chunk} rest bodies_are none pushed_is code_is block_is all_is h =
+    subst (AreChunkCodes number trap bodies) (sym (all_is ∙ ap (λ code. codes ++ code ∷ []) (block_is ∙ code_is ∙ ap (λ n. sum_code n trap chunk) pushed_is)))
+    (subst (λ bs. AreChunkCodes number trap bs (codes ++ sum_code (place_in_chunk number) trap chunk ∷ [])) (sym (bodies_are ∙ ap (λ bs. done ++ bs) (none_left rest none) ∙ append-nil done)) (has_all h))

@@ -20,6 +20,11 @@ popped : {X : Type 0} (before after new : List X) (x : X) (o : Option X) → aft
 popped before after new x None pushed e = absurd (omega (arith, ap length (sym pushed ∙ e.0), length-append before (x ∷ [])))
 popped before after new x (Some last) pushed e = snoc-first new before last x (sym e ∙ pushed)
 
+pub returns-in-Ok-add_new-clause-place : goal.returns-in-Ok-add_new-clause-place
+returns-in-Ok-add_new-clause-place g c =
+    let held = c.in-Ok-add_new.ensures.interned.only.holds in
+    rw c.as_u32.ensures (held.1 ∙ ap Some (sym (exact_item _ _ held.2)))
+
 pub returns-in-Ok-add_new-clause-added : goal.returns-in-Ok-add_new-clause-added
 returns-in-Ok-add_new-clause-added g c = record {
   section = c.in_default-push_import.ensures.pushed.0;
