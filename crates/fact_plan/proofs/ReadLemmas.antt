@@ -8,8 +8,8 @@ use Rattle.serde_json.specs.Find.{as_object}
 use Rattle.serde_json.specs.View.{items_view, members_view}
 use Rattle.serde_json.specs.declared.value.Value.{Value}
 use Rattle.fact_plan.specs.declared.fault.PlanFault.{PlanFault}
-use Rattle.fact_plan.specs.declared.fault.PlanFault.TheVariants.{WrongKind}
-use Rattle.fact_plan.specs.Fault.{◌>>=◌}
+use Rattle.fact_plan.specs.declared.fault.PlanFault.TheVariants.{OutOfMemory, Missing, UnknownKey, WrongKind, OutOfRange}
+use Rattle.fact_plan.specs.Fault.{UnlessMemory, ◌>>=◌}
 use Rattle.fact_plan.specs.Entries.{one_key, one_member}
 use Rattle.fact_plan.specs.Read.{items_from, is_known, first_unknown, known_keys, no_unknown}
 
@@ -68,3 +68,11 @@ one_key-one d es e one = ap one_key (object_of d _ e) ∙ one_member-one es one
 -- an object of several members
 pub one_key-more : (d : Data) (es : List (String Global × Value)) → Some (members_view es) ≡ as_object d → 1 < length es → one_key d ≡ Err (WrongKind [])
 one_key-more d es e more = ap one_key (object_of d _ e) ∙ one_member-more es more
+
+-- what follows from what is said of each fault but want of memory
+pub unless_memory : (fault : PlanFault) {P Q : Type 0} → (P → Q) → UnlessMemory fault P → UnlessMemory fault Q
+unless_memory OutOfMemory f p = tt
+unless_memory (Missing path) f p = f p
+unless_memory (UnknownKey path) f p = f p
+unless_memory (WrongKind path) f p = f p
+unless_memory (OutOfRange path) f p = f p
