@@ -67,3 +67,43 @@ returns-in-Ok-clause-sound c =
     let sound = subst (λ (t : Tables). IsSound t) c.component_types.ensures c.reveal-2.ensures.sound in
     subst (λ (v : Collected). IsSoundBehind v c.args.candidate.now) c.self.view_is
     (sound-behind _ c.self.inside.checks c.check.new.self c.self.inside.state.sections c.self.inside.state.sections c.args.candidate.now c.self.invariant.0 whole sound typed valid c.in_default.ensures.sound)
+
+pub returns-then-is_memory-clause-keeps : goal.returns-then-is_memory-clause-keeps
+returns-then-is_memory-clause-keeps c = record {
+  builder = ap (λ (v : Collected). v.builder) c.self.view_is;
+  tunables = ap (λ (v : Collected). v.tunables) c.self.view_is;
+  features = ap (λ (v : Collected). v.features) c.self.view_is;
+}
+
+pub returns-then-is_memory-clause-lost : goal.returns-then-is_memory-clause-lost
+returns-then-is_memory-clause-lost c = λ e. refl
+
+pub returns-else-is_memory-clause-keeps : goal.returns-else-is_memory-clause-keeps
+returns-else-is_memory-clause-keeps c = record {
+  builder = ap (λ (v : Collected). v.builder) c.self.view_is;
+  tunables = ap (λ (v : Collected). v.tunables) c.self.view_is;
+  features = ap (λ (v : Collected). v.features) c.self.view_is;
+}
+
+pub returns-in-Err-emit-clause-keeps : goal.returns-in-Err-emit-clause-keeps
+returns-in-Err-emit-clause-keeps c = record {
+  builder = c.emit.ensures.keeps.builder ∙ ap (λ (v : Collected). v.builder) c.self.view_is;
+  tunables = c.emit.ensures.keeps.tunables ∙ ap (λ (v : Collected). v.tunables) c.self.view_is;
+  features = c.emit.ensures.keeps.features ∙ ap (λ (v : Collected). v.features) c.self.view_is;
+}
+
+pub returns-in-Err-emit-clause-lost : goal.returns-in-Err-emit-clause-lost
+returns-in-Err-emit-clause-lost c = λ e. refl
+
+pub returns-in-Err-emit-clause-refused : goal.returns-in-Err-emit-clause-refused
+returns-in-Err-emit-clause-refused c = tt
+
+pub returns-in-Ok-clause-keeps : goal.returns-in-Ok-clause-keeps
+returns-in-Ok-clause-keeps c = record {
+  builder = c.emit.ensures.keeps.builder ∙ ap (λ (v : Collected). v.builder) c.self.view_is;
+  tunables = c.emit.ensures.keeps.tunables ∙ ap (λ (v : Collected). v.tunables) c.self.view_is;
+  features = c.emit.ensures.keeps.features ∙ ap (λ (v : Collected). v.features) c.self.view_is;
+}
+
+pub returns-in-Ok-clause-refused : goal.returns-in-Ok-clause-refused
+returns-in-Ok-clause-refused c = tt
