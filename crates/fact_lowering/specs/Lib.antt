@@ -1,6 +1,10 @@
+pub mod CoreSteps
 pub mod Counted
+pub mod FlagNumbers
 pub mod Lowered
 pub mod Lowerings
 pub mod Room
 pub mod Stores
+pub mod Storings
 pub mod TextForms
+pub mod TupleSteps

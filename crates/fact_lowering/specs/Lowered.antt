@@ -1,4 +1,3 @@
--- Cited by private clauses alone.
 -- What lowering leaves: values that stand in memory, or as core values, so that they are read back whatever is written elsewhere.
 use Rattle.std.specs.Prelude.{◌≡◌, ◌⊎◌, ℕ, ◌+◌, ◌*◌, ◌%◌, ◌^◌, ◌≤◌, ◌<◌, All, List, [], ◌∷◌, ◌++◌, length, map, take, get_or, Option, Some, None}
 use Rattle.std.specs.List.{AllZip}

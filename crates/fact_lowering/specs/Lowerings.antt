@@ -1,4 +1,3 @@
--- Cited by private clauses alone.
 -- The steps by which values are lowered.
 use Rattle.std.specs.Prelude.{◌≡◌, ℕ, ◌%◌, ◌^◌, ◌<◌, ◌≤◌, Bool, All, List, [], ◌∷◌, ◌++◌, length, map, sum_by, Option, Some, None}
 use Rattle.fact_machine.specs.declared.types.CoreValue.{CoreValue}

@@ -1,4 +1,3 @@
--- Cited by private clauses alone.
 -- Memories that are stored to.
 use Rattle.std.specs.Prelude.{ℕ, ◌^◌, ◌<◌, List, length}
 

@@ -1,17 +1,27 @@
-//! How values stand in memories and core values (canonical ABI, "Storing", "Flattening" and "Flat Lowering"): the numbers and the bytes of values
-//! without members, texts in each encoding, a memory whose free part begins at a cursor, and flat types as lists; and how much room values take
-//! on their way.
+//! Values lowered into memories and core values (canonical ABI, "Storing" and "Flat Lowering"), so that `fact_abi::load` and `fact_abi::lift`
+//! give back what was stored; and how much room values take on their way.
 #![tactic(auto)]
 
+mod flags;
 mod flats;
+mod lifted;
+mod lowering;
 mod numbers;
+mod places;
 mod room;
 mod spelling;
 mod store;
+mod storing;
+mod tuples;
 
 pub use fact_wasm::OutOfMemory;
 pub use flats::{flat_all, flat_types, pointer_type};
-pub use numbers::{address_value, core_value, number_of_core, number_of_value, plain_size};
+pub use lifted::{lift_behind, lift_results, lift_tuple};
+pub use lowering::{lower_value, pointer_of};
+pub use numbers::{address_value, core_value, number_of_core};
+pub use places::Lowering;
 pub use room::fits;
 pub use spelling::{push_utf16, spelled, stored_encoding, unit_bytes, units_of_char};
 pub use store::Store;
+pub use storing::store_value;
+pub use tuples::{lower_tuple, set_aside};
