@@ -157,7 +157,7 @@ def inputs():
 def lines():
     """The plans of the blocks that are run, whose imports are asked for, or whose module is looked at."""
     for name, plan, asked in blocks():
-        if any(line.startswith(("run ", "imports ", "shows ")) for line, _ in asked):
+        if not plan.startswith("bytes ") and any(line.startswith(("run ", "imports ", "shows ")) for line, _ in asked):
             yield f"{name}: {plan}", True, value_of(plan, name)
 
 

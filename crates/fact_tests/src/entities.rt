@@ -48,14 +48,13 @@ fn puts_two(table: &mut PrimaryMap<TypeRecordIndex, u64>) -> Result<bool, PushEr
     )
 }
 
-#[test]
-fn tables_answer_places(rt: HostRuntime) {
-    let mut table = PrimaryMap::new(rt.alloc());
-    let put = puts_two(&mut table);
+/// Whether a table has two entries where they were put.
+pub fn tables_answer_places(alloc: Global) -> bool {
+    let mut table = PrimaryMap::new(alloc);
+    let put = matches!(puts_two(&mut table), Ok(true));
     let read = has_two(&table);
     drop(table);
-    assert!(rt; matches!(put, Ok(true)));
-    assert!(rt; read);
+    put && read
 }
 
 type Ids = Interner<TypeVariantIndex, ComponentAnyTypeId>;
@@ -99,12 +98,12 @@ fn have_one_key(table: &mut Ids) -> bool {
         && is_last(table, defined)
 }
 
-#[test]
-fn equal_values_have_one_key(rt: HostRuntime) {
-    let mut table = Ids::new(rt.alloc());
+/// Whether equal values have one key.
+pub fn equal_values_have_one_key(alloc: Global) -> bool {
+    let mut table = Ids::new(alloc);
     let held = have_one_key(&mut table);
     drop(table);
-    assert!(rt; held);
+    held
 }
 
 /// Whether an error is shown in these words.
@@ -118,15 +117,15 @@ fn is_key_shown(alloc: Global) -> bool {
     matches!(format!(in alloc; "{key:?}"), Ok(shown) if shown.as_str() == "Id { number: 7, .. }")
 }
 
-#[test]
-fn keys_are_numbers(rt: HostRuntime) {
+/// Whether keys are numbers, and errors are shown.
+pub fn keys_are_numbers(alloc: Global) -> bool {
     let (key, other) = (TypeRecordIndex::from_u32(7), TypeRecordIndex::from_u32(8));
-    assert!(rt; is_placed(key, 7, other, true));
-    assert!(rt; is_placed(TableIndex::from_u32(3), 3, TableIndex::from_u32(3), false));
-    assert!(rt; has_number::<TypeVariantIndex>(0));
-    assert!(rt; has_number::<OptionsIndex>(u32::MAX));
-    assert!(rt; has_number::<ResourceId>(9));
-    assert!(rt; is_key_shown(rt.alloc()));
-    assert!(rt; is_shown(rt.alloc(), PushError::from(AllocError), "out of memory"));
-    assert!(rt; is_shown(rt.alloc(), PushError::TooLarge, "table too large"));
+    is_placed(key, 7, other, true)
+        && is_placed(TableIndex::from_u32(3), 3, TableIndex::from_u32(3), false)
+        && has_number::<TypeVariantIndex>(0)
+        && has_number::<OptionsIndex>(u32::MAX)
+        && has_number::<ResourceId>(9)
+        && is_key_shown(alloc)
+        && is_shown(alloc, PushError::from(AllocError), "out of memory")
+        && is_shown(alloc, PushError::TooLarge, "table too large")
 }

@@ -99,11 +99,11 @@ fn have_parts() -> bool {
         && general.concrete().is_none()
 }
 
-#[test]
-fn imports_and_exports_are_told(rt: HostRuntime) {
-    assert!(rt; is_data_copied(rt.alloc()));
-    assert!(rt; is_extern_copied(rt.alloc()));
-    assert!(rt; are_copied());
-    assert!(rt; are_described());
-    assert!(rt; have_parts());
+/// Whether imports and exports are copied, and what they are is told.
+pub fn imports_and_exports_are_told(alloc: Global) -> bool {
+    is_data_copied(alloc)
+        && is_extern_copied(alloc)
+        && are_copied()
+        && are_described()
+        && have_parts()
 }

@@ -2,77 +2,76 @@
 
 use fact_wasm::{CoreTypes, Seq, Text, ValType};
 use std::alloc::{AllocError, Global};
-use std::process::Abort;
-use std::test::Fail;
 
-#[test]
-fn lists_hold_what_is_pushed(rt: HostRuntime) -> Result<(), Fail> {
-    let alloc = rt.alloc();
+/// Whether a list holds what is pushed, and is equal to a list of the same items and to its copy.
+fn holds_two(alloc: Global) -> Result<bool, AllocError> {
     let mut list = Seq::new(alloc);
     list.push(7u32)?;
     list.push(9u32)?;
-    assert_eq!(rt; list.as_slice(), [7, 9].as_slice());
     let other = Seq::from_vec(vec![in alloc; 7u32, 9u32]?);
-    assert!(rt; list == other);
     let copy = list.clone()?;
-    assert_eq!(rt; copy.as_slice(), [7, 9].as_slice());
-    Ok(())
+    let items = [7, 9];
+    Ok(list == other && list.as_slice() == items.as_slice() && copy.as_slice() == items.as_slice())
 }
 
-#[test]
-fn texts_are_copied(rt: HostRuntime) -> Result<(), Fail> {
-    let text = Text::from_str(rt.alloc(), "é\0")?;
+/// Whether lists hold what is pushed.
+pub fn lists_hold_what_is_pushed(alloc: Global) -> bool {
+    matches!(holds_two(alloc), Ok(true))
+}
+
+/// Whether a text is equal to its copy, and both copies have its characters.
+fn is_copied(text: &Text) -> Result<bool, AllocError> {
     let copy = text.try_clone()?;
-    assert_eq!(rt; copy.as_str(), "é\0");
-    assert!(rt; copy == text);
-    assert_eq!(rt; text.clone()?.as_str(), "é\0");
-    Ok(())
+    let clone = text.clone()?;
+    Ok(copy == *text && copy.as_str() == "é\0" && clone.as_str() == "é\0")
 }
 
-/// Signatures and the places that they get, one after another.
-const SIGNATURES: [(&[ValType], &[ValType], u32); 6] = [
-    (&[ValType::I32], &[], 0),
-    (&[ValType::I32], &[], 0),
-    (&[], &[], 1),
-    (&[], &[ValType::I32], 2),
-    (&[], &[], 1),
-    (&[ValType::I32], &[], 0),
-];
-
-/// Each signature has one place.
-fn say_places(rt: &impl Abort, types: &mut CoreTypes) -> Result<(), AllocError> {
-    for (params, results, place) in SIGNATURES {
-        assert_eq!(rt; types.function(params, results)?, place);
+/// Whether texts are copied.
+pub fn texts_are_copied(alloc: Global) -> bool {
+    match Text::from_str(alloc, "é\0") {
+        Ok(text) => matches!(is_copied(&text), Ok(true)),
+        Err(_) => false,
     }
-    assert_eq!(rt; types.types().len(), 3);
-    Ok(())
 }
 
-/// Each of 300 signatures has the place of its number: of up to 19 parameters, and of up to 14 results.
-fn say_many_places(rt: &impl Abort, types: &mut CoreTypes) -> Result<(), AllocError> {
+/// Whether a signature has a place.
+fn has_place(types: &mut CoreTypes, params: &[ValType], results: &[ValType], place: u32) -> bool {
+    matches!(types.function(params, results), Ok(found) if found == place)
+}
+
+/// Whether each of six signatures has the place of its first equal one, among three.
+fn have_places(types: &mut CoreTypes) -> bool {
+    let i32 = [ValType::I32];
+    has_place(types, &i32, &[], 0)
+        && has_place(types, &i32, &[], 0)
+        && has_place(types, &[], &[], 1)
+        && has_place(types, &[], &i32, 2)
+        && has_place(types, &[], &[], 1)
+        && has_place(types, &i32, &[], 0)
+        && types.types().len() == 3
+}
+
+/// Whether each of 300 signatures has the place of its number: of up to 19 parameters, and of up to 14 results.
+fn have_many_places(types: &mut CoreTypes) -> bool {
     let (params, results) = ([ValType::I32; 20], [ValType::I64; 15]);
-    for number in 0..300usize {
-        let place = types.function(&params[..number % 20], &results[..number / 20])?;
-        assert_eq!(rt; place as usize, number);
-    }
-    Ok(())
+    (0..300usize).all(|number| {
+        has_place(
+            types,
+            &params[..number % 20],
+            &results[..number / 20],
+            number as u32,
+        )
+    })
 }
 
-/// All of these.
-fn say_signatures(rt: &impl Abort, alloc: Global, types: &mut CoreTypes) -> Result<(), AllocError> {
-    say_many_places(rt, types)?;
-    say_many_places(rt, types)?;
-    assert_eq!(rt; types.types().len(), 300);
+/// Whether core types hold each signature once.
+pub fn core_types_hold_each_signature_once(alloc: Global) -> bool {
     let mut few = CoreTypes::new(alloc);
-    let said = say_places(rt, &mut few);
+    let have = have_places(&mut few);
     drop(few);
-    said
-}
-
-#[test]
-fn core_types_hold_each_signature_once(rt: HostRuntime) -> Result<(), AllocError> {
-    let mut types = CoreTypes::new(rt.alloc());
-    let said = say_signatures(&rt, rt.alloc(), &mut types);
+    let mut types = CoreTypes::new(alloc);
+    let once = have_many_places(&mut types);
+    let again = have_many_places(&mut types) && types.types().len() == 300;
     drop(types);
-    said
+    have && once && again
 }

@@ -20,14 +20,14 @@ fn is_joined(first: FlatType, second: FlatType, both: FlatType, core: ValType) -
     flat == both && ValType::from(flat) == core
 }
 
-#[test]
-fn parts_are_told(rt: HostRuntime) {
-    assert!(rt; are_sizes_told());
-    assert!(rt; is_joined(FlatType::F32, FlatType::I32, FlatType::I32, ValType::I32));
-    assert!(rt; is_joined(FlatType::I32, FlatType::F64, FlatType::I64, ValType::I64));
+/// Whether sizes and flat types are told.
+pub fn parts_are_told() -> bool {
     let types = FlatTypes {
         memory32: &[FlatType::I32, FlatType::I32],
         memory64: &[FlatType::I64, FlatType::I64],
     };
-    assert!(rt; types.len() == 2);
+    are_sizes_told()
+        && is_joined(FlatType::F32, FlatType::I32, FlatType::I32, ValType::I32)
+        && is_joined(FlatType::I32, FlatType::F64, FlatType::I64, ValType::I64)
+        && types.len() == 2
 }

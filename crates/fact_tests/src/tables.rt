@@ -14,35 +14,25 @@ fn is_only<T: Lookup<I>, I: EntityRef>(table: &T, index: I) -> bool {
     index.as_u32() == 0 && table.get(index).is_some() && table.get(I::from_u32(1)).is_none()
 }
 
-/// Whether a type of core modules stands where it is put.
-fn puts_module(alloc: Global, types: &mut ComponentTypes) -> Result<bool, PushError> {
-    let index = types.push_module(TypeModule::new(alloc))?;
-    Ok(types[index].imports.is_empty() && types[index].exports.is_empty() && is_only(types, index))
+/// Whether types of core modules, of components and of instances stand where they are put.
+fn puts_each(alloc: Global, types: &mut ComponentTypes) -> Result<bool, PushError> {
+    let module = types.push_module(TypeModule::new(alloc))?;
+    let modules = types[module].imports.is_empty() && types[module].exports.is_empty();
+    let component = types.push_component(TypeComponent::new(alloc))?;
+    let components = types[component].imports.is_empty() && types[component].exports.is_empty();
+    let instance = types.push_component_instance(TypeComponentInstance::new(alloc))?;
+    let instances = types[instance].exports.is_empty();
+    let only = is_only(types, module) && is_only(types, component) && is_only(types, instance);
+    Ok(modules && components && instances && only)
 }
 
-/// Whether a type of components stands where it is put.
-fn puts_component(alloc: Global, types: &mut ComponentTypes) -> Result<bool, PushError> {
-    let index = types.push_component(TypeComponent::new(alloc))?;
-    Ok(types[index].imports.is_empty() && types[index].exports.is_empty() && is_only(types, index))
-}
-
-/// Whether a type of instances stands where it is put.
-fn puts_instance(alloc: Global, types: &mut ComponentTypes) -> Result<bool, PushError> {
-    let index = types.push_component_instance(TypeComponentInstance::new(alloc))?;
-    Ok(types[index].exports.is_empty() && is_only(types, index))
-}
-
-#[test]
-fn tables_hold_what_is_pushed(rt: HostRuntime) {
-    let mut types = ComponentTypes::new(rt.alloc());
-    let module = puts_module(rt.alloc(), &mut types);
-    let component = puts_component(rt.alloc(), &mut types);
-    let instance = puts_instance(rt.alloc(), &mut types);
+/// Whether tables hold what is pushed.
+pub fn tables_hold_what_is_pushed(alloc: Global) -> bool {
+    let mut types = ComponentTypes::new(alloc);
+    let put = puts_each(alloc, &mut types);
     types.reveal();
     drop(types);
-    assert!(rt; matches!(module, Ok(true)));
-    assert!(rt; matches!(component, Ok(true)));
-    assert!(rt; matches!(instance, Ok(true)));
+    matches!(put, Ok(true))
 }
 
 /// Whether the type of core functions of these parameters gets the index of a number.
@@ -85,12 +75,12 @@ fn are_set(types: &mut ComponentTypes, module_types: ModuleTypes) -> bool {
     unset && set && read && second && are_two(types.module_types_mut())
 }
 
-#[test]
-fn module_types_stand_once(rt: HostRuntime) {
-    let mut builder = ModuleTypesBuilder::new(rt.alloc(), 7);
-    let interned = are_interned(rt.alloc(), &mut builder);
-    let mut types = ComponentTypes::new(rt.alloc());
+/// Whether module types stand once.
+pub fn module_types_stand_once(alloc: Global) -> bool {
+    let mut builder = ModuleTypesBuilder::new(alloc, 7);
+    let interned = are_interned(alloc, &mut builder);
+    let mut types = ComponentTypes::new(alloc);
     let set = are_set(&mut types, builder.finish());
     drop(types);
-    assert!(rt; interned && set);
+    interned && set
 }

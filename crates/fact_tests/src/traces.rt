@@ -86,17 +86,16 @@ fn tables_are_visited(types: &mut ComponentTypes, module: TypeModule) -> Result<
     Ok(before == 9_012 && replaced && visited(types) == 9_882)
 }
 
-#[test]
-fn traces_visit_in_order(rt: HostRuntime) {
-    let mut module = TypeModule::new(rt.alloc());
-    let filled = fill(rt.alloc(), &mut module);
+/// Whether traces visit types in order.
+pub fn traces_visit_in_order(alloc: Global) -> bool {
+    let mut module = TypeModule::new(alloc);
+    let filled = fill(alloc, &mut module);
     let ends = ends_at_second(&module);
-    let mut types = ComponentTypes::new(rt.alloc());
+    let mut types = ComponentTypes::new(alloc);
     let tables = tables_are_visited(&mut types, module);
     drop(types);
-    let module_types = ModuleTypesBuilder::new(rt.alloc(), 7).finish();
+    let module_types = ModuleTypesBuilder::new(alloc, 7).finish();
     let none = visited(&module_types);
     drop(module_types);
-    assert!(&rt; filled.is_ok() && ends && none == 9);
-    assert!(&rt; matches!(tables, Ok(true)));
+    filled.is_ok() && ends && none == 9 && matches!(tables, Ok(true))
 }

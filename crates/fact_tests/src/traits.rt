@@ -140,13 +140,13 @@ fn are_tables_cloned(alloc: Global) -> bool {
     is_cloned(alloc, concrete, general)
 }
 
-#[test]
-fn plain_values_are_copied(rt: HostRuntime) {
-    assert!(rt; are_keys_copied(rt.alloc()));
-    assert!(rt; are_types_copied(rt.alloc()));
-    assert!(rt; are_words_copied(rt.alloc()));
-    assert!(rt; are_layouts_cloned(rt.alloc()));
-    assert!(rt; are_tables_cloned(rt.alloc()));
+/// Whether plain values are copied, and told apart.
+pub fn plain_values_are_copied(alloc: Global) -> bool {
+    are_keys_copied(alloc)
+        && are_types_copied(alloc)
+        && are_words_copied(alloc)
+        && are_layouts_cloned(alloc)
+        && are_tables_cloned(alloc)
 }
 
 /// A field of a record.
@@ -198,9 +198,9 @@ fn core_items_are_cloned(alloc: Global) -> bool {
     are_made_apart(alloc, flags, copy, other)
 }
 
-#[test]
-fn what_has_names_is_cloned(rt: HostRuntime) {
-    assert!(rt; matches!(fields_are_cloned(rt.alloc()), Ok(true)));
-    assert!(rt; matches!(exports_are_cloned(rt.alloc()), Ok(true)));
-    assert!(rt; core_items_are_cloned(rt.alloc()));
+/// Whether what has names is cloned, and told apart.
+pub fn what_has_names_is_cloned(alloc: Global) -> bool {
+    matches!(fields_are_cloned(alloc), Ok(true))
+        && matches!(exports_are_cloned(alloc), Ok(true))
+        && core_items_are_cloned(alloc)
 }

@@ -11,16 +11,20 @@
 //!     table N                     the table of a resource
 //!     counts                      how many tables of handles there are, and how many core types
 //!     tuple N, instance N, component N    what an entry that was made has
+//!     walk E N | E N, own-table N         what is told of resources apart from the builder: `walked`
+//!     finish                              how a builder ends: `finished`
 
 ghost use Rattle.std.specs.Prelude.{◌≡◌, []};
 ghost use Rattle.fact_convert.specs.Conversion.{IsReadyFor};
 
+use crate::finished::add_finished;
 use crate::live_source::{is_live_any, is_live_entity};
 use crate::sources::{SOURCE, any_of, entity_of, is_filled};
 use crate::told_defs::{
     add_component, add_counts, add_def, add_instance, add_params, add_table, add_tuple,
 };
 use crate::types::{add_known, add_layout};
+use crate::walked::{add_own_table, add_walked};
 use crate::words::{begins_answer, first_of, small_number_of, word_of, yes_or_no};
 use fact_convert::{BuildError, ConvertingBuilder};
 use fact_entity::{
@@ -295,6 +299,9 @@ fn add_came(
         "concrete" => add_concrete(page, alloc, types, converter, rest),
         "abstract" => add_abstract(page, alloc, types, converter, rest),
         "table" => add_table_of(page, types, converter, rest),
+        "walk" => add_walked(page, alloc, types, rest),
+        "own-table" => add_own_table(page, alloc, rest),
+        "finish" => add_finished(page, alloc),
         _ => add_entry(page, converter, kind, rest),
     }
 }

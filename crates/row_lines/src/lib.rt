@@ -3,10 +3,12 @@
 #![tactic(auto)]
 
 mod agreed;
+mod asking;
 mod checked;
 mod conversions;
 mod core_items;
 mod defined;
+mod finished;
 mod funcs;
 mod layouts;
 mod listed;
@@ -15,6 +17,7 @@ mod live_source;
 mod made;
 mod modules;
 mod runs;
+mod same_plan;
 mod sources;
 mod told_defs;
 mod told_runs;
@@ -23,13 +26,15 @@ mod trees;
 mod type_lines;
 mod types;
 mod values;
+mod walked;
 mod words;
 
 pub use checked::add_checked;
 pub use conversions::add_lines_of_source;
-pub use made::made_of;
-pub use modules::{add_of_module, module_of_bytes};
+pub use made::{end_plan, made_of, plan_in};
+pub use modules::{add_of_module, end_module, is_spelled, module_of_bytes};
 pub use runs::add_run;
+pub use same_plan::is_same_plan;
 pub use trees::{add_tree, add_types};
 pub use type_lines::add_of_types;
-pub use words::{add_text, begins_answer, edited, first_of, number_of, word_of};
+pub use words::{add_text, begins_answer, edited, first_of, number_of, small_number_of, word_of};

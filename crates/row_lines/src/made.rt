@@ -1,11 +1,13 @@
 //! The types that the head of a block makes.
 //!
 //! A head that is no plan is words, each of which makes a type of the one before it: `flags*N` and `enum*N` of the names `n0`, `n1` and so
-//! on; `list*N`, `option*N`, `future*N` and `stream*N`, so many within one another; `tuple*0`; or a word of plans.
+//! on; `list*N`, `option*N`, `future*N` and `stream*N`, so many within one another; `tuple*0`; or a word of plans. `takes*N` and `gives*N`
+//! make functions of N parameters of that type, all of the name `x`, the second with a u32 as result; `core*32` the core type
+//! `[i32] -> []`, and `core*64` `[i64] -> [i32]`.
 
 ghost use Rattle.fact_types.specs.Tables.{IsLiveMember};
 
-use crate::live::is_live_payload;
+use crate::live::{are_live, is_live_payload};
 use crate::types::word_type;
 use crate::words::small_number_of;
 use fact_builder::ComponentTypesBuilder;
@@ -13,8 +15,11 @@ use fact_entity::{EntityRef, PushError, RuntimeComponentInstanceIndex};
 use fact_making::{make_enum, make_flags, make_list, make_option, make_tuple};
 use fact_plan::{FusePlan, plan_of, read_value};
 use fact_plan_types::{FuseError, Place, PlanTypes};
-use fact_types::{InterfaceType, TypeFuture, TypeFutureTable, TypeStream, TypeStreamTable};
-use fact_wasm::{Seq, Text};
+use fact_types::{
+    InterfaceType, Lookup, TypeFunc, TypeFuncIndex, TypeFuture, TypeFutureTable, TypeStream,
+    TypeStreamTable, TypeTupleIndex,
+};
+use fact_wasm::{FuncType, Seq, Text, ValType};
 use indexmap::IndexSet;
 use std::alloc::{AllocError, Global};
 
@@ -107,36 +112,137 @@ fn next_of(
     }
 }
 
-/// The types that words make, each of them or none.
-fn types_of_words(
+/// The tuple of types, where they are such as the builder holds.
+fn tuple_of(
     alloc: Global,
     builder: &mut ComponentTypesBuilder,
-    words: &str,
-) -> Result<Seq<InterfaceType>, PushError> {
-    let mut made = None;
-    let mut types = Seq::new(alloc);
-    for word in words.split_whitespace() {
-        made = next_of(alloc, builder, made, word)?;
-        if let Some(ty) = made {
-            types.push(ty)?;
-        }
+    types: &[InterfaceType],
+) -> Result<Option<TypeTupleIndex>, PushError> {
+    if !are_live(builder, types) {
+        return Ok(None);
     }
-    Ok(types)
+    let types = Seq::from_vec(Vec::from_slice(alloc, types)?);
+    match make_tuple(alloc, builder, types)? {
+        InterfaceType::Tuple(index) => Ok(Some(index)),
+        _ => Ok(None),
+    }
 }
 
-/// The types that words make in a new builder.
+/// One name for so many parameters.
+fn param_names(alloc: Global, count: usize) -> Result<Seq<Text>, AllocError> {
+    let mut names = Seq::new(alloc);
+    for _ in 0..count {
+        names.push(Text::from_str(alloc, "x")?)?;
+    }
+    Ok(names)
+}
+
+/// A function whose parameters have one name.
+fn func_of(
+    alloc: Global,
+    builder: &mut ComponentTypesBuilder,
+    takes: &[InterfaceType],
+    gives: &[InterfaceType],
+) -> Result<Option<TypeFuncIndex>, PushError> {
+    let params = tuple_of(alloc, builder, takes)?;
+    let results = tuple_of(alloc, builder, gives)?;
+    let (Some(params), Some(results)) = (params, results) else {
+        return Ok(None);
+    };
+    let types = builder.component_types();
+    if types.get(params).is_none() || types.get(results).is_none() {
+        return Ok(None);
+    }
+    let func = TypeFunc {
+        async_: false,
+        param_names: param_names(alloc, takes.len())?,
+        params,
+        results,
+    };
+    Ok(Some(builder.add_func_type(func)?))
+}
+
+/// Adds a function of so many parameters of a type.
+fn add_func(
+    alloc: Global,
+    made: &mut PlanTypes,
+    ty: InterfaceType,
+    count: u32,
+    gives: &[InterfaceType],
+) -> Result<(), PushError> {
+    let mut takes = Vec::new(alloc);
+    takes.resize(count as usize, ty)?;
+    if let Some(func) = func_of(alloc, &mut made.builder, takes.as_slice(), gives)? {
+        made.funcs.push(func)?;
+    }
+    Ok(())
+}
+
+/// Adds one of the two core types.
+fn add_core_type(alloc: Global, made: &mut PlanTypes, width: &str) -> Result<(), PushError> {
+    let ty = if width == "32" {
+        FuncType::from_slices(alloc, &[ValType::I32], &[])?
+    } else {
+        FuncType::from_slices(alloc, &[ValType::I64], &[ValType::I32])?
+    };
+    let index = made.builder.module_types_builder_mut().intern(ty)?;
+    made.core_types.push(index)?;
+    Ok(())
+}
+
+/// Adds what a word makes, and answers the type that it leaves for the next one.
+fn add_word(
+    alloc: Global,
+    made: &mut PlanTypes,
+    last: Option<InterfaceType>,
+    word: &str,
+) -> Result<Option<InterfaceType>, PushError> {
+    let (kind, count) = word.split_once("*").unwrap_or((word, ""));
+    match (kind, last) {
+        ("takes", Some(ty)) => {
+            add_func(alloc, made, ty, small_number_of(count), &[])?;
+            return Ok(last);
+        }
+        ("gives", Some(ty)) => {
+            let count = small_number_of(count);
+            add_func(alloc, made, ty, count, &[InterfaceType::U32])?;
+            return Ok(last);
+        }
+        ("core", _) => {
+            add_core_type(alloc, made, count)?;
+            return Ok(last);
+        }
+        _ => (),
+    }
+    let next = next_of(alloc, &mut made.builder, last, word)?;
+    if let Some(ty) = next {
+        made.types.push(ty)?;
+    }
+    Ok(next)
+}
+
+/// Adds what words make.
+fn add_words(alloc: Global, made: &mut PlanTypes, words: &str) -> Result<(), PushError> {
+    let mut last = None;
+    for word in words.split_whitespace() {
+        last = add_word(alloc, made, last, word)?;
+    }
+    Ok(())
+}
+
+/// What words make in a new builder.
 fn made_of_words(alloc: Global, words: &str) -> Result<PlanTypes, FuseError> {
-    let mut builder = ComponentTypesBuilder::new(alloc, 0);
-    match types_of_words(alloc, &mut builder, words) {
-        Ok(types) => Ok(PlanTypes {
-            builder,
-            types,
-            funcs: Seq::new(alloc),
-            core_types: Seq::new(alloc),
-        }),
+    let mut made = PlanTypes {
+        builder: ComponentTypesBuilder::new(alloc, 0),
+        types: Seq::new(alloc),
+        funcs: Seq::new(alloc),
+        core_types: Seq::new(alloc),
+    };
+    match add_words(alloc, &mut made, words) {
+        Ok(()) => Ok(made),
         Err(error) => {
-            // A call that drops the builder has a short proof, the end of its scope a long one.
-            drop(builder);
+            // A call that drops the types has a short proof, the end of their scope a long one.
+            drop(made);
             Err(refusal_of(error))
         }
     }
@@ -153,12 +259,17 @@ fn refusal_of(error: PushError) -> FuseError {
 /// The types of a plan, or why it is refused.
 fn made_of_plan(alloc: Global, plan: FusePlan) -> Result<PlanTypes, FuseError> {
     let made = PlanTypes::new(alloc, &plan);
-    drop(plan);
+    end_plan(Some(plan));
     made
 }
 
+/// Ends a plan, where there is one.
+pub fn end_plan(plan: Option<FusePlan>) {
+    drop(plan);
+}
+
 /// The plan in a text, if it is one.
-fn plan_in(alloc: Global, text: &str) -> Result<Option<FusePlan>, AllocError> {
+pub fn plan_in(alloc: Global, text: &str) -> Result<Option<FusePlan>, AllocError> {
     let Some(value) = read_value(alloc, text.as_bytes())? else {
         return Ok(None);
     };

@@ -46,6 +46,11 @@ fn module_spelled(alloc: Global, parts: &str) -> Result<Option<WasmModule>, Allo
     }
 }
 
+/// Ends a module, where there is one.
+pub fn end_module(module: Option<WasmModule>) {
+    drop(module);
+}
+
 /// A copy in place of a module.
 fn copy_of(module: WasmModule) -> Result<WasmModule, AllocError> {
     let copy = module.try_clone();
@@ -75,7 +80,7 @@ pub fn module_of_bytes(
 }
 
 /// Whether a module is in range and has these bytes.
-fn is_spelled(alloc: Global, module: &WasmModule, bytes: &[u8]) -> Result<bool, AllocError> {
+pub fn is_spelled(alloc: Global, module: &WasmModule, bytes: &[u8]) -> Result<bool, AllocError> {
     if !module.in_range() {
         return Ok(false);
     }

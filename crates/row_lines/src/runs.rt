@@ -1,9 +1,11 @@
 //! Runs of modules on the machine. A state is its globals and its memories: `SIZE` is a memory of so many bytes, each 170, in which
 //! `ADDRESS=HEX` stands behind further commas. An answer leaves the state as it was at the start, but for the globals behind ` leaves `.
 //! Answers are parted by `;`; `lacks` is none. Where `through` stands behind the steps, an answer leaves the state as it was before its
-//! call, so that what was written stays.
+//! call, so that what was written stays; where `logged` stands there, the answers in the log are told behind what came; and where `asking`
+//! stands there, the run asks an outside that gives the one answer to each call, and what it was asked is told too: `asking`.
 
-use crate::told_runs::add_outcome;
+use crate::asking::add_asking;
+use crate::told_runs::{add_answers, add_outcome};
 use crate::words::{core_value_of, core_values_of, first_of, number_of, small_number_of, word_of};
 use fact_machine::{Answer, CoreValue, Machine, MachineState, Outcome};
 use fact_wasm::{Seq, WasmModule};
@@ -48,7 +50,11 @@ fn state_of(alloc: Global, words: &str) -> Result<MachineState, AllocError> {
 }
 
 /// The answer of an outside call, which leaves this state, but for the globals that it names.
-fn answer_of(alloc: Global, words: &str, mut state: MachineState) -> Result<Answer, AllocError> {
+pub fn answer_of(
+    alloc: Global,
+    words: &str,
+    mut state: MachineState,
+) -> Result<Answer, AllocError> {
     let (words, globals) = words.split_once(" leaves ").unwrap_or((words, ""));
     match words.trim() {
         "traps" => return Ok(Answer::Traps),
@@ -64,12 +70,12 @@ fn answer_of(alloc: Global, words: &str, mut state: MachineState) -> Result<Answ
 
 /// What a run begins with, and whether its state goes through outside calls.
 #[derive(Clone, Copy)]
-struct Begin<'a> {
-    module: &'a WasmModule,
-    func: u32,
-    steps: u64,
-    args: &'a [CoreValue],
-    state: &'a MachineState,
+pub struct Begin<'a> {
+    pub module: &'a WasmModule,
+    pub func: u32,
+    pub steps: u64,
+    pub args: &'a [CoreValue],
+    pub state: &'a MachineState,
     through: bool,
 }
 
@@ -104,18 +110,37 @@ fn answers_of(alloc: Global, begin: &Begin<'_>, words: &str) -> Result<Vec<Answe
     Ok(answers)
 }
 
+/// Adds what came of a run, and the answers in its log where they are asked for.
+fn add_came(
+    page: &mut String,
+    begin: &Begin<'_>,
+    outcome: &Outcome,
+    mode: &str,
+) -> Result<(), AllocError> {
+    let imports = begin.module.imports.as_slice();
+    let memories = begin.state.memories.as_slice();
+    add_outcome(page, imports, memories, outcome, begin.through)?;
+    if mode == "logged" {
+        add_answers(page, outcome.log.as_slice())?;
+    }
+    Ok(())
+}
+
 /// Adds what comes of a run with these answers.
 fn add_answered(
     page: &mut String,
     alloc: Global,
     begin: &Begin<'_>,
     answers: &str,
+    mode: &str,
 ) -> Result<(), AllocError> {
     let answers = answers_of(alloc, begin, answers)?;
-    let outcome = run(alloc, begin, answers.as_slice())?;
-    let imports = begin.module.imports.as_slice();
-    let memories = begin.state.memories.as_slice();
-    add_outcome(page, imports, memories, &outcome, begin.through)
+    let outcome = run(alloc, begin, answers.as_slice());
+    drop(answers);
+    let outcome = outcome?;
+    let added = add_came(page, begin, &outcome, mode);
+    drop(outcome);
+    added
 }
 
 /// Adds what comes of a `run` of a module.
@@ -129,16 +154,23 @@ pub fn add_run(
     let (call, line) = first_of(line);
     let (args, answers) = first_of(line);
     let (func, steps) = word_of(call);
-    let (steps, through) = word_of(steps);
-    let state = state_of(alloc, state)?;
+    let (steps, mode) = word_of(steps);
     let args = core_values_of(alloc, args)?;
+    let state = state_of(alloc, state)?;
     let begin = Begin {
         module,
         func: small_number_of(func),
         steps: number_of(steps),
         args: args.as_slice(),
         state: &state,
-        through: through == "through",
+        through: mode == "through",
     };
-    add_answered(page, alloc, &begin, answers)
+    let added = if mode == "asking" {
+        add_asking(page, alloc, &begin, answers)
+    } else {
+        add_answered(page, alloc, &begin, answers, mode)
+    };
+    drop(state);
+    drop(args);
+    added
 }

@@ -2,7 +2,7 @@
 //! with `:` and the name of its import where this is of the runtime; or, in a run `through`, the module and the name of its import;
 //! the arguments; and behind `at` the globals before it.
 
-use fact_machine::{CoreValue, End, Event, Outcome};
+use fact_machine::{Answer, CoreValue, End, Event, Outcome};
 use fact_wasm::{FuncName, ImportType, Seq, WasmImport};
 use std::alloc::AllocError;
 
@@ -64,6 +64,40 @@ fn add_event(
     add_values(page, event.before.globals.as_slice())
 }
 
+/// Adds outside calls.
+pub fn add_events(
+    page: &mut String,
+    imports: &[WasmImport],
+    events: &[Event],
+    by_names: bool,
+) -> Result<(), AllocError> {
+    for event in events {
+        add_event(page, imports, event, by_names)?;
+    }
+    Ok(())
+}
+
+fn add_answer(page: &mut String, answer: &Answer) -> Result<(), AllocError> {
+    match answer {
+        Answer::Returns { results, state } => {
+            page.push_str(" answered ")?;
+            add_values(page, results.as_slice())?;
+            page.push_str(" leaving ")?;
+            add_values(page, state.globals.as_slice())
+        }
+        Answer::Traps => page.push_str(" trapping"),
+        Answer::Throws => page.push_str(" throwing"),
+    }
+}
+
+/// Adds the answers of outside calls: the results, and behind `leaving` the globals that they leave.
+pub fn add_answers(page: &mut String, events: &[Event]) -> Result<(), AllocError> {
+    for event in events {
+        add_answer(page, &event.answer)?;
+    }
+    Ok(())
+}
+
 fn add_end(page: &mut String, end: &End) -> Result<(), AllocError> {
     match end {
         End::Returned(values) => {
@@ -102,9 +136,7 @@ pub fn add_outcome(
     by_names: bool,
 ) -> Result<(), AllocError> {
     add_end(page, &outcome.end)?;
-    for event in outcome.log.as_slice() {
-        add_event(page, imports, event, by_names)?;
-    }
+    add_events(page, imports, outcome.log.as_slice(), by_names)?;
     page.push(' ')?;
     add_values(page, outcome.state.globals.as_slice())?;
     let after = outcome.state.memories.as_slice();

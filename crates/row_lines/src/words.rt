@@ -3,7 +3,7 @@
 use fact_abi::SideAbi;
 use fact_machine::CoreValue;
 use fact_types::StringEncoding;
-use fact_wasm::Seq;
+use fact_wasm::{FuncName, Seq};
 use std::alloc::{AllocError, Global};
 
 /// What stands before the first ` | `, and what stands behind it.
@@ -62,16 +62,25 @@ pub fn bytes_of(alloc: Global, word: &str) -> Vec<u8> {
     hex::decode(alloc, word).unwrap_or(Vec::new(alloc))
 }
 
-/// A core value by its type and its bits: a number of 32 bits or of 64, or a float.
+/// A core value of 32 bits: a number, a float, or a function by its number.
+fn small_value_of(ty: &str, bits: u32) -> Option<CoreValue> {
+    match ty {
+        "i32" => Some(CoreValue::I32(bits)),
+        "f32" => Some(CoreValue::F32(bits)),
+        "func" => Some(CoreValue::Func(FuncName::Defined(bits))),
+        "import" => Some(CoreValue::Func(FuncName::Import(bits))),
+        _ => None,
+    }
+}
+
+/// A core value by its type and its bits: a number of 32 bits or of 64, a float, or a function by its number.
 pub fn core_value_of(word: &str) -> Option<CoreValue> {
     let (ty, digits) = word.split_once(":")?;
     let bits = digits.parse::<u64>().ok()?;
     match ty {
-        "i32" => Some(CoreValue::I32(u32::try_from(bits).ok()?)),
         "i64" => Some(CoreValue::I64(bits)),
-        "f32" => Some(CoreValue::F32(u32::try_from(bits).ok()?)),
         "f64" => Some(CoreValue::F64(bits)),
-        _ => None,
+        _ => small_value_of(ty, u32::try_from(bits).ok()?),
     }
 }
 

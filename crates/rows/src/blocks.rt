@@ -1,22 +1,27 @@
-//! Blocks of a table: of plans, of the bytes of modules, of types, and of sources.
+//! Blocks of a table: of plans, of the bytes of modules, of types, of sources, and of tests of the libraries.
 
+use crate::adapted::add_adapted;
 use crate::command::{add_asked, add_bytes, add_end, add_imports, add_page, add_prefixes};
 use crate::fueled::add_fueled;
+use crate::plans::{add_entries, add_fused, add_generates};
 use crate::printed::module_of_block;
 use crate::shown::add_shown;
 use fact_plan_types::{FuseError, PlanTypes};
+use fact_tests::holds;
 use fact_wasm::WasmModule;
 use row_lines::{
     add_checked, add_lines_of_source, add_of_module, add_of_types, add_run, begins_answer, edited,
-    made_of, word_of,
+    end_module, made_of, word_of,
 };
 use std::alloc::{AllocError, Global};
 
-/// What the lines of a block speak of: a plan, or the bytes of a module, with the module that it has; or types, or why there are none.
+/// What the lines of a block speak of: a plan, or the bytes of a module, with the module that it has; types, or why there are none; or
+/// nothing, where they name tests.
 #[derive(Clone, Copy)]
 enum Head<'a> {
     Module(&'a str, &'a Option<WasmModule>),
     Types(&'a Result<PlanTypes, FuseError>),
+    Tests,
 }
 
 /// Adds what comes of the plan of a block with edits.
@@ -32,6 +37,7 @@ fn add_edited(
         "end" => add_end(page, alloc, plan.as_str()),
         "imports" => add_imports(page, alloc, plan.as_str()),
         "prefixes" => add_prefixes(page, alloc, plan.as_str()),
+        "fuse" => add_fused(page, alloc, plan.as_str()),
         _ => add_page(page, alloc, plan.as_str()),
     }
 }
@@ -51,10 +57,25 @@ fn add_of_plan(
         ("ask", _) => add_asked(page, alloc, plan, rest),
         ("bytes", _) => add_bytes(page, alloc, rest),
         ("check", _) => add_checked(page, alloc, rest),
+        ("generates", _) => add_generates(page, alloc, plan, rest),
+        ("entries", _) => add_entries(page, alloc, rest),
         ("fuel", _) => add_fueled(page, alloc, plan, rest),
         ("shows", _) => add_shown(page, alloc, plan, module, rest),
         ("spells" | "call" | "tree", module) => add_of_module(page, alloc, module, kind, rest),
         _ => add_edited(page, alloc, plan, kind, rest),
+    }
+}
+
+/// Adds what comes of a line that asks of types.
+fn add_of_made(
+    page: &mut String,
+    alloc: Global,
+    made: &PlanTypes,
+    line: &str,
+) -> Result<(), AllocError> {
+    match line.split_once("adapt ") {
+        Some(("", steps)) => add_adapted(page, alloc, made, steps),
+        _ => add_of_types(page, alloc, made, line),
     }
 }
 
@@ -67,8 +88,10 @@ fn add_came(
 ) -> Result<(), AllocError> {
     match *head {
         Head::Module(plan, module) => add_of_plan(page, alloc, plan, module, line),
-        Head::Types(Ok(made)) => add_of_types(page, alloc, made, line),
+        Head::Types(Ok(made)) => add_of_made(page, alloc, made, line),
         Head::Types(Err(refusal)) => write!(page, "{refusal}"),
+        Head::Tests if holds(alloc, line) => page.push_str("as it should be"),
+        Head::Tests => page.push_str("not as it should be"),
     }
 }
 
@@ -111,7 +134,7 @@ fn add_lines_of_plan(
 ) -> Result<(), AllocError> {
     let module = module_of_block(alloc, plan)?;
     let added = add_lines_of(page, alloc, name, &Head::Module(plan, &module), lines);
-    drop(module);
+    end_module(module);
     added
 }
 
@@ -136,6 +159,7 @@ fn add_block(page: &mut String, alloc: Global, text: &str) -> Result<(), AllocEr
     match word_of(head) {
         ("types", words) => add_lines_of_types(page, alloc, name, words, lines),
         ("source", words) => add_lines_of_source(page, alloc, name, words, lines),
+        ("tests", _) => add_lines_of(page, alloc, name, &Head::Tests, lines),
         _ => add_lines_of_plan(page, alloc, name, head, lines),
     }
 }

@@ -7,7 +7,7 @@
 use crate::command::{asked, run_on};
 use crate::printed::module_in;
 use fact_wasm::{FuncName, WasmModule};
-use row_lines::{add_run, add_text, add_tree, word_of};
+use row_lines::{add_run, add_text, add_tree, end_module, word_of};
 use std::alloc::{AllocError, Global};
 
 /// The module that the command prints for a plan with this fuel, if it prints one.
@@ -84,7 +84,7 @@ pub fn add_fueled(
     match module_with(alloc, plan, fuel)? {
         Some(module) => {
             let added = add_of(page, alloc, &module, line);
-            drop(module);
+            end_module(Some(module));
             added
         }
         None => page.push_str("no module"),

@@ -3,8 +3,9 @@
 //!
 //! A line `block NAME HEAD` begins a block, whose lines below it speak of what its head is: a plan; the bytes of a module (`modules` of
 //! `row_lines`, as all that is named below and is not here); or, behind `types`, the types that a plan has or words make (`made`); or, behind
-//! `source`, types that are converted (`conversions`). Each of them is answered by one line: the name, the number of the line
-//! in its block, and what came, or why the head makes no types. A line that begins with `#` is copied. Parts of a line are parted by ` | `.
+//! `source`, types that are converted (`conversions`). Where it is `tests`, the lines are names of tests of the libraries (`fact_tests`). Each
+//! of them is answered by one line: the name, the number of the line in its block, and what came, or why the head makes no types. A line that
+//! begins with `#` is copied. Parts of a line are parted by ` | `.
 //!
 //! Of a plan:
 //!
@@ -15,6 +16,8 @@
 //!     prefixes EDITS                              the same as of `page` for each proper prefix, where it is another than for the one before
 //!     ask PIECE READ WRITE TELL | WORDS | EDITS   the same as of `page` with these words and streams: `command`
 //!     bytes SPACES HEX | WORDS                    the same as of `page` for so many spaces and these bytes behind them, with these words, if any
+//!     fuse EDITS                                  what is made of it where it is not checked before: `plans`
+//!     generates N, entries N                      whether it is the plan of N adapters that is generated, and what that has: `plans`
 //!     fuel N ..                                   what the module is like that it prints with `--fuel N`, and runs of it: `fueled`
 //!     shows ..                                    what the module is like, where the table does not have all its bytes: `shown`
 //!     check WHAT | BYTES                          what the check of adapter modules says of these bytes: `checked`
@@ -37,13 +40,16 @@
 //!     load K | SIDE BYTES ADDRESS  the value that stands in a memory: `values`
 //!     lift K | SIDE BYTES CORE..   the value that core values stand for
 //!     carry K K K | NUMBERS SIDE BYTES CORE..   what the value of a type becomes between a source type and a destination type
+//!     adapt STEP ; STEP ..         what a module over the types says to adapters, one after another: `adapted`
 //!     laid KIND MEMBER..           a layout made of layouts: `layouts`
 //!     next MEMBER OFFSET           where a field stands behind an offset, and where it ends
 #![tactic(auto)]
 
+mod adapted;
 mod blocks;
 mod command;
 mod fueled;
+mod plans;
 mod printed;
 mod shown;
 

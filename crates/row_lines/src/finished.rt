@@ -1,17 +1,17 @@
-//! The calls of a builder that converts which no row makes: its error contexts, and its end.
+//! The end of a builder that converts, and its error contexts. A line `finish` is answered by whether both are as they should be, of a
+//! builder that has converted nothing.
 
 ghost use Rattle.std.specs.Prelude.{IfOk};
 ghost use Rattle.fact_types.specs.Tables.{Tables, AreLiveExterns};
 ghost use Rattle.fact_convert.specs.Finished.{IsLinkedComponent};
 
+use crate::sources::SOURCE;
+use crate::words::yes_or_no;
 use fact_convert::{BuildError, Component, ConvertingBuilder, Export};
 use fact_entity::{EntityRef, OutOfMemory, PrimaryMap, RuntimeComponentInstanceIndex};
 use fact_types::{ComponentExtern, ComponentExternData, InterfaceType, Lookup, TypeDef};
 use fact_wasm::{Seq, Text};
-use std::alloc::Global;
-
-/// The number of the source.
-const SOURCE: u64 = 7;
+use std::alloc::{AllocError, Global};
 
 /// Whether error contexts have no table where no instance is set, and else one, whichever call asks for it.
 fn have_one_table(converter: &mut ConvertingBuilder) -> bool {
@@ -96,10 +96,10 @@ fn ends_with_component(alloc: Global, converter: ConvertingBuilder) -> bool {
     index.number == 0 && told && core_types
 }
 
-#[test]
-fn a_builder_ends_with_a_component(rt: HostRuntime) {
-    let mut converter = ConvertingBuilder::new(rt.alloc(), SOURCE);
+/// Adds whether a builder gives a table for error contexts, and ends with a component.
+pub fn add_finished(page: &mut String, alloc: Global) -> Result<(), AllocError> {
+    let mut converter = ConvertingBuilder::new(alloc, SOURCE);
     let have = have_one_table(&mut converter);
-    let ended = ends_with_component(rt.alloc(), converter);
-    assert!(rt; have && ended);
+    let ended = ends_with_component(alloc, converter);
+    page.push_str(yes_or_no(have && ended))
 }

@@ -1,0 +1,158 @@
+//! A module that takes adapters one after another over the types of a block. The steps of a line are parted by ` ; `. A step is an adapter
+//! that is asked for: its name, the export of an instance that is its callee, the numbers of the function types of its sides, the lift side
+//! first, those of their instances, the number of their core type, and `marked` where it is transparent; it is answered by `taken`, or by
+//! why it is refused. Or it is `page`: the bytes of the module so far, whether it is built as they say, and its imports, each with its copy.
+//! Behind the steps stand the numbers of the adapters that are marked.
+
+use fact_entity::{AdapterId, EntityRef};
+use fact_module::{
+    Adapter, AdapterOptionsDfg, ComponentDfg, CoreDef, FuseError, Import, Module,
+    RuntimeComponentInstanceIndex, RuntimeInstanceIndex, StringEncoding, Tunables, WasmFeatures,
+};
+use fact_plan_types::PlanTypes;
+use fact_types::{ModuleInternedTypeIndex, TypeFuncIndex};
+use fact_wasm::Text;
+use row_lines::{end_module, is_spelled, small_number_of, word_of};
+use std::alloc::{AllocError, Global};
+
+/// A side without options.
+fn side(instance: u32, core_type: u32) -> AdapterOptionsDfg {
+    AdapterOptionsDfg {
+        instance: RuntimeComponentInstanceIndex::from_u32(instance),
+        string_encoding: StringEncoding::Utf8,
+        memory: None,
+        realloc: None,
+        callback: None,
+        post_return: None,
+        async_: false,
+        core_type: ModuleInternedTypeIndex::from_u32(core_type),
+    }
+}
+
+/// The adapter of a callee and of numbers.
+fn adapter_of(alloc: Global, words: &str) -> Result<Adapter, AllocError> {
+    let (callee, numbers) = word_of(words);
+    let name = Text::from_str(alloc, callee)?;
+    let mut numbers = numbers.split_whitespace().map(small_number_of);
+    let lift = numbers.next().unwrap_or(u32::MAX);
+    let lower = numbers.next().unwrap_or(u32::MAX);
+    let lift_instance = numbers.next().unwrap_or(u32::MAX);
+    let lower_instance = numbers.next().unwrap_or(u32::MAX);
+    let core_type = numbers.next().unwrap_or(u32::MAX);
+    Ok(Adapter {
+        lift_ty: TypeFuncIndex::from_u32(lift),
+        lift_options: side(lift_instance, core_type),
+        lower_ty: TypeFuncIndex::from_u32(lower),
+        lower_options: side(lower_instance, core_type),
+        func: CoreDef::Export {
+            instance: RuntimeInstanceIndex::from_u32(0),
+            name,
+        },
+    })
+}
+
+/// Adds an adapter to a component, and what the module says to it.
+fn add_adapter(
+    page: &mut String,
+    alloc: Global,
+    made: &mut Module<'_>,
+    component: &mut ComponentDfg,
+    step: &str,
+) -> Result<(), AllocError> {
+    let (name, words) = word_of(step);
+    let adapter = adapter_of(alloc, words)?;
+    let Ok(id) = component.add(adapter, words.ends_with("marked")) else {
+        return Err(AllocError);
+    };
+    if component.adapters.get(id).is_none() {
+        return page.push_str("no adapter");
+    }
+    match made.adapt(name, component, id) {
+        Ok(()) => page.push_str("taken"),
+        Err(FuseError::OutOfMemory) => Err(AllocError),
+        Err(refusal) => write!(page, "{refusal}"),
+    }
+}
+
+/// Adds imports, each with its copy.
+fn add_imports(page: &mut String, imports: &[Import]) -> Result<(), AllocError> {
+    for import in imports {
+        let copy = import.try_clone()?;
+        let added = write!(page, " {import:?} = {copy:?}");
+        drop(copy);
+        added?;
+    }
+    Ok(())
+}
+
+/// Adds the bytes of a module, and whether it is built as they say.
+fn add_page(page: &mut String, alloc: Global, made: &mut Module<'_>) -> Result<(), AllocError> {
+    let Ok(bytes) = made.encode() else {
+        return Err(AllocError);
+    };
+    let Ok(module) = made.build() else {
+        return Err(AllocError);
+    };
+    let built = is_spelled(alloc, &module, bytes.as_slice());
+    end_module(Some(module));
+    for byte in bytes.iter() {
+        write!(page, "{byte:02x}")?;
+    }
+    page.push_str(if built? {
+        " is built,"
+    } else {
+        " is not built,"
+    })?;
+    add_imports(page, made.imports())
+}
+
+/// Adds what comes of steps.
+fn add_steps(
+    page: &mut String,
+    alloc: Global,
+    made: &mut Module<'_>,
+    component: &mut ComponentDfg,
+    steps: &str,
+) -> Result<(), AllocError> {
+    for step in steps.split(" ; ") {
+        if step == "page" {
+            add_page(page, alloc, made)?;
+        } else {
+            add_adapter(page, alloc, made, component, step)?;
+        }
+        page.push_str(" ; ")?;
+    }
+    Ok(())
+}
+
+/// Adds the numbers of the adapters that are marked.
+fn add_marked(page: &mut String, marked: &[AdapterId]) -> Result<(), AllocError> {
+    page.push_str("marked")?;
+    for id in marked {
+        write!(page, " {}", id.as_u32())?;
+    }
+    Ok(())
+}
+
+/// Adds what comes of the steps of a line.
+pub fn add_adapted(
+    page: &mut String,
+    alloc: Global,
+    types: &PlanTypes,
+    steps: &str,
+) -> Result<(), AllocError> {
+    let tunables = Tunables {
+        concurrency_support: false,
+        debug_adapter_modules: false,
+        fuel: 1,
+    };
+    let features = WasmFeatures { exceptions: false };
+    let mut made = Module::new(alloc, &types.builder, &tunables, features);
+    let mut component = ComponentDfg::new(alloc);
+    let added = add_steps(page, alloc, &mut made, &mut component, steps);
+    drop(made);
+    let marked = add_marked(page, component.transparent_adapters.as_slice());
+    drop(component);
+    added?;
+    marked
+}
