@@ -41,27 +41,26 @@ fn has_place(types: &mut CoreTypes, params: &[ValType], results: &[ValType], pla
 
 /// Whether each of six signatures has the place of its first equal one, among three.
 fn have_places(types: &mut CoreTypes) -> bool {
-    let i32 = [ValType::I32];
-    has_place(types, &i32, &[], 0)
-        && has_place(types, &i32, &[], 0)
+    let number = [ValType::I32];
+    has_place(types, &number, &[], 0)
+        && has_place(types, &number, &[], 0)
         && has_place(types, &[], &[], 1)
-        && has_place(types, &[], &i32, 2)
+        && has_place(types, &[], &number, 2)
         && has_place(types, &[], &[], 1)
-        && has_place(types, &i32, &[], 0)
+        && has_place(types, &number, &[], 0)
         && types.types().len() == 3
 }
 
 /// Whether each of 300 signatures has the place of its number: of up to 19 parameters, and of up to 14 results.
 fn have_many_places(types: &mut CoreTypes) -> bool {
     let (params, results) = ([ValType::I32; 20], [ValType::I64; 15]);
-    (0..300usize).all(|number| {
-        has_place(
-            types,
-            &params[..number % 20],
-            &results[..number / 20],
-            number as u32,
-        )
-    })
+    for number in 0..300usize {
+        let (takes, gives) = (&params[..number % 20], &results[..number / 20]);
+        if !has_place(types, takes, gives, number as u32) {
+            return false;
+        }
+    }
+    true
 }
 
 /// Whether core types hold each signature once.

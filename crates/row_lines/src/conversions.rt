@@ -20,9 +20,7 @@ ghost use Rattle.fact_convert.specs.Conversion.{IsReadyFor};
 use crate::finished::add_finished;
 use crate::live_source::{is_live_any, is_live_entity};
 use crate::sources::{SOURCE, any_of, entity_of, is_filled};
-use crate::told_defs::{
-    add_component, add_counts, add_def, add_instance, add_params, add_table, add_tuple,
-};
+use crate::told_defs::{add_counts, add_def, add_entry, add_params, add_table};
 use crate::types::{add_known, add_layout};
 use crate::walked::{add_own_table, add_walked};
 use crate::words::{begins_answer, first_of, small_number_of, word_of, yes_or_no};
@@ -260,24 +258,6 @@ fn add_table_of(
     }
 }
 
-/// Adds what an entry that was made has.
-fn add_entry(
-    page: &mut String,
-    converter: &ConvertingBuilder,
-    kind: &str,
-    word: &str,
-) -> Result<(), AllocError> {
-    let number = small_number_of(word);
-    let tables = converter.types().component_types();
-    match kind {
-        "counts" => add_counts(page, converter.types()),
-        "tuple" => add_tuple(page, tables, EntityRef::from_u32(number)),
-        "instance" => add_instance(page, tables, EntityRef::from_u32(number)),
-        "component" => add_component(page, tables, EntityRef::from_u32(number)),
-        _ => page.push_str("no such question"),
-    }
-}
-
 /// Adds what comes of a line.
 fn add_came(
     page: &mut String,
@@ -302,7 +282,13 @@ fn add_came(
         "walk" => add_walked(page, alloc, types, rest),
         "own-table" => add_own_table(page, alloc, rest),
         "finish" => add_finished(page, alloc),
-        _ => add_entry(page, converter, kind, rest),
+        "counts" => add_counts(page, converter.types()),
+        _ => add_entry(
+            page,
+            converter.types().component_types(),
+            kind,
+            small_number_of(rest),
+        ),
     }
 }
 

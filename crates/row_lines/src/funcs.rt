@@ -29,25 +29,7 @@ fn side_of(ty: TypeFuncIndex, words: &str) -> SideSig
     }
 }
 
-/// The core signature of a function of an async adapter between sides in words.
-fn part_signature_of(
-    builder: &ComponentTypesBuilder,
-    ty: TypeFuncIndex,
-    part: &str,
-    sides: &str,
-) -> Result<Signature, AllocError>
-    requires { ty.number < length builder.now.tables.functions }
-{
-    let (lower, lift) = sides.split_once(", ").unwrap_or((sides, ""));
-    let lower = side_of(ty, lower);
-    let lift = side_of(ty, lift);
-    if part == "start" {
-        return builder.async_start_signature(&lower, &lift);
-    }
-    builder.async_return_signature(&lower, &lift)
-}
-
-/// The core signature of a side in words, or of a function between two.
+/// The core signature of a side in words, or of a function between two, which a comma parts, behind its own word.
 fn signature_of(
     builder: &ComponentTypesBuilder,
     ty: TypeFuncIndex,
@@ -55,14 +37,15 @@ fn signature_of(
 ) -> Result<Signature, AllocError>
     requires { ty.number < length builder.now.tables.functions }
 {
-    if let Some((part, sides)) = words.split_once(", ") {
-        return part_signature_of(builder, ty, part, sides);
+    let (part, sides) = words.split_once(", ").unwrap_or(("", words));
+    let (lower, lift) = sides.split_once(", ").unwrap_or((sides, ""));
+    let (lower, lift) = (side_of(ty, lower), side_of(ty, lift));
+    match part {
+        "start" => builder.async_start_signature(&lower, &lift),
+        "return" => builder.async_return_signature(&lower, &lift),
+        _ if words.starts_with("lower") => builder.lower_signature(&lower),
+        _ => builder.lift_signature(&lower),
     }
-    let side = side_of(ty, words);
-    if words.starts_with("lower") {
-        return builder.lower_signature(&side);
-    }
-    builder.lift_signature(&side)
 }
 
 /// Adds the parameters and results of a core signature, and whether the function holds a handle.

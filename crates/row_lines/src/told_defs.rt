@@ -6,8 +6,9 @@ use crate::types::{add_abi, named};
 use fact_builder::ComponentTypesBuilder;
 use fact_entity::EntityRef;
 use fact_types::{
-    ComponentExtern, ComponentTypes, Lookup, TypeComponentIndex, TypeComponentInstanceIndex,
-    TypeDef, TypeFuncIndex, TypeResourceTable, TypeResourceTableIndex, TypeTupleIndex,
+    ComponentExtern, ComponentTypes, InterfaceType, Lookup, TypeComponent, TypeComponentIndex,
+    TypeComponentInstanceIndex, TypeDef, TypeFuncIndex, TypeResourceTable, TypeResourceTableIndex,
+    TypeTupleIndex,
 };
 use fact_wasm::Text;
 use indexmap::IndexMap;
@@ -16,13 +17,13 @@ use std::alloc::AllocError;
 /// The kind of a type, and its index in the table of this kind.
 fn named_def(def: &TypeDef) -> (&'static str, u32) {
     match *def {
-        TypeDef::Component(i) => ("component", i.as_u32()),
-        TypeDef::ComponentInstance(i) => ("instance", i.as_u32()),
-        TypeDef::ComponentFunc(i) => ("func", i.as_u32()),
+        TypeDef::Component(i) => ("component", i.number),
+        TypeDef::ComponentInstance(i) => ("instance", i.number),
+        TypeDef::ComponentFunc(i) => ("func", i.number),
         TypeDef::Interface(ty) => named(&ty),
-        TypeDef::Module(i) => ("module", i.as_u32()),
-        TypeDef::CoreFunc(i) => ("core-func", i.as_u32()),
-        TypeDef::Resource(i) => ("resource", i.as_u32()),
+        TypeDef::Module(i) => ("module", i.number),
+        TypeDef::CoreFunc(i) => ("core-func", i.number),
+        TypeDef::Resource(i) => ("resource", i.number),
     }
 }
 
@@ -43,46 +44,48 @@ fn add_externs(
     Ok(())
 }
 
-/// Adds the exports of an instance.
-pub fn add_instance(
-    page: &mut String,
-    tables: &ComponentTypes,
-    index: TypeComponentInstanceIndex,
-) -> Result<(), AllocError> {
-    match tables.get(index) {
-        Some(instance) => add_externs(page, &instance.exports),
-        None => page.push_str("no such entry"),
-    }
-}
-
 /// Adds the imports of a component, and behind `>` its exports.
-pub fn add_component(
-    page: &mut String,
-    tables: &ComponentTypes,
-    index: TypeComponentIndex,
-) -> Result<(), AllocError> {
-    let Some(component) = tables.get(index) else {
-        return page.push_str("no such entry");
-    };
+fn add_component(page: &mut String, component: &TypeComponent) -> Result<(), AllocError> {
     add_externs(page, &component.imports)?;
     page.push_str("> ")?;
     add_externs(page, &component.exports)
 }
 
-/// Adds the members of a tuple.
-pub fn add_tuple(
-    page: &mut String,
-    tables: &ComponentTypes,
-    index: TypeTupleIndex,
-) -> Result<(), AllocError> {
-    let Some(tuple) = tables.get(index) else {
-        return page.push_str("no such entry");
-    };
-    for ty in tuple.types.as_slice() {
+/// Adds the types of members.
+fn add_members(page: &mut String, types: &[InterfaceType]) -> Result<(), AllocError> {
+    for ty in types {
         let (kind, index) = named(ty);
         write!(page, "{kind} {index} ")?;
     }
     Ok(())
+}
+
+/// Adds what the entry of a kind and a number has: the members of a tuple, the exports of an instance, or the imports of a component, and
+/// behind `>` its exports.
+pub fn add_entry(
+    page: &mut String,
+    tables: &ComponentTypes,
+    kind: &str,
+    number: u32,
+) -> Result<(), AllocError> {
+    match kind {
+        "tuple" => {
+            if let Some(tuple) = tables.get(TypeTupleIndex::from_u32(number)) {
+                return add_members(page, tuple.types.as_slice());
+            }
+        }
+        "instance" => {
+            if let Some(instance) = tables.get(TypeComponentInstanceIndex::from_u32(number)) {
+                return add_externs(page, &instance.exports);
+            }
+        }
+        _ => {
+            if let Some(component) = tables.get(TypeComponentIndex::from_u32(number)) {
+                return add_component(page, component);
+            }
+        }
+    }
+    page.push_str("no such entry")
 }
 
 /// Adds how the parameters of a function are laid out one behind another.

@@ -116,24 +116,86 @@ fn add_labels(page: &mut String, labels: &[u32]) -> Result<(), AllocError> {
     Ok(())
 }
 
-fn add_number(page: &mut String, word: &str, number: u64) -> Result<(), AllocError> {
-    write!(page, "{word} {number}")
+/// The name of an instruction.
+fn word_of_instr(instr: &Instr) -> &'static str {
+    match instr {
+        Instr::Block(_, _) => "block",
+        Instr::Loop(_, _) => "loop",
+        Instr::If(_, _, _) => "if",
+        Instr::TryTable(_, _, _) => "try_table",
+        Instr::Unreachable => "unreachable",
+        Instr::Br(_) => "br",
+        Instr::BrIf(_) => "br_if",
+        Instr::BrTable(_, _) => "br_table",
+        Instr::Call(_) => "call",
+        Instr::Drop => "drop",
+        Instr::Select => "select",
+        Instr::LocalGet(_) => "local.get",
+        Instr::LocalSet(_) => "local.set",
+        Instr::LocalTee(_) => "local.tee",
+        Instr::GlobalGet(_) => "global.get",
+        Instr::GlobalSet(_) => "global.set",
+        Instr::I32Load(_) => "i32.load",
+        Instr::I64Load(_) => "i64.load",
+        Instr::F32Load(_) => "f32.load",
+        Instr::F64Load(_) => "f64.load",
+        Instr::I32Load8S(_) => "i32.load8_s",
+        Instr::I32Load8U(_) => "i32.load8_u",
+        Instr::I32Load16S(_) => "i32.load16_s",
+        Instr::I32Load16U(_) => "i32.load16_u",
+        Instr::I32Store(_) => "i32.store",
+        Instr::I64Store(_) => "i64.store",
+        Instr::F32Store(_) => "f32.store",
+        Instr::F64Store(_) => "f64.store",
+        Instr::I32Store8(_) => "i32.store8",
+        Instr::I32Store16(_) => "i32.store16",
+        Instr::MemorySize(_) => "memory.size",
+        Instr::I32Const(_) => "i32.const",
+        Instr::I64Const(_) => "i64.const",
+        Instr::F32Const(_) => "f32.const",
+        Instr::F64Const(_) => "f64.const",
+        Instr::I32Eqz => "i32.eqz",
+        Instr::I32Eq => "i32.eq",
+        Instr::I32Ne => "i32.ne",
+        Instr::I32LtU => "i32.lt_u",
+        Instr::I32GtU => "i32.gt_u",
+        Instr::I32GeU => "i32.ge_u",
+        Instr::I64Eqz => "i64.eqz",
+        Instr::I64Eq => "i64.eq",
+        Instr::I64Ne => "i64.ne",
+        Instr::I64LtU => "i64.lt_u",
+        Instr::I64GtU => "i64.gt_u",
+        Instr::I64GeU => "i64.ge_u",
+        Instr::I32Add => "i32.add",
+        Instr::I32Sub => "i32.sub",
+        Instr::I32Mul => "i32.mul",
+        Instr::I32And => "i32.and",
+        Instr::I32Or => "i32.or",
+        Instr::I32Xor => "i32.xor",
+        Instr::I32Shl => "i32.shl",
+        Instr::I32ShrU => "i32.shr_u",
+        Instr::I64Add => "i64.add",
+        Instr::I64Sub => "i64.sub",
+        Instr::I64Mul => "i64.mul",
+        Instr::I64And => "i64.and",
+        Instr::I64Or => "i64.or",
+        Instr::I64Xor => "i64.xor",
+        Instr::I64Shl => "i64.shl",
+        Instr::I64ShrU => "i64.shr_u",
+        Instr::I32WrapI64 => "i32.wrap_i64",
+        Instr::I64ExtendI32U => "i64.extend_i32_u",
+        Instr::I32ReinterpretF32 => "i32.reinterpret_f32",
+        Instr::I64ReinterpretF64 => "i64.reinterpret_f64",
+        Instr::F32ReinterpretI32 => "f32.reinterpret_i32",
+        Instr::F64ReinterpretI64 => "f64.reinterpret_i64",
+        Instr::I32Extend8S => "i32.extend8_s",
+        Instr::I32Extend16S => "i32.extend16_s",
+        Instr::RefFunc(_) => "ref.func",
+    }
 }
 
-fn add_place(page: &mut String, word: &str, place: &MemArg) -> Result<(), AllocError> {
-    let (offset, align, memory) = (place.offset, place.align, place.memory_index);
-    write!(page, "{word} {offset} {align} {memory}")
-}
-
-fn add_function_of(page: &mut String, word: &str, func: FuncName) -> Result<(), AllocError> {
-    page.push_str(word)?;
-    page.push(' ')?;
-    add_func(page, func)
-}
-
-/// Adds the word of a block, and what it takes and gives.
-fn add_block(page: &mut String, word: &str, ty: BlockType) -> Result<(), AllocError> {
-    page.push_str(word)?;
+/// Adds what a block takes and gives.
+fn add_block_type(page: &mut String, ty: BlockType) -> Result<(), AllocError> {
     match ty {
         BlockType::Empty => Ok(()),
         BlockType::Result(ty) => write!(page, " {}", word_of_type(ty)),
@@ -141,89 +203,54 @@ fn add_block(page: &mut String, word: &str, ty: BlockType) -> Result<(), AllocEr
     }
 }
 
-/// Adds an instruction but for its bodies.
-fn add_head(page: &mut String, instr: &Instr) -> Result<(), AllocError> {
+fn add_place(page: &mut String, place: &MemArg) -> Result<(), AllocError> {
+    let (offset, align, memory) = (place.offset, place.align, place.memory_index);
+    write!(page, " {offset} {align} {memory}")
+}
+
+/// Adds what stands behind the name of an instruction, but for its bodies.
+fn add_immediates(page: &mut String, instr: &Instr) -> Result<(), AllocError> {
     match instr {
-        Instr::Block(ty, _) => add_block(page, "block", *ty),
-        Instr::Loop(ty, _) => add_block(page, "loop", *ty),
-        Instr::If(ty, _, _) => add_block(page, "if", *ty),
+        Instr::Block(ty, _) | Instr::Loop(ty, _) | Instr::If(ty, _, _) => add_block_type(page, *ty),
         Instr::TryTable(ty, labels, _) => {
-            add_block(page, "try_table", *ty)?;
+            add_block_type(page, *ty)?;
             page.push_str(" catch_all")?;
             add_labels(page, labels.as_slice())
         }
-        Instr::Unreachable => page.push_str("unreachable"),
-        Instr::Br(number) => add_number(page, "br", *number as u64),
-        Instr::BrIf(number) => add_number(page, "br_if", *number as u64),
         Instr::BrTable(labels, last) => {
-            page.push_str("br_table")?;
             add_labels(page, labels.as_slice())?;
             write!(page, " {last}")
         }
-        Instr::Call(func) => add_function_of(page, "call", *func),
-        Instr::Drop => page.push_str("drop"),
-        Instr::Select => page.push_str("select"),
-        Instr::LocalGet(number) => add_number(page, "local.get", *number as u64),
-        Instr::LocalSet(number) => add_number(page, "local.set", *number as u64),
-        Instr::LocalTee(number) => add_number(page, "local.tee", *number as u64),
-        Instr::GlobalGet(number) => add_number(page, "global.get", *number as u64),
-        Instr::GlobalSet(number) => add_number(page, "global.set", *number as u64),
-        Instr::I32Load(place) => add_place(page, "i32.load", place),
-        Instr::I64Load(place) => add_place(page, "i64.load", place),
-        Instr::F32Load(place) => add_place(page, "f32.load", place),
-        Instr::F64Load(place) => add_place(page, "f64.load", place),
-        Instr::I32Load8S(place) => add_place(page, "i32.load8_s", place),
-        Instr::I32Load8U(place) => add_place(page, "i32.load8_u", place),
-        Instr::I32Load16S(place) => add_place(page, "i32.load16_s", place),
-        Instr::I32Load16U(place) => add_place(page, "i32.load16_u", place),
-        Instr::I32Store(place) => add_place(page, "i32.store", place),
-        Instr::I64Store(place) => add_place(page, "i64.store", place),
-        Instr::F32Store(place) => add_place(page, "f32.store", place),
-        Instr::F64Store(place) => add_place(page, "f64.store", place),
-        Instr::I32Store8(place) => add_place(page, "i32.store8", place),
-        Instr::I32Store16(place) => add_place(page, "i32.store16", place),
-        Instr::MemorySize(number) => add_number(page, "memory.size", *number as u64),
-        Instr::I32Const(number) => add_number(page, "i32.const", *number as u64),
-        Instr::I64Const(number) => add_number(page, "i64.const", *number),
-        Instr::F32Const(number) => add_number(page, "f32.const", *number as u64),
-        Instr::F64Const(number) => add_number(page, "f64.const", *number),
-        Instr::I32Eqz => page.push_str("i32.eqz"),
-        Instr::I32Eq => page.push_str("i32.eq"),
-        Instr::I32Ne => page.push_str("i32.ne"),
-        Instr::I32LtU => page.push_str("i32.lt_u"),
-        Instr::I32GtU => page.push_str("i32.gt_u"),
-        Instr::I32GeU => page.push_str("i32.ge_u"),
-        Instr::I64Eqz => page.push_str("i64.eqz"),
-        Instr::I64Eq => page.push_str("i64.eq"),
-        Instr::I64Ne => page.push_str("i64.ne"),
-        Instr::I64LtU => page.push_str("i64.lt_u"),
-        Instr::I64GtU => page.push_str("i64.gt_u"),
-        Instr::I64GeU => page.push_str("i64.ge_u"),
-        Instr::I32Add => page.push_str("i32.add"),
-        Instr::I32Sub => page.push_str("i32.sub"),
-        Instr::I32Mul => page.push_str("i32.mul"),
-        Instr::I32And => page.push_str("i32.and"),
-        Instr::I32Or => page.push_str("i32.or"),
-        Instr::I32Xor => page.push_str("i32.xor"),
-        Instr::I32Shl => page.push_str("i32.shl"),
-        Instr::I32ShrU => page.push_str("i32.shr_u"),
-        Instr::I64Add => page.push_str("i64.add"),
-        Instr::I64Sub => page.push_str("i64.sub"),
-        Instr::I64Mul => page.push_str("i64.mul"),
-        Instr::I64And => page.push_str("i64.and"),
-        Instr::I64Or => page.push_str("i64.or"),
-        Instr::I64Xor => page.push_str("i64.xor"),
-        Instr::I64Shl => page.push_str("i64.shl"),
-        Instr::I64ShrU => page.push_str("i64.shr_u"),
-        Instr::I32WrapI64 => page.push_str("i32.wrap_i64"),
-        Instr::I64ExtendI32U => page.push_str("i64.extend_i32_u"),
-        Instr::I32ReinterpretF32 => page.push_str("i32.reinterpret_f32"),
-        Instr::I64ReinterpretF64 => page.push_str("i64.reinterpret_f64"),
-        Instr::F32ReinterpretI32 => page.push_str("f32.reinterpret_i32"),
-        Instr::F64ReinterpretI64 => page.push_str("f64.reinterpret_i64"),
-        Instr::I32Extend8S => page.push_str("i32.extend8_s"),
-        Instr::I32Extend16S => page.push_str("i32.extend16_s"),
-        Instr::RefFunc(func) => add_function_of(page, "ref.func", *func),
+        Instr::Call(func) | Instr::RefFunc(func) => {
+            page.push(' ')?;
+            add_func(page, *func)
+        }
+        Instr::Br(number)
+        | Instr::BrIf(number)
+        | Instr::LocalGet(number)
+        | Instr::LocalSet(number)
+        | Instr::LocalTee(number)
+        | Instr::GlobalGet(number)
+        | Instr::GlobalSet(number)
+        | Instr::MemorySize(number)
+        | Instr::I32Const(number)
+        | Instr::F32Const(number) => write!(page, " {number}"),
+        Instr::I64Const(number) | Instr::F64Const(number) => write!(page, " {number}"),
+        Instr::I32Load(place)
+        | Instr::I64Load(place)
+        | Instr::F32Load(place)
+        | Instr::F64Load(place)
+        | Instr::I32Load8S(place)
+        | Instr::I32Load8U(place)
+        | Instr::I32Load16S(place)
+        | Instr::I32Load16U(place)
+        | Instr::I32Store(place)
+        | Instr::I64Store(place)
+        | Instr::F32Store(place)
+        | Instr::F64Store(place)
+        | Instr::I32Store8(place)
+        | Instr::I32Store16(place) => add_place(page, place),
+        _ => Ok(()),
     }
 }
 
@@ -249,7 +276,8 @@ fn add_body(page: &mut String, body: &[Instr]) -> Result<(), AllocError> {
     page.push_str(" (")?;
     for instr in body {
         page.push(' ')?;
-        add_head(page, instr)?;
+        page.push_str(word_of_instr(instr))?;
+        add_immediates(page, instr)?;
         add_bodies(page, instr)?;
     }
     page.push_str(" )")

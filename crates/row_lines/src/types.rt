@@ -4,7 +4,6 @@ ghost use Rattle.fact_types.specs.Tables.{IsLive};
 
 use crate::words::yes_or_no;
 use fact_builder::ComponentTypesBuilder;
-use fact_entity::EntityRef;
 use fact_types::{
     CanonicalAbiInfo, FlatType, FlatTypes, InterfaceType, Lookup, TypeMap, VariantInfo,
 };
@@ -94,21 +93,21 @@ pub fn add_layout(
 /// The kind of a type, and its index in the table of this kind.
 pub fn named(ty: &InterfaceType) -> (&'static str, u32) {
     match *ty {
-        InterfaceType::Record(i) => ("record", i.as_u32()),
-        InterfaceType::Variant(i) => ("variant", i.as_u32()),
-        InterfaceType::List(i) => ("list", i.as_u32()),
-        InterfaceType::Tuple(i) => ("tuple", i.as_u32()),
-        InterfaceType::Map(i) => ("map", i.as_u32()),
-        InterfaceType::Flags(i) => ("flags", i.as_u32()),
-        InterfaceType::Enum(i) => ("enum", i.as_u32()),
-        InterfaceType::Option(i) => ("option", i.as_u32()),
-        InterfaceType::Result(i) => ("result", i.as_u32()),
-        InterfaceType::Own(i) => ("own", i.as_u32()),
-        InterfaceType::Borrow(i) => ("borrow", i.as_u32()),
-        InterfaceType::Future(i) => ("future", i.as_u32()),
-        InterfaceType::Stream(i) => ("stream", i.as_u32()),
-        InterfaceType::ErrorContext(i) => ("error-context", i.as_u32()),
-        InterfaceType::FixedLengthList(i) => ("fixed-list", i.as_u32()),
+        InterfaceType::Record(i) => ("record", i.number),
+        InterfaceType::Variant(i) => ("variant", i.number),
+        InterfaceType::List(i) => ("list", i.number),
+        InterfaceType::Tuple(i) => ("tuple", i.number),
+        InterfaceType::Map(i) => ("map", i.number),
+        InterfaceType::Flags(i) => ("flags", i.number),
+        InterfaceType::Enum(i) => ("enum", i.number),
+        InterfaceType::Option(i) => ("option", i.number),
+        InterfaceType::Result(i) => ("result", i.number),
+        InterfaceType::Own(i) => ("own", i.number),
+        InterfaceType::Borrow(i) => ("borrow", i.number),
+        InterfaceType::Future(i) => ("future", i.number),
+        InterfaceType::Stream(i) => ("stream", i.number),
+        InterfaceType::ErrorContext(i) => ("error-context", i.number),
+        InterfaceType::FixedLengthList(i) => ("fixed-list", i.number),
         _ => ("word", 0),
     }
 }
