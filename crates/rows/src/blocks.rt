@@ -15,14 +15,22 @@ use row_lines::{
 };
 use std::alloc::{AllocError, Global};
 
-/// What the lines of a block speak of: a plan, or the bytes of a module, with the module that it has; types, or why there are none; or
-/// nothing, where they name tests.
-#[derive(Clone, Copy)]
-enum Head<'a> {
-    Module(&'a str, &'a Option<WasmModule>),
-    Types(&'a Result<PlanTypes, FuseError>),
-    Tests,
+/// What the lines of a block speak of.
+trait Head {
+    /// Adds what comes of a line.
+    fn add_came(&self, page: &mut String, alloc: Global, line: &str) -> Result<(), AllocError>;
 }
+
+/// A plan, or the bytes of a module, with the module that it has.
+#[derive(Clone, Copy)]
+struct OfModule<'a> {
+    plan: &'a str,
+    module: &'a Option<WasmModule>,
+}
+
+/// Tests of the libraries, by their names.
+#[derive(Clone, Copy)]
+struct OfTests;
 
 /// Adds what comes of the plan of a block with edits.
 fn add_edited(
@@ -42,84 +50,60 @@ fn add_edited(
     }
 }
 
-/// Adds what comes of a line that asks of a plan or of a module.
-fn add_of_plan(
-    page: &mut String,
-    alloc: Global,
-    plan: &str,
-    module: &Option<WasmModule>,
-    line: &str,
-) -> Result<(), AllocError> {
-    let (kind, rest) = word_of(line);
-    match (kind, module) {
-        ("run", Some(module)) => add_run(page, alloc, module, rest),
-        ("run", None) => page.push_str("no module"),
-        ("ask", _) => add_asked(page, alloc, plan, rest),
-        ("bytes", _) => add_bytes(page, alloc, rest),
-        ("check", _) => add_checked(page, alloc, rest),
-        ("generates", _) => add_generates(page, alloc, plan, rest),
-        ("entries", _) => add_entries(page, alloc, rest),
-        ("fuel", _) => add_fueled(page, alloc, plan, rest),
-        ("shows", _) => add_shown(page, alloc, plan, module, rest),
-        ("spells" | "call" | "tree", module) => add_of_module(page, alloc, module, kind, rest),
-        _ => add_edited(page, alloc, plan, kind, rest),
+impl Head for OfModule<'_> {
+    fn add_came(&self, page: &mut String, alloc: Global, line: &str) -> Result<(), AllocError> {
+        let (plan, module) = (self.plan, self.module);
+        let (kind, rest) = word_of(line);
+        match (kind, module) {
+            ("run", Some(module)) => add_run(page, alloc, module, rest),
+            ("run", None) => page.push_str("no module"),
+            ("ask", _) => add_asked(page, alloc, plan, rest),
+            ("bytes", _) => add_bytes(page, alloc, rest),
+            ("check", _) => add_checked(page, alloc, rest),
+            ("generates", _) => add_generates(page, alloc, plan, rest),
+            ("entries", _) => add_entries(page, alloc, rest),
+            ("fuel", _) => add_fueled(page, alloc, plan, rest),
+            ("shows", _) => add_shown(page, alloc, plan, module, rest),
+            ("spells" | "call" | "tree", module) => add_of_module(page, alloc, module, kind, rest),
+            _ => add_edited(page, alloc, plan, kind, rest),
+        }
     }
 }
 
-/// Adds what comes of a line that asks of types.
-fn add_of_made(
-    page: &mut String,
-    alloc: Global,
-    made: &PlanTypes,
-    line: &str,
-) -> Result<(), AllocError> {
-    match line.split_once("adapt ") {
-        Some(("", steps)) => add_adapted(page, alloc, made, steps),
-        _ => add_of_types(page, alloc, made, line),
+/// Types, or why there are none.
+impl Head for Result<PlanTypes, FuseError> {
+    fn add_came(&self, page: &mut String, alloc: Global, line: &str) -> Result<(), AllocError> {
+        match (self, line.split_once("adapt ")) {
+            (Ok(made), Some(("", steps))) => add_adapted(page, alloc, made, steps),
+            (Ok(made), _) => add_of_types(page, alloc, made, line),
+            (Err(refusal), _) => write!(page, "{refusal}"),
+        }
     }
 }
 
-/// Adds what comes of a line.
-fn add_came(
-    page: &mut String,
-    alloc: Global,
-    head: &Head<'_>,
-    line: &str,
-) -> Result<(), AllocError> {
-    match *head {
-        Head::Module(plan, module) => add_of_plan(page, alloc, plan, module, line),
-        Head::Types(Ok(made)) => add_of_made(page, alloc, made, line),
-        Head::Types(Err(refusal)) => write!(page, "{refusal}"),
-        Head::Tests if holds(alloc, line) => page.push_str("as it should be"),
-        Head::Tests => page.push_str("not as it should be"),
+impl Head for OfTests {
+    fn add_came(&self, page: &mut String, alloc: Global, line: &str) -> Result<(), AllocError> {
+        page.push_str(if holds(alloc, line) {
+            "as it should be"
+        } else {
+            "not as it should be"
+        })
     }
-}
-
-/// Adds the answer to a line of a number.
-fn add_line(
-    page: &mut String,
-    alloc: Global,
-    name: &str,
-    head: &Head<'_>,
-    number: usize,
-    line: &str,
-) -> Result<(), AllocError> {
-    if begins_answer(page, name, number, line)? {
-        add_came(page, alloc, head, line)?;
-    }
-    page.push('\n')
 }
 
 /// Adds the answers to the lines of a block.
-fn add_lines_of(
+fn add_lines_of<H: Head>(
     page: &mut String,
     alloc: Global,
     name: &str,
-    head: &Head<'_>,
+    head: &H,
     lines: &str,
 ) -> Result<(), AllocError> {
     for (number, line) in lines.lines().enumerate() {
-        add_line(page, alloc, name, head, number, line)?;
+        if begins_answer(page, name, number, line)? {
+            head.add_came(page, alloc, line)?;
+        }
+        page.push('\n')?;
     }
     Ok(())
 }
@@ -133,7 +117,11 @@ fn add_lines_of_plan(
     lines: &str,
 ) -> Result<(), AllocError> {
     let module = module_of_block(alloc, plan)?;
-    let added = add_lines_of(page, alloc, name, &Head::Module(plan, &module), lines);
+    let head = OfModule {
+        plan,
+        module: &module,
+    };
+    let added = add_lines_of(page, alloc, name, &head, lines);
     end_module(module);
     added
 }
@@ -147,7 +135,7 @@ fn add_lines_of_types(
     lines: &str,
 ) -> Result<(), AllocError> {
     let made = made_of(alloc, words);
-    let added = add_lines_of(page, alloc, name, &Head::Types(&made), lines);
+    let added = add_lines_of(page, alloc, name, &made, lines);
     // A call that drops the types has a short proof, the end of their scope a long one.
     drop(made);
     added
@@ -159,7 +147,7 @@ fn add_block(page: &mut String, alloc: Global, text: &str) -> Result<(), AllocEr
     match word_of(head) {
         ("types", words) => add_lines_of_types(page, alloc, name, words, lines),
         ("source", words) => add_lines_of_source(page, alloc, name, words, lines),
-        ("tests", _) => add_lines_of(page, alloc, name, &Head::Tests, lines),
+        ("tests", _) => add_lines_of(page, alloc, name, &OfTests, lines),
         _ => add_lines_of_plan(page, alloc, name, head, lines),
     }
 }
