@@ -41,7 +41,10 @@ pub fn add_agree(
     let mut agreement = Agreement::new(alloc, builder.component_types());
     let answer = agrees(&mut agreement, from, to);
     drop(agreement);
-    page.push_str(answer?.map_or("differs", yes_or_no))
+    page.push_str(match answer? {
+        Some(answer) => yes_or_no(answer),
+        None => "differs",
+    })
 }
 
 /// Adds whether types agree with others by place.

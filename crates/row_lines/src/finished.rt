@@ -86,11 +86,14 @@ fn ends_with_component(alloc: Global, converter: ConvertingBuilder) -> bool {
     let Ok((types, index)) = finished else {
         return false;
     };
-    let told = types.get(index).is_some_and(|it| {
-        it.imports.len() == 1
-            && matches!(it.imports.values().next(), Some(import) if is_u16(&import.ty))
-            && it.exports.len() == 1
-    });
+    let told = match types.get(index) {
+        Some(it) => {
+            it.imports.len() == 1
+                && matches!(it.imports.values().next(), Some(import) if is_u16(&import.ty))
+                && it.exports.len() == 1
+        }
+        None => false,
+    };
     let core_types = types.module_types_opt().is_some();
     drop(types);
     index.number == 0 && told && core_types

@@ -47,8 +47,10 @@ fn add_same(
 
 fn add_record(page: &mut String, alloc: Global, words: &str) -> Result<(), AllocError> {
     let mut fields = Vec::new(alloc);
-    for field in words.split_whitespace().filter_map(member) {
-        fields.push(field)?;
+    for word in words.split_whitespace() {
+        if let Some(field) = member(word) {
+            fields.push(field)?;
+        }
     }
     let fields = fields.as_slice();
     if !CanonicalAbiInfo::record_fits(fields) {

@@ -112,15 +112,15 @@ fn add_spelled(page: &mut String, alloc: Global, line: &str) -> Result<(), Alloc
 
 /// The number of the defined function that a module exports by a name.
 fn defined_as(module: &WasmModule, name: &str) -> Option<u32> {
-    let export = module
-        .exports
-        .as_slice()
-        .iter()
-        .find(|export| export.name.as_str() == name)?;
-    match export.func {
-        FuncName::Defined(number) => Some(number),
-        FuncName::Import(_) => None,
+    for export in module.exports.as_slice() {
+        if export.name.as_str() == name {
+            return match export.func {
+                FuncName::Defined(number) => Some(number),
+                FuncName::Import(_) => None,
+            };
+        }
     }
+    None
 }
 
 /// Adds what comes of a `call`, which is a run of the function of its name.

@@ -36,8 +36,12 @@ impl<T: Parts> Parts for (Text, T) {
 
 impl<T: Parts> Parts for Seq<T> {
     fn is_same(&self, other: &Seq<T>) -> bool {
-        let mut pairs = self.as_slice().iter().zip(other.as_slice());
-        self.len() == other.len() && pairs.all(|(part, other)| part.is_same(other))
+        for (part, its) in self.as_slice().iter().zip(other.as_slice()) {
+            if !part.is_same(its) {
+                return false;
+            }
+        }
+        self.len() == other.len()
     }
 }
 

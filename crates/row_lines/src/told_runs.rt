@@ -28,10 +28,16 @@ fn add_values(page: &mut String, values: &[CoreValue]) -> Result<(), AllocError>
 
 /// The import of an imported function.
 fn import_of(imports: &[WasmImport], func: u32) -> Option<&WasmImport> {
-    imports
-        .iter()
-        .filter(|import| matches!(import.ty, ImportType::Func(_)))
-        .nth(func as usize)
+    let mut left = func;
+    for import in imports {
+        if matches!(import.ty, ImportType::Func(_)) {
+            if left == 0 {
+                return Some(import);
+            }
+            left -= 1;
+        }
+    }
+    None
 }
 
 /// Adds what an outside call calls.

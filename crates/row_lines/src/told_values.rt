@@ -2,9 +2,16 @@
 //! `{name=value ..}` a record, `(..)` a tuple, `{+name -name}` flags, `name(..)` a case, and a handle by its kind, the number of its
 //! table and its own.
 
-use fact_abi::{HandleKind, Value};
+use fact_values::{HandleKind, Value};
 use fact_wasm::{Seq, Text};
-use std::alloc::AllocError;
+use std::alloc::{AllocError, Global};
+
+/// What is still to be told: a value, or a text as it is. In a list of them the last piece comes first.
+#[derive(Clone, Copy)]
+enum Piece<'a> {
+    Value(&'a Value),
+    Text(&'a str),
+}
 
 fn add_text(page: &mut String, chars: &Seq<char>) -> Result<(), AllocError> {
     page.push('"')?;
@@ -47,54 +54,51 @@ fn add_handle(
     write!(page, "{kind}:{table}:{number}")
 }
 
-/// Adds values between these two, with spaces between them.
-#[cycle(telling)]
-fn add_values(
-    page: &mut String,
-    before: char,
-    values: &Seq<Value>,
-    after: char,
+/// Puts values between these two on top, with spaces between them.
+fn put_values<'a>(
+    pieces: &mut Vec<Piece<'a>>,
+    before: &'a str,
+    values: &'a [Value],
+    after: &'a str,
 ) -> Result<(), AllocError> {
-    page.push(before)?;
-    let mut is_first = true;
-    for value in values.as_slice() {
-        add_space(page, is_first)?;
-        add_value(page, value)?;
-        is_first = false;
+    pieces.push(Piece::Text(after))?;
+    for (place, value) in values.iter().rev().enumerate() {
+        pieces.push(Piece::Text(if place == 0 { "" } else { " " }))?;
+        pieces.push(Piece::Value(value))?;
     }
-    page.push(after)
+    pieces.push(Piece::Text(before))
 }
 
-#[cycle(telling)]
-fn add_entries(page: &mut String, entries: &Seq<(Value, Value)>) -> Result<(), AllocError> {
-    page.push('<')?;
-    let mut is_first = true;
-    for (key, value) in entries.as_slice() {
-        add_space(page, is_first)?;
-        add_value(page, key)?;
-        page.push(':')?;
-        add_value(page, value)?;
-        is_first = false;
+fn put_entries<'a>(
+    pieces: &mut Vec<Piece<'a>>,
+    entries: &'a [(Value, Value)],
+) -> Result<(), AllocError> {
+    pieces.push(Piece::Text(">"))?;
+    for (place, (key, value)) in entries.iter().rev().enumerate() {
+        pieces.push(Piece::Text(if place == 0 { "" } else { " " }))?;
+        pieces.push(Piece::Value(value))?;
+        pieces.push(Piece::Text(":"))?;
+        pieces.push(Piece::Value(key))?;
     }
-    page.push('>')
+    pieces.push(Piece::Text("<"))
 }
 
-#[cycle(telling)]
-fn add_fields(page: &mut String, fields: &Seq<(Text, Value)>) -> Result<(), AllocError> {
-    page.push('{')?;
-    let mut is_first = true;
-    for (name, value) in fields.as_slice() {
-        add_space(page, is_first)?;
-        write!(page, "{}=", name.as_str())?;
-        add_value(page, value)?;
-        is_first = false;
+fn put_fields<'a>(
+    pieces: &mut Vec<Piece<'a>>,
+    fields: &'a [(Text, Value)],
+) -> Result<(), AllocError> {
+    pieces.push(Piece::Text("}"))?;
+    for (place, (name, value)) in fields.iter().rev().enumerate() {
+        pieces.push(Piece::Text(if place == 0 { "" } else { " " }))?;
+        pieces.push(Piece::Value(value))?;
+        pieces.push(Piece::Text("="))?;
+        pieces.push(Piece::Text(name.as_str()))?;
     }
-    page.push('}')
+    pieces.push(Piece::Text("{"))
 }
 
-/// Adds a value. The depth of its recursion is that of the value.
-#[cycle(telling)]
-pub fn add_value(page: &mut String, value: &Value) -> Result<(), AllocError> {
+/// Adds a value without parts.
+fn add_plain(page: &mut String, value: &Value) -> Result<(), AllocError> {
     match value {
         Value::Bool(is_true) => write!(page, "{is_true}"),
         Value::Int(number) => write!(page, "{number}"),
@@ -102,19 +106,45 @@ pub fn add_value(page: &mut String, value: &Value) -> Result<(), AllocError> {
         Value::Float64(bits) => write!(page, "f64:{bits}"),
         Value::Char(char) => write!(page, "'{char}'"),
         Value::Str(chars) => add_text(page, chars),
-        Value::List(values) => add_values(page, '[', values, ']'),
-        Value::Map(entries) => add_entries(page, entries),
-        Value::Record(fields) => add_fields(page, fields),
-        Value::Tuple(values) => add_values(page, '(', values, ')'),
         Value::Flags(flags) => add_flags(page, flags),
-        Value::Case { name, payload } => {
-            write!(page, "{}", name.as_str())?;
-            add_values(page, '(', payload, ')')
-        }
         Value::Handle {
             kind,
             table,
             number,
         } => add_handle(page, *kind, *table, *number),
+        _ => Ok(()),
     }
+}
+
+/// Adds a value, or puts its parts on top.
+fn add_or_put<'a>(
+    page: &mut String,
+    pieces: &mut Vec<Piece<'a>>,
+    value: &'a Value,
+) -> Result<(), AllocError> {
+    match value {
+        Value::List(values) => put_values(pieces, "[", values.as_slice(), "]"),
+        Value::Tuple(values) => put_values(pieces, "(", values.as_slice(), ")"),
+        Value::Map(entries) => put_entries(pieces, entries.as_slice()),
+        Value::Record(fields) => put_fields(pieces, fields.as_slice()),
+        Value::Case { name, payload } => {
+            page.push_str(name.as_str())?;
+            put_values(pieces, "(", payload.as_slice(), ")")
+        }
+        _ => add_plain(page, value),
+    }
+}
+
+/// Adds a value.
+pub fn add_value(page: &mut String, alloc: Global, value: &Value) -> Result<(), AllocError> {
+    let mut pieces = Vec::new(alloc);
+    pieces.push(Piece::Value(value))?;
+    for _ in 0..u64::MAX {
+        match pieces.pop() {
+            Some(Piece::Value(value)) => add_or_put(page, &mut pieces, value)?,
+            Some(Piece::Text(text)) => page.push_str(text)?,
+            None => return Ok(()),
+        }
+    }
+    Ok(())
 }

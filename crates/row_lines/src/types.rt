@@ -64,7 +64,11 @@ pub fn add_abi(page: &mut String, abi: &CanonicalAbiInfo) -> Result<(), AllocErr
 
 /// The core types of flat types.
 fn core_types(alloc: Global, flat: &[FlatType]) -> Result<Vec<ValType>, AllocError> {
-    flat.iter().map(|ty| ValType::from(*ty)).collect(alloc)
+    let mut types = Vec::new(alloc);
+    for ty in flat {
+        types.push(ValType::from(*ty))?;
+    }
+    Ok(types)
 }
 
 /// Adds the core types in both kinds of memories.

@@ -11,14 +11,14 @@ use fact_types::InterfaceType;
 use std::alloc::{AllocError, Global};
 
 /// Adds a copy of a value, if there is one.
-fn add_copied(page: &mut String, value: Option<Value>) -> Result<(), AllocError> {
+fn add_copied(page: &mut String, alloc: Global, value: Option<Value>) -> Result<(), AllocError> {
     let Some(value) = value else {
         return page.push_str("nothing");
     };
     let copy = value.try_clone();
     drop(value);
     let copy = copy?;
-    let added = add_value(page, &copy);
+    let added = add_value(page, alloc, &copy);
     drop(copy);
     added
 }
@@ -46,7 +46,7 @@ pub fn add_loaded(
         number_of(address),
     );
     drop(bytes);
-    add_copied(page, value?)
+    add_copied(page, alloc, value?)
 }
 
 /// The value of a type that core values stand for, over a memory.
@@ -86,7 +86,7 @@ pub fn add_lifted(
 ) -> Result<(), AllocError>
     requires { IsLive builder.now.tables ty.now }
 {
-    add_copied(page, lifted(alloc, builder, ty, words)?)
+    add_copied(page, alloc, lifted(alloc, builder, ty, words)?)
 }
 
 /// What a value becomes between two types, its handles by these numbers.
@@ -128,5 +128,5 @@ pub fn add_carried(
     };
     let carried = carried(alloc, builder, from, to, &value, numbers);
     drop(value);
-    add_copied(page, carried?)
+    add_copied(page, alloc, carried?)
 }

@@ -1,8 +1,8 @@
 //! Parts of lines, numbers, bytes, sides, core values, and plans with edits; and how answers begin.
 
-use fact_abi::SideAbi;
 use fact_machine::CoreValue;
 use fact_types::StringEncoding;
+use fact_values::SideAbi;
 use fact_wasm::{FuncName, Seq};
 use std::alloc::{AllocError, Global};
 
@@ -29,11 +29,10 @@ pub fn small_number_of(word: &str) -> u32 {
 /// Numbers with commas between them.
 pub fn numbers_of(alloc: Global, word: &str) -> Result<Vec<u32>, AllocError> {
     let mut numbers = Vec::new(alloc);
-    for number in word
-        .split(',')
-        .filter_map(|digits| digits.parse::<u32>().ok())
-    {
-        numbers.push(number)?;
+    for digits in word.split(',') {
+        if let Ok(number) = digits.parse::<u32>() {
+            numbers.push(number)?;
+        }
     }
     Ok(numbers)
 }
@@ -87,8 +86,10 @@ pub fn core_value_of(word: &str) -> Option<CoreValue> {
 /// Core values by their words; a word that is none, as `nothing`, is passed over.
 pub fn core_values_of(alloc: Global, words: &str) -> Result<Seq<CoreValue>, AllocError> {
     let mut values = Seq::new(alloc);
-    for value in words.split_whitespace().filter_map(core_value_of) {
-        values.push(value)?;
+    for word in words.split_whitespace() {
+        if let Some(value) = core_value_of(word) {
+            values.push(value)?;
+        }
     }
     Ok(values)
 }

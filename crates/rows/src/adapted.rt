@@ -16,16 +16,16 @@ use row_lines::{end_module, is_spelled, small_number_of, word_of};
 use std::alloc::{AllocError, Global};
 
 /// A side without options.
-fn side(instance: u32, core_type: u32) -> AdapterOptionsDfg {
+fn side(instance: &str, core_type: &str) -> AdapterOptionsDfg {
     AdapterOptionsDfg {
-        instance: RuntimeComponentInstanceIndex::from_u32(instance),
+        instance: RuntimeComponentInstanceIndex::from_u32(small_number_of(instance)),
         string_encoding: StringEncoding::Utf8,
         memory: None,
         realloc: None,
         callback: None,
         post_return: None,
         async_: false,
-        core_type: ModuleInternedTypeIndex::from_u32(core_type),
+        core_type: ModuleInternedTypeIndex::from_u32(small_number_of(core_type)),
     }
 }
 
@@ -33,16 +33,15 @@ fn side(instance: u32, core_type: u32) -> AdapterOptionsDfg {
 fn adapter_of(alloc: Global, words: &str) -> Result<Adapter, AllocError> {
     let (callee, numbers) = word_of(words);
     let name = Text::from_str(alloc, callee)?;
-    let mut numbers = numbers.split_whitespace().map(small_number_of);
-    let lift = numbers.next().unwrap_or(u32::MAX);
-    let lower = numbers.next().unwrap_or(u32::MAX);
-    let lift_instance = numbers.next().unwrap_or(u32::MAX);
-    let lower_instance = numbers.next().unwrap_or(u32::MAX);
-    let core_type = numbers.next().unwrap_or(u32::MAX);
+    let (lift, numbers) = word_of(numbers);
+    let (lower, numbers) = word_of(numbers);
+    let (lift_instance, numbers) = word_of(numbers);
+    let (lower_instance, core_type) = word_of(numbers);
+    let (core_type, _) = word_of(core_type);
     Ok(Adapter {
-        lift_ty: TypeFuncIndex::from_u32(lift),
+        lift_ty: TypeFuncIndex::from_u32(small_number_of(lift)),
         lift_options: side(lift_instance, core_type),
-        lower_ty: TypeFuncIndex::from_u32(lower),
+        lower_ty: TypeFuncIndex::from_u32(small_number_of(lower)),
         lower_options: side(lower_instance, core_type),
         func: CoreDef::Export {
             instance: RuntimeInstanceIndex::from_u32(0),

@@ -28,16 +28,27 @@ pub fn plain(plan: &str) -> Given<'_> {
     }
 }
 
+/// The number of a word, or another one where it is empty.
+fn number_or(word: &str, other: u64) -> u64 {
+    if word.is_empty() {
+        other
+    } else {
+        number_of(word)
+    }
+}
+
 /// The run that the numbers and the words of a line ask for.
 pub fn asked<'a>(numbers: &'a str, words: &'a str, plan: &'a str) -> Given<'a> {
-    let mut numbers = numbers.split_whitespace().map(number_of);
+    let (piece, numbers) = word_of(numbers);
+    let (read, numbers) = word_of(numbers);
+    let (write, tell) = word_of(numbers);
     Given {
         words,
         input: plan.as_bytes(),
-        piece: numbers.next().unwrap_or(4096) as usize,
-        failing_read: numbers.next().unwrap_or(0),
-        failing_write: numbers.next().unwrap_or(0),
-        failing_tell: numbers.next().unwrap_or(0),
+        piece: number_or(piece, 4096) as usize,
+        failing_read: number_or(read, 0),
+        failing_write: number_or(write, 0),
+        failing_tell: number_or(tell, 0),
     }
 }
 

@@ -21,15 +21,13 @@ fn module_with(alloc: Global, plan: &str, fuel: &str) -> Result<Option<WasmModul
 
 /// The name that a function of a module is exported by, or `helper` where it is not.
 fn name_of(module: &WasmModule, place: usize) -> &str {
-    let mut exports = module.exports.as_slice().iter();
-    let found = exports.find(|export| match export.func {
-        FuncName::Defined(number) => number as usize == place,
-        FuncName::Import(_) => false,
-    });
-    match found {
-        Some(export) => export.name.as_str(),
-        None => "helper",
+    for export in module.exports.as_slice() {
+        match export.func {
+            FuncName::Defined(number) if number as usize == place => return export.name.as_str(),
+            _ => (),
+        }
     }
+    "helper"
 }
 
 /// Adds the numbers of the functions of a module that the code of one calls.

@@ -24,12 +24,15 @@ fn add_exports(page: &mut String, module: &WasmModule) -> Result<(), AllocError>
 
 /// The index of the type of the imported function of these names.
 fn type_of(imports: &[WasmImport], from: &str, name: &str) -> Option<u32> {
-    let import = imports.iter().find(|import| import.module.as_str() == from
-        && import.name.as_str() == name)?;
-    match import.ty {
-        ImportType::Func(index) => Some(index),
-        _ => None,
+    for import in imports {
+        if import.module.as_str() == from && import.name.as_str() == name {
+            return match import.ty {
+                ImportType::Func(index) => Some(index),
+                _ => None,
+            };
+        }
     }
+    None
 }
 
 /// Adds the type of an imported function.
@@ -75,9 +78,11 @@ fn add_sorted(page: &mut String, alloc: Global, plan: &str) -> Result<(), AllocE
 
 /// What stands in a text behind parts that stand in it in this order.
 fn behind<'a>(text: &'a str, parts: &str) -> Option<&'a str> {
-    parts
-        .split('$')
-        .try_fold(text, |rest, part| Some(rest.split_once(part)?.1))
+    let mut rest = text;
+    for part in parts.split('$') {
+        rest = rest.split_once(part)?.1;
+    }
+    Some(rest)
 }
 
 fn add_parts(page: &mut String, alloc: Global, plan: &str, parts: &str) -> Result<(), AllocError> {
