@@ -90,12 +90,12 @@ fn have_one_key(table: &mut Ids) -> bool {
     let resource = ComponentAnyTypeId::Resource(ResourceId::from_u32(0));
     let defined = ComponentAnyTypeId::Defined(ComponentDefinedTypeId::from_u32(0));
     is_added(table, resource, 0)
-        && is_added(table, defined, 1)
-        && is_added(table, resource, 0)
-        && is_found(table, resource, 0)
-        && is_found(table, defined, 1)
-        && table.len() == 2
-        && is_last(table, defined)
+        & is_added(table, defined, 1)
+        & is_added(table, resource, 0)
+        & is_found(table, resource, 0)
+        & is_found(table, defined, 1)
+        & (table.len() == 2)
+        & is_last(table, defined)
 }
 
 /// Whether equal values have one key.
@@ -121,11 +121,11 @@ fn is_key_shown(alloc: Global) -> bool {
 pub fn keys_are_numbers(alloc: Global) -> bool {
     let (key, other) = (TypeRecordIndex::from_u32(7), TypeRecordIndex::from_u32(8));
     is_placed(key, 7, other, true)
-        && is_placed(TableIndex::from_u32(3), 3, TableIndex::from_u32(3), false)
-        && has_number::<TypeVariantIndex>(0)
-        && has_number::<OptionsIndex>(u32::MAX)
-        && has_number::<ResourceId>(9)
-        && is_key_shown(alloc)
-        && is_shown(alloc, PushError::from(AllocError), "out of memory")
-        && is_shown(alloc, PushError::TooLarge, "table too large")
+        & is_placed(TableIndex::from_u32(3), 3, TableIndex::from_u32(3), false)
+        & has_number::<TypeVariantIndex>(0)
+        & has_number::<OptionsIndex>(u32::MAX)
+        & has_number::<ResourceId>(9)
+        & is_key_shown(alloc)
+        & is_shown(alloc, PushError::from(AllocError), "out of memory")
+        & is_shown(alloc, PushError::TooLarge, "table too large")
 }

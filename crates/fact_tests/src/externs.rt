@@ -47,11 +47,10 @@ fn is_same(first: &ComponentExternData, second: &ComponentExternData) -> bool {
 }
 
 /// Whether what is said beside a type is copied.
-fn is_data_copied(alloc: Global) -> bool {
-    match data(alloc) {
-        Ok(first) => matches!(first.try_clone(), Ok(copy) if is_same(&copy, &first)),
-        Err(_) => false,
-    }
+fn is_data_copied(alloc: Global) -> Result<bool, AllocError> {
+    let first = data(alloc)?;
+    let copy = first.try_clone()?;
+    Ok(is_same(&copy, &first))
 }
 
 /// An import or export of a type of characters.
@@ -69,22 +68,21 @@ fn is_copy(copy: &ComponentExtern, first: &ComponentExtern) -> bool {
 }
 
 /// Whether an import or export is copied.
-fn is_extern_copied(alloc: Global) -> bool {
-    match character(alloc) {
-        Ok(first) => matches!(first.try_clone(), Ok(copy) if is_copy(&copy, &first)),
-        Err(_) => false,
-    }
+fn is_extern_copied(alloc: Global) -> Result<bool, AllocError> {
+    let first = character(alloc)?;
+    let copy = first.try_clone()?;
+    Ok(is_copy(&copy, &first))
 }
 
 /// Whether the words for what is exported are those of a user.
 fn are_described() -> bool {
-    TypeDef::Component(EntityRef::from_u32(0)).desc() == "component"
-        && TypeDef::ComponentInstance(EntityRef::from_u32(0)).desc() == "instance"
-        && TypeDef::ComponentFunc(EntityRef::from_u32(0)).desc() == "function"
-        && TypeDef::Interface(InterfaceType::U8).desc() == "type"
-        && TypeDef::Module(EntityRef::from_u32(0)).desc() == "core module"
-        && TypeDef::CoreFunc(EntityRef::from_u32(0)).desc() == "core function"
-        && TypeDef::Resource(EntityRef::from_u32(0)).desc() == "resource"
+    (TypeDef::Component(EntityRef::from_u32(0)).desc() == "component")
+        & (TypeDef::ComponentInstance(EntityRef::from_u32(0)).desc() == "instance")
+        & (TypeDef::ComponentFunc(EntityRef::from_u32(0)).desc() == "function")
+        & (TypeDef::Interface(InterfaceType::U8).desc() == "type")
+        & (TypeDef::Module(EntityRef::from_u32(0)).desc() == "core module")
+        & (TypeDef::CoreFunc(EntityRef::from_u32(0)).desc() == "core function")
+        & (TypeDef::Resource(EntityRef::from_u32(0)).desc() == "resource")
 }
 
 /// Whether a concrete table of handles has parts, and an abstract one has none.
@@ -101,9 +99,5 @@ fn have_parts() -> bool {
 
 /// Whether imports and exports are copied, and what they are is told.
 pub fn imports_and_exports_are_told(alloc: Global) -> bool {
-    is_data_copied(alloc)
-        && is_extern_copied(alloc)
-        && are_copied()
-        && are_described()
-        && have_parts()
+    is_data_copied(alloc) & is_extern_copied(alloc) & are_copied() & are_described() & have_parts()
 }

@@ -11,7 +11,11 @@ fn holds_two(alloc: Global) -> Result<bool, AllocError> {
     let other = Seq::from_vec(vec![in alloc; 7u32, 9u32]?);
     let copy = list.clone()?;
     let items = [7, 9];
-    Ok(list == other && list.as_slice() == items.as_slice() && copy.as_slice() == items.as_slice())
+    Ok(
+        (list == other)
+            & (list.as_slice() == items.as_slice())
+            & (copy.as_slice() == items.as_slice()),
+    )
 }
 
 /// Whether lists hold what is pushed.
@@ -23,7 +27,7 @@ pub fn lists_hold_what_is_pushed(alloc: Global) -> bool {
 fn is_copied(text: &Text) -> Result<bool, AllocError> {
     let copy = text.try_clone()?;
     let clone = text.clone()?;
-    Ok(copy == *text && copy.as_str() == "é\0" && clone.as_str() == "é\0")
+    Ok((copy == *text) & (copy.as_str() == "é\0") & (clone.as_str() == "é\0"))
 }
 
 /// Whether texts are copied.
@@ -43,12 +47,12 @@ fn has_place(types: &mut CoreTypes, params: &[ValType], results: &[ValType], pla
 fn have_places(types: &mut CoreTypes) -> bool {
     let number = [ValType::I32];
     has_place(types, &number, &[], 0)
-        && has_place(types, &number, &[], 0)
-        && has_place(types, &[], &[], 1)
-        && has_place(types, &[], &number, 2)
-        && has_place(types, &[], &[], 1)
-        && has_place(types, &number, &[], 0)
-        && types.types().len() == 3
+        & has_place(types, &number, &[], 0)
+        & has_place(types, &[], &[], 1)
+        & has_place(types, &[], &number, 2)
+        & has_place(types, &[], &[], 1)
+        & has_place(types, &number, &[], 0)
+        & (types.types().len() == 3)
 }
 
 /// Whether each of 300 signatures has the place of its number: of up to 19 parameters, and of up to 14 results.

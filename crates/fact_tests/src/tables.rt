@@ -14,25 +14,35 @@ fn is_only<T: Lookup<I>, I: EntityRef>(table: &T, index: I) -> bool {
     index.as_u32() == 0 && table.get(index).is_some() && table.get(I::from_u32(1)).is_none()
 }
 
-/// Whether types of core modules, of components and of instances stand where they are put.
-fn puts_each(alloc: Global, types: &mut ComponentTypes) -> Result<bool, PushError> {
-    let module = types.push_module(TypeModule::new(alloc))?;
-    let modules = types[module].imports.is_empty() && types[module].exports.is_empty();
-    let component = types.push_component(TypeComponent::new(alloc))?;
-    let components = types[component].imports.is_empty() && types[component].exports.is_empty();
-    let instance = types.push_component_instance(TypeComponentInstance::new(alloc))?;
-    let instances = types[instance].exports.is_empty();
-    let only = is_only(types, module) && is_only(types, component) && is_only(types, instance);
-    Ok(modules && components && instances && only)
+/// Whether a type of core modules stands where it is put.
+fn puts_module(alloc: Global, types: &mut ComponentTypes) -> Result<bool, PushError> {
+    let index = types.push_module(TypeModule::new(alloc))?;
+    let is_empty = types[index].imports.is_empty() & types[index].exports.is_empty();
+    Ok(is_empty & is_only(types, index))
+}
+
+/// Whether a type of components stands where it is put.
+fn puts_component(alloc: Global, types: &mut ComponentTypes) -> Result<bool, PushError> {
+    let index = types.push_component(TypeComponent::new(alloc))?;
+    let is_empty = types[index].imports.is_empty() & types[index].exports.is_empty();
+    Ok(is_empty & is_only(types, index))
+}
+
+/// Whether a type of instances stands where it is put.
+fn puts_instance(alloc: Global, types: &mut ComponentTypes) -> Result<bool, PushError> {
+    let index = types.push_component_instance(TypeComponentInstance::new(alloc))?;
+    Ok(types[index].exports.is_empty() & is_only(types, index))
 }
 
 /// Whether tables hold what is pushed.
 pub fn tables_hold_what_is_pushed(alloc: Global) -> bool {
     let mut types = ComponentTypes::new(alloc);
-    let put = puts_each(alloc, &mut types);
+    let module = matches!(puts_module(alloc, &mut types), Ok(true));
+    let component = matches!(puts_component(alloc, &mut types), Ok(true));
+    let instance = matches!(puts_instance(alloc, &mut types), Ok(true));
     types.reveal();
     drop(types);
-    matches!(put, Ok(true))
+    module & component & instance
 }
 
 /// Whether the type of core functions of these parameters gets the index of a number.

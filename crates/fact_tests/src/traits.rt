@@ -39,7 +39,7 @@ fn are_told_apart<T: Eq + Hash + Drop>(alloc: Global, value: T, equal: T, other:
     let second = has_key(&mut table, equal, 0);
     let third = has_key(&mut table, other, 1);
     drop(table);
-    told && first && second && third
+    told & first & second & third
 }
 
 /// As `are_told_apart`, where memory was there for the values.
@@ -85,7 +85,7 @@ fn are_keys_copied(alloc: Global) -> bool {
         EngineOrModuleTypeIndex::Module(EntityRef::from_u32(0)),
     );
     let places = is_copied(alloc, FuncIndex::from_u32(0), FuncIndex::from_u32(1));
-    ids && any && functions && places
+    ids & any & functions & places
 }
 
 /// Whether words for types are copied.
@@ -99,7 +99,7 @@ fn are_types_copied(alloc: Global) -> bool {
     let core = is_copied(alloc, ValType::I32, ValType::FuncRef);
     let cases = is_copied(alloc, DiscriminantSize::Size1, DiscriminantSize::Size4);
     let flags = is_copied(alloc, FlagsSize::Size4Plus(1), FlagsSize::Size4Plus(2));
-    types && flat && core && cases && flags
+    types & flat & core & cases & flags
 }
 
 /// Whether words for texts and for functions of the runtime are copied.
@@ -117,7 +117,7 @@ fn are_words_copied(alloc: Global) -> bool {
         UnsafeIntrinsic::ContextGetI32_0,
         UnsafeIntrinsic::ContextGetI32_1,
     );
-    texts && bytes && transcodes && traps && intrinsics
+    texts & bytes & transcodes & traps & intrinsics
 }
 
 /// Whether layouts are cloned.
@@ -143,10 +143,10 @@ fn are_tables_cloned(alloc: Global) -> bool {
 /// Whether plain values are copied, and told apart.
 pub fn plain_values_are_copied(alloc: Global) -> bool {
     are_keys_copied(alloc)
-        && are_types_copied(alloc)
-        && are_words_copied(alloc)
-        && are_layouts_cloned(alloc)
-        && are_tables_cloned(alloc)
+        & are_types_copied(alloc)
+        & are_words_copied(alloc)
+        & are_layouts_cloned(alloc)
+        & are_tables_cloned(alloc)
 }
 
 /// A field of a record.

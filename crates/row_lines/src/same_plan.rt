@@ -30,7 +30,7 @@ impl<T: Parts> Parts for Option<T> {
 
 impl<T: Parts> Parts for (Text, T) {
     fn is_same(&self, other: &(Text, T)) -> bool {
-        self.0 == other.0 && self.1.is_same(&other.1)
+        (self.0 == other.0) & self.1.is_same(&other.1)
     }
 }
 
@@ -55,7 +55,7 @@ impl Parts for PlanType {
             (PlanType::List(ty), PlanType::List(other)) => ty.is_same(other),
             (PlanType::Option(ty), PlanType::Option(other)) => ty.is_same(other),
             (PlanType::Result(ok, err), PlanType::Result(other_ok, other_err)) => {
-                ok.is_same(other_ok) && err.is_same(other_err)
+                ok.is_same(other_ok) & err.is_same(other_err)
             }
             _ => false,
         }
@@ -65,8 +65,8 @@ impl Parts for PlanType {
 impl Parts for PlanFunc {
     fn is_same(&self, other: &PlanFunc) -> bool {
         self.params.is_same(&other.params)
-            && self.results.is_same(&other.results)
-            && self.async_ == other.async_
+            & self.results.is_same(&other.results)
+            & (self.async_ == other.async_)
     }
 }
 
@@ -84,21 +84,25 @@ impl Parts for PlanMemory {
 
 impl Parts for PlanSide {
     fn is_same(&self, other: &PlanSide) -> bool {
-        (self.ty, self.instance, self.core_type, self.async_)
-            == (other.ty, other.instance, other.core_type, other.async_)
-            && self.encoding == other.encoding
-            && self.memory.is_same(&other.memory)
-            && (self.realloc, self.callback, self.post_return)
-                == (other.realloc, other.callback, other.post_return)
+        (self.ty == other.ty)
+            & (self.instance == other.instance)
+            & (self.core_type == other.core_type)
+            & (self.async_ == other.async_)
+            & (self.encoding == other.encoding)
+            & self.memory.is_same(&other.memory)
+            & (self.realloc == other.realloc)
+            & (self.callback == other.callback)
+            & (self.post_return == other.post_return)
     }
 }
 
 impl Parts for PlanAdapter {
     fn is_same(&self, other: &PlanAdapter) -> bool {
-        self.name == other.name
-            && (self.func, self.transparent) == (other.func, other.transparent)
-            && self.lift.is_same(&other.lift)
-            && self.lower.is_same(&other.lower)
+        (self.name == other.name)
+            & (self.func == other.func)
+            & (self.transparent == other.transparent)
+            & self.lift.is_same(&other.lift)
+            & self.lower.is_same(&other.lower)
     }
 }
 

@@ -66,7 +66,8 @@ fn put_values<'a>(
         pieces.push(Piece::Text(if place == 0 { "" } else { " " }))?;
         pieces.push(Piece::Value(value))?;
     }
-    pieces.push(Piece::Text(before))
+    pieces.push(Piece::Text(before))?;
+    Ok(())
 }
 
 fn put_entries<'a>(
@@ -80,7 +81,8 @@ fn put_entries<'a>(
         pieces.push(Piece::Text(":"))?;
         pieces.push(Piece::Value(key))?;
     }
-    pieces.push(Piece::Text("<"))
+    pieces.push(Piece::Text("<"))?;
+    Ok(())
 }
 
 fn put_fields<'a>(
@@ -94,7 +96,8 @@ fn put_fields<'a>(
         pieces.push(Piece::Text("="))?;
         pieces.push(Piece::Text(name.as_str()))?;
     }
-    pieces.push(Piece::Text("{"))
+    pieces.push(Piece::Text("{"))?;
+    Ok(())
 }
 
 /// Adds a value without parts.
