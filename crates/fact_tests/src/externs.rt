@@ -99,5 +99,7 @@ fn have_parts() -> bool {
 
 /// Whether imports and exports are copied, and what they are is told.
 pub fn imports_and_exports_are_told(alloc: Global) -> bool {
-    is_data_copied(alloc) & is_extern_copied(alloc) & are_copied() & are_described() & have_parts()
+    let data = matches!(is_data_copied(alloc), Ok(true));
+    let whole = matches!(is_extern_copied(alloc), Ok(true));
+    data & whole & are_copied() & are_described() & have_parts()
 }
