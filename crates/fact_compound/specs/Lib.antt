@@ -15,6 +15,7 @@ pub mod Passing
 pub mod Placed
 pub mod Puts
 pub mod SameInstance
+pub mod Settings
 pub mod Syncs
 pub mod Translated
 pub mod Written

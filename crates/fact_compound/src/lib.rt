@@ -8,5 +8,6 @@ pub mod entries;
 pub mod functions;
 pub mod helpers;
 pub mod same_instance;
+pub mod state;
 pub mod syncs;
 pub mod tuples;

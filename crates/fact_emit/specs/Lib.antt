@@ -31,7 +31,6 @@ pub mod Requests
 pub mod Runtime
 pub mod RuntimeCalls
 pub mod Scalars
-pub mod Settings
 pub mod State
 pub mod States
 pub mod StringPaths

@@ -1,6 +1,6 @@
 -- What a module that is being made is made with.
 use Rattle.std.specs.Prelude.{◌≡◌}
-use Rattle.fact_emit.specs.declared.state.ModuleState.{ModuleState}
+use Rattle.fact_compound.specs.declared.state.ModuleState.{ModuleState}
 
 -- At most its sections changed.
 pub record OnlySectionsChanged (old new : ModuleState) : Type 0 where
