@@ -1,10 +1,6 @@
 pub mod Answered
-pub mod Asked
 pub mod Bytes
 pub mod Causes
-pub mod Cuts
-pub mod Declared
-pub mod Entries
 pub mod Grows
 pub mod LastTrap
 pub mod Laws
@@ -17,13 +13,11 @@ pub mod Plans
 pub mod Pushes
 pub mod Replays
 pub mod RowLaws
-pub mod Steps
 pub mod Structure
 pub mod Tests
 pub mod Traces
 pub mod Turns
 pub mod TypedTests
-pub mod Typing
 pub mod TypingCases
 pub mod TypingFrames
 pub mod TypingRows

@@ -1,6 +1,4 @@
-pub mod Asked
 pub mod Causes
-pub mod Cut
 pub mod ExitLaws
 pub mod Exits
 pub mod LastTrap
@@ -11,7 +9,6 @@ pub mod Numerics
 pub mod Operands
 pub mod Replay
 pub mod RunLaws
-pub mod Running
 pub mod Trace
 pub mod Typed
 pub mod TypedLaws

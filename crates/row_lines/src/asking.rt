@@ -3,7 +3,8 @@
 
 use crate::runs::{Begin, answer_of};
 use crate::told_runs::{add_answers, add_events, add_outcome};
-use fact_machine::{Answer, CoreValue, Event, Machine, MachineState, Outcome, Outside};
+use fact_interpreter::{Machine, Outside};
+use fact_machine::{Answer, CoreValue, Event, MachineState, Outcome};
 use fact_wasm::{OutOfMemory, Seq};
 use std::alloc::{AllocError, Global};
 

@@ -7,7 +7,8 @@
 use crate::asking::add_asking;
 use crate::told_runs::{add_answers, add_outcome};
 use crate::words::{core_value_of, core_values_of, first_of, number_of, small_number_of, word_of};
-use fact_machine::{Answer, CoreValue, Machine, MachineState, Outcome};
+use fact_interpreter::Machine;
+use fact_machine::{Answer, CoreValue, MachineState, Outcome};
 use fact_wasm::{Seq, WasmModule};
 use std::alloc::{AllocError, Global};
 

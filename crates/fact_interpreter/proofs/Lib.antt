@@ -1,0 +1,6 @@
+pub mod Asked
+pub mod Cuts
+pub mod Declared
+pub mod Entries
+pub mod Steps
+pub mod Typing

@@ -1,0 +1,3 @@
+pub mod Asked
+pub mod Cut
+pub mod Running

@@ -1,6 +1,0 @@
-use Rattle.std.proofs.Common.{◌≡◌, ◌-◌}
-use Rattle.fact_machine.specs.Running.{at, branching}
-use Rattle.fact_machine.proofs.branches.branch.Given as goal
-
-abbrev pub invariant-loop : goal.invariant-loop
-invariant-loop l = at l.run (branching (l.label - l.counter)) ≡ at l.fn.run (branching l.label)
