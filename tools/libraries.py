@@ -5,12 +5,12 @@ end all ends. Each library is what `rt lib` makes of its crate, begun once those
 for each that is there, in the order in which they end; or `unproved NAME` for the first that failed, or `killed NAME` where its prover was killed
 even with nothing beside it, most likely for memory, at which the others are ended.
 
-The longest chain of crates goes first: of what can begin, the crate with the longest one from it to the program gets a process for each
-processor, another two where its chain is at least half as long, else one. A check uses one processor while it reads libraries and while it
-writes its own, so that twice as many processes as processors are begun where there are several, as far as memory reaches. Each process reads
-for itself what its functions speak of, the more the more definitions and laws there are, so that a crate gets no more than share its work
-well (docs/GATE.md, "The first build"). What is not on the longest chain gives way: it runs with a niceness of ASIDE, and so has the processors
-that the longest chain leaves.
+The longest chain of crates goes first: of what can begin, the crate with the longest one from it to the program, by the clock, gets a process
+for each processor but one, another two where its chain is at least half as long, else one. Each process reads for itself what its functions
+speak of, the more the more definitions and laws there are, so that a crate gets no more than share its work well (docs/GATE.md, "The first
+build"). What is not on the longest chain has one process more than there are processors, as far as memory reaches, since a check uses one
+processor while it reads libraries and while it writes its own. It gives way, with a niceness of ASIDE, and so has the processors that the
+longest chain leaves.
 
 Two calls of `rt lib` would wait for one another, since each locks the folders of all crates that it reads as if it wrote there. Here a crate is
 locked so while it is built, and the libraries below it, which are there, as readers lock.
@@ -35,8 +35,8 @@ ENDING = (signal.SIGINT, signal.SIGTERM, signal.SIGHUP)
 PR_SET_PDEATHSIG = 1
 # More processes do little for one crate, by the prover's own help.
 MOST = 8
-# How nice a library is that others need not wait for: one of 0 beside it gets some nine times its share of a processor.
-ASIDE = 10
+# How nice a library is that others need not wait for: one of 0 beside it gets some three times its share of a processor.
+ASIDE = 5
 # How rt ends where the prover was killed, most likely for memory.
 KILLED = 256 - signal.SIGKILL
 
@@ -124,13 +124,13 @@ class Library:
         self.name, self.folder, self.below = crate.name, crate.folder, [it.name for it in crate.below()]
         code, laws = lines_in(rtlib, crate, ".rt"), lines_in(rtlib, crate, ".antt")
         read = laws + sum(lines_in(rtlib, it, ".antt") for it in crate.below())
-        # In processor minutes and gigabytes.
-        self.work = 0.5 + 0.003 * code + 0.0002 * laws
-        self.memory = 1 + 0.0006 * code + 0.0001 * laws
-        # As many processes as take at most half as much again of the processors as one does.
-        self.most = 1 + int(0.5 * self.work / (0.000015 * read + 0.01))
-        # The work of the longest chain from it to the program, which `in_order` sums up.
-        self.chain = self.work
+        # In processor minutes and gigabytes. Laws and definitions take little: functions are dear.
+        self.work = 0.5 + 0.0034 * code + 0.00002 * laws
+        self.memory = 0.9 + 0.0005 * code + 0.00004 * laws
+        # As many processes as share its work well.
+        self.most = 1 + int(0.6 * self.work / (0.000007 * read + 0.01))
+        # The minutes by the clock of the longest chain from it to the program, which `in_order` sums up: what reads and writes is not shared.
+        self.chain = 0.6 + 0.0015 * code + 0.00003 * laws
         self.is_alone = False
 
     def takes(self, processes):
@@ -148,27 +148,28 @@ def in_order(rt, top):
 
 
 class Build:
-    """What is left, what is there, and what runs: by its process the library, and with how many processes of the prover."""
+    """What is left, what is there, and what runs: by its process the library, with how many processes of the prover, and whether it gives way."""
 
     def __init__(self, rt, libraries, caller):
         self.rt, self.left, self.caller = rt, libraries, caller
         self.there, self.running = set(), {}
         number = os.environ.get("RT_JOBS", "")
         self.processors = int(number) if number.isdigit() and int(number) else rt.processors()
-        self.most = 2 * self.processors if self.processors > 1 else 1
         self.memory = 0
 
     def processes_for(self, library, longest):
         """How many processes the library gets now, or 0 where it has to wait."""
-        most = min(self.processors, MOST) if library.chain >= longest else 2 if 2 * library.chain >= longest else 1
+        first = library.chain >= longest
+        most = min(max(self.processors - 1, 2), MOST) if first else 2 if 2 * library.chain >= longest else 1
         most = min(most, library.most)
         if not self.running:
             room = self.memory
-        elif library.is_alone or any(it.is_alone for it, _ in self.running.values()):
+        elif library.is_alone or self.processors == 1 or any(it.is_alone for it, _, _ in self.running.values()):
             return 0
         else:
-            most = min(most, self.most - sum(number for _, number in self.running.values()))
-            room = self.memory - sum(it.takes(number) for it, number in self.running.values())
+            if not first:
+                most = min(most, self.processors + 1 - sum(number for _, number, aside in self.running.values() if aside))
+            room = self.memory - sum(it.takes(number) for it, number, _ in self.running.values())
         most = 1 if library.is_alone else min(most, self.processors)
         while most > 0 and library.takes(most) > room:
             most -= 1
@@ -179,20 +180,20 @@ class Build:
             # Some checks take more than is likely.
             self.memory = 0.85 * self.rt.free() / 1e9
         ready = sorted((it for it in self.left if self.there.issuperset(it.below)), key=lambda it: -it.chain)
-        longest = max([it.chain for it in ready] + [it.chain for it, _ in self.running.values()], default=0)
+        longest = max([it.chain for it in ready] + [it.chain for it, _, _ in self.running.values()], default=0)
         for library in ready:
             processes = self.processes_for(library, longest)
             if not processes:
                 # What stands on a shorter chain does not take its place.
                 return
             self.left.remove(library)
-            self.begin(library, processes, 0 if library.chain >= longest else ASIDE)
+            self.begin(library, processes, library.chain < longest)
 
-    def begin(self, library, processes, niceness):
+    def begin(self, library, processes, gives_way):
         parent = os.getpid()
         child = os.fork()
         if child:
-            self.running[child] = library, processes
+            self.running[child] = library, processes, gives_way
             return
         status = FAILED
         try:
@@ -202,7 +203,7 @@ class Build:
             for it in range(3):
                 os.dup2(nothing, it)
             os.chdir(library.folder)
-            os.nice(niceness)
+            os.nice(ASIDE if gives_way else 0)
             if end_with(parent):
                 status = self.rt.main(["lib", "--jobs", str(processes)])
         except SystemExit as it:
@@ -237,7 +238,7 @@ class Build:
             if child:
                 break
             self.pause()
-        library, _ = self.running.pop(child)
+        library, _, _ = self.running.pop(child)
         if os.WIFSIGNALED(status) and os.WTERMSIG(status) in ENDING:
             raise Ended
         return library, os.WEXITSTATUS(status) if os.WIFEXITED(status) else KILLED
