@@ -17,15 +17,15 @@ use Rattle.fact_plan_types.specs.declared.error.Place.{Place}
 use Rattle.fact_plan_types.specs.Faults.{Fault}
 use Rattle.fact_checks.specs.FirstFault.{IsFaultlessPlan, IsFirstAt}
 use Rattle.fact_checks.proofs.FaultLaws.{faultless-first}
-use Rattle.fact_run.specs.declared.status.Status.{Status}
-use Rattle.fact_run.specs.declared.status.Status.TheVariants as status
+use Rattle.fact_command.specs.declared.status.Status.{Status}
+use Rattle.fact_command.specs.declared.status.Status.TheVariants as status
 use Rattle.fact_run.specs.declared.answer.Reply.{Reply}
 use Rattle.fact_run.specs.declared.answer.Reply.TheVariants as reply
 use Rattle.fact_run.specs.Answer.{IsEnding, IsReply, IsReplyTo, IsReplyToFault, IsReplyToPlan, IsReplyUnder, IsReplyUnread, TellsFault, TellsRefusalIn, ending_with}
-use Rattle.fact_run.specs.declared.command.CommandOptions.{CommandOptions}
-use Rattle.fact_run.specs.Command.{reading}
-use Rattle.fact_run.specs.Refusal.{refusal_line}
-use Rattle.fact_run.specs.Status.{line_of}
+use Rattle.fact_command.specs.declared.command.CommandOptions.{CommandOptions}
+use Rattle.fact_command.specs.Command.{reading}
+use Rattle.fact_command.specs.Refusal.{refusal_line}
+use Rattle.fact_command.specs.Status.{line_of}
 use Rattle.fact_run.specs.Run.{Counts, GeneratesPlan, HoldsFault, HoldsFaultless, HoldsNoJson, HoldsPlan, HoldsRefusal, IsEndUnread, IsOrMemory, IsPlanMode, IsTooLong, IsUndisturbed, Read, ReadsPlan, Sends, SendsAccepted, SendsBy, SendsCounts, SendsPage, TellsLine, limit}
 
 -- ---- from what was read to a reply

@@ -2,4 +2,3 @@ pub mod CheckEnds
 pub mod Configured
 pub mod Digits
 pub mod Ends
-pub mod Words

@@ -6,24 +6,24 @@ use Rattle.fact_io.specs.Transfers.{AppendsFront, TakesPast}
 use Rattle.fact_plan.specs.declared.fault.PlanFault.{PlanFault}
 use Rattle.fact_plan.specs.declared.plan.FusePlan.{FusePlan}
 use Rattle.fact_plan.specs.Fault.{IsNotMemory, fault_line}
-use Rattle.fact_run.specs.declared.command.CommandOptions.{CommandOptions}
-use Rattle.fact_run.specs.declared.status.Status.{Status}
-use Rattle.fact_run.specs.declared.status.Status.TheVariants as status
+use Rattle.fact_command.specs.declared.command.CommandOptions.{CommandOptions}
+use Rattle.fact_command.specs.declared.status.Status.{Status}
+use Rattle.fact_command.specs.declared.status.Status.TheVariants as status
 use Rattle.fact_run.specs.declared.answer.Reply.{Reply}
 use Rattle.fact_run.specs.declared.answer.Reply.TheVariants as reply
 use Rattle.fact_run.specs.declared.ending.Ending.{Ending}
 use Rattle.fact_plan_types.specs.declared.error.Place.{Place}
 use Rattle.fact_plan_types.specs.Faults.{Fault}
 use Rattle.fact_checks.specs.FirstFault.{IsFaultlessPlan, IsFirstAt}
-use Rattle.fact_run.specs.Command.{reading}
-use Rattle.fact_run.specs.Refusal.{refusal_line}
+use Rattle.fact_command.specs.Command.{reading}
+use Rattle.fact_command.specs.Refusal.{refusal_line}
 use Rattle.fact_wasm.specs.declared.module.WasmModule.{WasmModule}
 use Rattle.fact_check.specs.Accepted.{IsAccepted, IsCause}
 use Rattle.fact_check.specs.declared.error.CheckError.{CheckError}
 use Rattle.fact_check.specs.declared.error.CheckError.TheVariants as error
 use Rattle.fact_run.specs.Check.{HoldsNoHex, HoldsRejected, accepted_line, rejected_line}
 use Rattle.fact_run.specs.Run.{HoldsFault, HoldsNoJson, HoldsRefusal, IsPlanMode, Prints, Read, Sends, SendsAccepted, SendsPage, limit}
-use Rattle.fact_run.specs.Status.{line_of}
+use Rattle.fact_command.specs.Status.{line_of}
 
 -- the line tells the fault that the bytes hold
 pub record TellsFault (bytes : List ℕ) (line : List ℕ) : Type 0 where

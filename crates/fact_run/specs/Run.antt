@@ -20,13 +20,13 @@ use Rattle.fact_generate.specs.Generated.{generated}
 use Rattle.fact_module.specs.declared.fusion.Fused.{Fused}
 use Rattle.fact_types.specs.declared.import.Import.{Import}
 use Rattle.fact_module.specs.Fused.{IsFused}
-use Rattle.fact_run.specs.declared.command.CommandOptions.{CommandOptions}
-use Rattle.fact_run.specs.declared.status.Status.{Status}
-use Rattle.fact_run.specs.declared.status.Status.TheVariants as status
-use Rattle.fact_run.specs.Command.{reading}
+use Rattle.fact_command.specs.declared.command.CommandOptions.{CommandOptions}
+use Rattle.fact_command.specs.declared.status.Status.{Status}
+use Rattle.fact_command.specs.declared.status.Status.TheVariants as status
+use Rattle.fact_command.specs.Command.{reading}
 pub use Rattle.fact_run.specs.Check.{limit}
 use Rattle.fact_run.specs.Check.{HoldsAccepted, accepted_line}
-use Rattle.fact_run.specs.ImportLines.{import_lines}
+use Rattle.fact_command.specs.ImportLines.{import_lines}
 
 -- ---- what an input of some bytes comes to: each input comes to one of these
 

@@ -7,14 +7,13 @@ ghost use Rattle.fact_plan.specs.declared.plan.FusePlan.{FusePlan};
 ghost use Rattle.fact_checks.specs.FirstFault.{IsFaultlessPlan};
 ghost use Rattle.fact_plan_types.specs.PlanTypes.{told};
 ghost use Rattle.fact_run.specs.declared.answer.Reply.TheVariants as reply;
-ghost use Rattle.fact_run.specs.declared.command.CommandOptions.{CommandOptions};
+ghost use Rattle.fact_command.specs.declared.command.CommandOptions.{CommandOptions};
 ghost use Rattle.fact_run.specs.Answer.{IsReply, IsReplyTo, IsReplyToFault, IsReplyToPlan, IsReplyToRefusal};
 ghost use Rattle.fact_run.specs.Run.{HoldsPlan, Prints, configured, limit};
 
-use crate::command::CommandOptions;
 use crate::page::page_text;
-use crate::refusal::refusal_line;
 use fact_binary::bytes_spell_one_module;
+use fact_command::{CommandOptions, refusal_line};
 use fact_io::{InputError, Source, read_all};
 use fact_module::{FuseError, FusePlan, PlanTunables, check_plan, fuse};
 use fact_plan::{PlanFault, fault_line, plan_of, read_value};

@@ -3,7 +3,7 @@
 ghost use Rattle.std.specs.Prelude.{◌≡◌, Some, option_map, string_bytes};
 ghost use Rattle.fact_run.specs.Answer.{line_in};
 
-use crate::status::Status;
+use fact_command::Status;
 
 /// How a run ended, and the line that tells it where that names what the input holds.
 #[derive(Drop)]

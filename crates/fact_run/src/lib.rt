@@ -4,21 +4,17 @@
 
 mod answer;
 mod check_mode;
-mod command;
 mod counts;
 mod ending;
-mod import_lines;
 mod mode;
 mod page;
-mod refusal;
-mod status;
 mod top;
 
+pub use fact_command::Status;
 pub use fact_generate::generate;
 pub use fact_io::{
     BytesSink, BytesSource, ReadFailed, Sink, Source, StderrSink, StdinSource, StdoutSink,
     WriteFailed,
 };
 pub use fact_plan::{PlanFault, plan_of};
-pub use status::Status;
 pub use top::run;

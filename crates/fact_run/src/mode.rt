@@ -9,8 +9,8 @@ ghost use Rattle.fact_run.specs.Run.{Counts, configured, counts, limit};
 
 use crate::answer::{Reply, configure, reply_of};
 use crate::check_mode::check_reply;
-use crate::command::CommandOptions;
 use crate::counts::counts_text;
+use fact_command::CommandOptions;
 use fact_generate::generate;
 use fact_io::Source;
 use fact_module::{FusePlan, fuse};

@@ -3,7 +3,7 @@
 ghost use Rattle.std.specs.Prelude.{◌≡◌, string_bytes, IfOk};
 ghost use Rattle.fact_run.specs.Run.{page};
 
-use crate::import_lines::with_import_lines;
+use fact_command::with_import_lines;
 use fact_module::Import;
 use fact_wasm::OutOfMemory;
 use std::alloc::Global;

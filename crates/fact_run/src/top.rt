@@ -9,22 +9,21 @@ ghost use Rattle.fact_plan.specs.declared.fault.PlanFault.{PlanFault};
 ghost use Rattle.fact_generate.specs.Generated.{most_generated};
 ghost use Rattle.fact_plan_types.specs.declared.error.Place.{Place};
 ghost use Rattle.fact_plan_types.specs.Faults.{Fault};
-ghost use Rattle.fact_run.specs.declared.command.CommandOptions.{CommandOptions};
-ghost use Rattle.fact_run.specs.Command.{reading};
-ghost use Rattle.fact_run.specs.Refusal.{refusal_line};
+ghost use Rattle.fact_command.specs.declared.command.CommandOptions.{CommandOptions};
+ghost use Rattle.fact_command.specs.Command.{reading};
+ghost use Rattle.fact_command.specs.Refusal.{refusal_line};
 ghost use Rattle.fact_run.specs.Answer.{IsEndUnder, IsEnding, ending_with, line_in};
 ghost use Rattle.fact_wasm.specs.declared.module.WasmModule.{WasmModule};
 ghost use Rattle.fact_check.specs.declared.error.CheckError.{CheckError};
 ghost use Rattle.fact_run.specs.Check.{HoldsAccepted, HoldsNoHex, HoldsRejected, rejected_line};
 ghost use Rattle.fact_run.specs.Run.{ChecksBytes, GeneratesPlan, HoldsFault, HoldsFaultless, HoldsNoJson, HoldsRefusal, IsEndUnread, IsOrMemory, IsTooLong, IsUndisturbed, IsUndisturbedCheck, Read, ReadsPlan, Sends, TellsLine, limit};
-ghost use Rattle.fact_run.specs.Status.{line_of};
+ghost use Rattle.fact_command.specs.Status.{line_of};
 
 use crate::answer::Reply;
-use crate::command::{CommandOptions, command_of};
 use crate::ending::Ending;
 use crate::mode::reply_under;
-use crate::status::Status;
 use fact_check::accepted_bytes_have_no_cause;
+use fact_command::{CommandOptions, Status, command_of};
 use fact_io::{Sink, Source, write_text};
 use std::alloc::Global;
 

@@ -1,4 +1,4 @@
-use Rattle.fact_run.specs.declared.status.Status.TheVariants as status
+use Rattle.fact_command.specs.declared.status.Status.TheVariants as status
 use Rattle.fact_run.proofs.CheckEnds.{accepted-end, bytes-checked, check-long-end, exactly-checked, hex-end, rejected-end, told-rejection}
 use Rattle.fact_run.proofs.Ends.{exactly, faultless-end, no-write-fault, plan-read, printed, printed-front, usage-end, fault-end, json-end, long-end, refused-end, unread-done, plain-line, told, told-fault, told-refusal, is-end}
 use Rattle.fact_run.proofs.top.run.Goals as goal

@@ -9,7 +9,7 @@ ghost use Rattle.clap.specs.Simple.{app_of, with_rule};
 ghost use Rattle.clap.specs.Walk.{first_of, rows_of, rule_of};
 ghost use Rattle.clap.specs.Matches.{found_of};
 ghost use Rattle.fact_generate.specs.Generated.{most_generated};
-ghost use Rattle.fact_run.specs.Command.{bare_command, command, flag, fuel_or_default, generated_in, in_one_mode, is_from_words, is_plain_number, is_used, number_in, option, options_in, reading};
+ghost use Rattle.fact_command.specs.Command.{bare_command, command, flag, fuel_or_default, generated_in, in_one_mode, is_from_words, is_plain_number, is_used, number_in, option, options_in, reading};
 
 use clap::error::ErrorKind;
 use clap::parser::ValueSource;

@@ -1,7 +1,7 @@
 use Rattle.std.proofs.Common.{ap, arith, ◌∙◌, sym, true, ◌≡◌}
-use Rattle.fact_run.specs.Command.{is_plain_number}
-use Rattle.fact_run.proofs.Words.{parsed, too-large}
-use Rattle.fact_run.proofs.command.number_in.Goals as goal
+use Rattle.fact_command.specs.Command.{is_plain_number}
+use Rattle.fact_command.proofs.Words.{parsed, too-large}
+use Rattle.fact_command.proofs.command.number_in.Goals as goal
 
 pub returns-in_default : goal.returns-in_default
 returns-in_default c =

@@ -22,9 +22,9 @@ use Rattle.clap.proofs.OnLiterals.{clap_on_literals}
 use Rattle.clap.specs.Simple.{App, is_simple, matches_of, with_rule}
 use Rattle.clap.specs.Faults.{fault_of, is_simple_and_free}
 use Rattle.std.specs.Prelude.{Bool, true, false, ◌&&◌, codes, if◌then◌else◌, is_some, IfSome}
-use Rattle.fact_run.specs.declared.command.CommandOptions.{CommandOptions}
+use Rattle.fact_command.specs.declared.command.CommandOptions.{CommandOptions}
 use Rattle.fact_generate.specs.Generated.{most_generated}
-use Rattle.fact_run.specs.Command.{are_taken, bare_command, command, flag, fuel_or_default, generated_in, in_one_mode, is_from_words, is_number, is_plain_number, is_used, least_fuel, most_fuel, number_in, option, options_in, reading, source_of}
+use Rattle.fact_command.specs.Command.{are_taken, bare_command, command, flag, fuel_or_default, generated_in, in_one_mode, is_from_words, is_number, is_plain_number, is_used, least_fuel, most_fuel, number_in, option, options_in, reading, source_of}
 
 source-rows : (f : Found) (id : List ℕ) → option_and_then (λ (a : MatchedArg). a.source) (matched_of f id) ≡ source_of id (rows_of f)
 source-rows f id = go (find (λ (e : Entry). bytes_eq e.0.now id) f.entries.items) ∙ ap (option_and_then (λ (r : Row). r.source)) (sym (find_row f.entries.items id))

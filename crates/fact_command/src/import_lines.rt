@@ -1,13 +1,13 @@
 //! The printed lines of what a module imports.
 
 ghost use Rattle.std.specs.Prelude.{◌≡◌, ◌++◌, IfOk, codes, string_bytes};
-ghost use Rattle.fact_run.specs.ImportLines.{def_text, import_lines, import_text, intrinsic_text, memory_text, optional_text, width_text};
+ghost use Rattle.fact_command.specs.ImportLines.{def_text, import_lines, import_text, intrinsic_text, memory_text, optional_text, width_text};
 ghost use Rattle.fact_emit.specs.Runtime.{trap_number};
 ghost use Rattle.fact_emit.specs.TranscoderNames.{transcode_name as transcode_name_of};
 
 use fact_emit::transcoders::transcode_name;
 use fact_entity::EntityRef;
-use fact_module::{CoreDef, Import, Transcode, Trap, UnsafeIntrinsic};
+use fact_types::{CoreDef, Import, Transcode, Trap, UnsafeIntrinsic};
 use fact_wasm::OutOfMemory;
 use std::alloc::Global;
 

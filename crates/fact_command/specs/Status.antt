@@ -1,7 +1,7 @@
 -- The numbers and the lines of the ends of a run.
 use Rattle.std.specs.Prelude.{ℕ, List, [], codes}
-use Rattle.fact_run.specs.declared.status.Status.{Status}
-use Rattle.fact_run.specs.declared.status.Status.TheVariants as status
+use Rattle.fact_command.specs.declared.status.Status.{Status}
+use Rattle.fact_command.specs.declared.status.Status.TheVariants as status
 
 abbrev pub exit_status_of : Status → ℕ
 exit_status_of status.Done = 0

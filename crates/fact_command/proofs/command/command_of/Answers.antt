@@ -3,8 +3,8 @@ use Rattle.std.specs.Str.{bytes_eq}
 use Rattle.clap.specs.Matches.{found_of}
 use Rattle.clap.specs.Walk.{rows_of}
 use Rattle.clap.proofs.WalkLemmas.{list_any-map}
-use Rattle.fact_run.proofs.Words.{bare-unread, has-fuel, has-mode, has-number, read}
-use Rattle.fact_run.proofs.command.command_of.Goals as goal
+use Rattle.fact_command.proofs.Words.{bare-unread, has-fuel, has-mode, has-number, read}
+use Rattle.fact_command.proofs.command.command_of.Goals as goal
 
 pub returns-then-has_bare_dashes-clause-reading : goal.returns-then-has_bare_dashes-clause-reading
 returns-then-has_bare_dashes-clause-reading c =

@@ -1,8 +1,8 @@
 use Rattle.std.proofs.Common.{ap, sym, ◌∙◌, Some, None}
 use Rattle.std.specs.Prelude.{option_map}
 use Rattle.clap.specs.Matches.{found_of}
-use Rattle.fact_run.proofs.Words.{generated-behind}
-use Rattle.fact_run.proofs.command.generated_of.Goals as goal
+use Rattle.fact_command.proofs.Words.{generated-behind}
+use Rattle.fact_command.proofs.command.generated_of.Goals as goal
 
 pub returns-in_ok-number_in-in-Some : goal.returns-in_ok-number_in-in-Some
 returns-in_ok-number_in-in-Some c =

@@ -1,7 +1,7 @@
 //! How a run ends.
 
 ghost use Rattle.std.specs.Prelude.{◌≡◌};
-ghost use Rattle.fact_run.specs.Status.{line_of, exit_status_of};
+ghost use Rattle.fact_command.specs.Status.{line_of, exit_status_of};
 
 /// How a run ended.
 #[derive(Clone, Copy, Debug, Drop, PartialEq, Eq)]

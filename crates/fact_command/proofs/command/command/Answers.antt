@@ -1,6 +1,6 @@
 use Rattle.std.proofs.lemmas.Result.{IfOk-weaker}
-use Rattle.fact_run.proofs.Words.{with-options}
-use Rattle.fact_run.proofs.command.command.Goals as goal
+use Rattle.fact_command.proofs.Words.{with-options}
+use Rattle.fact_command.proofs.command.command.Goals as goal
 
 pub returns : goal.returns
 returns c =

@@ -1,7 +1,7 @@
 use Rattle.std.proofs.Common.{◌∙◌, Some, None}
 use Rattle.clap.specs.Matches.{found_of}
-use Rattle.fact_run.proofs.Words.{fuel}
-use Rattle.fact_run.proofs.command.fuel_of.Goals as goal
+use Rattle.fact_command.proofs.Words.{fuel}
+use Rattle.fact_command.proofs.command.fuel_of.Goals as goal
 
 pub returns-in-Some : goal.returns-in-Some
 returns-in-Some c =

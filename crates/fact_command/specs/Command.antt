@@ -12,7 +12,7 @@ use Rattle.clap.specs.declared.builder.action.ArgAction.TheVariants.{Set, SetTru
 use Rattle.clap.specs.declared.parser.matches.ValueSource.{ValueSource}
 use Rattle.clap.specs.declared.parser.matches.ValueSource.TheVariants as source
 use Rattle.fact_generate.specs.Generated.{most_generated}
-use Rattle.fact_run.specs.declared.command.CommandOptions.{CommandOptions}
+use Rattle.fact_command.specs.declared.command.CommandOptions.{CommandOptions}
 
 -- ---- the command
 

@@ -2,9 +2,9 @@
 
 ghost use Rattle.std.specs.Prelude.{◌≡◌, string_bytes, IfOk, IfSome, IsSome};
 ghost use Rattle.fact_plan_types.specs.PlanTypes.{told};
-ghost use Rattle.fact_run.specs.Refusal.{place_line, refusal_line};
+ghost use Rattle.fact_command.specs.Refusal.{place_line, refusal_line};
 
-use fact_module::{FuseError, Place};
+use fact_plan_types::{FuseError, Place};
 use fact_wasm::OutOfMemory;
 use std::alloc::Global;
 

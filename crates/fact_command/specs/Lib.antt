@@ -1,0 +1,4 @@
+pub mod Command
+pub mod ImportLines
+pub mod Refusal
+pub mod Status
