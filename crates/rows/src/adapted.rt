@@ -4,6 +4,8 @@
 //! why it is refused. Or it is `page`: the bytes of the module so far, whether it is built as they say, and its imports, each with its copy.
 //! Behind the steps stand the numbers of the adapters that are marked.
 
+ghost use Rattle.std.specs.Prelude.{◌<◌, length, IfOk};
+
 use fact_entity::{AdapterId, EntityRef};
 use fact_module::{
     Adapter, AdapterOptionsDfg, ComponentDfg, CoreDef, FuseError, Import, Module,
@@ -50,6 +52,41 @@ fn adapter_of(alloc: Global, words: &str) -> Result<Adapter, AllocError> {
     })
 }
 
+/// Adds an adapter to a component, and answers its id.
+fn put(
+    component: &mut ComponentDfg,
+    adapter: Adapter,
+    is_marked: bool,
+) -> Result<AdapterId, AllocError>
+    ensures { IfOk result (λ id. id.number < length component.new.adapters) }
+{
+    match component.add(adapter, is_marked) {
+        Ok(id) => Ok(id),
+        Err(_) => Err(AllocError),
+    }
+}
+
+/// What a module says to an adapter of a component. Its many facts are not asked for here.
+fn answer_of(
+    made: &mut Module<'_>,
+    name: &str,
+    component: &ComponentDfg,
+    id: AdapterId,
+) -> Result<(), FuseError>
+    requires { id.number < length component.now.adapters }
+{
+    made.adapt(name, component, id)
+}
+
+/// Adds what a module says.
+fn add_answer(page: &mut String, answer: Result<(), FuseError>) -> Result<(), AllocError> {
+    match answer {
+        Ok(()) => page.push_str("taken"),
+        Err(FuseError::OutOfMemory) => Err(AllocError),
+        Err(refusal) => write!(page, "{refusal}"),
+    }
+}
+
 /// Adds an adapter to a component, and what the module says to it.
 fn add_adapter(
     page: &mut String,
@@ -60,17 +97,8 @@ fn add_adapter(
 ) -> Result<(), AllocError> {
     let (name, words) = word_of(step);
     let adapter = adapter_of(alloc, words)?;
-    let Ok(id) = component.add(adapter, words.ends_with("marked")) else {
-        return Err(AllocError);
-    };
-    if component.adapters.get(id).is_none() {
-        return page.push_str("no adapter");
-    }
-    match made.adapt(name, component, id) {
-        Ok(()) => page.push_str("taken"),
-        Err(FuseError::OutOfMemory) => Err(AllocError),
-        Err(refusal) => write!(page, "{refusal}"),
-    }
+    let id = put(component, adapter, words.ends_with("marked"))?;
+    add_answer(page, answer_of(made, name, component, id))
 }
 
 /// Adds imports, each with its copy.
@@ -84,24 +112,51 @@ fn add_imports(page: &mut String, imports: &[Import]) -> Result<(), AllocError> 
     Ok(())
 }
 
-/// Adds the bytes of a module, and whether it is built as they say.
-fn add_page(page: &mut String, alloc: Global, made: &mut Module<'_>) -> Result<(), AllocError> {
-    let Ok(bytes) = made.encode() else {
-        return Err(AllocError);
-    };
+/// The bytes of a module.
+fn bytes_of(made: &mut Module<'_>) -> Result<Vec<u8>, AllocError> {
+    match made.encode() {
+        Ok(bytes) => Ok(bytes),
+        Err(_) => Err(AllocError),
+    }
+}
+
+/// Whether a module is built as these bytes say.
+fn is_built(alloc: Global, made: &mut Module<'_>, bytes: &[u8]) -> Result<bool, AllocError> {
     let Ok(module) = made.build() else {
         return Err(AllocError);
     };
-    let built = is_spelled(alloc, &module, bytes.as_slice());
+    let is = is_spelled(alloc, &module, bytes);
     end_module(Some(module));
-    for byte in bytes.iter() {
-        write!(page, "{byte:02x}")?;
-    }
-    page.push_str(if built? {
+    is
+}
+
+/// Adds bytes in hex.
+fn add_hex(page: &mut String, alloc: Global, bytes: &[u8]) -> Result<(), AllocError> {
+    let digits = hex::encode(alloc, bytes)?;
+    page.push_str(digits.as_str())
+}
+
+/// Adds bytes, and whether a module is built as they say.
+fn add_bytes(
+    page: &mut String,
+    alloc: Global,
+    made: &mut Module<'_>,
+    bytes: &[u8],
+) -> Result<(), AllocError> {
+    add_hex(page, alloc, bytes)?;
+    page.push_str(if is_built(alloc, made, bytes)? {
         " is built,"
     } else {
         " is not built,"
-    })?;
+    })
+}
+
+/// Adds the bytes of a module, whether it is built as they say, and its imports.
+fn add_page(page: &mut String, alloc: Global, made: &mut Module<'_>) -> Result<(), AllocError> {
+    let bytes = bytes_of(made)?;
+    let added = add_bytes(page, alloc, made, bytes.as_slice());
+    drop(bytes);
+    added?;
     add_imports(page, made.imports())
 }
 

@@ -1,7 +1,7 @@
 //! Runs of the command over memory. An `ask` says the most bytes that a call takes, and the calls of reading, of writing and of telling
 //! that fail, or 0 where none does; the words, each behind a `|`; and the edits that make the plan that is read.
 
-use fact_run::{BytesSink, BytesSource, Status, run};
+use fact_run::{BytesSink, BytesSource, Sink, Source, Status, run};
 use row_lines::{add_text, edited, first_of, number_of, word_of};
 use std::alloc::{AllocError, Global};
 
@@ -95,12 +95,12 @@ fn source(alloc: Global, given: &Given) -> Result<BytesSource, AllocError> {
 }
 
 /// The top call. Its many facts are not asked for here.
-fn status_of(
+fn status_of<S: Source, K: Sink, E: Sink>(
     alloc: Global,
     words: &[String],
-    source: &mut BytesSource,
-    out: &mut BytesSink,
-    err: &mut BytesSink,
+    source: &mut S,
+    out: &mut K,
+    err: &mut E,
 ) -> Status {
     run(alloc, words, source, out, err)
 }
