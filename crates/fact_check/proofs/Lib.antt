@@ -1,11 +1,14 @@
+mod BitRows
+pub mod Bits
 mod Branches
 mod Causes
 mod Control
 mod Exports
-mod ImportRows
+pub mod ImportRows
 mod Invariant
 mod Known
 mod LastOperands
+mod Layers
 mod LocalRuns
 mod Loops
 mod NeverStuck
@@ -13,7 +16,9 @@ mod Numbers
 mod PlainTyping
 mod Rows
 mod Sections
+mod SeenTyped
 mod States
 mod Steps
-mod Transcoders
+pub mod Transcoders
+pub mod TypedStates
 mod Types

@@ -44,7 +44,7 @@ digits_apart (c ∷ cs) d (suc i) lt = digits_apart cs d.1 i (omega arith)
 pub number_apart : (n : ℕ) → n < 2 ^ 32 → HasNoSpace (decimal n)
 number_apart n lt = digits_apart (decimal n) ((decimal_is_IsNumeral n (omega arith)).0.1)
 
-tested : (bs : List ℕ) → list_all (λ b. not (nat_eq b 32)) bs ≡ true → HasNoSpace bs
+pub tested : (bs : List ℕ) → list_all (λ b. not (nat_eq b 32)) bs ≡ true → HasNoSpace bs
 tested [] h i lt = absurd (omega arith)
 tested (b ∷ bs) h zero lt = λ e. false≢true (ap not (sym (eq-eqb b 32 e)) ∙ first_of (not (nat_eq b 32)) (list_all (λ b. not (nat_eq b 32)) bs) h)
 tested (b ∷ bs) h (suc i) lt = tested bs (second_of (not (nat_eq b 32)) (list_all (λ b. not (nat_eq b 32)) bs) h) i (omega arith)

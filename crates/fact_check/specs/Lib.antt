@@ -1,5 +1,6 @@
 pub mod Accepted
 pub mod Causes
+pub mod Constants
 pub mod Imports
 pub mod Operands
 pub mod Plain

@@ -217,8 +217,8 @@ fn is_counted(name: &str, prefix: &str, count: usize) -> bool
     }
 }
 
-/// The numbers of the memories that stand behind what a transcoder does.
-fn memories_of(text: &str) -> Option<(u32, u32)>
+/// The numbers of the memories in a transcoder's name, `(mem{from} => mem{to})`, which stand behind what it does.
+pub fn memories_of(text: &str) -> Option<(u32, u32)>
     ensures { MatchOption result ((from to : ℕ) → from < 2 ^ 32 → to < 2 ^ 32 → text.now ≡ memories_text from to → ⊥) (λ x. (x.0 < 2 ^ 32) × (x.1 < 2 ^ 32) × (text.now ≡ memories_text x.0 x.1)) }
 {
     let Some(text) = behind(text, "(mem") else {

@@ -2,6 +2,7 @@
 #![tactic(auto)]
 
 mod checking;
+mod constants;
 mod context;
 mod error;
 mod exported;
@@ -14,8 +15,10 @@ mod section;
 mod typing;
 
 pub use checking::check;
+pub use constants::read_constants;
 pub use error::{CheckError, CheckPlace};
-pub use laws::{accepted_bytes_have_no_cause, laws_of_checked};
+pub use imports::memories_of;
+pub use laws::{accepted_bytes_have_no_cause, laws_of_checked, laws_of_seen};
 
 /// Want of memory, the one free answer of each call that allocates.
 pub type OutOfMemory = std::alloc::AllocError;

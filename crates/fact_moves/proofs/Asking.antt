@@ -43,7 +43,7 @@ module _ (tr : Transfer) (later : List (List CoreValue)) where
   parts_grow : (xs ys : List RequestPart) (told : List (List CoreValue)) → Grows (parts_requests tr xs told) (parts_requests tr (xs ++ ys) (told ++ later))
   parts_grow [] ys told = grows_none _
   parts_grow (RegionPart align size ∷ xs) ys told = grows_one _ (next_grows told (λ rs more. parts_requests tr xs more) (λ rs more. parts_requests tr (xs ++ ys) more) (λ rs more. parts_grow xs ys more))
-  parts_grow (TextPart f n ∷ xs) ys told = path_grows (path f tr.to.encoding) (path_start 0 n) told (λ v more. parts_requests tr xs more) (λ v more. parts_requests tr (xs ++ ys) more) (λ v more. parts_grow xs ys more)
+  parts_grow (TextPart f p n ∷ xs) ys told = path_grows (path f tr.to.encoding) (path_start 0 n) told (λ v more. parts_requests tr xs more) (λ v more. parts_requests tr (xs ++ ys) more) (λ v more. parts_grow xs ys more)
 
 pub requests_grow : (tr : Transfer) (xs ys : List RequestPart) (told later : List (List CoreValue)) → Grows (parts_requests tr xs told) (parts_requests tr (xs ++ ys) (told ++ later))
 requests_grow tr xs ys told later = parts_grow tr later xs ys told

@@ -1,5 +1,5 @@
 -- Moving a value writes into its place, or into regions that were given for it.
-use Rattle.std.proofs.Common.{◌≡◌, ℕ, zero, ◌+◌, ◌*◌, ◌<◌, ◌≤◌, ◌%◌, ◌/◌, ◌^◌, Bool, true, false, List, [], ◌∷◌, ◌++◌, Some, refl, sym, ap, ◌∙◌, subst, arith}
+use Rattle.std.proofs.Common.{◌≡◌, ◌≢◌, ℕ, zero, ◌+◌, ◌*◌, ◌<◌, ◌≤◌, ◌%◌, ◌/◌, ◌^◌, Bool, true, false, List, [], ◌∷◌, ◌++◌, Some, refl, sym, ap, ◌∙◌, subst, inl, inr, arith}
 use Rattle.std.proofs.lemmas.Bool.{eq-eqb}
 use Rattle.std.proofs.Math.Nat.{zero-mod}
 use Rattle.std.specs.Prelude.{nat_le, if◌then◌else◌}
@@ -168,34 +168,39 @@ module _ (p : ImportPlaces) (next : Call → Position → Position) (tr : Transf
   resized (SourceUnits c) v a = refl
   resized (WrittenUnits c) v a = refl
 
+  align_some : (e : StringEncoding) → align_of e ≢ 0
+  align_some string.Utf8 h = omega (arith, h)
+  align_some string.Utf16 h = omega (arith, h)
+  align_some string.CompactUtf16 h = omega (arith, h)
+
   -- paths leave all regions but the one at the head
-  chained_w : (q : Path) (now : Amount) (g : Region) (rest : List Region) (w : World) (v : PathPoint) → Chained now q → g.at ≡ v.region → g.size ≡ amount tr now v
+  chained_w : (q : Path) (now : Amount) (g : Region) (rest : List Region) (w : World) (v : PathPoint) → Chained now q → g.at ≡ v.region → g.size ≡ amount tr now v → g.align ≡ align_of tr.to.encoding
       → W (g ∷ rest) w (walk tr q v) (λ u live' w'. Heads rest live' × (rm w ≤ rm w'))
-  chained_w End now g rest w v c e f = writes_give p next l (g ∷ rest) w v _ (record { head = g; is = refl }, omega arith)
-  chained_w (Limit factor q) now g rest w v c e f = parts.unless_w p next l callee plain_next (g ∷ rest) w StringOutOfBounds (nat_le v.length (most_string_bytes / factor)) _ _ (λ t. chained_w q now g rest w v c e f)
-  chained_w (Resize x y q) now g rest w v c e f =
-      parts.reallocate_w p next l callee plain_next (g ∷ rest) w tr.concurrency StringOutOfBounds v.region (amount tr x v) (align_of tr.to.encoding) (amount tr y v) _ _ apart (λ a u more sound.
+  chained_w End now g rest w v c e f al = writes_give p next l (g ∷ rest) w v _ (record { head = g; is = refl }, omega arith)
+  chained_w (Limit factor q) now g rest w v c e f al = parts.unless_w p next l callee plain_next (g ∷ rest) w StringOutOfBounds (nat_le v.length (most_string_bytes / factor)) _ _ (λ t. chained_w q now g rest w v c e f al)
+  chained_w (Resize x y q) now g rest w v c e f al =
+      parts.reallocate_w p next l callee plain_next (g ∷ rest) w tr.concurrency StringOutOfBounds v.region (amount tr x v) (align_of tr.to.encoding) (amount tr y v) _ _ apart (align_some tr.to.encoding, inr (inl (e, f ∙ ap (λ z. amount tr z v) (sym c.0), al))) (λ a u more sound.
       subst (λ live. W (region a (amount tr y v) (align_of tr.to.encoding) ∷ live) u (walk tr q (record v { region = a })) (λ u' live' w'. Heads rest live' × (rm w ≤ rm w')))
       (sym (without_head g v.region (amount tr x v) (align_of tr.to.encoding) rest e (f ∙ ap (λ z. amount tr z v) (sym c.0))))
-      (writes_so p next l (chained_w q y (region a (amount tr y v) (align_of tr.to.encoding)) rest u (record v { region = a }) c.1 refl (resized y v a)) (λ u' live' w' h. (h.0, let k = h.1 in omega arith))))
-  chained_w (Pass o more room q) now g rest w v c e f =
+      (writes_so p next l (chained_w q y (region a (amount tr y v) (align_of tr.to.encoding)) rest u (record v { region = a }) c.1 refl (resized y v a) refl) (λ u' live' w' h. (h.0, let k = h.1 in omega arith))))
+  chained_w (Pass o more room q) now g rest w v c e f al =
       writes_bind p next l (transcode tr o more room v) _ (λ u live' w'. (live' ≡ g ∷ rest) × (rm w ≤ rm w') × (g.at ≡ u.region) × (g.size ≡ amount tr now u)) _
       (transcode_w (g ∷ rest) w o more room v _ (λ rs u k. let s = passed_region (transcode_kind o) more rs v in (refl, k, e ∙ sym s.0, f ∙ amount_same now v (passed tr (transcode_kind o) more rs v) c.0 s.1))) (λ u live' w' h.
       subst (λ live. W live w' (walk tr q u) (λ u' live'' w''. Heads rest live'' × (rm w ≤ rm w''))) (sym h.0)
-      (writes_so p next l (chained_w q now g rest w' u c.1 h.2 h.3) (λ u' live'' w'' k. (k.0, let x = h.1 in let y = k.1 in omega arith))))
-  chained_w (If t q r q') now g rest w v c e f =
+      (writes_so p next l (chained_w q now g rest w' u c.1 h.2 h.3 al) (λ u' live'' w'' k. (k.0, let x = h.1 in let y = k.1 in omega arith))))
+  chained_w (If t q r q') now g rest w v c e f al =
       writes_bind p next l (choose_action (holds tr t v) (walk tr q v) (walk tr r v)) _ (λ u live' w'. Heads rest live' × (rm w ≤ rm w')) _
-      (branch_w (g ∷ rest) w (holds tr t v) _ _ _ (chained_w q now g rest w v c.0 e f) (chained_w r now g rest w v c.1 e f)) (λ u live' w' h.
+      (branch_w (g ∷ rest) w (holds tr t v) _ _ _ (chained_w q now g rest w v c.0 e f al) (chained_w r now g rest w v c.1 e f al)) (λ u live' w' h.
       writes_so p next l (still_w q' live' w' u c.2) (λ u' live'' w'' k. (record { head = h.0.head; is = k.0 ∙ h.0.is }, let x = h.1 in let y = k.1 in omega arith)))
-  chained_w (Tag q) now g rest w v c e f = chained_w q now g rest w (with_tag v) c.1 e (f ∙ amount_same now v (with_tag v) c.0 refl)
-  chained_w (Assert t test q) now g rest w v c e f = asserted_w (g ∷ rest) w tr.debug t (holds tr test v) _ _ (chained_w q now g rest w v c e f)
+  chained_w (Tag q) now g rest w v c e f al = chained_w q now g rest w (with_tag v) c.1 e (f ∙ amount_same now v (with_tag v) c.0 refl) al
+  chained_w (Assert t test q) now g rest w v c e f al = asserted_w (g ∷ rest) w tr.debug t (holds tr test v) _ _ (chained_w q now g rest w v c e f al)
 
   path_w : (q : Path) (live : List Region) (w : World) (a n : ℕ) → Begins q → W live w (walk tr q (path_start a n)) (Fine live w)
   path_w (Limit factor (Resize (SourceUnits zero) y q)) live w a n c =
       parts.unless_w p next l callee plain_next live w StringOutOfBounds (nat_le n (most_string_bytes / factor)) _ _ (λ t.
-      parts.reallocate_w p next l callee plain_next live w tr.concurrency StringOutOfBounds 0 (amount tr (SourceUnits zero) (path_start a n)) (align_of tr.to.encoding) (amount tr y (path_start a n)) _ _ apart (λ b u more sound.
+      parts.reallocate_w p next l callee plain_next live w tr.concurrency StringOutOfBounds 0 (amount tr (SourceUnits zero) (path_start a n)) (align_of tr.to.encoding) (amount tr y (path_start a n)) _ _ apart (align_some tr.to.encoding, inl (refl, nothing)) (λ b u more sound.
       writes_so p next l
-      (chained_w q y (region b (amount tr y (path_start a n)) (align_of tr.to.encoding)) (without (region 0 (amount tr (SourceUnits zero) (path_start a n)) (align_of tr.to.encoding)) live) u (record (path_start a n) { region = b }) c refl (resized y (path_start a n) b))
+      (chained_w q y (region b (amount tr y (path_start a n)) (align_of tr.to.encoding)) (without (region 0 (amount tr (SourceUnits zero) (path_start a n)) (align_of tr.to.encoding)) live) u (record (path_start a n) { region = b }) c refl (resized y (path_start a n) b) refl)
       (λ v live' w' h. behind (region 0 (amount tr (SourceUnits zero) (path_start a n)) (align_of tr.to.encoding)) live w live' w' h.0 nothing (let k = h.1 in omega arith))))
     where
       nothing : amount tr (SourceUnits zero) (path_start a n) ≡ 0

@@ -1,9 +1,9 @@
 -- The parts of actions write into regions of their own.
-use Rattle.std.proofs.Common.{◌≡◌, ℕ, ◌+◌, ◌<◌, ◌≤◌, ◌%◌, ◌^◌, Bool, true, false, List, [], ◌∷◌, ◌++◌, Option, Some, None, refl, sym, ap, ◌∙◌, subst, inl, inr, arith, length}
+use Rattle.std.proofs.Common.{◌≡◌, ◌≢◌, ℕ, ◌+◌, ◌<◌, ◌≤◌, ◌%◌, ◌^◌, Bool, true, false, List, [], ◌∷◌, ◌++◌, Option, Some, None, refl, sym, ap, ◌∙◌, subst, inl, inr, arith, length}
 use Rattle.std.proofs.lemmas.Bool.{leb-true, eqb-true, eq-eqb}
 use Rattle.std.proofs.lemmas.Slice.Eq.{bytes_eq-Decides}
 use Rattle.fact_types.specs.declared.outside.CoreDef.TheVariants as def
-use Rattle.std.specs.Prelude.{nat_eq, nat_lt, nat_le, get_or, if◌then◌else◌}
+use Rattle.std.specs.Prelude.{◌⊎◌, nat_eq, nat_lt, nat_le, get_or, if◌then◌else◌}
 use Rattle.fact_wasm.specs.declared.types.ValType.{ValType}
 use Rattle.fact_types.specs.declared.outside.CoreDef.{CoreDef}
 use Rattle.fact_types.specs.declared.outside.Trap.{Trap as Reason}
@@ -22,9 +22,9 @@ use Rattle.fact_moves.specs.Running.{ImportPlaces, Call}
 use Rattle.fact_moves.specs.Sides.{LiftLowerOptions, Source, Values, AtAddress, address_value, bytes_of_addresses, type_of_addresses, first_bits, low_half, in_value, with_memory, nth_part, read_number, read_pair, check_region, get_slots, set_slots, reallocate}
 use Rattle.fact_moves.specs.Calls.{is_import_of, is_call_of, is_call_of_any, nth_number}
 use Rattle.fact_moves.specs.Regions.{Region, Landing, Position, is_request, given_region, given_up, without, moved_on, IsSoundRegion}
-use Rattle.fact_moves.specs.Confined.{LiesInSound}
+use Rattle.fact_moves.specs.Confined.{LiesInSound, IsLive}
 use Rattle.fact_moves.proofs.Owned.{at, room, made, Writes, writes_stop, writes_read, writes_length, writes_ask, own_more, own_left, own_right, own_sides, own_without}
-use Rattle.fact_moves.proofs.States.{both}
+use Rattle.fact_moves.proofs.States.{both, false_true}
 
 -- ---- numbers of addresses
 
@@ -76,7 +76,8 @@ module _ (p : ImportPlaces) (next : Call → Position → Position) (l : Landing
 
   pub other : {A : Type 0} (live : List Region) (w : World) (i : Import) (args : List CoreValue) (ts : List ValType) (k : List CoreValue → Action A) (Q : A → List Region → World → Type 0)
       → ((d : CoreDef) → is_import_of d i ≡ false) → ((rs : List CoreValue) (u : World) → rm w ≤ rm u → W live u (k rs) Q) → W live w (Ask i args ts k) Q
-  other live w i args ts k Q apart h = writes_ask p next l live w i args ts k Q (λ a. moves_on (record { what = i; args = args; before = w.state; answer = a }) live (apart callee)) (λ rs state answers trace g.
+  other live w i args ts k Q apart h = writes_ask p next l live w i args ts k Q (λ a. moves_on (record { what = i; args = args; before = w.state; answer = a }) live (apart callee))
+      (λ a yes. false_true (sym (no_request l.to.realloc (record { what = i; args = args; before = w.state; answer = a }) apart) ∙ yes)) (λ rs state answers trace g.
       let u : World = record { state = state; answers = answers; trace = trace } in
       let c = made p next l i args w rs state in
       subst (λ b. W (moved b live (given_region c ∷ without (given_up c) live)).live u (k rs) Q) (sym (no_request l.to.realloc c apart)) (h rs u g))
@@ -184,13 +185,18 @@ module _ (p : ImportPlaces) (next : Call → Position → Position) (l : Landing
   abbrev pub region : (at size align : ℕ) → Region
   region a n align = record { at = a; size = n; align = align }
 
+  -- what is given up: nothing, or a live region of the alignment that is asked for, which is not 0
+  abbrev pub IsOwn : List Region → (old old_size align : ℕ) → Type 0
+  IsOwn live old old_size align = (align ≢ 0) × (((old ≡ 0) × (old_size ≡ 0)) ⊎ IsLive live old old_size align)
+
   -- the call itself, behind which one region is live in place of another
   request_w : {A : Type 0} (live : List Region) (w : World) (f : CoreDef) (old old_size align new : ℕ) (ts : List ValType) (k : List CoreValue → Action A) (Q : A → List Region → World → Type 0)
-      → l.to.realloc ≡ Some f → same_def callee f ≡ false
+      → l.to.realloc ≡ Some f → same_def callee f ≡ false → IsOwn live old old_size align
       → ((rs : List CoreValue) (u : World) → rm w ≤ rm u → W (region (first_bits rs) new align ∷ without (region old old_size align) live) u (k rs) Q)
       → W live w (Ask (import.CoreDef f) (address_value l.to old ∷ address_value l.to old_size ∷ address_value l.to align ∷ address_value l.to new ∷ []) ts k) Q
-  request_w live w f old old_size align new ts k Q is_f apart h =
-      writes_ask p next l live w (import.CoreDef f) _ ts k Q (λ a. moves_on _ live apart) (λ rs state answers trace g.
+  request_w live w f old old_size align new ts k Q is_f apart own h =
+      writes_ask p next l live w (import.CoreDef f) _ ts k Q (λ a. moves_on _ live apart)
+      (λ a yes. subst (λ x. IsOwn live x (bits_of (address_value l.to old_size)) (bits_of (address_value l.to align))) (sym (bits_address l.to old)) (subst (λ y. IsOwn live old y (bits_of (address_value l.to align))) (sym (bits_address l.to old_size)) (subst (λ z. IsOwn live old old_size z) (sym (bits_address l.to align)) own))) (λ rs state answers trace g.
       let u : World = record { state = state; answers = answers; trace = trace } in
       let c = made p next l (import.CoreDef f) (address_value l.to old ∷ address_value l.to old_size ∷ address_value l.to align ∷ address_value l.to new ∷ []) w rs state in
       subst (λ b. W (moved b live (given_region c ∷ without (given_up c) live)).live u (k rs) Q) (sym (ap (λ o. is_call_of_any o c) is_f ∙ same_self f))
@@ -199,10 +205,10 @@ module _ (p : ImportPlaces) (next : Call → Position → Position) (l : Landing
 
   -- realloc, whose answer is checked: the region that it gave is live in place of the one that was given up
   pub reallocate_w : {A : Type 0} (live : List Region) (w : World) (b : Bool) (t : Reason) (old old_size align new : ℕ) (k : ℕ → Action A) (Q : A → List Region → World → Type 0)
-      → ((f : CoreDef) → l.to.realloc ≡ Some f → same_def callee f ≡ false)
+      → ((f : CoreDef) → l.to.realloc ≡ Some f → same_def callee f ≡ false) → IsOwn live old old_size align
       → ((q : ℕ) (u : World) → rm w ≤ rm u → IsSoundRegion (rm u) (region q new align) → W (region q new align ∷ without (region old old_size align) live) u (k q) Q)
       → W live w (reallocate b l.to t old old_size align new k) Q
-  reallocate_w live w b t old old_size align new k Q apart h = by_realloc l.to.realloc (λ f e. e)
+  reallocate_w live w b t old old_size align new k Q apart own h = by_realloc l.to.realloc (λ f e. e)
     where
       by_realloc : (r : Option CoreDef) → ((f : CoreDef) → r ≡ Some f → l.to.realloc ≡ Some f) → W live w (elim r [
         | None ↦ Unreachable
@@ -215,6 +221,6 @@ module _ (p : ImportPlaces) (next : Call → Position → Position) (l : Landing
       by_realloc (Some f) is =
           get_w live w b _ Q (λ x y w1 g1.
           set_w live w1 b (I32 0 ∷ []) (I32 0 ∷ []) _ Q (λ w2 g2.
-          request_w live w2 f old old_size align new _ _ Q (is f refl) (apart f (is f refl)) (λ rs w3 g3.
+          request_w live w2 f old old_size align new _ _ Q (is f refl) (apart f (is f refl)) own (λ rs w3 g3.
           set_w _ w3 b x y _ Q (λ w4 g4.
           checked_w _ w4 t (first_bits rs) new align (k (first_bits rs)) Q (λ sound. h (first_bits rs) w4 (omega arith) sound)))))

@@ -26,7 +26,7 @@ use Rattle.fact_moves.proofs.Owned.{Writes, writes_so, writes_bind, writes_give,
 use Rattle.fact_moves.proofs.OwnParts as parts
 use Rattle.fact_moves.proofs.OwnParts.{Kept, kept_more, kept_on, kept_given}
 use Rattle.fact_moves.proofs.OwnMoves as own
-use Rattle.fact_moves.proofs.Rooms.{plain_room, pair_room, four_room, enum_room, flags_room, sum_bytes, sum_is, tag_room, greatest_of, payload_room, greatest_head, greatest_bare, member_room, record_room, times_in}
+use Rattle.fact_moves.proofs.Rooms.{plain_room, pair_room, four_room, enum_room, flags_room, sum_bytes, sum_is, tag_room, greatest_of, payload_room, greatest_head, greatest_bare, member_room, record_room, times_in, entry_aligned}
 
 none_some : (u : Shape) → None ≡ Some u → ⊥
 none_some u e = subst IsNone e tt
@@ -182,7 +182,7 @@ module _ (p : ImportPlaces) (next : Call → Position → Position) (tr : Transf
       parts.unless_w p next l callee plain_next live w ListOutOfBounds (nat_lt (n * (entry_extent tr.from ms).size) (2 ^ 32)) _ _ (λ e.
       parts.unless_w p next l callee plain_next live w ListOutOfBounds (nat_lt (n * size) (2 ^ 32)) _ _ (λ e'.
       parts.region_w p next l callee plain_next live w tr.from ListOutOfBounds a _ _ _ _ (
-      parts.reallocate_w p next l callee plain_next live w tr.concurrency ListOutOfBounds 0 0 align (n * size) _ _ apart (λ q u more sound.
+      parts.reallocate_w p next l callee plain_next live w tr.concurrency ListOutOfBounds 0 0 align (n * size) _ _ apart (entry_aligned tr.to ns, inl (refl, refl)) (λ q u more sound.
       let given : K (rm w) live (rm u) _ = on (stays live w u more) (kept_given p next l callee plain_next (rm u) live (record { at = 0; size = 0; align = align }) (record { at = q; size = n * size; align = align }) refl) in
       writes_bind p next l (each_from 0 n (λ i. f (AtAddress (a + i * (entry_extent tr.from ms).size)) (Into (q + i * size)))) _ (λ vs live' w'. Fine _ u vs live' w') _
       (each_w _ u 0 n _ (λ j live' w' k b.

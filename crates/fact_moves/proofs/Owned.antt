@@ -20,7 +20,7 @@ use Rattle.fact_machine.specs.Typed.{are_values, is_grown}
 use Rattle.fact_moves.specs.Running.{ImportPlaces, Call, Ended, Gave, Halted, Strayed, heavier, later, then_ended, or_strayed, ended, if_typed, is_state, is_answer, with_answer, call_of, run}
 use Rattle.fact_moves.specs.Calls.{state_after, side_memory}
 use Rattle.fact_moves.specs.Regions.{Region, Landing, Position, without, moved_on}
-use Rattle.fact_moves.specs.Confined.{LiesInSound, in_hand, IsOwnWrite}
+use Rattle.fact_moves.specs.Confined.{LiesInSound, in_hand, IsOwnWrite, GivesUpLive}
 use Rattle.fact_moves.proofs.Binds.{binds_run}
 use Rattle.fact_moves.proofs.States.{and_left, and_right, false_true}
 
@@ -81,7 +81,7 @@ module _ (p : ImportPlaces) (next : Call → Position → Position) (l : Landing
   Leads r live (GlobalSet index value ∷ es) cs r' live' = Leads r live es cs r' live'
   Leads r live (Called e ∷ es) [] r' live' = ⊥
   Leads r live (Called e ∷ es) (c ∷ cs) r' live' =
-      (next c (at live) ≡ at (moved_on c (at live)).live) × Leads (length (side_memory p l.to (state_after c))) (moved_on c (at live)).live es cs r' live'
+      (next c (at live) ≡ at (moved_on c (at live)).live) × GivesUpLive (at live) c × Leads (length (side_memory p l.to (state_after c))) (moved_on c (at live)).live es cs r' live'
 
   leads_on : (r : ℕ) (live : List Region) (es : List TraceEntry) (cs : List Call) (r' : ℕ) (live' : List Region) (fs : List TraceEntry) (ds : List Call) (r'' : ℕ) (live'' : List Region)
       → Leads r live es cs r' live' → Leads r' live' fs ds r'' live'' → Leads r live (es ++ fs) (cs ++ ds) r'' live''
@@ -90,7 +90,7 @@ module _ (p : ImportPlaces) (next : Call → Position → Position) (l : Landing
   leads_on r live (Stored m a n v ∷ es) cs r' live' fs ds r'' live'' h g = (h.0, leads_on r live es cs r' live' fs ds r'' live'' h.1 g)
   leads_on r live (GlobalSet i v ∷ es) cs r' live' fs ds r'' live'' h g = leads_on r live es cs r' live' fs ds r'' live'' h g
   leads_on r live (Called e ∷ es) [] r' live' fs ds r'' live'' h g = absurd h
-  leads_on r live (Called e ∷ es) (c ∷ cs) r' live' fs ds r'' live'' h g = (h.0, leads_on (length (side_memory p l.to (state_after c))) (moved_on c (at live)).live es cs r' live' fs ds r'' live'' h.1 g)
+  leads_on r live (Called e ∷ es) (c ∷ cs) r' live' fs ds r'' live'' h g = (h.0, h.1, leads_on (length (side_memory p l.to (state_after c))) (moved_on c (at live)).live es cs r' live' fs ds r'' live'' h.2 g)
 
   -- ---- ends
 
@@ -248,6 +248,10 @@ module _ (p : ImportPlaces) (next : Call → Position → Position) (l : Landing
   MovesOn live w i args =
       (a : Answer) → next (record { what = i; args = args; before = w.state; answer = a }) (at live) ≡ at (moved_on (record { what = i; args = args; before = w.state; answer = a }) (at live)).live
 
+  -- nor does it give up what is not live
+  abbrev Frees : List Region → World → Import → List CoreValue → Type 0
+  Frees live w i args = (a : Answer) → GivesUpLive (at live) (record { what = i; args = args; before = w.state; answer = a })
+
   -- what its answer may lead to
   abbrev Answered : {A : Type 0} → List Region → World → Import → List CoreValue → (List CoreValue → Action A) → (A → List Region → World → Type 0) → Type 0
   Answered live w i args k Q =
@@ -256,22 +260,22 @@ module _ (p : ImportPlaces) (next : Call → Position → Position) (l : Landing
       → Writes (moved_on (made i args w rs state) (at live)).live (record { state = state; answers = answers; trace = trace }) (k rs) Q
 
   answer_holds : {A : Type 0} (live : List Region) (w : World) (i : Import) (args : List CoreValue) (ts : List ValType) (k : List CoreValue → Action A) (Q : A → List Region → World → Type 0) (left : List Answer)
-      → MovesOn live w i args → Answered live w i args k Q
+      → MovesOn live w i args → Frees live w i args → Answered live w i args k Q
       → Holds live w (later (call_of i args w.state left) (with_answer p ts w (asked (p.function i) args w left) (λ rs u. run p (k rs) u))) Q
-  answer_holds live w i args ts k Q [] n h = (live, room w, led_none live w)
-  answer_holds live w i args ts k Q (Traps ∷ more) n h = (_, _, record { entries = _ ∷ []; trace = refl; leads = (n Traps, (refl, refl)) })
-  answer_holds live w i args ts k Q (Throws ∷ more) n h = (_, _, record { entries = _ ∷ []; trace = refl; leads = (n Throws, (refl, refl)) })
-  answer_holds live w i args ts k Q (Returns rs state ∷ more) n h =
+  answer_holds live w i args ts k Q [] n g h = (live, room w, led_none live w)
+  answer_holds live w i args ts k Q (Traps ∷ more) n g h = (_, _, record { entries = _ ∷ []; trace = refl; leads = (n Traps, g Traps, (refl, refl)) })
+  answer_holds live w i args ts k Q (Throws ∷ more) n g h = (_, _, record { entries = _ ∷ []; trace = refl; leads = (n Throws, g Throws, (refl, refl)) })
+  answer_holds live w i args ts k Q (Returns rs state ∷ more) n g h =
       let c = made i args w rs state in
       let u : World = record { state = state; answers = more; trace = w.trace ++ Called (record { func = p.function i; args = args; before = w.state; answer = Returns rs state }) ∷ [] } in
       holds_behind live w (c ∷ []) u (moved_on c (at live)).live _ Q
-      (record { entries = Called (record { func = p.function i; args = args; before = w.state; answer = Returns rs state }) ∷ []; trace = refl; leads = (n (Returns rs state), (refl, refl)) })
+      (record { entries = Called (record { func = p.function i; args = args; before = w.state; answer = Returns rs state }) ∷ []; trace = refl; leads = (n (Returns rs state), g (Returns rs state), (refl, refl)) })
       (holds_typed (moved_on c (at live)).live (is_answer p ts w.state rs state) u (run p (k rs) u) Q (λ t.
       (h rs state more u.trace (grown_room l.to.memory w.state state (and_right (is_state p state) (is_grown w.state.memories state.memories) (and_right (are_values rs ts) (is_state p state && is_grown w.state.memories state.memories) t)))).holds))
 
   pub writes_ask : {A : Type 0} (live : List Region) (w : World) (i : Import) (args : List CoreValue) (ts : List ValType) (k : List CoreValue → Action A) (Q : A → List Region → World → Type 0)
-      → MovesOn live w i args → Answered live w i args k Q → Writes live w (Ask i args ts k) Q
-  writes_ask live w i args ts k Q n h = record { holds = answer_holds live w i args ts k Q w.answers n h }
+      → MovesOn live w i args → Frees live w i args → Answered live w i args k Q → Writes live w (Ask i args ts k) Q
+  writes_ask live w i args ts k Q n g h = record { holds = answer_holds live w i args ts k Q w.answers n g h }
 
   -- flags are no memory
   pub writes_set : {A : Type 0} (live : List Region) (w : World) (i x : ℕ) (q : Action A) (Q : A → List Region → World → Type 0)

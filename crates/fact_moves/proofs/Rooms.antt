@@ -1,5 +1,5 @@
 -- The parts of values lie within the room of the whole.
-use Rattle.std.proofs.Common.{◌≡◌, ℕ, suc, ◌+◌, ◌*◌, ◌<◌, ◌≤◌, List, refl, ap, arith, length}
+use Rattle.std.proofs.Common.{◌≡◌, ◌≢◌, ℕ, suc, ◌+◌, ◌*◌, ◌<◌, ◌≤◌, List, refl, ap, arith, length}
 use Rattle.std.proofs.Math.Nat.{le-max_left, le-max_right, mul-le-mul_right}
 use Rattle.fact_types.specs.declared.interface.InterfaceType.{InterfaceType}
 use Rattle.fact_types.specs.declared.interface.InterfaceType.TheVariants as ty
@@ -10,10 +10,10 @@ use Rattle.fact_types.specs.Shapes.{k_record, k_variant, k_enum, k_flags, Shape,
 use Rattle.fact_types.proofs.AlignLaws.{aligned_bounds, inside_tagged}
 use Rattle.fact_types.proofs.FieldLaws.{greatest_align_pos}
 use Rattle.fact_types.proofs.PayloadLaws.{enum_is_scalar}
-use Rattle.fact_types.proofs.PlaceLaws.{ends_grow, ends_within}
+use Rattle.fact_types.proofs.PlaceLaws.{align_pos, ends_grow, ends_within}
 use Rattle.fact_values.specs.Places.{pointer_bytes, case_bytes, payload_place, flags_bytes}
 use Rattle.fact_moves.specs.Sides.{LiftLowerOptions, width_of_side, bytes_of_addresses, side_abi}
-use Rattle.fact_moves.specs.Moves.{plain_size}
+use Rattle.fact_moves.specs.Moves.{entry_extent, plain_size}
 use Rattle.fact_moves.specs.Confined.{node_size}
 
 -- ---- plain types
@@ -41,6 +41,10 @@ four_room o = by_width (width_of_side o)
     by_width : (w : MemoryWidth) → 4 ≤ (extent w (scalar_layout 4)).size
     by_width Memory32 = omega arith
     by_width Memory64 = omega arith
+
+-- an element or an entry is aligned to something
+pub entry_aligned : (o : LiftLowerOptions) (ms : Members) → (entry_extent o ms).align ≢ 0
+entry_aligned o ms h = omega (arith, h, align_pos (width_of_side o) (s_node k_record ms))
 
 -- ---- sums
 

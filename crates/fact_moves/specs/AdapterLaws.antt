@@ -18,7 +18,7 @@ use Rattle.fact_wasm.specs.declared.types.ValType.{ValType}
 use Rattle.fact_types.specs.declared.outside.CoreDef.{CoreDef}
 use Rattle.fact_types.specs.Adapters.{LinkedAdapter}
 use Rattle.fact_types.specs.FlatShapes.{AreCounted}
-use Rattle.fact_moves.specs.Regions.{params_landing, results_landing, moved_on}
+use Rattle.fact_moves.specs.Regions.{landed, params_landing, results_landing, moved_on, sync_moved_on}
 use Rattle.fact_moves.specs.Requests.{RequestPart, parts_requests}
 use Rattle.fact_moves.specs.Sides.{Transfer, options_of}
 use Rattle.fact_moves.specs.Running.{ImportPlaces, Call, Ended, Gave, Halted, Strayed, moved_weight, calls_in, world_in, is_state, run}
@@ -31,7 +31,7 @@ use Rattle.fact_moves.specs.Plain.{NamedOutcome, action_outcome, ended_sync, syn
 use Rattle.fact_moves.specs.Honest.{IsStraight}
 use Rattle.fact_moves.specs.Laws.{Follows}
 use Rattle.fact_moves.specs.Calls.{HasOwnCallee, is_call_of}
-use Rattle.fact_moves.specs.Confined.{IsConfinedFrom, IsConfined, HasRoomForValues, HasValidTypes}
+use Rattle.fact_moves.specs.Confined.{IsConfinedFrom, IsConfined, GiveUpLive, HasRoomForValues, HasValidTypes}
 use Rattle.fact_moves.specs.Order.{AreOrderedCalls, IsTransfer, HaveTwoMemories, KeepsMemory, LeavesSources}
 
 -- ---- runs
@@ -102,6 +102,12 @@ abbrev pub WritesAreOwn : Type 0
 WritesAreOwn =
     (p : ImportPlaces) (u : AdapterTunables) (a : LinkedAdapter) (args : List CoreValue) (state : MachineState) (answers : List Answer)
     → HasOwnCallee a → HasRoomForValues a → IsConfined p a args state (ended_sync p u a args (first_world state answers))
+
+-- Each call of realloc gives up nothing, or a region that is live then, whatever is answered.
+abbrev pub RequestsGiveUpLive : Type 0
+RequestsGiveUpLive =
+    (p : ImportPlaces) (u : AdapterTunables) (a : LinkedAdapter) (args : List CoreValue) (w : World)
+    → HasOwnCallee a → HasRoomForValues a → GiveUpLive a (sync_moved_on a args) (landed (params_landing a)) (calls_in (ended_sync p u a args w))
 
 -- What an adapter comes to does not hang on where a module has its imported functions: calls have names.
 abbrev pub OutcomesAreNamed : Type 0
@@ -224,6 +230,16 @@ abbrev pub ReturnWritesAreOwn : Type 0
 ReturnWritesAreOwn =
     (p : ImportPlaces) (u : AdapterTunables) (a : LinkedAdapter) (args : List CoreValue) (state : MachineState) (answers : List Answer)
     → HasOwnCallee a → HasRoomForValues a → IsConfinedFrom p moved_on (results_landing a args) state (run p (async_return u a args) (first_world state answers))
+
+abbrev pub StartRequestsGiveUpLive : Type 0
+StartRequestsGiveUpLive =
+    (p : ImportPlaces) (u : AdapterTunables) (a : LinkedAdapter) (args : List CoreValue) (w : World)
+    → HasOwnCallee a → HasRoomForValues a → GiveUpLive a moved_on (landed (params_landing a)) (calls_in (run p (async_start u a args) w))
+
+abbrev pub ReturnRequestsGiveUpLive : Type 0
+ReturnRequestsGiveUpLive =
+    (p : ImportPlaces) (u : AdapterTunables) (a : LinkedAdapter) (args : List CoreValue) (w : World)
+    → HasOwnCallee a → HasRoomForValues a → GiveUpLive a moved_on (landed (results_landing a args)) (calls_in (run p (async_return u a args) w))
 
 -- The calls of a run that moves the parameters, and returns.
 abbrev pub StartIsTransfer : Type 0

@@ -1,5 +1,5 @@
 -- Where an adapter writes, and which ranges it hands to transcoders.
-use Rattle.std.specs.Prelude.{◌≡◌, ℕ, ◌+◌, ◌*◌, ◌%◌, ◌≤◌, ◌⊎◌, List, [], ◌∷◌, ◌++◌, length, Some, None}
+use Rattle.std.specs.Prelude.{◌≡◌, ◌≢◌, ℕ, ◌+◌, ◌*◌, ◌%◌, ◌≤◌, ◌⊎◌, ◌||◌, Bool, true, false, List, [], ◌∷◌, ◌++◌, length, Some, None}
 use Rattle.fact_types.specs.declared.outside.Transcode.{Transcode}
 use Rattle.fact_machine.specs.declared.types.CoreValue.{CoreValue}
 use Rattle.fact_machine.specs.declared.types.MachineState.{MachineState}
@@ -20,10 +20,10 @@ use Rattle.fact_moves.specs.Sides.{LiftLowerOptions, width_of_side, options_of}
 use Rattle.fact_moves.specs.Running.{ImportPlaces, Call, Ended, calls_in, world_in}
 use Rattle.fact_moves.specs.Adapters.{flat_results}
 use Rattle.fact_types.specs.Tuples.{tuple_members}
-use Rattle.fact_moves.specs.Calls.{arg_number, state_after, side_memory}
+use Rattle.fact_moves.specs.Calls.{is_call_of, is_call_of_any, arg_number, state_after, side_memory}
 use Rattle.fact_moves.specs.Order.{IsMemoryOf}
 use Rattle.fact_moves.specs.Honest.{HasReturned, IsHonestTranscode}
-use Rattle.fact_moves.specs.Regions.{Region, Landing, Position, landed, params_landing, results_landing, moved_on, sync_moved_on, IsSoundRegion}
+use Rattle.fact_moves.specs.Regions.{Region, Landing, Position, landed, params_landing, results_landing, is_request, moved_on, sync_moved_on, IsSoundRegion}
 
 -- ---- own regions
 
@@ -71,6 +71,27 @@ IsConfinedFrom p next l state e =
 -- a run of a sync adapter
 abbrev pub IsConfined : ImportPlaces → LinkedAdapter → (args : List CoreValue) → MachineState → Ended (List CoreValue) → Type 0
 IsConfined p a args state e = IsConfinedFrom p (sync_moved_on a args) (params_landing a) state e
+
+-- ---- requests
+
+-- so many bytes at a place, of an alignment, are one of these regions
+abbrev pub IsLive : List Region → (place size align : ℕ) → Type 0
+IsLive [] place size align = ⊥
+IsLive (r ∷ rs) place size align = ((r.at ≡ place) × (r.size ≡ size) × (r.align ≡ align)) ⊎ IsLive rs place size align
+
+-- A call of realloc asks for an alignment other than 0, and gives up nothing, or a region that is live and has that alignment.
+abbrev pub GivesUpLive : Position → Call → Type 0
+GivesUpLive x c =
+    is_request x.landing c ≡ true → (arg_number c 2 ≢ 0) × (((arg_number c 0 ≡ 0) × (arg_number c 1 ≡ 0)) ⊎ IsLive x.live (arg_number c 0) (arg_number c 1) (arg_number c 2))
+
+-- a call of the callee, or of post-return
+abbrev pub is_beside : LinkedAdapter → Call → Bool
+is_beside a c = is_call_of a.callee c || is_call_of_any a.lift.post_return c
+
+-- So do all calls but those.
+abbrev pub GiveUpLive : LinkedAdapter → (next : Call → Position → Position) → Position → List Call → Type 0
+GiveUpLive a next x [] = Unit {0}
+GiveUpLive a next x (c ∷ cs) = (is_beside a c ≡ false → GivesUpLive x c) × GiveUpLive a next (next c x) cs
 
 -- ---- ranges of transcoders
 

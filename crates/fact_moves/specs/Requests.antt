@@ -31,11 +31,11 @@ abbrev pub requests_in : Landing → List Call → List Request
 requests_in l cs = map request_of (filter (is_request l) cs)
 
 -- What of the values of a transfer asks for regions, in the order of the destination and the outer before the inner: a tuple that
--- is passed through a new pointer, a list or a map asks for so many bytes, and a text, of so many units in a form, for those of
--- its path.
+-- is passed through a new pointer, a list or a map asks for so many bytes, and a text, of so many units in a form at a pointer, for
+-- those of its path.
 pub data RequestPart : Type 0 where
   RegionPart : (align size : ℕ) → RequestPart
-  TextPart : TextForm → (units : ℕ) → RequestPart
+  TextPart : TextForm → (pointer units : ℕ) → RequestPart
 
 abbrev pub tuple_part : LiftLowerOptions → List Shape → RequestPart
 tuple_part o ts = RegionPart (entry_extent o (tuple_members ts)).align (entry_extent o (tuple_members ts)).size
@@ -82,7 +82,7 @@ text_requests tr f n answers = path_requests tr (path f tr.to.encoding) (path_st
 abbrev pub parts_requests : Transfer → List RequestPart → (answers : List (List CoreValue)) → List Request
 parts_requests tr [] answers = []
 parts_requests tr (RegionPart align size ∷ parts) answers = new_region align size ∷ next_answer answers (λ rs more. parts_requests tr parts more)
-parts_requests tr (TextPart f n ∷ parts) answers = path_requests tr (path f tr.to.encoding) (path_start 0 n) answers (λ v more. parts_requests tr parts more)
+parts_requests tr (TextPart f p n ∷ parts) answers = path_requests tr (path f tr.to.encoding) (path_start 0 n) answers (λ v more. parts_requests tr parts more)
 
 abbrev pub is_transcode : Import → Bool
 is_transcode (import.Transcode o from from64 to to64) = true

@@ -1,6 +1,6 @@
 //! Laws of actions and of adapters.
 
-ghost use Rattle.fact_moves.specs.AdapterLaws.{CallsAreFew, StartCallsAreFew, ReturnCallsAreFew, SyncRunsFollow, CallsAreOrdered, CalleeIsCalledOnce, SourcesAreLeft, TypedRunsStay, TypedStartsStay, TypedReturnsStay, WritesAreOwn, StartWritesAreOwn, ReturnWritesAreOwn, OutcomesAreNamed, StartIsTransfer, ReturnIsTransfer, StartLeavesSource, ReturnLeavesSource, RequestsGrow, ChecksOnlyStop, ValidTypesServe, PlacesAreAligned, StartPlacesAreAligned, ReturnPlacesAreAligned, SameInstanceTraps, TypedSameInstanceStays, AsyncCallsTwice, AsyncCallsWriteNothing, TypedAsyncCallsStay};
+ghost use Rattle.fact_moves.specs.AdapterLaws.{CallsAreFew, StartCallsAreFew, ReturnCallsAreFew, SyncRunsFollow, CallsAreOrdered, CalleeIsCalledOnce, SourcesAreLeft, TypedRunsStay, TypedStartsStay, TypedReturnsStay, WritesAreOwn, StartWritesAreOwn, ReturnWritesAreOwn, RequestsGiveUpLive, StartRequestsGiveUpLive, ReturnRequestsGiveUpLive, OutcomesAreNamed, StartIsTransfer, ReturnIsTransfer, StartLeavesSource, ReturnLeavesSource, RequestsGrow, ChecksOnlyStop, ValidTypesServe, PlacesAreAligned, StartPlacesAreAligned, ReturnPlacesAreAligned, SameInstanceTraps, TypedSameInstanceStays, AsyncCallsTwice, AsyncCallsWriteNothing, TypedAsyncCallsStay};
 ghost use Rattle.fact_moves.specs.Alike.{MovesAreAlike, MovesFillSlots};
 ghost use Rattle.fact_moves.specs.Flags.{BitsGoByName, OtherBitsAreZero};
 ghost use Rattle.fact_moves.specs.OutlinedRows.{ThreeChars, HelpersAreShared, NestOfLists, FixedLists, FuelOfFunctions, FreeTypes, OrdersOfMembers};
@@ -23,6 +23,7 @@ pub fn laws_of_adapters()
     ensures sources_are_left { SourcesAreLeft }
     ensures typed_runs_stay { TypedRunsStay }
     ensures writes_are_own { WritesAreOwn }
+    ensures requests_give_up_live { RequestsGiveUpLive }
     ensures outcomes_are_named { OutcomesAreNamed }
     ensures same_instance_traps { SameInstanceTraps }
     ensures typed_same_instance_stays { TypedSameInstanceStays }
@@ -44,6 +45,8 @@ pub fn laws_of_async_adapters()
     ensures typed_returns_stay { TypedReturnsStay }
     ensures start_writes_are_own { StartWritesAreOwn }
     ensures return_writes_are_own { ReturnWritesAreOwn }
+    ensures start_requests_give_up_live { StartRequestsGiveUpLive }
+    ensures return_requests_give_up_live { ReturnRequestsGiveUpLive }
     ensures start_places_are_aligned { StartPlacesAreAligned }
     ensures return_places_are_aligned { ReturnPlacesAreAligned }
     ensures async_calls_twice { AsyncCallsTwice }

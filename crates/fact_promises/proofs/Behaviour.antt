@@ -20,7 +20,7 @@ use Rattle.fact_types.specs.declared.import.Import.{Import}
 use Rattle.fact_types.specs.declared.import.Import.TheVariants as import
 use Rattle.fact_types.specs.Adapters.{LinkedAdapter}
 use Rattle.fact_moves.specs.Adapters.{AdapterTunables, lower_signature_of}
-use Rattle.fact_moves.specs.Confined.{AreOwnWrites, AreRangedSync, HaveHonestTranscoders, room_in}
+use Rattle.fact_moves.specs.Confined.{GiveUpLive, AreOwnWrites, AreRangedSync, HaveHonestTranscoders, room_in}
 use Rattle.fact_moves.specs.Honest.{IsHonestFrom, IsHonestRun, IsStraight}
 use Rattle.fact_moves.specs.Laws.{call_event}
 use Rattle.fact_moves.specs.Order.{AreOrderedCalls, flag_in}
@@ -28,7 +28,7 @@ use Rattle.fact_moves.specs.Plain.{ended_sync, named_outcome}
 use Rattle.fact_moves.specs.Regions.{landed, params_landing, sync_moved_on}
 use Rattle.fact_moves.specs.Running.{Call, Ended, Gave, Halted, Strayed, calls_in, is_state, moved_weight, world_in}
 use Rattle.fact_moves.proofs.Barriers.{sync_runs_follow}
-use Rattle.fact_moves.proofs.Confines.{confined}
+use Rattle.fact_moves.proofs.Confines.{confined, requests_give_up_live}
 use Rattle.fact_moves.proofs.Ordered.{ordered_calls}
 use Rattle.fact_moves.proofs.Stays.{typed_runs_stay}
 use Rattle.fact_pieces.specs.Runs.{RunReturns, RunsAs}
@@ -37,8 +37,10 @@ use Rattle.fact_carry.proofs.Ending.{honest_returned}
 use Rattle.fact_carry.proofs.Stopping.{AreReturned}
 use Rattle.fact_texts.specs.Answerable.{CanBeAnswered}
 use Rattle.fact_texts.specs.Premises.{KnowsMemories}
+use Rattle.fact_texts.specs.ReadTexts.{AreValuesThere, ReadTexts}
 use Rattle.fact_texts.specs.Requested.{AreRequested, StopsFinishing}
 use Rattle.fact_texts.proofs.AdapterRanges.{transcoders_are_ranged, transcoders_can_be_answered}
+use Rattle.fact_texts.proofs.AdapterReads.{transcoders_read_texts}
 use Rattle.fact_texts.specs.PassingChecks.{PassChecks}
 use Rattle.fact_texts.proofs.ChecksPass.{adapters_come_to_end}
 use Rattle.fact_texts.proofs.Finished.{adapters_are_faithful, adapters_weigh}
@@ -139,6 +141,12 @@ module _ (m : WasmModule) (is : List Import) (u : AdapterTunables) (a : LinkedAd
 
   memories : KnowsMemories (places_in m is) a
   memories = record { lower = h.checked.lower_memory; lift = h.checked.lift_memory; two = h.checked.memories }
+
+  gives_up_live : (steps : ℕ) (cs : List Call) → IsTypedRun m a args before (at steps).log → AreCalls m is (at steps).log cs → GiveUpLive a (sync_moved_on a args) (landed (params_landing a)) cs
+  gives_up_live steps cs typed are =
+      let e = called_so_far steps typed in
+      subst (GiveUpLive a (sync_moved_on a args) (landed (params_landing a))) (sym (e.its_calls cs are))
+      (requests_give_up_live (places_in m is) u a args (first_world before (its_answers m f args before answers steps)) h.checked.own_callee (has_room (places_in m is) a h.checked))
 
   is_ranged : (steps : ℕ) (cs : List Call) → IsTypedRun m a args before (at steps).log → AreCalls m is (at steps).log cs → HaveHonestTranscoders (places_in m is) cs → AreRangedSync (places_in m is) a args cs
   is_ranged steps cs typed are honest =
@@ -265,6 +273,15 @@ module _ (m : WasmModule) (is : List Import) (u : AdapterTunables) (a : LinkedAd
       callees_are_given (places_in m is) u a args (first_world before (its_answers m f args before answers steps)) off may h.checked h.sync_sides
       (honest_at (so_far steps) steps honest.typed e.goes_straight honest.calls same honest.honest) front callee behind (sym same ∙ parted) called
 
+  reads_texts : (steps : ℕ) (honest : IsHonestToTrapSoFar m is a args before (at steps).log) → flag_in (places_in m is) a.lower.instance before.globals ≢ I32 0
+      → AreValuesThere (places_in m is) a args before honest.calls → ReadTexts (places_in m is) honest.calls
+  reads_texts steps honest may there =
+      let e = called_so_far steps honest.typed in
+      let same = e.its_calls honest.calls honest.are_calls in
+      subst (ReadTexts (places_in m is)) (sym same)
+      (transcoders_read_texts (places_in m is) u a args (first_world before (its_answers m f args before answers steps)) may h.checked h.sync_sides
+      (honest_at (so_far steps) steps honest.typed e.goes_straight honest.calls same honest.honest) (subst (AreValuesThere (places_in m is) a args before) same there))
+
   -- ---- traps
 
   calls_no_trap : (steps : ℕ) (honest : IsHonestSoFar m is a args before (at steps).log) → IsOver (at steps).end → CallNoTrap honest.calls
@@ -308,8 +325,10 @@ functions_behave m is u a adapters f h = record {
   is_ordered = λ args before answers steps results calls typed are returns. is_ordered m is u a adapters f h args before answers steps results typed returns calls are;
   asks = λ args before answers steps honest. asks m is u a adapters f h args before answers steps honest;
   passes = λ args before answers steps honest off may front callee behind parted called. passes m is u a adapters f h args before answers steps honest off may front callee behind parted called;
+  reads_texts = λ args before answers steps honest may there. reads_texts m is u a adapters f h args before answers steps honest may there;
   calls_no_trap = λ args before answers steps honest over. calls_no_trap m is u a adapters f h args before answers steps honest over;
   is_confined = λ args before answers steps cs typed are. is_confined m is u a adapters f h args before answers steps typed cs are;
+  gives_up_live = λ args before answers steps cs typed are. gives_up_live m is u a adapters f h args before answers steps cs typed are;
   is_ranged = λ args before answers steps cs typed are honest. is_ranged m is u a adapters f h args before answers steps cs typed are honest;
   can_be_answered = λ args before answers steps cs typed are honest. can_be_answered m is u a adapters f h args before answers steps cs typed are honest;
   ends = λ args before answers honest pass limits. ends m is u a adapters f h args before answers honest pass limits;

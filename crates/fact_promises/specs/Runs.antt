@@ -20,7 +20,7 @@ use Rattle.fact_types.specs.Adapters.{LinkedAdapter}
 use Rattle.fact_types.specs.declared.outside.Trap.TheVariants.{CannotEnterComponent}
 use Rattle.fact_moves.specs.Adapters.{AdapterTunables}
 use Rattle.fact_moves.specs.AdapterLaws.{begins, is_write}
-use Rattle.fact_moves.specs.Confined.{AreOwnWrites, AreRangedSync, HaveHonestTranscoders, room_in}
+use Rattle.fact_moves.specs.Confined.{AreOwnWrites, GiveUpLive, AreRangedSync, HaveHonestTranscoders, room_in}
 use Rattle.fact_moves.specs.Honest.{AreHonestSync}
 use Rattle.fact_moves.specs.Order.{AreOrderedCalls, flag_in}
 use Rattle.fact_moves.specs.Plain.{NamedOutcome, sync_outcome}
@@ -29,6 +29,7 @@ use Rattle.fact_moves.specs.Running.{ImportPlaces, Call}
 use Rattle.fact_pieces.specs.Runs.{IsPlainRun, numbered_outcome}
 use Rattle.fact_carry.specs.Faithful.{IsFaithful, IsInLimits, IsTransferred, params_given, params_passed, whole_weight}
 use Rattle.fact_texts.specs.Answerable.{CanBeAnswered}
+use Rattle.fact_texts.specs.ReadTexts.{AreValuesThere, ReadTexts}
 use Rattle.fact_texts.specs.Requested.{AreFinished, AreSoFar}
 use Rattle.fact_texts.specs.Trapped.{AreHonestUntilTrap}
 use Rattle.fact_texts.specs.PassingChecks.{PassChecks}
@@ -142,6 +143,13 @@ pub record Behaves (m : WasmModule) (is : List Import) (u : AdapterTunables) (a 
       → u.debug ≡ false → flag_in (places_in m is) a.lower.instance before.globals ≢ I32 0
       → (front : List Call) (callee : Call) (behind : List Call) → h.calls ≡ front ++ (callee ∷ behind) → callee.what ≡ import.CoreDef a.callee
       → IsTransferred a.lower.params a.lift.params (params_given (places_in m is) a args before) (params_passed (places_in m is) a callee) front
+  -- Where the values of such a run are there on the side that they come from, each transcoder that it has called is to read a whole text, the last
+  -- one too, and has the room that it needs where it widens what is there.
+  pub reads_texts : (args : List CoreValue) (before : MachineState) (answers : List Answer) (steps : ℕ)
+      → (h : IsHonestToTrapSoFar m is a args before (run_of m f args before answers steps).log)
+      → flag_in (places_in m is) a.lower.instance before.globals ≢ I32 0
+      → AreValuesThere (places_in m is) a args before h.calls
+      → ReadTexts (places_in m is) h.calls
   -- Where an honest run returned, or an answer is lacking, it has called no trap.
   pub calls_no_trap : (args : List CoreValue) (before : MachineState) (answers : List Answer) (steps : ℕ)
       → (h : IsHonestSoFar m is a args before (run_of m f args before answers steps).log)
@@ -153,6 +161,12 @@ pub record Behaves (m : WasmModule) (is : List Import) (u : AdapterTunables) (a 
       → IsTypedRun m a args before (run_of m f args before answers steps).log
       → AreCalls m is (run_of m f args before answers steps).log calls
       → AreOwnWrites (places_in m is) (sync_moved_on a args) (landed (params_landing a)) (room_in (places_in m is) (landed (params_landing a)) before) (trace_of m f args before answers steps) calls
+  -- Each call of realloc so far was told of an alignment other than 0, and to give up nothing, or a region that was live then and has that
+  -- alignment, but where it is post-return.
+  pub gives_up_live : (args : List CoreValue) (before : MachineState) (answers : List Answer) (steps : ℕ) (calls : List Call)
+      → IsTypedRun m a args before (run_of m f args before answers steps).log
+      → AreCalls m is (run_of m f args before answers steps).log calls
+      → GiveUpLive a (sync_moved_on a args) (landed (params_landing a)) calls
   -- Where transcoders answer honestly, whatever else is answered, each one that a run has called so far reads whole units within the
   -- memory that values come from, and may write within a sound live region alone.
   pub is_ranged : (args : List CoreValue) (before : MachineState) (answers : List Answer) (steps : ℕ) (calls : List Call)

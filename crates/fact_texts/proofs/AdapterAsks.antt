@@ -1,4 +1,4 @@
--- The transfers of adapters ask of realloc what the parts of their values do.
+-- The transfers of adapters ask of realloc what the parts of their values do, and read whole texts where those of the parts are there.
 use Rattle.std.proofs.Common.{◌≡◌, ℕ, List, [], ◌∷◌, ◌++◌, Option, Some, None, sym, ap, ◌∙◌, subst}
 use Rattle.std.proofs.lemmas.List.{append-nil}
 use Rattle.fact_wasm.specs.declared.types.ValType.{ValType}
@@ -23,6 +23,7 @@ use Rattle.fact_carry.specs.Regions.{TransferSetting, AreBytesOf}
 use Rattle.fact_texts.specs.Parts.{source_of_types, parts_of_fields, parts_of_params, parts_of_results}
 use Rattle.fact_texts.specs.Premises.{KnowsMemories}
 use Rattle.fact_texts.specs.Requested.{AsksFor}
+use Rattle.fact_texts.specs.ReadTexts.{ReadTexts}
 use Rattle.fact_texts.specs.Rooms.{AllCutsShrink}
 use Rattle.fact_texts.specs.Trapped.{AreHonestUntilTrap, answers_so_far}
 use Rattle.fact_texts.proofs.AllAsked.{fields_ask}
@@ -30,6 +31,8 @@ use Rattle.fact_texts.proofs.Answered.{position}
 use Rattle.fact_texts.proofs.Asking.{Answers, AsksEnd}
 use Rattle.fact_texts.proofs.Cutting.{TellsEnd}
 use Rattle.fact_texts.proofs.Fine.{HasKnownSides}
+use Rattle.fact_texts.proofs.PartTexts.{AreTextsThere}
+use Rattle.fact_texts.proofs.ReadRuns.{IsSet, ReadsEnd}
 use Rattle.fact_texts.proofs.PartAsks.{AsksParts, anything, parts_then, parts_alone, handed, parts_give, parts_check, parts_reallocate, parts_first}
 use Rattle.fact_texts.proofs.Trapped.{GivesReturned, gives_returned, all_honest, all_answers}
 
@@ -38,6 +41,12 @@ use Rattle.fact_texts.proofs.Trapped.{GivesReturned, gives_returned, all_honest,
 -- What the calls of an end ask for, where they are honest until a trap: all that parts ask for, or so far a front of it.
 abbrev pub HonestlyAsks : TransferSetting → List RequestPart → Ended (List CoreValue) → Type 0
 HonestlyAsks c xs e = AreHonestUntilTrap (AreHonestCalls c []) (calls_in e) → AsksFor c.transfer (position c []).landing xs e
+
+-- What transcoders read until an end, where its calls are honest until a trap: whole texts.
+abbrev pub HonestlyReads : TransferSetting → Ended (List CoreValue) → Type 0
+HonestlyReads c (Gave n cs vs w) = AreHonestUntilTrap (AreHonestCalls c []) cs → ReadTexts c.places cs
+HonestlyReads c (Halted n cs s w) = AreHonestUntilTrap (AreHonestCalls c []) cs → ReadTexts c.places cs
+HonestlyReads c (Strayed n cs w) = Unit {0}
 
 module _ (c : TransferSetting) (known : HasKnownSides c) where
   abbrev A : List RequestPart → Action (List CoreValue) → Type 0
@@ -65,6 +74,14 @@ module _ (c : TransferSetting) (known : HasKnownSides c) where
           let l = (position c []).landing in
           (subst (λ l2. Grows (requests_in l cs) l2) (parts_are xs (answers_so_far l cs)) (j o [] (λ more. [])), cuts_are (answers_so_far l cs) (t o))
       by_end (Strayed n cs w') returned j t = λ o. tt
+
+  pub reads_for : (xs : List RequestPart) (q : Action (List CoreValue)) (w : World) → A xs q → AreTextsThere c xs → IsSet c known w.state → HonestlyReads c (run c.places q w)
+  reads_for xs q w h there set = by_end (run c.places q w) (gives_returned c.places q w) ((h.reads there).by [] w set)
+    where
+      by_end : (e : Ended (List CoreValue)) → GivesReturned e → ReadsEnd c known [] e → HonestlyReads c e
+      by_end (Gave n cs vs w') returned j = λ o. (j (all_honest (AreHonestCalls c []) cs returned o)).0
+      by_end (Halted n cs s w') returned j = j
+      by_end (Strayed n cs w') returned j = tt
 
   -- ---- tuples
 

@@ -16,8 +16,8 @@ use Rattle.fact_moves.specs.Running.{Call}
 use Rattle.fact_carry.specs.Honest.{IsTranscoded, IsHonestResult}
 use Rattle.fact_carry.specs.Regions.{TransferSetting, request_by, old_region, region_from, regions_by}
 
--- Honest answers of transcoders between the memories of the two sides; and of all else where Kept holds, which then neither traps
--- nor throws.
+-- Honest answers of transcoders between the memories of the two sides; and of all else where Kept holds, which then does not throw. A call
+-- that traps is the last of a run.
 abbrev pub IsReturnHonest : (Kept : Type 0) → TransferSetting → List Region → Import → (args results : List CoreValue) → (before after : MachineState) → Type 0
 IsReturnHonest Kept c gs (import.Transcode o from from64 to to64) args rs before after =
     IsMemoryOf c.transfer.from from from64 → IsMemoryOf c.transfer.to to to64 → IsTranscoded c o (record { what = import.Transcode o from from64 to to64; args = args; before = before; answer = Returns rs after })
@@ -25,7 +25,7 @@ IsReturnHonest Kept c gs i args rs before after = Kept → IsHonestResult c gs i
 
 abbrev pub IsAnswerHonest : (Kept : Type 0) → TransferSetting → List Region → Import → List CoreValue → MachineState → Answer → Type 0
 IsAnswerHonest Kept c gs i args before (Returns rs after) = IsReturnHonest Kept c gs i args rs before after
-IsAnswerHonest Kept c gs i args before Traps = Kept → ⊥
+IsAnswerHonest Kept c gs i args before Traps = Unit {0}
 IsAnswerHonest Kept c gs i args before Throws = Kept → ⊥
 
 abbrev pub AreAnswersHonest : (Kept : Type 0) → TransferSetting → List Region → List Call → Type 0

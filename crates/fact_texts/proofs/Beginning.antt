@@ -1,5 +1,5 @@
 -- Where a walk begins.
-use Rattle.std.proofs.Common.{◌≡◌, ℕ, ◌+◌, ◌*◌, ◌%◌, ◌^◌, ◌≤◌, ◌<◌, ◌⊎◌, inl, inr, Bool, true, false, List, [], ◌∷◌, length, take, drop, refl, ap, arith, length-take, length-drop}
+use Rattle.std.proofs.Common.{◌≡◌, ℕ, ◌+◌, ◌*◌, ◌%◌, ◌^◌, ◌≤◌, ◌<◌, ◌⊎◌, inl, inr, Bool, true, false, List, [], ◌∷◌, length, take, drop, refl, sym, ap, subst, arith, length-take, length-drop}
 use Rattle.std.specs.Prelude.{nat_eq, ◌&&◌, if◌then◌else◌}
 use Rattle.std.proofs.lemmas.Bool.{eqb-true, false≢true}
 use Rattle.fact_types.specs.declared.outside.FixedEncoding.{FixedEncoding}
@@ -18,6 +18,8 @@ use Rattle.fact_texts.proofs.Equipped.{IsEquipped}
 use Rattle.fact_texts.proofs.Stages.{Stage, beginning}
 use Rattle.fact_texts.proofs.States.{from_bytes, to_bytes, There}
 use Rattle.fact_texts.proofs.Invariant.{Inv}
+use Rattle.fact_texts.proofs.ReadCalls.{SpellsSome}
+use Rattle.fact_texts.proofs.Transfers.{first as from_first}
 
 -- ---- live regions
 
@@ -84,4 +86,5 @@ module _ {c : TransferSetting} (e : IsEquipped c) (Kept Good : Type 0) (kept : G
         frame = λ k j l. refl;
         grown = omega arith;
         same = λ k. refl;
+        left = λ k t. subst (SpellsSome f) (sym (from_first f units_at)) t;
       }

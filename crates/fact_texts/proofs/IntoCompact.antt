@@ -196,7 +196,7 @@ module _ (Kept Good : Type 0) (f : FixedEncoding) (n : ℕ) where
       long,
       refl,
       tt,
-      tt,
+      refl,
       omega arith,
       λ a1 b1 h.
           let h1 = subst (λ l. IsHonestPass Narrow f Latin1 (record { room = 0 * n - 0; latin1_bytes = [] }) l a1 b1) (first f us) h in

@@ -21,6 +21,7 @@ use Rattle.fact_carry.specs.Regions.{TransferSetting, IsInHand}
 use Rattle.fact_texts.proofs.Equipped.{IsEquipped}
 use Rattle.fact_texts.proofs.Stages.{Stage, amount_at}
 use Rattle.fact_texts.proofs.States.{from_bytes, to_bytes, There}
+use Rattle.fact_texts.proofs.ReadCalls.{SpellsSome}
 use Rattle.fact_texts.proofs.Reallocs.{Got}
 
 -- ---- numbers modulo a width
@@ -137,6 +138,10 @@ without_first r gs = ap (λ b. if b && nat_eq r.size r.size then gs else r ∷ w
 
 -- ---- the invariant
 
+-- bytes at a pointer of a memory spell a text
+abbrev pub SourceSpells : FixedEncoding → (p size : ℕ) → (memory : List ℕ) → Type 0
+SourceSpells f p size memory = SpellsSome f (take size (drop p memory))
+
 -- The source has n units of an encoding in so many bytes from p0 on, gs are the other live regions, and base and first are the memories of the destination
 -- and of the source in the beginning.
 module _ {c : TransferSetting} (e : IsEquipped c) (Kept Good : Type 0) (kept : Good → Kept) (f : FixedEncoding) (n p0 size0 : ℕ) (gs : List Region) (base first : List ℕ) where
@@ -171,6 +176,14 @@ module _ {c : TransferSetting} (e : IsEquipped c) (Kept Good : Type 0) (kept : G
     pub frame : Kept → (j : ℕ) → IsInHand c gs j → get_or (to_bytes e s) j 0 ≡ get_or base j 0
     pub grown : length base ≤ length (to_bytes e s)
     pub same : Kept → from_bytes e s ≡ first
+    -- where the source spells a text, what is left of it does
+    pub left : Kept → SourceSpells f p0 size0 first → SpellsSome f (drop (unit_bytes f * st.read) us)
+
+  -- the whole source, where nothing of it has changed
+  pub whole_source : (live : List Region) (us : List ℕ) (st : Stage) (v : PathPoint) (s : MachineState) → Inv live us st v s → Kept → SourceSpells f p0 size0 first → SpellsSome f us
+  whole_source live us st v s inv z t =
+      subst (SpellsSome f)
+      (sym (sym inv.source ∙ ap (λ k. take k (drop v.source (from_bytes e s))) inv.size_is ∙ ap (λ a. take size0 (drop a (from_bytes e s))) inv.source_is ∙ ap (λ m. take size0 (drop p0 m)) (inv.same z))) t
 
   -- Behind realloc the source and what stands in the region may have changed, unless it is honest.
   pub record Resized (us : List ℕ) (st : Stage) (v : PathPoint) (s : MachineState) (q new : ℕ) : Type 0 where
@@ -192,12 +205,13 @@ module _ {c : TransferSetting} (e : IsEquipped c) (Kept Good : Type 0) (kept : G
       let have = take k (drop q to) in
       let size2 : length us2 ≡ length us = omega (arith, length-take (length us) (drop v.source from), length-drop v.source from, inv.source_in, g.later.from_longer) in
       let long2 : length have ≡ k = omega (arith, length-take k (drop q to), length-drop q to, g.inside) in
+      let kept_units : Kept → us2 ≡ us = λ z. ap (λ m. take (length us) (drop v.source m)) (g.honest z).source ∙ inv.source in
       record {
         us2 = us2;
         have = have;
         l1 = size2;
         l2 = long2;
-        same = λ z. ap (λ m. take (length us) (drop v.source m)) (g.honest z).source ∙ inv.source;
+        same = kept_units;
         keeps = λ z. take_same k (drop q to) st.have (omega (arith, length-drop q to, g.inside)) (omega arith)
             (λ i lt. get_or-drop q to i 0 ∙ (g.honest z).holds i (omega (arith, lt, inv.long)) (omega (arith, lt)) ∙ inv.stand i (omega (arith, lt))) ∙ take_min new st.have;
         inv = record {
@@ -222,5 +236,6 @@ module _ {c : TransferSetting} (e : IsEquipped c) (Kept Good : Type 0) (kept : G
           frame = λ z j l. (g.honest z).others j (other j l) ∙ inv.frame z j l;
           grown = omega (arith, inv.grown, g.later.to_longer);
           same = λ z. (g.honest z).source ∙ inv.same z;
+          left = λ z t. subst (λ l. SpellsSome f (drop (unit_bytes f * st.read) l)) (sym (kept_units z)) (inv.left z t);
         };
       }

@@ -1,5 +1,6 @@
 mod AdapterAsks
 pub mod AdapterRanges
+pub mod AdapterReads
 mod AllAsked
 mod AllPaths
 mod AllRanged
@@ -8,13 +9,13 @@ mod Answerable
 mod Answered
 mod Asking
 mod Beginning
-mod Bounds
+pub mod Bounds
 mod CheckedRows
 pub mod ChecksPass
 mod Copies
 mod Cutting
-mod Decoded
-mod Encoded
+pub mod Decoded
+pub mod Encoded
 mod Equipped
 mod Fine
 pub mod Finished
@@ -28,14 +29,18 @@ mod IntoCompact
 mod IntoUtf8
 mod Invariant
 mod Limited
+mod Means
 mod PartAsks
 pub mod PartRooms
-mod Means
+pub mod PartTexts
 mod Passes
 mod PastLimits
+pub mod Prefixes
 mod RangeLaw
 mod Ranging
-pub mod Prefixes
+mod ReadCalls
+mod ReadRuns
+mod ReadWalks
 mod Reading
 mod Reallocs
 mod RequestCases
@@ -45,19 +50,20 @@ mod Served
 mod SparedMoves
 mod SparedTexts
 mod Spares
-mod Spelled
-mod Splits
+pub mod Spelled
+pub mod Splits
 mod Stages
 mod States
 mod TextCuts
-mod TextLaw
+pub mod TextLaw
 mod TextRooms
 pub mod Thrown
 mod Trails
-mod Trapped
 mod Transfers
+mod Trapped
 mod Trapping
 pub mod TupleRooms
+mod TupleTexts
 mod TypedTexts
 mod Unread
 mod WalkAsks

@@ -15,6 +15,7 @@ use Rattle.fact_texts.proofs.Beginning.{no_region, units_at, length_units, known
 use Rattle.fact_moves.specs.Running.{Call}
 use Rattle.fact_texts.proofs.Answered.{MovesAlong}
 use Rattle.fact_texts.proofs.Walking.{calls, ReadsIn, reads_in, few_calls, WalkReached, walks_path}
+use Rattle.fact_texts.proofs.Invariant.{SourceSpells}
 use Rattle.fact_texts.proofs.Spelled.{form_encoding}
 
 module _ {c : TransferSetting} (e : IsEquipped c) (Kept Good : Type 0) (kept : Good → Kept) (never : Good → ⊥) (form : TextForm) (units p : ℕ) (gs : List Region) (w : World) where
@@ -25,7 +26,7 @@ module _ {c : TransferSetting} (e : IsEquipped c) (Kept Good : Type 0) (kept : G
   behind_limit = (limited form c.transfer.to.encoding).rest
 
   pub walks_limited : {next : Call → Position → Position} → MovesAlong c next → There e w.state → p % unit_bytes (form_encoding form) ≡ 0 → p + unit_bytes (form_encoding form) * units ≤ length (from_bytes e w.state) → units ≤ most_string_bytes / (limited form c.transfer.to.encoding).most
-      → Walks c next Kept Good 29 gs WalkEnded (walk c.transfer behind_limit (path_start p units)) w
+      → Walks c next Kept Good (SourceSpells (form_encoding form) p (unit_bytes (form_encoding form) * units) (from_bytes e w.state)) 29 gs WalkEnded (walk c.transfer behind_limit (path_start p units)) w
   walks_limited {next} steps there aligned inside le =
       let l = limited form c.transfer.to.encoding in
       let us = units_at e Kept Good kept (form_encoding form) units p gs w.state in

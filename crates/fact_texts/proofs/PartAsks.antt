@@ -1,6 +1,7 @@
 -- Parts of moves ask of realloc what the parts of their values do.
 use Rattle.std.proofs.Common.{◌≡◌, ℕ, zero, suc, ◌+◌, ◌*◌, ◌%◌, ◌^◌, Bool, true, false, List, [], ◌∷◌, ◌++◌, length, Option, Some, None, refl, sym, ap, ◌∙◌, subst, arith, append_assoc}
 use Rattle.std.specs.Prelude.{slice_get, slice_set, nat_eq, nat_le, nat_lt, if◌then◌else◌}
+use Rattle.std.proofs.lemmas.Bool.{false≢true}
 use Rattle.std.proofs.lemmas.List.{append-nil}
 use Rattle.fact_wasm.specs.declared.types.ValType.{ValType}
 use Rattle.fact_types.proofs.ShapeLaws.{none_some, same_some}
@@ -9,6 +10,7 @@ use Rattle.fact_types.specs.Signatures.{width}
 use Rattle.fact_types.specs.FlatShapes.{pointer}
 use Rattle.fact_types.specs.Steps.{◌>>=◌ as and_then}
 use Rattle.fact_types.specs.declared.import.Import.{Import}
+use Rattle.fact_types.specs.declared.import.Import.TheVariants as import
 use Rattle.fact_types.specs.declared.outside.CoreDef.{CoreDef}
 use Rattle.fact_types.specs.declared.outside.MemoryOption.{MemoryOption}
 use Rattle.fact_types.specs.declared.outside.StringEncoding.{StringEncoding}
@@ -27,17 +29,21 @@ use Rattle.fact_moves.specs.Calls.{is_import_of}
 use Rattle.fact_moves.specs.Paths.{TextForm, AsUtf8, AsUtf16, AsCompactLatin1, AsCompactUtf16, path}
 use Rattle.fact_moves.specs.Regions.{Region}
 use Rattle.fact_moves.specs.Requests.{Request, RequestPart, RegionPart, TextPart, new_region, next_answer, path_requests, parts_requests, is_transcode}
-use Rattle.fact_moves.specs.Running.{Ended, Gave, Halted, Strayed, or_strayed, ended, run}
+use Rattle.fact_moves.specs.Running.{ImportPlaces, Call, Ended, Gave, Halted, Strayed, or_strayed, ended, run}
 use Rattle.fact_moves.specs.Adapters.{none}
 use Rattle.fact_moves.specs.Sides.{LiftLowerOptions, Transfer, Source, Values, AtAddress, Target, Slots, Into, with_memory, low_half, bytes_of_addresses, first_bits, nth_part, nth_spot, read_number, write_number, read_pair, write_pair, check_region, reallocate}
 use Rattle.fact_moves.specs.Strings.{PathPoint, path_start, walk, form_in, move_string}
 use Rattle.fact_carry.proofs.Bytes.{get_set_other}
 use Rattle.fact_carry.specs.Regions.{TransferSetting, AreBytesOf}
 use Rattle.fact_texts.specs.Parts.{pair_of_source, parts_of_some, parts_of_each}
+use Rattle.fact_texts.specs.ReadTexts.{ReadsTextBy}
 use Rattle.fact_texts.specs.Rooms.{CutsShrink, AllCutsShrink}
 use Rattle.fact_texts.proofs.Asking.{Answers, Asks, AsksEnd, HasBytesOf, asks_give, asks_stop, asks_visit, asks_like, asks_other, asks_unless, asks_with, asks_bind}
 use Rattle.fact_texts.proofs.Cutting.{Tells, TellsEnd, tells_give, tells_stop, tells_visit, tells_like, tells_other, tells_unless, tells_with, tells_check, tells_reallocate, tells_bind}
 use Rattle.fact_texts.proofs.Fine.{HasKnownSides}
+use Rattle.fact_texts.proofs.PartTexts.{AreTextsThere, there_parts}
+use Rattle.fact_texts.proofs.ReadRuns.{Reads, reads_give, reads_stop, reads_visit, reads_call, reads_unless, reads_with, reads_check, reads_reallocate, reads_read, reads_bind, reads_write}
+use Rattle.fact_texts.proofs.ReadWalks.{walk_reads}
 use Rattle.fact_texts.proofs.TextCuts.{walk_tells, path_shrinks, cuts_apart}
 use Rattle.fact_texts.proofs.WalkAsks.{at_point, asks_check, asks_reallocate, walk_asks, source_apart, next_same}
 
@@ -46,17 +52,17 @@ use Rattle.fact_texts.proofs.WalkAsks.{at_point, asks_check, asks_reallocate, wa
 abbrev pub parts_then : Transfer → List RequestPart → Answers → (Answers → List Request) → List Request
 parts_then tr [] l k = k l
 parts_then tr (RegionPart align size ∷ xs) l k = new_region align size ∷ next_answer l (λ rs more. parts_then tr xs more k)
-parts_then tr (TextPart f n ∷ xs) l k = path_requests tr (path f tr.to.encoding) (path_start 0 n) l (λ v more. parts_then tr xs more k)
+parts_then tr (TextPart f p n ∷ xs) l k = path_requests tr (path f tr.to.encoding) (path_start 0 n) l (λ v more. parts_then tr xs more k)
 
 parts_append : (tr : Transfer) (xs ys : List RequestPart) (l : Answers) (k : Answers → List Request) → parts_then tr (xs ++ ys) l k ≡ parts_then tr xs l (λ more. parts_then tr ys more k)
 parts_append tr [] ys l k = refl
 parts_append tr (RegionPart align size ∷ xs) ys l k = ap (λ r. new_region align size ∷ r) (next_same tr 0 l _ _ (λ rs more. parts_append tr xs ys more k))
-parts_append tr (TextPart f n ∷ xs) ys l k = source_apart tr 0 (path f tr.to.encoding) (path_start 0 n) l _ _ (λ v more. parts_append tr xs ys more k)
+parts_append tr (TextPart f p n ∷ xs) ys l k = source_apart tr 0 (path f tr.to.encoding) (path_start 0 n) l _ _ (λ v more. parts_append tr xs ys more k)
 
 pub parts_alone : (tr : Transfer) (xs : List RequestPart) (l : Answers) → parts_then tr xs l (λ more. []) ≡ parts_requests tr xs l
 parts_alone tr [] l = refl
 parts_alone tr (RegionPart align size ∷ xs) l = ap (λ r. new_region align size ∷ r) (next_same tr 0 l _ _ (λ rs more. parts_alone tr xs more))
-parts_alone tr (TextPart f n ∷ xs) l = source_apart tr 0 (path f tr.to.encoding) (path_start 0 n) l _ _ (λ v more. parts_alone tr xs more)
+parts_alone tr (TextPart f p n ∷ xs) l = source_apart tr 0 (path f tr.to.encoding) (path_start 0 n) l _ _ (λ v more. parts_alone tr xs more)
 
 -- what is asked for behind does not hang on what is given
 abbrev pub handed : {A : Type 0} → (Answers → List Request) → A → Answers → List Request
@@ -69,11 +75,27 @@ some_pair p n = Some (record { pointer = p; count = n })
 pair_same : {p n x y : ℕ} → Some x ≡ Some p → Some y ≡ Some n → some_pair x y ≡ some_pair p n
 pair_same {p} {n} {x} {y} e f = ap (λ z. some_pair z y) (same_some (Some x) x p refl e) ∙ ap (λ z. some_pair p z) (same_some (Some y) y n refl f)
 
+-- a call of no transcoder reads no text
+reads_other : (i : Import) (p : ImportPlaces) (x : Call) → is_transcode i ≡ false → ReadsTextBy i p x
+reads_other (import.Transcode o from from64 to to64) p x h = absurd (false≢true (sym h))
+reads_other (import.CoreDef d) p x h = tt
+reads_other (import.PrepareCall memory) p x h = tt
+reads_other (import.StartCall callback post_return) p x h = tt
+reads_other import.ResourceTransferOwn p x h = tt
+reads_other import.ResourceTransferBorrow p x h = tt
+reads_other import.FutureTransfer p x h = tt
+reads_other import.StreamTransfer p x h = tt
+reads_other import.ErrorContextTransfer p x h = tt
+reads_other (import.Trap t) p x h = tt
+reads_other import.EnterSyncCall p x h = tt
+reads_other import.ExitSyncCall p x h = tt
+reads_other (import.UnsafeIntrinsic s) p x h = tt
+
 -- where nothing is answered yet
 pub unanswered : (tr : Transfer) (xs : List RequestPart) → AllCutsShrink tr xs []
 unanswered tr [] = tt
 unanswered tr (RegionPart align size ∷ xs) = tt
-unanswered tr (TextPart f n ∷ xs) = by_path f tr.to.encoding
+unanswered tr (TextPart f p n ∷ xs) = by_path f tr.to.encoding
   where
     by_path : (f : TextForm) (e : StringEncoding) → CutsShrink tr (path f e) (path_start 0 n) [] (λ v more. AllCutsShrink tr xs more)
     by_path AsUtf8 string.Utf8 = (tt, tt)
@@ -101,37 +123,44 @@ module _ (c : TransferSetting) (known : HasKnownSides c) where
   abbrev pub CutsBehind : {A : Type 0} → (xs behind : List RequestPart) → Action A → Type 0
   CutsBehind xs ys q = Tells c known anything (λ a. cuts_of ys) (cuts_of (xs ++ ys)) q
 
-  -- An action by honest calls asks for what these parts ask for, and no region that it cuts grows.
+  -- An action by honest calls asks for what these parts ask for, no region that it cuts grows, and where their texts are there transcoders read
+  -- whole ones.
   pub record AsksParts {A : Type 0} (xs : List RequestPart) (q : Action A) : Type 0 where
     pub asks : Asks c known handed (λ l k. parts_then c.transfer xs l k) q
     pub cuts : (behind : List RequestPart) → CutsBehind xs behind q
+    pub reads : AreTextsThere c xs → Reads c known q
 
   module _ {A : Type 0} where
     pub parts_give : (a : A) → AsksParts [] (Give a)
-    parts_give a = record { asks = asks_give c known a; cuts = λ ys. tells_give c known a tt (unanswered c.transfer ys) (λ more x. x) }
+    parts_give a = record { asks = asks_give c known a; cuts = λ ys. tells_give c known a tt (unanswered c.transfer ys) (λ more x. x); reads = λ t. reads_give c known a }
 
     pub parts_stop : (xs : List RequestPart) → AsksParts {A = A} xs Unreachable
-    parts_stop xs = record { asks = asks_stop c known _; cuts = λ ys. tells_stop c known (unanswered c.transfer (xs ++ ys)) }
+    parts_stop xs = record { asks = asks_stop c known _; cuts = λ ys. tells_stop c known (unanswered c.transfer (xs ++ ys)); reads = λ t. reads_stop c known }
 
     pub parts_visit : (n : ℕ) {xs : List RequestPart} {q : Action A} → AsksParts xs q → AsksParts xs (Visit n q)
-    parts_visit n {xs} {q} h = record { asks = asks_visit c known n _ q h.asks; cuts = λ ys. tells_visit c known n (h.cuts ys) }
+    parts_visit n {xs} {q} h = record { asks = asks_visit c known n _ q h.asks; cuts = λ ys. tells_visit c known n (h.cuts ys); reads = λ t. reads_visit c known n (h.reads t) }
 
     pub parts_unless : (t : TrapCode) (b : Bool) {xs : List RequestPart} {q : Action A} → (b ≡ true → AsksParts xs q) → AsksParts xs (unless t b q)
-    parts_unless t b {xs} {q} h = record { asks = asks_unless c known _ t b q (λ e. (h e).asks); cuts = λ ys. tells_unless c known t b (unanswered c.transfer (xs ++ ys)) (λ e. (h e).cuts ys) }
+    parts_unless t b {xs} {q} h = record { asks = asks_unless c known _ t b q (λ e. (h e).asks); cuts = λ ys. tells_unless c known t b (unanswered c.transfer (xs ++ ys)) (λ e. (h e).cuts ys); reads = λ z. reads_unless c known t b (λ e. (h e).reads z) }
 
     pub parts_with : (o : LiftLowerOptions) {xs : List RequestPart} {k : MemoryOption → Action A} → ((m : MemoryOption) → o.memory ≡ Some m → AsksParts xs (k m)) → AsksParts xs (with_memory o k)
-    parts_with o {xs} {k} h = record { asks = asks_with c known _ o k (λ m is. (h m is).asks); cuts = λ ys. tells_with c known o (unanswered c.transfer (xs ++ ys)) (λ m is. (h m is).cuts ys) }
+    parts_with o {xs} {k} h = record { asks = asks_with c known _ o k (λ m is. (h m is).asks); cuts = λ ys. tells_with c known o (unanswered c.transfer (xs ++ ys)) (λ m is. (h m is).cuts ys); reads = λ t. reads_with c known o (λ m is. (h m is).reads t) }
 
     pub parts_check : (o : LiftLowerOptions) (t : TrapCode) (p n align : ℕ) {xs : List RequestPart} {q : Action A} → AsksParts xs q → AsksParts xs (check_region o t p n align q)
-    parts_check o t p n align {xs} {q} h = record { asks = asks_check c known _ o t p n align q h.asks; cuts = λ ys. tells_check c known o t p n align (h.cuts ys) }
+    parts_check o t p n align {xs} {q} h = record { asks = asks_check c known _ o t p n align q h.asks; cuts = λ ys. tells_check c known o t p n align (h.cuts ys); reads = λ z. reads_check c known o t p n align (h.reads z) }
 
     pub parts_other : (i : Import) (args : List CoreValue) (ts : List ValType) {xs : List RequestPart} {k : List CoreValue → Action A} → ((d : CoreDef) → is_import_of d i ≡ false) → is_transcode i ≡ false → ((rs : List CoreValue) → AsksParts xs (k rs)) → AsksParts xs (Ask i args ts k)
-    parts_other i args ts {xs} {k} apart other h = record { asks = asks_other c known _ i args ts k apart other (λ rs. (h rs).asks); cuts = λ ys. tells_other c known i args ts apart other (unanswered c.transfer (xs ++ ys)) (λ rs. (h rs).cuts ys) }
+    parts_other i args ts {xs} {k} apart other h = record {
+      asks = asks_other c known _ i args ts k apart other (λ rs. (h rs).asks);
+      cuts = λ ys. tells_other c known i args ts apart other (unanswered c.transfer (xs ++ ys)) (λ rs. (h rs).cuts ys);
+      reads = λ t. reads_call c known i args ts (λ before answer. reads_other i c.places (record { what = i; args = args; before = before; answer = answer }) other) (λ rs. (h rs).reads t);
+    }
 
     pub parts_reallocate : (t : TrapCode) (align size : ℕ) {xs : List RequestPart} {k : ℕ → Action A} → ((q : ℕ) → AsksParts xs (k q)) → AsksParts (RegionPart align size ∷ xs) (reallocate c.transfer.concurrency c.transfer.to t 0 0 align size k)
     parts_reallocate t align size {xs} {k} h = record {
       asks = asks_reallocate c known _ (λ q l z. parts_then c.transfer xs l z) t 0 0 align size k (λ l z. refl) (λ q. (h q).asks);
       cuts = λ ys. tells_reallocate c known t 0 0 align size k (unanswered c.transfer (RegionPart align size ∷ (xs ++ ys))) (λ rs. (h (first_bits rs)).cuts ys);
+      reads = λ z. reads_reallocate c known t 0 0 align size k (λ q. (h q).reads z);
     }
 
     pub parts_either : (b : Bool) {xs ys : List RequestPart} {q r : Action A} → AsksParts xs q → AsksParts ys r → AsksParts (if b then xs else ys) (if b then q else r)
@@ -207,6 +236,7 @@ module _ (c : TransferSetting) (known : HasKnownSides c) where
         starts = unanswered c.transfer (xs ++ ys);
         by = λ gs w bytes. read_cuts size m.def a ys k gs w (subst (HasBytesOf c.places w.state c.source) is bytes) bytes h;
       };
+      reads = λ t. reads_read c known size m a k is (λ x e. (h x e).reads t);
     })
 
     pub parts_pair : (s : Source) (f : Pair → List RequestPart) (k : ℕ → ℕ → Action A) → ((q : Pair) → AsksParts (f q) (k q.pointer q.count)) → AsksParts (parts_of_some (pair_of_source c s) f) (read_pair c.transfer.debug c.transfer.from s k)
@@ -223,6 +253,7 @@ module _ (c : TransferSetting) (known : HasKnownSides c) where
         asks_like c known _ (λ l k. parts_then c.transfer xs l (λ more. parts_then c.transfer ys more k)) _ (λ l k. parts_append c.transfer xs ys l k)
         (asks_bind c known (λ l k. parts_then c.transfer xs l k) (λ a l k. parts_then c.transfer ys l k) (λ k more. parts_then c.transfer ys more k) (λ k a more. refl) q f h.asks (λ a. (g a).asks));
     cuts = λ zs. subst (λ all. Tells c known anything (λ b. cuts_of zs) (cuts_of all) (q >>= f)) (sym (append_assoc xs ys zs)) (tells_bind c known (h.cuts (ys ++ zs)) (λ a known_of. (g a).cuts zs));
+    reads = λ all. let t = there_parts c xs ys all in reads_bind c known (h.reads t.0) (λ a. (g a).reads t.1);
   }
 
   pub parts_first : {A B : Type 0} {xs : List RequestPart} (q : Action A) (f : A → Action B) → AsksParts xs q → ((a : A) → AsksParts [] (f a)) → AsksParts xs (q >>= f)
@@ -240,6 +271,7 @@ module _ (c : TransferSetting) (known : HasKnownSides c) where
   parts_write size (Into a) n = parts_with c.transfer.to (λ m is. record {
     asks = record { by = λ gs w bytes. by_memory m is gs w bytes (slice_get w.state.memories (c.places.memory m.def)) };
     cuts = λ ys. record { starts = unanswered c.transfer ys; by = λ gs w bytes. cuts_by m is ys gs w bytes (slice_get w.state.memories (c.places.memory m.def)) };
+    reads = λ t. reads_write c known size m a n is;
   })
     where
       kept : (m : MemoryOption) → c.transfer.to.memory ≡ Some m → (w : World) (y : List ℕ) (x : Option MemoryOption) → ((k : MemoryOption) → x ≡ Some k → c.transfer.from.memory ≡ Some k)
@@ -273,13 +305,14 @@ module _ (c : TransferSetting) (known : HasKnownSides c) where
   -- ---- texts
 
   -- what a walk asks for, from wherever the source lies
-  walk_parts : (f : TextForm) (p n : ℕ) → AsksParts (TextPart f n ∷ []) (walk c.transfer (path f c.transfer.to.encoding) (path_start p n))
+  walk_parts : (f : TextForm) (p n : ℕ) → AsksParts (TextPart f p n ∷ []) (walk c.transfer (path f c.transfer.to.encoding) (path_start p n))
   walk_parts f p n = record {
     asks = asks_like c known _ _ _ (λ l k. sym (source_apart c.transfer p (path f c.transfer.to.encoding) (path_start 0 n) l (λ v more. k more) (λ v more. k more) (λ v more. refl)))
         (erased (walk_asks c known (path f c.transfer.to.encoding) (path_start p n)));
     cuts = λ ys.
         tells_like c known (λ l h. cuts_apart c.transfer p (path f c.transfer.to.encoding) (path_start 0 n) l (λ v more. cuts_of ys more) (λ v more. cuts_of ys more) (λ v more x. x) h)
         (walk_tells c known (path f c.transfer.to.encoding) (path_start p n) anything (λ v more. cuts_of ys more) (λ v x. unanswered c.transfer ys) (path_shrinks c.transfer f c.transfer.to.encoding (path_start p n)));
+    reads = λ t. walk_reads c known f p n t.0;
   }
     where
       S : Answers → (PathPoint → Answers → List Request) → List Request
@@ -293,6 +326,6 @@ module _ (c : TransferSetting) (known : HasKnownSides c) where
       erased : Asks c known (at_point c known) S (walk c.transfer (path f c.transfer.to.encoding) (path_start p n)) → Asks c known handed (λ l k. S l (λ v more. k more)) (walk c.transfer (path f c.transfer.to.encoding) (path_start p n))
       erased h = record { by = λ gs w bytes. by_end gs (run c.places (walk c.transfer (path f c.transfer.to.encoding) (path_start p n)) w) (h.by gs w bytes) }
 
-  pub parts_string : (s : Source) (d : Target) → AsksParts (parts_of_some (pair_of_source c s) (λ q. TextPart (form_in c.transfer.from.encoding q.count) (form_of c.transfer.from.encoding q.count).units ∷ [])) (move_string c.transfer s d)
+  pub parts_string : (s : Source) (d : Target) → AsksParts (parts_of_some (pair_of_source c s) (λ q. TextPart (form_in c.transfer.from.encoding q.count) q.pointer (form_of c.transfer.from.encoding q.count).units ∷ [])) (move_string c.transfer s d)
   parts_string s d = parts_pair s _ _ (λ q.
       parts_check c.transfer.from StringOutOfBounds q.pointer _ _ (parts_first _ _ (walk_parts (form_in c.transfer.from.encoding q.count) q.pointer (form_of c.transfer.from.encoding q.count).units) (λ v. parts_write_pair d v.region v.written)))

@@ -1,4 +1,4 @@
--- The parts of a value that stands at a source take no more bytes than what the value calls for.
+-- The parts of a value that stands at a source take no more bytes than what the value calls for, and their texts are there.
 use Rattle.std.proofs.Common.{◌≡◌, ℕ, zero, suc, ◌+◌, ◌*◌, ◌≤◌, Bool, true, false, List, [], ◌∷◌, ◌++◌, length, map, drop, Option, Some, None, refl, sym, ap, ◌∙◌, subst, arith, drop-drop, length-drop}
 use Rattle.std.specs.Prelude.{if◌then◌else◌}
 use Rattle.std.specs.List.{zip, flat_map}
@@ -31,7 +31,7 @@ use Rattle.fact_moves.specs.Strings.{form_in}
 use Rattle.fact_moves.specs.Requests.{RequestPart, TextPart, list_part}
 use Rattle.fact_moves.specs.Sides.{Source, Values, AtAddress, nth_part, side_abi, width_of_side}
 use Rattle.fact_carry.specs.Items.{ValueItem, TextItem, chars_in, items, items_fields, items_case, items_places, items_element, of_some, region_item}
-use Rattle.fact_carry.specs.Law.{IsWellFormed, AreTyped, AreWellFormed, IsSupplied, AreSupplied}
+use Rattle.fact_carry.specs.Law.{HasPointers, IsWellFormed, AreTyped, AreWellFormed, IsSupplied, AreSupplied}
 use Rattle.fact_carry.specs.Places.{from_side, to_side, value_at_source, AreInRange, IsSource, HasSideMemory}
 use Rattle.fact_carry.specs.Regions.{TransferSetting}
 use Rattle.fact_carry.proofs.Distinct.{case_named, each_agrees, places_agree}
@@ -56,8 +56,9 @@ use Rattle.fact_texts.specs.Laws.{PartsTakeNoMore}
 use Rattle.fact_texts.specs.Parts.{pair_of_source, case_of_source, parts_of_some, parts_of_each, parts_of_plain, parts_of, parts_of_fields, parts_of_case}
 use Rattle.fact_texts.specs.Rooms.{parts_bytes, items_bytes}
 use Rattle.fact_texts.proofs.Encoded.{AreSmallBytes}
+use Rattle.fact_texts.proofs.PartTexts.{AreTextsThere, there_join}
 use Rattle.fact_texts.proofs.TextLaw.{text_taken}
-use Rattle.fact_texts.proofs.TextRooms.{text_room}
+use Rattle.fact_texts.proofs.TextRooms.{text_room, text_stands}
 
 -- ---- sums
 
@@ -87,42 +88,57 @@ module _ (c : TransferSetting) (small : AreSmallBytes c.source) where
   abbrev pub I : List ValueItem → ℕ
   I is = items_bytes is
 
+  -- the texts among parts are there
+  abbrev pub T : List RequestPart → Type 0
+  T xs = AreTextsThere c xs
+
   -- what is to be shown of a value, of the fields of a product, and of a case
   record Takes (t u : Shape) : Type 0 where
     by : (s : Source) (v : Value) → IsSource c (length (flat (width_of_side c.transfer.from) t)) s → value_at_source c t s ≡ Some v → P (parts_of c t u s) ≤ I (items (to_side c) t u v)
+    there : (s : Source) (v : Value) → IsSource c (length (flat (width_of_side c.transfer.from) t)) s → value_at_source c t s ≡ Some v → T (parts_of c t u s)
 
   pub record FieldsTake (ms ns : Members) : Type 0 where
     pub by : (s : Source) (vs : List Value) → IsSource c (length (flat_members (width_of_side c.transfer.from) ms)) s → members_taken c ms s ≡ Some vs → P (parts_of_fields c ms ns s) ≤ I (items_fields (to_side c) ms (zip (typed_names ms) vs) ns)
+    pub there : (s : Source) (vs : List Value) → IsSource c (length (flat_members (width_of_side c.transfer.from) ms)) s → members_taken c ms s ≡ Some vs → T (parts_of_fields c ms ns s)
 
   record CaseTakes (ms : Members) (k : CaseType) (ns : Members) : Type 0 where
     by : (s : Source) (ps : List Value) → IsPayloadAt c ms k.payload s ps → P (parts_of_case c ms k ns s) ≤ I (items_case (to_side c) k.payload k.name ps ns)
+    there : (s : Source) (ps : List Value) → IsPayloadAt c ms k.payload s ps → T (parts_of_case c ms k ns s)
 
   -- ---- plain types
 
-  text_takes : Takes (s_plain ty.String) (s_plain ty.String)
+  text_takes : HasPointers c.transfer.from c.transfer.to → Takes (s_plain ty.String) (s_plain ty.String)
   unfolding parts_of items
-  text_takes = record {
+  text_takes has = record {
     by = λ s v is h.
         let t = text_taken c s v h in
-        let F : Pair → List RequestPart = λ q. TextPart (form_in c.transfer.from.encoding q.count) (form_of c.transfer.from.encoding q.count).units ∷ [] in
+        let F : Pair → List RequestPart = λ q. TextPart (form_in c.transfer.from.encoding q.count) q.pointer (form_of c.transfer.from.encoding q.count).units ∷ [] in
         let G : List ℕ → List ValueItem = λ cs. TextItem cs ∷ [] in
         let parts_are : P (parts_of_some (pair_of_source c s) F) ≡ P (F t.pair) = ap (λ o. P (parts_of_some o F)) (same_pair c s ∙ t.at) in
         let items_are : I (of_some (chars_in (out-Value v)) G) ≡ I (G t.chars) = ap (λ v. I (of_some (chars_in (out-Value v)) G)) (sym t.is) ∙ ap (λ w. I (of_some (chars_in w) G)) (value.outs-Str t.chars) in
         let room = text_room c.transfer.from.encoding c.transfer.to.encoding c.source t.pair.pointer t.pair.count t.chars small t.there in
         omega (arith, parts_are, items_are, room);
+    there = λ s v is h.
+        let t = text_taken c s v h in
+        let F : Pair → List RequestPart = λ q. TextPart (form_in c.transfer.from.encoding q.count) q.pointer (form_of c.transfer.from.encoding q.count).units ∷ [] in
+        subst (λ o. T (parts_of_some o F)) (sym (same_pair c s ∙ t.at)) (record { supplied = has; stands = text_stands c.transfer.from.encoding c.source t.pair.pointer t.pair.count t.chars small t.there }, tt);
   }
+
+  -- a text needs memories and a realloc
+  supplied_text : (p : InterfaceType) → p ≡ ty.String → IsSupplied c (s_plain p) → HasPointers c.transfer.from c.transfer.to
+  supplied_text p e has = subst (λ p. IsSupplied c (s_plain p)) e has refl
 
   -- all others ask for nothing
   plain_parts : (p q : InterfaceType) (s : Source) → (p ≡ ty.String → ⊥) → P (parts_of_plain c p q s) ≡ 0
   plain_parts ty.String q s h = absurd (h refl)
   plain_parts p q s h = refl
 
-  plain_takes : (q : InterfaceType) (t : Shape) → Agrees t (s_plain q) → Takes t (s_plain q)
+  plain_takes : (q : InterfaceType) (t : Shape) → Agrees t (s_plain q) → IsSupplied c t → Takes t (s_plain q)
   unfolding parts_of
-  plain_takes q (s_node k ms) a = record { by = λ s v is h. omega arith }
-  plain_takes ty.String (s_plain p) a = subst (λ p. Takes (s_plain p) (s_plain ty.String)) (sym a) text_takes
-  plain_takes q (s_plain ty.String) a = record { by = λ s v is h. omega arith }
-  plain_takes q (s_plain p) a = record { by = λ s v is h. omega arith }
+  plain_takes q (s_node k ms) a has = record { by = λ s v is h. omega arith; there = λ s v is h. tt }
+  plain_takes ty.String (s_plain p) a has = subst (λ p. Takes (s_plain p) (s_plain ty.String)) (sym a) (text_takes (supplied_text p a has))
+  plain_takes q (s_plain ty.String) a has = record { by = λ s v is h. omega arith; there = λ s v is h. tt }
+  plain_takes q (s_plain p) a has = record { by = λ s v is h. omega arith; there = λ s v is h. tt }
 
   -- ---- products
 
@@ -136,6 +152,7 @@ module _ (c : TransferSetting) (small : AreSmallBytes c.source) where
         let items_are : I (of_some (fields_in (out-Value v)) G) ≡ I (G fs) = ap (λ v. I (of_some (fields_in (out-Value v)) G)) (sym r.is) ∙ ap (λ o. I (of_some o G)) (fields_of fs) in
         let one = F.by s r.mid is r.first in
         omega (arith, one, items_are);
+    there = λ s v is h. let r = record_taken c ms s v h in F.there s r.mid is r.first;
   }
 
   tuple_takes : (ms ns : Members) → ((s : Source) (vs : List Value) → members_taken c ms s ≡ Some vs → items_fields (to_side c) ms (zip (typed_names ms) vs) ns ≡ items_places (to_side c) ms vs ns) → FieldsTake ms ns → Takes (s_node k_tuple ms) (s_node k_tuple ns)
@@ -148,6 +165,7 @@ module _ (c : TransferSetting) (small : AreSmallBytes c.source) where
         let same = ap I (alike s r.mid r.first) in
         let one = F.by s r.mid is r.first in
         omega (arith, one, items_are, same);
+    there = λ s v is h. let r = tuple_taken c ms s v h in F.there s r.mid is r.first;
   }
 
   -- ---- elements and entries, one behind another
@@ -165,6 +183,18 @@ module _ (c : TransferSetting) (small : AreSmallBytes c.source) where
       let more = rows_take ms ns F there stride p n (suc i) (a + stride) rest.mid next rest.first in
       subst (λ rows. P (f i ++ parts_of_each (suc i) n f) ≤ I (flat_map R rows)) (same_some (Some (one.mid ∷ rest.mid)) (one.mid ∷ rest.mid) rows refl rest.last)
       (omega (arith, here, more, parts_append c.transfer.to.encoding (f i) (parts_of_each (suc i) n f), items_append (R one.mid) (flat_map R rest.mid)))
+
+  rows_there : (ms ns : Members) → FieldsTake ms ns → HasSideMemory c.transfer.from → (stride p n i a : ℕ) (rows : List (List Value)) → a ≡ p + i * stride → each_at n stride (λ a. load_members (from_side c) c.source ms a 0) a ≡ Some rows
+      → T (parts_of_each i n (λ i. parts_of_fields c ms ns (AtAddress (p + i * stride))))
+  rows_there ms ns F there stride p zero i a rows e h = tt
+  rows_there ms ns F there stride p (suc n) i a rows e h =
+      let f : ℕ → List RequestPart = λ i. parts_of_fields c ms ns (AtAddress (p + i * stride)) in
+      let one = both (load_members (from_side c) c.source ms a 0) _ rows h in
+      let rest = both (each_at n stride (λ a. load_members (from_side c) c.source ms a 0) (a + stride)) _ rows one.last in
+      let next : a + stride ≡ p + suc i * stride = omega (arith, e) in
+      there_join c (f i) (parts_of_each (suc i) n f)
+      (F.there (AtAddress (p + i * stride)) one.mid there (subst (λ a. load_members (from_side c) c.source ms a 0 ≡ Some one.mid) e one.first))
+      (rows_there ms ns F there stride p n (suc i) (a + stride) rest.mid next rest.first)
 
   list_takes : (s u : Shape) → HasSideMemory c.transfer.from → FieldsTake (one [] s) (one [] u) → Takes (s_node k_list (one [] s)) (s_node k_list (one [] u))
   unfolding parts_of items
@@ -188,6 +218,17 @@ module _ (c : TransferSetting) (small : AreSmallBytes c.source) where
         let region : (entry_extent c.transfer.to ns).align + t.pair.count * (entry_extent c.transfer.to ns).size ≡ y.align + length t.values * y.size
         = ap (λ (e : Extent). e.align + t.pair.count * e.size) (to_extent c s u) ∙ ap (λ n. y.align + n * y.size) (sym long) in
         omega (arith, parts_are, items_are, rows, flat_is, region);
+    there = λ src v is h.
+        let ms : Members = one [] s in
+        let ns : Members = one [] u in
+        let t = list_taken c s src v h in
+        let x : Extent = extent (width_of_side c.transfer.from) (layout_of s) in
+        let Q : Pair → List RequestPart = λ q. list_part c.transfer.to ns q.count ∷ parts_of_each 0 q.count (λ i. parts_of_fields c ms ns (AtAddress (q.pointer + i * (entry_extent c.transfer.from ms).size))) in
+        let loaded = each_at_map t.pair.count x.size (λ a. load_element (from_side c) c.source ms a) (λ a. load_members (from_side c) c.source ms a 0) row (λ a w l. element_loads (from_side c) c.source [] s a w l) t.pair.pointer t.values t.elements.each in
+        let begin : t.pair.pointer ≡ t.pair.pointer + 0 * (entry_extent c.transfer.from ms).size = omega arith in
+        subst (λ o. T (parts_of_some o Q)) (sym (same_pair c src ∙ t.at))
+        (rows_there ms ns F there (entry_extent c.transfer.from ms).size t.pair.pointer t.pair.count 0 t.pair.pointer (map row t.values) begin
+        (subst (λ (e : Extent). each_at t.pair.count e.size (λ a. load_members (from_side c) c.source ms a 0) t.pair.pointer ≡ Some (map row t.values)) (sym (from_extent c s u)) loaded));
   }
 
   map_takes : (k1 w1 k2 w2 : Shape) → AreDistinct ((0 ∷ []) ∷ (1 ∷ []) ∷ []) → HasSideMemory c.transfer.from → FieldsTake (two (0 ∷ []) (1 ∷ []) k1 w1) (two (0 ∷ []) (1 ∷ []) k2 w2)
@@ -212,6 +253,15 @@ module _ (c : TransferSetting) (small : AreSmallBytes c.source) where
         let long : length t.entries ≡ t.pair.count = length_each t.pair.count x.size _ t.pair.pointer t.entries t.elements.each in
         let region : y.align + t.pair.count * y.size ≡ y.align + length t.entries * y.size = ap (λ n. y.align + n * y.size) (sym long) in
         omega (arith, parts_are, items_are, rows, flat_is, region);
+    there = λ src v is h.
+        let ms : Members = two (0 ∷ []) (1 ∷ []) k1 w1 in
+        let ns : Members = two (0 ∷ []) (1 ∷ []) k2 w2 in
+        let t = map_taken c ms src v h in
+        let x : Extent = entry_extent c.transfer.from ms in
+        let Q : Pair → List RequestPart = λ q. list_part c.transfer.to ns q.count ∷ parts_of_each 0 q.count (λ i. parts_of_fields c ms ns (AtAddress (q.pointer + i * x.size))) in
+        let loaded = each_at_map t.pair.count x.size (entry_at (from_side c) c.source ms) (λ a. load_members (from_side c) c.source ms a 0) pair_row (λ a e l. entry_loads (from_side c) c.source ms a e l) t.pair.pointer t.entries t.elements.each in
+        let begin : t.pair.pointer ≡ t.pair.pointer + 0 * x.size = omega arith in
+        subst (λ o. T (parts_of_some o Q)) (sym (same_pair c src ∙ t.at)) (rows_there ms ns F there x.size t.pair.pointer t.pair.count 0 t.pair.pointer (map pair_row t.entries) begin loaded);
   }
 
   -- ---- lists of fixed length
@@ -256,6 +306,19 @@ module _ (c : TransferSetting) (small : AreSmallBytes c.source) where
       subst (λ rows. P (g i ++ parts_of_each (suc i) n g) ≤ I (flat_map R rows)) (same_some (Some (one.mid ∷ rest.mid)) (one.mid ∷ rest.mid) rows refl rest.last)
       (omega (arith, here, more, parts_append c.transfer.to.encoding (g i) (parts_of_each (suc i) n g), items_append (R one.mid) (flat_map R rest.mid)))
 
+  spans_there : (ms ns : Members) → FieldsTake ms ns → (e f : ℕ) (s0 : Source) (n i : ℕ) (s : Source) (rows : List (List Value)) → s ≡ parts_from (flats_from c ms ns) e i s0 → IsSource c (n * flats_from c ms ns) s → spans_taken c ms ns e f n s ≡ Some rows
+      → T (parts_of_each i n (λ i. parts_of_fields c ms ns (nth_part (flats_from c ms ns) e i s0)))
+  spans_there ms ns F e f s0 zero i s rows at is h = tt
+  spans_there ms ns F e f s0 (suc n) i s rows at is h =
+      let k : ℕ = flats_from c ms ns in
+      let g : ℕ → List RequestPart = λ i. parts_of_fields c ms ns (nth_part k e i s0) in
+      let one = both (members_taken c ms (first_part k s)) _ rows h in
+      let rest = both (spans_taken c ms ns e f n (next_part k e s)) _ rows one.last in
+      let nth : first_part k s ≡ nth_part k e i s0 = ap (first_part k) at ∙ sym (nth_is k e i s0) in
+      there_join c (g i) (parts_of_each (suc i) n g)
+      (F.there (nth_part k e i s0) one.mid (subst (IsSource c k) nth (first_source k n s is)) (subst (λ s. members_taken c ms s ≡ Some one.mid) nth one.first))
+      (spans_there ms ns F e f s0 n (suc i) (next_part k e s) rest.mid (ap (next_part k e) at ∙ parts_next k e i s0) (next_source k e n s is) rest.first)
+
   fixed_takes : (n : ℕ) (s u : Shape) → IsWellFormed s → IsWellFormed u → FieldsTake (one [] s) (one [] u) → Takes (s_node (k_fixed n) (one [] s)) (s_node (k_fixed n) (one [] u))
   unfolding parts_of items
   fixed_takes n s u fs fu F = record {
@@ -272,6 +335,15 @@ module _ (c : TransferSetting) (small : AreSmallBytes c.source) where
         let rows = spans_take ms ns F e f src n 0 src (map row t.values) (parts_begin k e src) from t.spans in
         let flat_is = ap I (flat_each (λ r. row_items c ms ns r) E row (λ w. row_asks c s u w) t.values) in
         omega (arith, rows, items_are, flat_is);
+    there = λ src v is h.
+        let ms : Members = one [] s in
+        let ns : Members = one [] u in
+        let k : ℕ = flats_from c ms ns in
+        let e : ℕ = (entry_extent c.transfer.from ms).size in
+        let f : ℕ = (entry_extent c.transfer.to ns).size in
+        let from = fixed_source c n s u fs fu src is in
+        let t = fixed_taken c n s u fs fu src v from h in
+        spans_there ms ns F e f src n 0 src (map row t.values) (parts_begin k e src) from t.spans;
   }
 
   -- ---- sums
@@ -300,6 +372,10 @@ module _ (c : TransferSetting) (small : AreSmallBytes c.source) where
         ∙ ap (λ p. I (items_case (to_side c) p t.case.name t.payload ns)) (case_named ms t.number t.case distinct t.case_is) in
         let one = (C t.number t.case t.case_is).by s t.payload t.payload_at in
         omega (arith, parts_are, items_are, one);
+    there = λ s v is h.
+        let t = sum_taken kind c ms s v formed is h in
+        let H : CaseType → List RequestPart = λ x. parts_of_case c ms x ns s in
+        subst T (sym (sum_parts kind ms ns s ∙ ap (λ o. parts_of_some o H) (same_case c ms s t.number t.case t.at t.case_is))) ((C t.number t.case t.case_is).there s t.payload t.payload_at);
   }
 
   -- ---- kinds of types
@@ -335,8 +411,11 @@ module _ (c : TransferSetting) (small : AreSmallBytes c.source) where
       (fixed_takes n x.shape y.shape from_formed.0 to_formed.0 (subst (λ l. FieldsTake (one [] x.shape) l) y.is (subst (λ l. FieldsTake l ns) x.is F)))))
 
   -- kinds without parts
-  none_takes : (l : Kind) (t : Shape) (ns : Members) → ((s : Source) → P (parts_of c t (s_node l ns) s) ≡ 0) → Takes t (s_node l ns)
-  none_takes l t ns none = record { by = λ s v is h. let e = none s in omega (arith, e) }
+  none_takes : (l : Kind) (t : Shape) (ns : Members) → ((s : Source) → parts_of c t (s_node l ns) s ≡ []) → Takes t (s_node l ns)
+  none_takes l t ns none = record {
+    by = λ s v is h. let e : P (parts_of c t (s_node l ns) s) ≡ 0 = ap P (none s) in omega (arith, e);
+    there = λ s v is h. subst T (sym (none s)) tt;
+  }
 
   node_takes : (l : Kind) (t : Shape) (ns : Members) → AgreesBy l t ns (λ ms. AgreesFields ms ns) (λ x p. AgreesCase x p ns) (λ ms. AgreesPlaces ms ns) → IsValid t → IsValid (s_node l ns) → IsWellFormed t → IsWellFormed (s_node l ns) → IsSupplied c t → Fields ns → Cases ns → Takes t (s_node l ns)
   unfolding parts_of
@@ -366,11 +445,11 @@ module _ (c : TransferSetting) (small : AreSmallBytes c.source) where
 
   no_fields : (ms : Members) → FieldsTake ms no_members
   unfolding parts_of_fields
-  no_fields ms = record { by = λ s vs is h. omega arith }
+  no_fields ms = record { by = λ s vs is h. omega arith; there = λ s vs is h. tt }
 
   bare_fields : (ms ns : Members) (x : List ℕ) → FieldsTake ms ns → FieldsTake ms (bare x ns)
   unfolding parts_of_fields items_fields
-  bare_fields ms ns x F = record { by = λ s vs is h. F.by s vs is h }
+  bare_fields ms ns x F = record { by = λ s vs is h. F.by s vs is h; there = λ s vs is h. F.there s vs is h }
 
   field_step : (ms ns : Members) (x : List ℕ) (u : Shape) → AreValid ms → AreWellFormed ms → AreSupplied c ms → BothThere (named x ms) (λ s. Agrees s u)
       → ((s : Shape) → Agrees s u → IsValid s → IsWellFormed s → IsSupplied c s → Takes s u) → FieldsTake ms ns → FieldsTake ms (typed x u ns)
@@ -395,6 +474,11 @@ module _ (c : TransferSetting) (small : AreSmallBytes c.source) where
                 let here = takes.by (part c.transfer.from q.field s) w.value w.at.source w.at.taken in
                 let more = rest.by s vs is l in
                 omega (arith, parts_are, items_are, here, more, parts_append c.transfer.to.encoding (parts_of_some (field_of x ms) H) (parts_of_fields c ms ns s), items_append (of_some (named x ms) G) (items_fields (to_side c) ms fs ns));
+            there = λ s vs is l.
+                let w = field_taken c x ms q.field s vs f q.is is l in
+                let H : Field → List RequestPart = λ g. parts_of c g.shape u (part c.transfer.from g s) in
+                there_join c (parts_of_some (field_of x ms) H) (parts_of_fields c ms ns s)
+                (subst (λ o. T (parts_of_some o H)) (sym q.is) (takes.there (part c.transfer.from q.field s) w.value w.at.source w.at.taken)) (rest.there s vs is l);
           }
 
   bare_case : (ms ns : Members) (k : CaseType) (x : List ℕ) → AgreesCase k.name k.payload (bare x ns) → (AgreesCase k.name k.payload ns → CaseTakes ms k ns) → CaseTakes ms k (bare x ns)
@@ -402,13 +486,17 @@ module _ (c : TransferSetting) (small : AreSmallBytes c.source) where
   bare_case ms ns k x a more = go (bytes_eq x k.name) refl a
     where
       go : (b : Bool) → bytes_eq x k.name ≡ b → chosen b (k.payload ≡ None) (AgreesCase k.name k.payload ns) → CaseTakes ms k (bare x ns)
-      go true e a = record { by = λ s ps h. let p = ap (λ b. P (if b then [] else parts_of_case c ms k ns s)) e in omega (arith, p) }
+      go true e a = record {
+        by = λ s ps h. let p = ap (λ b. P (if b then [] else parts_of_case c ms k ns s)) e in omega (arith, p);
+        there = λ s ps h. subst (λ b. T (if b then [] else parts_of_case c ms k ns s)) (sym e) tt;
+      }
       go false e a = record {
         by = λ s ps h.
             let p = ap (λ b. P (if b then [] else parts_of_case c ms k ns s)) e in
             let i = ap (λ b. I (if b then [] else items_case (to_side c) k.payload k.name ps ns)) e in
             let m = (more a).by s ps h in
             omega (arith, p, i, m);
+        there = λ s ps h. subst (λ b. T (if b then [] else parts_of_case c ms k ns s)) (sym e) ((more a).there s ps h);
       }
 
   typed_case : (ms ns : Members) (k : CaseType) (x : List ℕ) (u : Shape) → AgreesCase k.name k.payload (typed x u ns) → ((p : Shape) → k.payload ≡ Some p → Agrees p u → Takes p u) → (AgreesCase k.name k.payload ns → CaseTakes ms k ns) → CaseTakes ms k (typed x u ns)
@@ -428,6 +516,10 @@ module _ (c : TransferSetting) (small : AreSmallBytes c.source) where
           let i : I (G ps p) ≡ I (items (to_side c) p u h.0) = ap (λ ps. I (G ps p)) h.1 in
           omega (arith, r, i)
 
+      hit_there : (q : Option Shape) → k.payload ≡ q → BothThere q (λ s. Agrees s u) → (s : Source) (ps : List Value) → IsPayloadAt c ms q s ps → T (parts_of_some q (H s))
+      hit_there None e a s ps h = absurd a
+      hit_there (Some p) e a s ps h = (one p e a).there (payload_part c.transfer.from p (payload_place (side_abi c.transfer.from) ms) s) h.0 h.3 h.2
+
       go : (b : Bool) → bytes_eq x k.name ≡ b → chosen b (BothThere k.payload (λ s. Agrees s u)) (AgreesCase k.name k.payload ns) → CaseTakes ms k (typed x u ns)
       go true e a = record {
         by = λ s ps h.
@@ -435,6 +527,7 @@ module _ (c : TransferSetting) (small : AreSmallBytes c.source) where
             let i = ap (λ b. I (if b then of_some k.payload (G ps) else items_case (to_side c) k.payload k.name ps ns)) e in
             let m = hit k.payload refl a s ps h in
             omega (arith, p, i, m);
+        there = λ s ps h. subst (λ b. T (if b then parts_of_some k.payload (H s) else parts_of_case c ms k ns s)) (sym e) (hit_there k.payload refl a s ps h);
       }
       go false e a = record {
         by = λ s ps h.
@@ -442,15 +535,16 @@ module _ (c : TransferSetting) (small : AreSmallBytes c.source) where
             let i = ap (λ b. I (if b then of_some k.payload (G ps) else items_case (to_side c) k.payload k.name ps ns)) e in
             let m = (more a).by s ps h in
             omega (arith, p, i, m);
+        there = λ s ps h. subst (λ b. T (if b then parts_of_some k.payload (H s) else parts_of_case c ms k ns s)) (sym e) ((more a).there s ps h);
       }
 
   no_case : (ms : Members) (k : CaseType) → CaseTakes ms k no_members
   unfolding parts_of_case
-  no_case ms k = record { by = λ s ps h. omega arith }
+  no_case ms k = record { by = λ s ps h. omega arith; there = λ s ps h. tt }
 
   mutual
     takes : (u t : Shape) → Agrees t u → IsValid t → IsValid u → IsWellFormed t → IsWellFormed u → IsSupplied c t → Takes t u
-    takes (s_plain q) t a vt vu ft fu has = plain_takes q t a
+    takes (s_plain q) t a vt vu ft fu has = plain_takes q t a has
     takes (s_node l ns) t a vt vu ft fu has =
         node_takes l t ns a vt vu ft fu has (λ ms af vm fm h. fields_take ns ms af vm fm (members_valid l ns vu) fu.1 h) (λ ms k ac known. cases_take ns ms k ac known (members_valid l ns vu) fu.1)
 

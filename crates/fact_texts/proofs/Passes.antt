@@ -1,7 +1,7 @@
 -- What a transcoder is told on the way of a path, and what its honest answer does.
 use Rattle.std.proofs.Common.{◌≡◌, ℕ, ◌+◌, ◌*◌, ◌-◌, ◌%◌, ◌^◌, ◌≤◌, ◌<◌, inl, Bool, true, false, List, [], ◌∷◌, ◌++◌, length, take, drop, get_or, refl, sym, ap, ◌∙◌, subst, arith, length-append, length-drop}
 use Rattle.std.specs.Prelude.{map}
-use Rattle.std.proofs.lemmas.List.{get_or-drop, length-take-le}
+use Rattle.std.proofs.lemmas.List.{drop-drop, get_or-drop, length-take-le}
 use Rattle.std.proofs.Math.Nat.{mul-le-mul}
 use Rattle.fact_types.specs.declared.outside.FixedEncoding.{FixedEncoding}
 use Rattle.fact_types.specs.declared.outside.FixedEncoding.TheVariants.{Utf8, Utf16, Latin1}
@@ -14,7 +14,7 @@ use Rattle.fact_moves.specs.Sides.{Transfer, address_value, wrap, first_bits}
 use Rattle.fact_machine.specs.Typing.{address_bits}
 use Rattle.fact_values.specs.Lift.{bits_of}
 use Rattle.fact_moves.specs.Strings.{PathPoint, minus, amount, passed, source_args, target_args}
-use Rattle.fact_values.specs.Texts.{unit_bytes, spelled_text, units_of_text}
+use Rattle.fact_values.specs.Texts.{AreSpelled, unit_bytes, spelled_text, units_of_text}
 use Rattle.fact_moves.specs.Transcoders.{TranscodeKind, AllUnits, Counted, Fitting, Narrow, Tagged, Widening, transcode_kind, from_encoding, to_encoding, Room, IsHonestPass}
 use Rattle.fact_carry.specs.Honest.{IsTranscoded}
 use Rattle.fact_moves.specs.Regions.{Region, IsIn}
@@ -29,11 +29,14 @@ use Rattle.fact_moves.specs.Confined.{room_bytes, LiesInSound}
 use Rattle.fact_moves.specs.Running.{Call}
 use Rattle.fact_texts.proofs.Answered.{position}
 use Rattle.fact_texts.proofs.Bounds.{length_text}
+use Rattle.fact_texts.specs.ReadTexts.{ReadsText}
+use Rattle.fact_texts.proofs.ReadCalls.{SpellsSome, fewer16, left_spelled}
 use Rattle.fact_texts.proofs.Served.{Fits, IsServed}
 use Rattle.fact_texts.proofs.Stages.{Stage, offset, room_at, skipped, after_pass, SomeLeft, IsReadyFor, HasSpace}
 use Rattle.fact_moves.proofs.OwnParts.{bits_address}
-use Rattle.fact_texts.proofs.States.{to_bytes, Later}
-use Rattle.fact_texts.proofs.Invariant.{wrap_small, wrap_fits, minus_is, StandAt, take_same, mul_split, stand_over, SameRoom, first_is, second_is, Inv}
+use Rattle.fact_texts.proofs.States.{from_bytes, to_bytes, Later, from_are}
+use Rattle.fact_texts.proofs.Transfers.{counts, first as from_first}
+use Rattle.fact_texts.proofs.Invariant.{wrap_small, wrap_fits, minus_is, StandAt, take_same, mul_split, stand_over, SameRoom, first_is, rest_of, second_is, SourceSpells, Inv, whole_source}
 use Rattle.fact_types.specs.Adapters.{is_wide}
 
 -- ---- arguments
@@ -111,6 +114,9 @@ step_aligned Utf8 p r h = omega (arith, h)
 step_aligned Utf16 p r h = omega (arith, h)
 step_aligned Latin1 p r h = omega (arith, h)
 
+spread : (u a b : ℕ) → u * a + u * b ≡ u * (a + b)
+spread u a b = omega arith
+
 module _ {c : TransferSetting} (e : IsEquipped c) (Kept Good : Type 0) (kept : Good → Kept) (f : FixedEncoding) (n p0 size0 : ℕ) (gs : List Region) (base first : List ℕ) where
   abbrev Known : List Region → List ℕ → Stage → PathPoint → MachineState → Type 0
   Known live us st v s = Inv e Kept Good kept f n p0 size0 gs base first live us st v s
@@ -174,12 +180,24 @@ module _ {c : TransferSetting} (e : IsEquipped c) (Kept Good : Type 0) (kept : G
       go Utf16 a b = omega (arith, a, b, le)
       go Latin1 a b = omega (arith, a, b, le)
 
+  -- what is left behind a text that was read from some units on
+  left_after : (us : List ℕ) (f1 : FixedEncoding) (skip more total : ℕ) (source text rest : List ℕ) → total ≡ skip + more → f1 ≡ f → SpellsSome f (drop (unit_bytes f * skip) us) → source ≡ drop (unit_bytes f1 * skip) us → source ≡ spelled_text f1 text ++ rest → AreSpelled f1 text → more ≡ units_of_text f1 text
+      → SpellsSome f (drop (unit_bytes f * total) us)
+  left_after us f1 skip more total source text rest sum same spelled is reads can count =
+      let begins : drop (unit_bytes f * skip) us ≡ spelled_text f text ++ rest = subst (λ e. drop (unit_bytes e * skip) us ≡ spelled_text e text ++ rest) same (sym is ∙ reads) in
+      let behind = left_spelled f (drop (unit_bytes f * skip) us) text rest more spelled (subst (λ e. AreSpelled e text) same can) begins (subst (λ e. more ≡ units_of_text e text) same count) in
+      subst (SpellsSome f) (drop-drop (unit_bytes f * more) (unit_bytes f * skip) us ∙ ap (λ k. drop k us) (spread (unit_bytes f) skip more ∙ ap (λ k. unit_bytes f * k) (sym sum))) behind
+
+  -- the whole source, where nothing is skipped
+  whole_first : (us : List ℕ) → SpellsSome f us → SpellsSome f (drop (unit_bytes f * 0) us)
+  whole_first us whole = subst (SpellsSome f) (sym (from_first f us)) whole
+
   -- behind a pass that wrote at an offset
   moved : (live : List Region) (us : List ℕ) (st : Stage) (v : PathPoint) (s s1 : MachineState) (i : Import) (o : Transcode) (args rs : List CoreValue) (off : ℕ) (wrote have2 : List ℕ) (r2 w2 vr vw : ℕ) → vr ≡ r2 → vw ≡ w2
       → have2 ≡ take off st.have ++ wrote → nth_number args 2 ≡ v.region + off → off ≤ length st.have → off + length wrote ≤ st.size
-      → (h : IsTranscoded c o (record { what = i; args = args; before = s; answer = Returns rs s1 })) → h.wrote ≡ wrote → Later e s s1 → Known live us st v s
+      → (h : IsTranscoded c o (record { what = i; args = args; before = s; answer = Returns rs s1 })) → h.wrote ≡ wrote → Later e s s1 → Known live us st v s → (Kept → SourceSpells f p0 size0 first → SpellsSome f (drop (unit_bytes f * r2) us))
       → Known live us (record { read = r2; written = w2; size = st.size; given = st.given; have = have2 }) (record { source = v.source; length = v.length; read = vr; region = v.region; written = vw }) s1
-  moved live us st v s s1 i o args rs off wrote have2 r2 w2 vr vw er ew eh ed le fits h hw l inv =
+  moved live us st v s s1 i o args rs off wrote have2 r2 w2 vr vw er ew eh ed le fits h hw l inv spelled =
       let out : (j : ℕ) → (IsIn (record { at = v.region + off; size = length wrote; align = 1 }) j → ⊥) → get_or (to_bytes e s1) j 0 ≡ get_or (to_bytes e s) j 0 =
       λ j no1. h.others j (λ x. no1 (subst (λ a. IsIn (record { at = a; size = length wrote; align = 1 }) j) ed (subst (λ w. IsIn (record { at = nth_number args 2; size = length w; align = 1 }) j) hw x))) in
       let size2 : length (take off st.have ++ wrote) ≡ off + length wrote = omega (arith, length-append (take off st.have) wrote, length-take-le off st.have le) in
@@ -206,24 +224,27 @@ module _ {c : TransferSetting} (e : IsEquipped c) (Kept Good : Type 0) (kept : G
         frame = λ z j live. out j (λ x. inv.apart z j (omega (arith, x.0), omega (arith, x.1, fits)) live) ∙ inv.frame z j live;
         grown = omega (arith, inv.grown, l.to_longer);
         same = λ z. h.source ∙ inv.same z;
+        left = spelled;
       }
 
   pub behind_pass : (live : List Region) (us : List ℕ) (k : TranscodeKind) (f1 t : FixedEncoding) (b : Bool) (room : ℕ) (st : Stage) (v : PathPoint) (s s1 : MachineState) (i : Import) (o : Transcode) (args rs : List CoreValue) (g : Room) (source wrote : List ℕ)
       → IsHonestPass k f1 t g source wrote (map (λ v. bits_of v) rs) → st.given ≡ true → IsReadyFor n k b room st → nth_number args 2 ≡ target_pointer c.transfer k b v → offset n k b st + length wrote ≤ st.size → source ≡ drop (unit_bytes f1 * skipped n b st) us → length us ≡ unit_bytes f1 * n → SomeLeft n b st
-      → (h : IsTranscoded c o (record { what = i; args = args; before = s; answer = Returns rs s1 })) → h.wrote ≡ wrote → Later e s s1 → Known live us st v s → Known live us (after_pass n k b st wrote (map (λ v. bits_of v) rs)) (passed c.transfer k b rs v) s1
-  behind_pass live us AllUnits f1 t b room st v s s1 i o args rs g source wrote says given ready ed fits is_source long some h hw l inv =
-      moved live us st v s s1 i o args rs 0 wrote wrote st.read n v.read v.length inv.read_is inv.length_is refl (ed ∙ (target_is live us AllUnits b room st v s inv given ready).0) (omega arith) fits h hw l inv
-  behind_pass live us Counted f1 t b room st v s s1 i o args rs g source wrote says given ready ed fits is_source long some h hw l inv =
-      moved live us st v s s1 i o args rs 0 wrote wrote st.read _ v.read _ inv.read_is (first_is rs) refl (ed ∙ (target_is live us Counted b room st v s inv given ready).0) (omega arith) fits h hw l inv
-  behind_pass live us Tagged f1 t b room st v s s1 i o args rs g source wrote says given ready ed fits is_source long some h hw l inv =
-      moved live us st v s s1 i o args rs 0 wrote wrote st.read _ v.read _ inv.read_is (first_is rs) refl (ed ∙ (target_is live us Tagged b room st v s inv given ready).0) (omega arith) fits h hw l inv
-  behind_pass live us Widening f1 t b room st v s s1 i o args rs g source wrote says given ready ed fits is_source long some h hw l inv =
-      moved live us st v s s1 i o args rs 0 wrote wrote st.read _ v.read _ inv.read_is (first_is rs) refl (ed ∙ (target_is live us Widening b room st v s inv given ready).0) (omega arith) fits h hw l inv
-  behind_pass live us Narrow f1 t b room st v s s1 i o args rs g source wrote says given ready ed fits is_source long some h hw l inv =
+      → (h : IsTranscoded c o (record { what = i; args = args; before = s; answer = Returns rs s1 })) → h.wrote ≡ wrote → Later e s s1 → f1 ≡ f → Known live us st v s → Known live us (after_pass n k b st wrote (map (λ v. bits_of v) rs)) (passed c.transfer k b rs v) s1
+  behind_pass live us AllUnits f1 t b room st v s s1 i o args rs g source wrote says given ready ed fits is_source long some h hw l reads inv =
+      moved live us st v s s1 i o args rs 0 wrote wrote st.read n v.read v.length inv.read_is inv.length_is refl (ed ∙ (target_is live us AllUnits b room st v s inv given ready).0) (omega arith) fits h hw l inv inv.left
+  behind_pass live us Counted f1 t b room st v s s1 i o args rs g source wrote says given ready ed fits is_source long some h hw l reads inv =
+      moved live us st v s s1 i o args rs 0 wrote wrote st.read _ v.read _ inv.read_is (first_is rs) refl (ed ∙ (target_is live us Counted b room st v s inv given ready).0) (omega arith) fits h hw l inv inv.left
+  behind_pass live us Tagged f1 t b room st v s s1 i o args rs g source wrote says given ready ed fits is_source long some h hw l reads inv =
+      moved live us st v s s1 i o args rs 0 wrote wrote st.read _ v.read _ inv.read_is (first_is rs) refl (ed ∙ (target_is live us Tagged b room st v s inv given ready).0) (omega arith) fits h hw l inv inv.left
+  behind_pass live us Widening f1 t b room st v s s1 i o args rs g source wrote says given ready ed fits is_source long some h hw l reads inv =
+      moved live us st v s s1 i o args rs 0 wrote wrote st.read _ v.read _ inv.read_is (first_is rs) refl (ed ∙ (target_is live us Widening b room st v s inv given ready).0) (omega arith) fits h hw l inv inv.left
+  behind_pass live us Narrow f1 t b room st v s s1 i o args rs g source wrote says given ready ed fits is_source long some h hw l reads inv =
       moved live us st v s s1 i o args rs 0 wrote wrote _ _ _ _ (first_is rs) (second_is rs) refl (ed ∙ (target_is live us Narrow b room st v s inv given ready).0) (omega arith) fits h hw l inv
-  behind_pass live us Fitting f1 t false room st v s s1 i o args rs g source wrote says given ready ed fits is_source long some h hw l inv =
+      (λ z t. left_after us f1 0 (get_or (map (λ v. bits_of v) rs) 0 0) (get_or (map (λ v. bits_of v) rs) 0 0) source says.text says.rest (omega arith) reads (whole_first us (whole_source e Kept Good kept f n p0 size0 gs base first live us st v s inv z t)) (is_source ∙ ap (λ k. drop (unit_bytes f1 * k) us) (ap (λ b. skipped n b st) ready)) says.reads says.can_read (ap (λ l. get_or l 0 0) says.answers))
+  behind_pass live us Fitting f1 t false room st v s s1 i o args rs g source wrote says given ready ed fits is_source long some h hw l reads inv =
       moved live us st v s s1 i o args rs 0 wrote wrote _ _ _ _ (first_is rs) (second_is rs) refl (ed ∙ (target_is live us Fitting false room st v s inv given ready).0) (omega arith) fits h hw l inv
-  behind_pass live us Fitting f1 t true room st v s s1 i o args rs g source wrote says given ready ed fits is_source long some h hw l inv =
+      (λ z t. left_after us f1 0 (get_or (map (λ v. bits_of v) rs) 0 0) (get_or (map (λ v. bits_of v) rs) 0 0) source says.text says.rest (omega arith) reads (whole_first us (whole_source e Kept Good kept f n p0 size0 gs base first live us st v s inv z t)) is_source says.reads says.can_read (ap (λ l. get_or l 0 0) says.answers))
+  behind_pass live us Fitting f1 t true room st v s s1 i o args rs g source wrote says given ready ed fits is_source long some h hw l reads inv =
       let ns = map (λ v. bits_of v) rs in
       let read_in : st.read + get_or ns 0 0 ≤ n = within us f1 st.read (get_or ns 0 0) says.text says.rest long (let lt = some.0 in omega (arith, lt)) (sym is_source ∙ says.reads) (ap (λ l. get_or l 0 0) says.answers) in
       let count : get_or ns 1 0 ≡ length wrote = ap (λ l. get_or l 1 0) says.answers ∙ sym (ap length says.writes) in
@@ -231,6 +252,7 @@ module _ {c : TransferSetting} (e : IsEquipped c) (Kept Good : Type 0) (kept : G
       let sum : wrap c.transfer.to (v.written + first_bits (drop 1 rs)) ≡ st.written + get_or ns 1 0 =
       ap (λ y. wrap c.transfer.to (y + first_bits (drop 1 rs))) inv.written_is ∙ ap (λ y. wrap c.transfer.to (st.written + y)) (second_is rs) ∙ wrap_small c.transfer.to (st.written + get_or ns 1 0) (omega (arith, count, fits, inv.small)) in
       moved live us st v s s1 i o args rs st.written wrote (take st.written st.have ++ wrote) _ _ _ _ read sum refl (ed ∙ (target_is live us Fitting true room st v s inv given ready).0) ready.0 fits h hw l inv
+      (λ z t. left_after us f1 st.read (get_or ns 0 0) (st.read + get_or ns 0 0) source says.text says.rest refl reads (inv.left z t) is_source says.reads says.can_read (ap (λ l. get_or l 0 0) says.answers))
 
   -- ---- ranges
 
@@ -294,3 +316,53 @@ module _ {c : TransferSetting} (e : IsEquipped c) (Kept Good : Type 0) (kept : G
           let there : bits_of (address_value c.transfer.to v.written) ≡ st.written = bits_address c.transfer.to v.written ∙ inv.written_is in
           let all = (room_is live us Widening b room st v s inv ready).0 in
           omega (arith, ey, there, all, ready.2)
+
+  -- ---- what is read
+
+  -- what a pass reads spells a text, where the source does
+  units_spelled : (b : Bool) (live : List Region) (us : List ℕ) (st : Stage) (v : PathPoint) (s : MachineState) → Known live us st v s → Kept → SourceSpells f p0 size0 first → SpellsSome f (drop (unit_bytes f * skipped n b st) us)
+  units_spelled true live us st v s inv z t = inv.left z t
+  units_spelled false live us st v s inv z t = whole_first us (whole_source e Kept Good kept f n p0 size0 gs base first live us st v s inv z t)
+
+  -- with room for it, where a pass widens what is there
+  room_for : (k : TranscodeKind) (args : List CoreValue) (units : ℕ) → Fits k args → units ≤ nth_number args 1 → k ≡ Widening → nth_number args 4 + units ≤ nth_number args 3
+  room_for AllUnits args units h le is = absurd cc
+  room_for Counted args units h le is = absurd cc
+  room_for Fitting args units h le is = absurd cc
+  room_for Narrow args units h le is = absurd cc
+  room_for Tagged args units h le is = absurd cc
+  room_for Widening args units h le is = omega (arith, h, le)
+
+  pub whole_read : (i : Import) (a : Answer) (live : List Region) (us : List ℕ) (o : Transcode) (b : Bool) (room : ℕ) (st : Stage) (v : PathPoint) (s : MachineState)
+      → Known live us st v s → from_encoding o ≡ f → length us ≡ unit_bytes f * n → st.given ≡ true → SomeLeft n b st
+      → IsReadyFor n (transcode_kind o) b room st → HasSpace n (transcode_kind o) (to_encoding o) room st → Kept → SourceSpells f p0 size0 first → ReadsText c.places o e.from.def (pass_call i o b room v s a)
+  whole_read i a live us o b room st v s inv reads long given some ready space z t =
+      let args = pass_args c.transfer o b room v in
+      let skip = skipped n b st in
+      let src = source_is live us b st v s inv given some long in
+      let at : nth_number args 0 ≡ v.source + unit_bytes f * skip = bits_address c.transfer.from _ ∙ same_pointer b ∙ src.0 in
+      let many : nth_number args 1 ≡ n - skip = bits_address c.transfer.from _ ∙ src.1 in
+      let unit : unit_bytes (from_encoding o) ≡ unit_bytes f = ap unit_bytes reads in
+      let le = skips b st some in
+      let from : take (unit_bytes (from_encoding o) * nth_number args 1) (drop (nth_number args 0) (get_or s.memories (c.places.memory e.from.def) [])) ≡ drop (unit_bytes f * skip) us =
+      ap (λ m. take (unit_bytes (from_encoding o) * nth_number args 1) (drop (nth_number args 0) m)) (sym (from_are e s))
+      ∙ ap (λ u. take (u * nth_number args 1) (drop (nth_number args 0) (from_bytes e s))) unit
+      ∙ ap (λ k. take (unit_bytes f * k) (drop (nth_number args 0) (from_bytes e s))) many
+      ∙ ap (λ q. take (unit_bytes f * (n - skip)) (drop q (from_bytes e s))) at
+      ∙ rest_of (from_bytes e s) us v.source (unit_bytes f) n skip long inv.source le in
+      let spelled = units_spelled b live us st v s inv z t in
+      let text = spelled.0 in
+      let split = mul_split (unit_bytes f) n skip le in
+      let left_long : length (drop (unit_bytes f * skip) us) ≡ unit_bytes f * nth_number args 1 = omega (arith, length-drop (unit_bytes f * skip) us, long, split, ap (λ k. unit_bytes f * k) many) in
+      let count : nth_number args 1 ≡ units_of_text f text = counts f (drop (unit_bytes f * skip) us) text (nth_number args 1) left_long spelled.1.is in
+      let served_so = served i a live us o b room st v s inv unit long given some ready space in
+      record {
+        text = text;
+        can = subst (λ e1. AreSpelled e1 text) (sym reads) spelled.1.can;
+        is = from ∙ spelled.1.is ∙ ap (λ e1. spelled_text e1 text) (sym reads);
+        fits = room_for (transcode_kind o) args (units_of_text Utf16 text) served_so.fits (omega (arith, count, fewer16 f text spelled.1.can));
+      }
+    where
+      same_pointer : (b : Bool) → source_pointer c.transfer (from_encoding o) b v ≡ source_pointer c.transfer f b v
+      same_pointer true = ap (λ e1. wrap c.transfer.from (v.source + unit_bytes e1 * v.read)) reads
+      same_pointer false = refl

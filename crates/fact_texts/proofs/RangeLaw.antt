@@ -40,7 +40,7 @@ module _ (c : TransferSetting) (next : Call → Position → Position) (steps : 
   -- ---- honest transcoders, and anything else
 
   honest_answer : (gs : List Region) (i : Import) (args : List CoreValue) (before : MachineState) (a : Answer) → IsHonestTranscoder i c.places (record { what = i; args = args; before = before; answer = a }) → IsAnswerHonest ⊥ c gs i args before a
-  honest_answer gs i args before Traps h = λ k. k
+  honest_answer gs i args before Traps h = tt
   honest_answer gs i args before Throws h = λ k. k
   honest_answer gs (import.Transcode o from from64 to to64) args before (Returns rs after) h = λ of_from of_to. transcoded c o from from64 to to64 (record { what = import.Transcode o from from64 to to64; args = args; before = before; answer = Returns rs after }) known.two of_from of_to (h tt)
   honest_answer gs (import.CoreDef f) args before (Returns rs after) h = λ k. absurd k
@@ -61,16 +61,16 @@ module _ (c : TransferSetting) (next : Call → Position → Position) (steps : 
   honest_calls gs (k ∷ cs) h = (honest_answer gs k.what k.args k.before k.answer h.0, honest_calls (regions_by k.what k.args k.answer gs) cs h.1)
 
   -- a walk of a path
-  walked_ranged : {A : Type 0} {most : ℕ} {gs : List Region} {Q : List Region → A → World → Type 0} {q : Action A} {w : World}
-      → ((rs : List Region) (a : A) (w' : World) → Q rs a w' → BothAreThere c.places c.transfer.from c.transfer.to w'.state) → Walks c next ⊥ ⊥ most gs Q q w → Stays c next steps known gs q w
-  walked_ranged {A} {most} {gs} {Q} {q} {w} f h = record { by = by_end (run c.places q w) h.judged }
+  walked_ranged : {A Text : Type 0} {most : ℕ} {gs : List Region} {Q : List Region → A → World → Type 0} {q : Action A} {w : World}
+      → ((rs : List Region) (a : A) (w' : World) → Q rs a w' → BothAreThere c.places c.transfer.from c.transfer.to w'.state) → Walks c next ⊥ ⊥ Text most gs Q q w → Stays c next steps known gs q w
+  walked_ranged {A} {Text} {most} {gs} {Q} {q} {w} f h = record { by = by_end (run c.places q w) h.judged }
     where
-      stops : (s : Stop) (cs : List Call) → MayEnd c next ⊥ ⊥ most gs s cs → AreServedCalls c.places next (position c gs) cs
+      stops : (s : Stop) (cs : List Call) → MayEnd c next ⊥ ⊥ Text most gs s cs → AreServedCalls c.places next (position c gs) cs
       stops Trap cs h = h.0
       stops Throw cs h = h.0
       stops Lack cs h = h.ranged
 
-      by_end : (d : Ended A) → Judged c next ⊥ ⊥ most gs Q d → IsRangedEnd c.places next (position c gs) (λ y a w'. Arrived c next steps known y w'.state) d
+      by_end : (d : Ended A) → Judged c next ⊥ ⊥ Text most gs Q d → IsRangedEnd c.places next (position c gs) (λ y a w'. Arrived c next steps known y w'.state) d
       by_end (Gave n cs a w') j = λ o. let k = j (honest_calls gs cs o) in (k.1.ranged, record { live = regions_after gs cs; is = k.1.moved; there = f (regions_after gs cs) a w' k.2 })
       by_end (Halted n cs s w') j = λ o. stops s cs (j (honest_calls gs cs o))
       by_end (Strayed n cs w') j = tt

@@ -34,13 +34,13 @@ use Rattle.fact_types.specs.Adapters.{is_wide}
 
 -- ---- checks of regions
 
-module _ {c : TransferSetting} {next : Call → Position → Position} {Kept Good : Type 0} {A : Type 0} {gs : List Region} {P : List Region → A → World → Type 0} {most : ℕ} where
-  pub walks_with : (o : LiftLowerOptions) (m : MemoryOption) (k : MemoryOption → Action A) (w : World) → o.memory ≡ Some m → Walks c next Kept Good most gs P (k m) w → Walks c next Kept Good most gs P (with_memory o k) w
-  walks_with o m k w is h = subst (λ x. Walks c next Kept Good most gs P (elim x [ None ↦ action.Unreachable | Some m ↦ k m ]) w) (sym is) h
+module _ {c : TransferSetting} {next : Call → Position → Position} {Kept Good Text : Type 0} {A : Type 0} {gs : List Region} {P : List Region → A → World → Type 0} {most : ℕ} where
+  pub walks_with : (o : LiftLowerOptions) (m : MemoryOption) (k : MemoryOption → Action A) (w : World) → o.memory ≡ Some m → Walks c next Kept Good Text most gs P (k m) w → Walks c next Kept Good Text most gs P (with_memory o k) w
+  walks_with o m k w is h = subst (λ x. Walks c next Kept Good Text most gs P (elim x [ None ↦ action.Unreachable | Some m ↦ k m ]) w) (sym is) h
 
   pub walks_check : (o : LiftLowerOptions) (m : MemoryOption) (t : TrapCode) (pointer bytes align : ℕ) (q : Action A) (w : World) (memory : List ℕ) → o.memory ≡ Some m → slice_get w.state.memories (c.places.memory m.def) ≡ Some memory
-      → (Good → (pointer % align ≡ 0) × (pointer + bytes ≤ length memory)) → (pointer % align ≡ 0 → pointer + bytes ≤ length memory → Walks c next Kept Good most gs P q w)
-      → Walks c next Kept Good most gs P (check_region o t pointer bytes align q) w
+      → (Good → (pointer % align ≡ 0) × (pointer + bytes ≤ length memory)) → (pointer % align ≡ 0 → pointer + bytes ≤ length memory → Walks c next Kept Good Text most gs P q w)
+      → Walks c next Kept Good Text most gs P (check_region o t pointer bytes align q) w
   walks_check o m t pointer bytes align q w memory is there good behind =
       walks_unless _ (nat_eq (pointer % align) 0) (λ no g. false≢true (sym no ∙ eq-eqb (pointer % align) 0 (good g).0)) (λ yes.
       walks_with o m (λ m. MemoryLength m.def (λ length. unless t (nat_le (pointer + bytes) length) q)) w is
@@ -75,20 +75,20 @@ module _ {c : TransferSetting} (e : IsEquipped c) (Kept Good : Type 0) (kept : G
     same = λ k. b.same k ∙ a.same k;
   }
 
-  module _ {next : Call → Position → Position} (steps : MovesAlong c next) {A : Type 0} {gs : List Region} {P : List Region → A → World → Type 0} where
+  module _ {next : Call → Position → Position} (steps : MovesAlong c next) {A Text : Type 0} {gs : List Region} {P : List Region → A → World → Type 0} where
     walks_slot : {n : ℕ} (i : UnsafeIntrinsic) (args : List CoreValue) (ts : List ValType) (k : List CoreValue → Action A) (w : World) → There e w.state
-        → ((rs : List CoreValue) (w' : World) → Behind w.state w'.state → Walks c next Kept Good n gs P (k rs) w') → Walks c next Kept Good (1 + n) gs P (Ask (import.UnsafeIntrinsic i) args ts k) w
-    walks_slot {n} i args ts k w there on = walks_ask {b = n} (omega arith) refl (λ a. tt) (λ rs after. other_stays steps _ (position c gs) (λ d. refl)) (λ rs w' typed honest. on rs w' (behind_later w.state w'.state (typed_later e ts rs w.state w'.state there typed) honest)) kept
+        → ((rs : List CoreValue) (w' : World) → Behind w.state w'.state → Walks c next Kept Good Text n gs P (k rs) w') → Walks c next Kept Good Text (1 + n) gs P (Ask (import.UnsafeIntrinsic i) args ts k) w
+    walks_slot {n} i args ts k w there on = walks_ask {b = n} (omega arith) refl (λ a. tt) (λ a z t. tt) (λ rs after. other_stays steps _ (position c gs) (λ d. refl)) (λ rs w' typed honest. on rs w' (behind_later w.state w'.state (typed_later e ts rs w.state w'.state there typed) honest))
 
     walks_get_slots : {n : ℕ} (b : Bool) (k : List CoreValue → List CoreValue → Action A) (w : World) → There e w.state
-        → ((x y : List CoreValue) (w' : World) → Behind w.state w'.state → Walks c next Kept Good n gs P (k x y) w') → Walks c next Kept Good (2 + n) gs P (get_slots b k) w
+        → ((x y : List CoreValue) (w' : World) → Behind w.state w'.state → Walks c next Kept Good Text n gs P (k x y) w') → Walks c next Kept Good Text (2 + n) gs P (get_slots b k) w
     walks_get_slots {n} false k w there on = walks_more {a = n} (omega arith) (λ rs x w' p. p) (on [] [] w (behind_none w.state there))
     walks_get_slots {n} true k w there on =
         walks_more {a = 1 + (1 + n)} (omega arith) (λ rs x w' p. p) (walks_slot slot.ContextGetI32_0 [] (val.I32 ∷ []) (λ a. Ask (import.UnsafeIntrinsic slot.ContextGetI32_1) [] (val.I32 ∷ []) (λ b. k a b)) w there (λ x w1 h1.
         walks_slot slot.ContextGetI32_1 [] (val.I32 ∷ []) (λ b. k x b) w1 h1.there (λ y w2 h2. on x y w2 (behind_then w.state w1.state w2.state h1 h2))))
 
     walks_set_slots : {n : ℕ} (b : Bool) (x y : List CoreValue) (q : Action A) (w : World) → There e w.state
-        → ((w' : World) → Behind w.state w'.state → Walks c next Kept Good n gs P q w') → Walks c next Kept Good (2 + n) gs P (set_slots b x y q) w
+        → ((w' : World) → Behind w.state w'.state → Walks c next Kept Good Text n gs P q w') → Walks c next Kept Good Text (2 + n) gs P (set_slots b x y q) w
     walks_set_slots {n} false x y q w there on = walks_more {a = n} (omega arith) (λ rs x w' p. p) (on w (behind_none w.state there))
     walks_set_slots {n} true x y q w there on =
         walks_more {a = 1 + (1 + n)} (omega arith) (λ rs x w' p. p) (walks_slot slot.ContextSetI32_0 x [] (λ r. Ask (import.UnsafeIntrinsic slot.ContextSetI32_1) y [] (λ s. q)) w there (λ r w1 h1.
@@ -126,27 +126,27 @@ module _ {c : TransferSetting} (e : IsEquipped c) (Kept Good : Type 0) (kept : G
     honest = λ k. honest_same gs _ q s s1 s2 s3 (a.same k) (b.same k) (honest k);
   }
 
-  module _ {next : Call → Position → Position} (steps : MovesAlong c next) {A : Type 0} {gs : List Region} {P : List Region → A → World → Type 0} where
+  module _ {next : Call → Position → Position} (steps : MovesAlong c next) {A Text : Type 0} {gs : List Region} {P : List Region → A → World → Type 0} where
     pub walks_reallocate : {n : ℕ} (t : TrapCode) (p old new : ℕ) (k : ℕ → Action A) (w : World) → There e w.state
-        → ((q : ℕ) (w' : World) → Got gs p old new q w.state w'.state → Walks c next Kept Good n (record { at = q; size = new; align = align_of c.transfer.to.encoding } ∷ without (record { at = p; size = old; align = align_of c.transfer.to.encoding }) gs) P (k q) w')
-        → Walks c next Kept Good (7 + n) gs P (reallocate c.transfer.concurrency c.transfer.to t p old (align_of c.transfer.to.encoding) new k) w
+        → ((q : ℕ) (w' : World) → Got gs p old new q w.state w'.state → Walks c next Kept Good Text n (record { at = q; size = new; align = align_of c.transfer.to.encoding } ∷ without (record { at = p; size = old; align = align_of c.transfer.to.encoding }) gs) P (k q) w')
+        → Walks c next Kept Good Text (7 + n) gs P (reallocate c.transfer.concurrency c.transfer.to t p old (align_of c.transfer.to.encoding) new k) w
     walks_reallocate {n} t p old new k w there on =
-        subst (λ r. Walks c next Kept Good (7 + n) gs P (elim r [ None ↦ action.Unreachable | Some f ↦ called f ]) w) (sym e.realloc_is)
+        subst (λ r. Walks c next Kept Good Text (7 + n) gs P (elim r [ None ↦ action.Unreachable | Some f ↦ called f ]) w) (sym e.realloc_is)
         (walks_more {a = 2 + (2 + (1 + (2 + n)))} (omega arith) (λ rs x w' h. h)
         (walks_get_slots steps c.transfer.concurrency (λ a b. set_slots c.transfer.concurrency (I32 0 ∷ []) (I32 0 ∷ []) (asked e.realloc a b)) w there (λ x y w1 h1.
         walks_set_slots steps c.transfer.concurrency (I32 0 ∷ []) (I32 0 ∷ []) (asked e.realloc x y) w1 h1.there (λ w2 h2.
-        walks_ask {b = 2 + n} (omega arith) refl (λ a. tt) (λ rs after. realloc_moves steps e.realloc _ rs w2.state after gs e.realloc_is) (λ rs w3 typed honest.
+        walks_ask {b = 2 + n} (omega arith) refl (λ a. tt) (λ a z t. tt) (λ rs after. realloc_moves steps e.realloc _ rs w2.state after gs e.realloc_is) (λ rs w3 typed honest.
         let l = typed_later e (type_of_addresses c.transfer.to ∷ []) rs w2.state w3.state h2.there typed in
         let q = first_bits rs in
         let below = answer_below c.transfer.to rs (and_left (are_values rs (type_of_addresses c.transfer.to ∷ [])) (is_state c.places w3.state && is_grown w2.state.memories w3.state.memories) typed) in
         let is = request_is c.transfer.to p old (align_of c.transfer.to.encoding) new in
         let clean : Kept → IsHonestRealloc c gs (record { old = p; old_size = old; align = align_of c.transfer.to.encoding; new_size = new }) q w2.state w3.state = λ z. subst (λ r. IsHonestRealloc c gs r q w2.state w3.state) is (honest z) in
-        subst (λ r. Walks c next Kept Good (2 + n) (region_from r q ∷ without (old_region r) gs) P (set_slots c.transfer.concurrency x y (checked q)) w3) (sym is)
+        subst (λ r. Walks c next Kept Good Text (2 + n) (region_from r q ∷ without (old_region r) gs) P (set_slots c.transfer.concurrency x y (checked q)) w3) (sym is)
         (walks_set_slots steps c.transfer.concurrency x y (checked q) w3 l.there (λ w4 h4.
         let a = behind_then w.state w1.state w2.state h1 h2 in
         walks_check c.transfer.to e.to t q new (align_of c.transfer.to.encoding) (k q) w4 (to_bytes e w4.state) e.to_is h4.there.to
         (λ g. let z = honest_same gs _ q w2.state w2.state w3.state w4.state refl (h4.same (kept g)) (clean (kept g)) in (z.aligned, z.inside))
-        (λ al le. on q w4 (got gs p old new q w.state w2.state w3.state w4.state a l h4 below clean al le))))) kept))))
+        (λ al le. on q w4 (got gs p old new q w.state w2.state w3.state w4.state a l h4 below clean al le)))))))))
       where
         checked : ℕ → Action A
         checked q = check_region c.transfer.to t q new (align_of c.transfer.to.encoding) (k q)

@@ -52,17 +52,17 @@ module _ (instances : Id RuntimeInstances) where
   abbrev list_of : Shape → Shape
   list_of t = s_node k_list (typed [] t no_members)
 
-  one_text : parts (text ∷ []) (3 ∷ 5 ∷ []) [] ≡ TextPart AsUtf8 5 ∷ []
+  one_text : parts (text ∷ []) (3 ∷ 5 ∷ []) [] ≡ TextPart AsUtf8 3 5 ∷ []
   unfolding parts_of parts_of_fields
   one_text = refl
 
   -- the region of the list comes first, and then its texts
-  two_texts : parts (list_of text ∷ []) (0 ∷ 2 ∷ []) (16 ∷ 0 ∷ 0 ∷ 0 ∷ 1 ∷ 0 ∷ 0 ∷ 0 ∷ 17 ∷ 0 ∷ 0 ∷ 0 ∷ 2 ∷ 0 ∷ 0 ∷ 0 ∷ []) ≡ RegionPart 4 16 ∷ TextPart AsUtf8 1 ∷ TextPart AsUtf8 2 ∷ []
+  two_texts : parts (list_of text ∷ []) (0 ∷ 2 ∷ []) (16 ∷ 0 ∷ 0 ∷ 0 ∷ 1 ∷ 0 ∷ 0 ∷ 0 ∷ 17 ∷ 0 ∷ 0 ∷ 0 ∷ 2 ∷ 0 ∷ 0 ∷ 0 ∷ []) ≡ RegionPart 4 16 ∷ TextPart AsUtf8 16 1 ∷ TextPart AsUtf8 17 2 ∷ []
   unfolding parts_of parts_of_fields aligned
   two_texts = refl
 
   -- what follows a list comes behind all that is in it
-  a_list_and_a_text : parts (list_of (list_of (s_plain ty.U16)) ∷ text ∷ []) (0 ∷ 1 ∷ 40 ∷ 7 ∷ []) (8 ∷ 0 ∷ 0 ∷ 0 ∷ 3 ∷ 0 ∷ 0 ∷ 0 ∷ []) ≡ RegionPart 4 8 ∷ RegionPart 2 6 ∷ TextPart AsUtf8 7 ∷ []
+  a_list_and_a_text : parts (list_of (list_of (s_plain ty.U16)) ∷ text ∷ []) (0 ∷ 1 ∷ 40 ∷ 7 ∷ []) (8 ∷ 0 ∷ 0 ∷ 0 ∷ 3 ∷ 0 ∷ 0 ∷ 0 ∷ []) ≡ RegionPart 4 8 ∷ RegionPart 2 6 ∷ TextPart AsUtf8 40 7 ∷ []
   unfolding parts_of parts_of_fields aligned
   a_list_and_a_text = refl
 
@@ -76,9 +76,9 @@ module _ (instances : Id RuntimeInstances) where
   asked ts answers xs = parts_requests (params_transfer off (passing ts)) xs (map (λ n. I32 n ∷ []) answers)
 
   -- behind each the transcoder answers too
-  texts_are_asked : asked (list_of text ∷ []) (100 ∷ 200 ∷ 1 ∷ 300 ∷ 2 ∷ []) (RegionPart 4 16 ∷ TextPart AsUtf8 1 ∷ TextPart AsUtf8 2 ∷ []) ≡ new_region 4 16 ∷ new_region 1 1 ∷ new_region 1 2 ∷ []
+  texts_are_asked : asked (list_of text ∷ []) (100 ∷ 200 ∷ 1 ∷ 300 ∷ 2 ∷ []) (RegionPart 4 16 ∷ TextPart AsUtf8 16 1 ∷ TextPart AsUtf8 17 2 ∷ []) ≡ new_region 4 16 ∷ new_region 1 1 ∷ new_region 1 2 ∷ []
   texts_are_asked = refl
 
   -- so far
-  one_is_asked : asked (list_of text ∷ []) [] (RegionPart 4 16 ∷ TextPart AsUtf8 1 ∷ []) ≡ new_region 4 16 ∷ []
+  one_is_asked : asked (list_of text ∷ []) [] (RegionPart 4 16 ∷ TextPart AsUtf8 16 1 ∷ []) ≡ new_region 4 16 ∷ []
   one_is_asked = refl

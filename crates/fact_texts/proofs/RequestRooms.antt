@@ -90,7 +90,7 @@ module _ (tr : Transfer) where
       let here = new_takes (nat_le size 0) align size size (omega arith) in
       let more = next_takes answers (λ rs more. parts_requests tr parts more) _ (parts_bytes tr.to.encoding parts) c (λ rs more d. parts_take parts more d) in
       omega (arith, here, more)
-  parts_take (TextPart form n ∷ parts) answers c =
+  parts_take (TextPart form p n ∷ parts) answers c =
       path_takes (path form tr.to.encoding) (path_start 0 n) answers (λ v more. parts_requests tr parts more) (λ v more. AllCutsShrink tr parts more) (parts_bytes tr.to.encoding parts) c (λ u more e d. parts_take parts more d)
 
 pub requests_take_no_more : RequestsTakeNoMore

@@ -74,8 +74,8 @@ from_callee a (c ∷ cs) h = (h.0, are_beside None cs h.1)
 value_own : (from to other : LiftLowerOptions) (i : Import) → IsValueCall from to i → IsOwnRealloc other i
 value_own from to other (import.CoreDef d) h = absurd h
 value_own from to other (import.Transcode o from_def from64 to_def to64) h = tt
-value_own from to other (import.PrepareCall memory) h = tt
-value_own from to other (import.StartCall callback function) h = tt
+value_own from to other (import.PrepareCall memory) h = absurd h
+value_own from to other (import.StartCall callback function) h = absurd h
 value_own from to other import.ResourceTransferOwn h = tt
 value_own from to other import.ResourceTransferBorrow h = tt
 value_own from to other import.FutureTransfer h = tt
@@ -122,7 +122,7 @@ module _ (p : ImportPlaces) (u : AdapterTunables) (a : LinkedAdapter) (known : K
     abbrev of_p : TransferSetting
     of_p = setting_of_params p u a (side_memory p (options_of a.lower) s)
 
-    params_honest : (e : Ended (List CoreValue)) → run p (move_params u a args) w ≡ e → AreHonestUntilTrap (AreHonest p a moved_on (landed (params_landing a))) (calls_in e) → AreHonestUntilTrap (AreHonestCalls of_p []) (calls_in e)
+    pub params_honest : (e : Ended (List CoreValue)) → run p (move_params u a args) w ≡ e → AreHonestUntilTrap (AreHonest p a moved_on (landed (params_landing a))) (calls_in e) → AreHonestUntilTrap (AreHonestCalls of_p []) (calls_in e)
     params_honest e is h = until_trap of_p known.two a (calls_in e) (subst (λ e. AllCalled (IsOfTransfer (options_of a.lower) (options_of a.lift)) (calls_in e)) is (params_of_transfer u a p w args)) h
 
     pub params_asked : (e : Ended (List CoreValue)) → run p (move_params u a args) w ≡ e → AreHonestUntilTrap (AreHonest p a moved_on (landed (params_landing a))) (calls_in e) → AsksFor (params_transfer u a) (params_landing a) (params_parts p u a args s) e
@@ -136,7 +136,7 @@ module _ (p : ImportPlaces) (u : AdapterTunables) (a : LinkedAdapter) (known : K
     abbrev of_r : TransferSetting
     of_r = setting_of_results p u a (return_area a args) (side_memory p (options_of a.lift) s)
 
-    results_honest : (e : Ended (List CoreValue)) → run p (move_results u a given (last_bits args)) w ≡ e → AreHonestUntilTrap (AreHonest p a moved_on (landed (results_landing a args))) (calls_in e) → AreHonestUntilTrap (AreHonestCalls of_r []) (calls_in e)
+    pub results_honest : (e : Ended (List CoreValue)) → run p (move_results u a given (last_bits args)) w ≡ e → AreHonestUntilTrap (AreHonest p a moved_on (landed (results_landing a args))) (calls_in e) → AreHonestUntilTrap (AreHonestCalls of_r []) (calls_in e)
     results_honest e is h =
         until_trap of_r (λ m n e f k. known.two n m f e (sym k)) a (calls_in e) (subst (λ e. AllCalled (IsOfTransfer (options_of a.lift) (options_of a.lower)) (calls_in e)) is (results_of_transfer u a p w given (last_bits args))) h
 
@@ -149,7 +149,7 @@ module _ (p : ImportPlaces) (u : AdapterTunables) (a : LinkedAdapter) (known : K
 
 -- ---- sync adapters
 
-knows_memories : (p : ImportPlaces) (a : LinkedAdapter) → IsCheckedAdapter p a → KnowsMemories p a
+pub knows_memories : (p : ImportPlaces) (a : LinkedAdapter) → IsCheckedAdapter p a → KnowsMemories p a
 knows_memories p a x = record { lower = x.lower_memory; lift = x.lift_memory; two = x.memories }
 
 module _ (p : ImportPlaces) (u : AdapterTunables) (a : LinkedAdapter) (x : IsCheckedAdapter p a) (args : List CoreValue) (w : World) (typed : is_state p w.state ≡ true) where
@@ -190,10 +190,10 @@ module _ (p : ImportPlaces) (u : AdapterTunables) (a : LinkedAdapter) (x : IsChe
 
   -- ---- runs that stop
 
-  params_none : (args : List CoreValue) (v : World) (e : Ended (List CoreValue)) → run p (move_params u a args) v ≡ e → NoneCalls a (calls_in e)
+  pub params_none : (args : List CoreValue) (v : World) (e : Ended (List CoreValue)) → run p (move_params u a args) v ≡ e → NoneCalls a (calls_in e)
   params_none args v e is = none_calls a (calls_in e) (subst (λ e. AllCalled (Differs a) (calls_in e)) is (params_differ p u a x v args))
 
-  results_none : (given : List CoreValue) (v : World) (e : Ended (List CoreValue)) → run p (move_results u a given (last_bits args)) v ≡ e → NoneCalls a (calls_in e)
+  pub results_none : (given : List CoreValue) (v : World) (e : Ended (List CoreValue)) → run p (move_results u a given (last_bits args)) v ≡ e → NoneCalls a (calls_in e)
   results_none given v e is = none_calls a (calls_in e) (subst (λ e. AllCalled (Differs a) (calls_in e)) is (results_differ p u a x v given (last_bits args)))
 
   passed_apart : (t : IsPassedOn p u a args w) (others : List Call) → AreHonestSync p a args (calls_before p u a args w t others) → ParamsApart p u a args w t.start t.params others
@@ -230,7 +230,7 @@ module _ (p : ImportPlaces) (u : AdapterTunables) (a : LinkedAdapter) (x : IsChe
   abbrev AreUntilTrap : List Call → Type 0
   AreUntilTrap cs = AreHonestUntilTrap (AreHonestSync p a args) cs
 
-  none_front : (cs ds : List Call) → NoneCalls a (cs ++ ds) → NoneCalls a cs
+  pub none_front : (cs ds : List Call) → NoneCalls a (cs ++ ds) → NoneCalls a cs
   none_front [] ds h = tt
   none_front (c ∷ cs) ds h = (h.0, none_front cs ds h.1)
 
@@ -278,15 +278,15 @@ module _ (p : ImportPlaces) (u : AdapterTunables) (a : LinkedAdapter) (x : IsChe
   -- ---- results
 
   -- the calls before those of the transfer of results
-  abbrev before_back : IsAnswered p u a args w → List Call
+  abbrev pub before_back : IsAnswered p u a args w → List Call
   before_back t = t.passed.start.enter ++ (t.passed.params ++ (t.callee ∷ t.between))
 
-  regroup : (t : IsAnswered p u a args w) (ds : List Call) → before_back t ++ ds ≡ answered_calls p u a args w t ds
+  pub regroup : (t : IsAnswered p u a args w) (ds : List Call) → before_back t ++ ds ≡ answered_calls p u a args w t ds
   regroup t ds =
       append_assoc t.passed.start.enter (t.passed.params ++ (t.callee ∷ t.between)) ds
       ∙ ap (λ l. t.passed.start.enter ++ l) (append_assoc t.passed.params (t.callee ∷ t.between) ds)
 
-  back_apart : (t : IsAnswered p u a args w) (back more : List Call) → NoneCalls a back → AreHonestSync p a args (answered_calls p u a args w t (back ++ more)) → ResultsApart p u a args w t back
+  pub back_apart : (t : IsAnswered p u a args w) (back more : List Call) → NoneCalls a back → AreHonestSync p a args (answered_calls p u a args w t (back ++ more)) → ResultsApart p u a args w t back
   back_apart t back more none h = results_apart p u a args w t back more (advance (sync_moved_on a args) (landed (params_landing a)) t.passed.params) none (passed_apart t.passed (t.callee ∷ (t.between ++ (back ++ more))) h).remain
 
   -- The callee answered, and nothing was called behind it but what is beside transfers.

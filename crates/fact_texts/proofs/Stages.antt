@@ -67,11 +67,12 @@ module _ (n : ℕ) where
   SomeLeft true s = (s.read < n) × (n < 2 ^ 32)
   SomeLeft false s = Unit {0}
 
-  -- the numbers that a pass is told are those that are meant
+  -- the numbers that a pass is told are those that are meant, and one into Latin-1 is no second pass
   abbrev pub IsReadyFor : TranscodeKind → (rest : Bool) → (room : ℕ) → Stage → Type 0
   IsReadyFor Fitting true c s = (s.written ≤ length s.have) × (s.written < c * n) × (c * n ≡ s.size)
   IsReadyFor Fitting false c s = c * n ≡ s.size
   IsReadyFor Widening b c s = (s.written ≤ length s.have) × (c * n ≤ s.size) × (s.written + (n - skipped b s) ≤ c * n)
+  IsReadyFor Narrow b c s = b ≡ false
   IsReadyFor _ b c s = Unit {0}
 
   -- the region has room for what a pass may write

@@ -84,7 +84,7 @@ module _ {c : TransferSetting} (e : IsEquipped c) where
     pub from_cap : length (from_bytes s') ≤ 2 ^ address_bits (is_wide c.transfer.from.memory)
     pub to_cap : length (to_bytes s') ≤ 2 ^ address_bits (is_wide c.transfer.to.memory)
 
-  from_are : (s : MachineState) → from_bytes s ≡ get_or s.memories (c.places.memory e.from.def) []
+  pub from_are : (s : MachineState) → from_bytes s ≡ get_or s.memories (c.places.memory e.from.def) []
   from_are s = ap (λ o. elim o [ None ↦ [] | Some m ↦ get_or s.memories (c.places.memory m.def) [] ]) e.from_is
 
   to_are : (s : MachineState) → to_bytes s ≡ get_or s.memories (c.places.memory e.to.def) []

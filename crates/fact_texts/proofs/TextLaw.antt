@@ -50,12 +50,14 @@ use Rattle.fact_carry.proofs.Placing.{leaves_wider, leaves_then}
 use Rattle.fact_carry.proofs.Plain.{both, does_aligned}
 use Rattle.fact_carry.proofs.Products.{mapped}
 use Rattle.fact_carry.proofs.Realloc.{does_check}
+use Rattle.fact_carry.proofs.Stopping.{AreReturned}
 use Rattle.fact_carry.proofs.Sums.{target_later}
 use Rattle.fact_carry.proofs.Targets.{at_live}
 use Rattle.fact_carry.proofs.Telling.{told_one}
 use Rattle.fact_texts.proofs.Equipped.{IsEquipped}
 use Rattle.fact_texts.proofs.AllPaths.{path_leads}
 use Rattle.fact_texts.proofs.Reading.{unit_aligned, form_is, TextRead, text_read}
+use Rattle.fact_texts.proofs.Invariant.{SourceSpells}
 use Rattle.fact_texts.proofs.Stages.{Moved}
 use Rattle.fact_texts.proofs.States.{from_bytes, to_bytes, There}
 use Rattle.fact_texts.proofs.Trails.{Trail, MayEnd, walks_more}
@@ -206,17 +208,20 @@ module _ {c : TransferSetting} (g : IsGrounded c) (e : IsEquipped c) (s : Source
   text_begun : (cs : List Call) → crossings cs ≡ [] → length cs ≤ 29 → Stopped Lack cs
   text_begun cs quiet few = subst (λ is. BeginItemCalls is cs) (sym (text_items c chars)) (inl (record { crosses = quiet; few = few }))
 
-  stops : (gs1 : List Region) (t : Stop) (cs : List Call) → MayEnd c moved_on (Unit {0}) Fit 29 gs1 t cs → Stopped t cs
-  stops gs1 Trap cs h = h.1
-  stops gs1 Throw cs h = absurd (h.1 tt)
-  stops gs1 Lack cs h = text_begun cs h.crosses h.few
+  stops : (Text : Type 0) (gs1 : List Region) (t : Stop) (cs : List Call) → AreReturned cs × MayEnd c moved_on (Unit {0}) Fit Text 29 gs1 t cs → Stopped t cs
+  stops Text gs1 Trap cs h = h.1.2 h.0
+  stops Text gs1 Throw cs h = absurd (h.1.1 tt)
+  stops Text gs1 Lack cs h = text_begun cs h.1.crosses h.1.few
 
   -- where the walk has ended, the pointer and the length are written
   module _ (form : TextForm) (p units : ℕ) (there : There e w.state) (read : TextRead (from_bytes e w.state) p (form_encoding form) (form_align form) units chars) where
     abbrev Walked : List Region → PathPoint → World → Type 0
     Walked live v w1 = WalkReached e (Unit {0}) Fit (λ k. tt) (form_encoding form) units p (unit_bytes (form_encoding form) * units) (without (no_region c.transfer.to.encoding) gs) (to_bytes e w.state) (from_bytes e w.state) (λ us st. Unit {0} → Moved (form_encoding form) c.transfer.to.encoding us st) live v w1
 
-    written : (n : ℕ) (cs : List Call) (v : PathPoint) (w1 : World) → n ≡ 0 → Trail c moved_on (Unit {0}) Fit 29 gs cs → Walked (regions_after gs cs) v w1
+    abbrev SourceText : Type 0
+    SourceText = SourceSpells (form_encoding form) p (unit_bytes (form_encoding form) * units) (from_bytes e w.state)
+
+    written : (n : ℕ) (cs : List Call) (v : PathPoint) (w1 : World) → n ≡ 0 → Trail c moved_on (Unit {0}) Fit SourceText 29 gs cs → Walked (regions_after gs cs) v w1
         → RunsHonestly c (regions_after gs cs) (λ t ds. Stopped t (cs ++ ds)) (λ k ds us w2. Ended (n + k) (cs ++ ds) us w2) (write_pair c.transfer.to d v.region v.written) w1
     written n cs v w1 weightless trail r =
         let now = to_bytes e w1.state in
@@ -262,7 +267,7 @@ module _ {c : TransferSetting} (g : IsGrounded c) (e : IsEquipped c) (s : Source
         (λ us st. Unit {0} → Moved (form_encoding form) c.transfer.to.encoding us st) (reads_in form c.transfer.to.encoding)
         (path_leads (Unit {0}) Fit units _ form c.transfer.to.encoding fits (length_units e (Unit {0}) Fit (λ k. tt) (form_encoding form) units p gs w.state read.inside))
         (known_first e (Unit {0}) Fit (λ k. tt) (form_encoding form) units p gs w.state there (unit_aligned form p read.aligned) read.inside))))
-        (λ t cs h. stops gs t cs h)
+        (λ t cs h. stops SourceText gs t cs h)
         (λ n cs v w1 o h. written n cs v w1 h.0 h.1 h.2))
 
   -- from the source on

@@ -14,6 +14,7 @@ use Rattle.fact_moves.specs.Strings.{form_in}
 use Rattle.fact_texts.specs.Rooms.{path_bytes}
 use Rattle.fact_texts.proofs.Bounds.{length_text}
 use Rattle.fact_texts.proofs.Encoded.{AreSmallBytes, encoded}
+use Rattle.fact_texts.proofs.PartTexts.{TextStands}
 use Rattle.fact_texts.proofs.Reading.{TextRead, form_is, text_read}
 use Rattle.fact_texts.proofs.Spelled.{form_align, form_encoding, in_form}
 
@@ -49,6 +50,16 @@ taken_small k p bytes small i = go (cases_lt i k)
     go : (i < k) ⊎ (k ≤ i) → get_or (take k (drop p bytes)) i 0 < 256
     go (inl lt) = subst (λ x. x < 256) (sym (get_or-take k (drop p bytes) i 0 lt ∙ get_or-drop p bytes i 0)) (small (p + i))
     go (inr ge) = subst (λ x. x < 256) (sym (get_or_past (take k (drop p bytes)) i 0 (omega (arith, ge, length-take k (drop p bytes))))) (omega arith)
+
+-- what is read in a form stands there
+form_stands : (form : TextForm) (bytes : List ℕ) (p n : ℕ) (chars : List ℕ) → AreSmallBytes bytes → text_of_form bytes p (in_form form n) ≡ Some chars → TextStands bytes form p n
+form_stands form bytes p n chars small h =
+    let e = form_encoding form in
+    let r : TextRead bytes p e (form_align form) n chars = text_read bytes p e (form_align form) n chars h in
+    record { text = chars; aligned = r.aligned; inside = r.inside; spells = encoded e (take (unit_bytes e * n) (drop p bytes)) chars (taken_small (unit_bytes e * n) p bytes small) r.is }
+
+pub text_stands : (enc : StringEncoding) (bytes : List ℕ) (p count : ℕ) (chars : List ℕ) → AreSmallBytes bytes → text_at enc bytes p count ≡ Some chars → TextStands bytes (form_in enc count) p (form_of enc count).units
+text_stands enc bytes p count chars small h = form_stands (form_in enc count) bytes p (form_of enc count).units chars small (ap (text_of_form bytes p) (sym (form_is enc count)) ∙ h)
 
 form_units : (form : TextForm) (bytes : List ℕ) (p n : ℕ) (chars : List ℕ) → AreSmallBytes bytes → text_of_form bytes p (in_form form n) ≡ Some chars → n ≤ most_of (form_encoding form) * length chars
 form_units form bytes p n chars small h =

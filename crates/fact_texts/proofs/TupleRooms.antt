@@ -45,7 +45,7 @@ use Rattle.fact_texts.proofs.PartRooms.{FieldsTake, fields_take}
 -- ---- leading core values
 
 -- the parts of fields are those of the core values that stand for them, whatever is behind
-parts_lead : (c : TransferSetting) (ms ns : Members) (vs xs : List CoreValue) → length (flat_members (width_of_side c.transfer.from) ms) ≤ length vs → parts_of_fields c ms ns (Values vs) ≡ parts_of_fields c ms ns (Values (vs ++ xs))
+pub parts_lead : (c : TransferSetting) (ms ns : Members) (vs xs : List CoreValue) → length (flat_members (width_of_side c.transfer.from) ms) ≤ length vs → parts_of_fields c ms ns (Values vs) ≡ parts_of_fields c ms ns (Values (vs ++ xs))
 unfolding parts_of_fields
 parts_lead c ms no_members vs xs le = refl
 parts_lead c ms (bare x ns) vs xs le = parts_lead c ms ns vs xs le

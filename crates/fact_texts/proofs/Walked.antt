@@ -30,6 +30,8 @@ use Rattle.fact_texts.proofs.Beginning.{no_region, live_stays, Known}
 use Rattle.fact_texts.proofs.Decoded.{decodes}
 use Rattle.fact_texts.proofs.Reading.{read_back}
 use Rattle.fact_carry.specs.Judged.{Judged as JudgedBy, RunsHonestly}
+use Rattle.fact_carry.proofs.Stopping.{AreReturned}
+use Rattle.fact_moves.specs.Honest.{HasReturned}
 
 -- ---- all answers are honest
 
@@ -50,20 +52,29 @@ honest_return c gs (import.UnsafeIntrinsic s) args rs before after h = λ k. h
 
 honest_answer : (c : TransferSetting) (gs : List Region) (i : Import) (args : List CoreValue) (before : MachineState) (a : Answer) → IsHonestAnswer c gs i args before a → IsAnswerHonest (Unit {0}) c gs i args before a
 honest_answer c gs i args before (Returns rs after) h = honest_return c gs i args rs before after h
-honest_answer c gs i args before Traps h = absurd h
+honest_answer c gs i args before Traps h = tt
 honest_answer c gs i args before Throws h = absurd h
 
-honest_calls : (c : TransferSetting) (gs : List Region) (cs : List Call) → AreHonestCalls c gs cs → AreAnswersHonest (Unit {0}) c gs cs
+returned_answer : (c : TransferSetting) (gs : List Region) (i : Import) (args : List CoreValue) (before : MachineState) (a : Answer) → IsHonestAnswer c gs i args before a → HasReturned (record { what = i; args = args; before = before; answer = a })
+returned_answer c gs i args before (Returns rs after) h = tt
+returned_answer c gs i args before Traps h = h
+returned_answer c gs i args before Throws h = h
+
+returned_calls : (c : TransferSetting) (gs : List Region) (cs : List Call) → AreHonestCalls c gs cs → AreReturned cs
+returned_calls c gs [] h = tt
+returned_calls c gs (x ∷ cs) h = (returned_answer c gs x.what x.args x.before x.answer h.0, returned_calls c (regions_by x.what x.args x.answer gs) cs h.1)
+
+pub honest_calls : (c : TransferSetting) (gs : List Region) (cs : List Call) → AreHonestCalls c gs cs → AreAnswersHonest (Unit {0}) c gs cs
 honest_calls c gs [] h = tt
 honest_calls c gs (x ∷ cs) h = (honest_answer c gs x.what x.args x.before x.answer h.0, honest_calls c (regions_by x.what x.args x.answer gs) cs h.1)
 
-pub does_walk : {c : TransferSetting} {Good : Type 0} {A : Type 0} {most : ℕ} {gs : List Region} {P : List Region → A → World → Type 0} {q : Action A} {w : World} → Walks c moved_on (Unit {0}) Good most gs P q w
-    → RunsHonestly c gs (λ s cs. MayEnd c moved_on (Unit {0}) Good most gs s cs) (λ n cs a w'. (n ≡ 0) × Trail c moved_on (Unit {0}) Good most gs cs × P (regions_after gs cs) a w') q w
-does_walk {c} {Good} {A} {most} {gs} {P} {q} {w} h = record { judged = record { by = go (run c.places q w) h.judged } }
+pub does_walk : {c : TransferSetting} {Good Text : Type 0} {A : Type 0} {most : ℕ} {gs : List Region} {P : List Region → A → World → Type 0} {q : Action A} {w : World} → Walks c moved_on (Unit {0}) Good Text most gs P q w
+    → RunsHonestly c gs (λ s cs. AreReturned cs × MayEnd c moved_on (Unit {0}) Good Text most gs s cs) (λ n cs a w'. (n ≡ 0) × Trail c moved_on (Unit {0}) Good Text most gs cs × P (regions_after gs cs) a w') q w
+does_walk {c} {Good} {Text} {A} {most} {gs} {P} {q} {w} h = record { judged = record { by = go (run c.places q w) h.judged } }
   where
-    go : (e : Ended A) → Judged c moved_on (Unit {0}) Good most gs P e → JudgedBy c gs (λ s cs. MayEnd c moved_on (Unit {0}) Good most gs s cs) (λ n cs a w'. (n ≡ 0) × Trail c moved_on (Unit {0}) Good most gs cs × P (regions_after gs cs) a w') e
+    go : (e : Ended A) → Judged c moved_on (Unit {0}) Good Text most gs P e → JudgedBy c gs (λ s cs. AreReturned cs × MayEnd c moved_on (Unit {0}) Good Text most gs s cs) (λ n cs a w'. (n ≡ 0) × Trail c moved_on (Unit {0}) Good Text most gs cs × P (regions_after gs cs) a w') e
     go (Gave n cs a w') j = λ o. j (honest_calls c gs cs o)
-    go (Halted n cs s w') j = λ o. j (honest_calls c gs cs o)
+    go (Halted n cs s w') j = λ o. (returned_calls c gs cs o, j (honest_calls c gs cs o))
     go (Strayed n cs w') j = tt
 
 -- ---- what is left behind

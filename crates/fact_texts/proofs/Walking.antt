@@ -38,8 +38,8 @@ use Rattle.fact_texts.proofs.Answered.{position, MovesAlong, other_stays}
 use Rattle.fact_texts.proofs.States.{from_bytes, to_bytes, typed_later}
 use Rattle.fact_texts.proofs.Trails.{Walks, walks_give, walks_more, walks_ask, walks_unless, walks_bind}
 use Rattle.fact_texts.proofs.Reallocs.{walks_with, walks_reallocate}
-use Rattle.fact_texts.proofs.Invariant.{wrap_small, amount_is, SameRoom, rest_of, of_operation, Inv, resize}
-use Rattle.fact_texts.proofs.Passes.{source_pointer, target_pointer, pass_args, args_are, skips, source_is, room_is, behind_pass, served}
+use Rattle.fact_texts.proofs.Invariant.{wrap_small, amount_is, SameRoom, rest_of, of_operation, SourceSpells, Inv, resize}
+use Rattle.fact_texts.proofs.Passes.{source_pointer, target_pointer, pass_args, args_are, skips, source_is, room_is, behind_pass, served, whole_read}
 use Rattle.fact_texts.proofs.Spelled.{form_encoding}
 
 -- how many calls a path makes at most, a trap's own call aside
@@ -119,6 +119,10 @@ not_tells true P t = record { yes = λ h. absurd (false≢true h); no = λ h f. 
 not_tells false P t = record { yes = λ h. t.no refl; no = λ h f. false≢true (sym h) }
 
 module _ {c : TransferSetting} (e : IsEquipped c) (Kept Good : Type 0) (kept : Good → Kept) (f : FixedEncoding) (n p0 size0 : ℕ) (gs : List Region) (base first : List ℕ) where
+  -- the source spells a text
+  abbrev Text : Type 0
+  Text = SourceSpells f p0 size0 first
+
   abbrev Known : List Region → List ℕ → Stage → PathPoint → MachineState → Type 0
   Known live us st v s = Inv e Kept Good kept f n p0 size0 gs base first live us st v s
 
@@ -155,6 +159,7 @@ module _ {c : TransferSetting} (e : IsEquipped c) (Kept Good : Type 0) (kept : G
     frame = inv.frame;
     grown = inv.grown;
     same = inv.same;
+    left = inv.left;
   }
 
   -- where a walk ends: at a stage of which P holds
@@ -165,25 +170,26 @@ module _ {c : TransferSetting} (e : IsEquipped c) (Kept Good : Type 0) (kept : G
     pub inv : Known live us stage v w.state
 
   module _ {next : Call → Position → Position} {live : List Region} {Q : List Region → PathPoint → World → Type 0} {most : ℕ} where
-    walks_branch : (b : Bool) (q r : Action PathPoint) (w : World) → (b ≡ true → Walks c next Kept Good most live Q q w) → (b ≡ false → Walks c next Kept Good most live Q r w) → Walks c next Kept Good most live Q (choose_action b q r) w
+    walks_branch : (b : Bool) (q r : Action PathPoint) (w : World) → (b ≡ true → Walks c next Kept Good Text most live Q q w) → (b ≡ false → Walks c next Kept Good Text most live Q r w) → Walks c next Kept Good Text most live Q (choose_action b q r) w
     walks_branch true q r w h k = h refl
     walks_branch false q r w h k = k refl
 
-    walks_asserted : (debug : Bool) (t : TrapCode) (b : Bool) (q : Action PathPoint) (w : World) → (b ≡ false → Good → ⊥) → Walks c next Kept Good most live Q q w → Walks c next Kept Good most live Q (asserted debug t b q) w
+    walks_asserted : (debug : Bool) (t : TrapCode) (b : Bool) (q : Action PathPoint) (w : World) → (b ≡ false → Good → ⊥) → Walks c next Kept Good Text most live Q q w → Walks c next Kept Good Text most live Q (asserted debug t b q) w
     walks_asserted true t b q w never h = walks_unless t b never (λ yes. h)
     walks_asserted false t b q w never h = h
 
   module _ {next : Call → Position → Position} (steps : MovesAlong c next) where
     -- a pass, and what its answer leads to
     walks_pass : (o : Transcode) (b : Bool) (room : ℕ) (p : Path) (live : List Region) (us : List ℕ) (st : Stage) (v : PathPoint) (w : World) (P : List ℕ → Stage → Type 0) → from_encoding o ≡ f → Leads n Kept Good (Pass o b room p) us st P → Known live us st v w.state
-        → Walks c next Kept Good 1 live (WalkReached (λ us1 st1. Leads n Kept Good p us1 st1 P)) (transcode c.transfer o b room v) w
+        → Walks c next Kept Good Text 1 live (WalkReached (λ us1 st1. Leads n Kept Good p us1 st1 P)) (transcode c.transfer o b room v) w
     walks_pass o b room p live us st v w P reads l inv =
         walks_with c.transfer.from e.from (λ m. with_memory c.transfer.to (λ k. called m k)) w e.from_is
         (walks_with c.transfer.to e.to (λ k. called e.from k) w e.to_is
-        (subst (λ args. Walks c next Kept Good 1 live (WalkReached (λ us1 st1. Leads n Kept Good p us1 st1 P)) (Ask (import.Transcode o e.from.def e.from.memory64 e.to.def e.to.memory64) args (transcode_types (transcode_kind o) e.from.memory64 e.to.memory64) (λ rs. Give (passed c.transfer (transcode_kind o) b rs v))) w) (sym (args_are c.transfer o b room v))
+        (subst (λ args. Walks c next Kept Good Text 1 live (WalkReached (λ us1 st1. Leads n Kept Good p us1 st1 P)) (Ask (import.Transcode o e.from.def e.from.memory64 e.to.def e.to.memory64) args (transcode_types (transcode_kind o) e.from.memory64 e.to.memory64) (λ rs. Give (passed c.transfer (transcode_kind o) b rs v))) w) (sym (args_are c.transfer o b room v))
         (walks_ask {b = 0} (omega arith) refl
         (λ a. (of_from, of_to, served e Kept Good kept f n p0 size0 gs base first (import.Transcode o e.from.def e.from.memory64 e.to.def e.to.memory64) a live us o b room st v w.state inv unit long l.1 l.2 l.3 l.4))
-        (λ rs after. other_stays steps _ (position c live) (λ d. refl)) (λ rs w1 typed hp. walks_give (reached rs w1 typed (hp of_from of_to))) kept)))
+        (λ a z t. whole_read e Kept Good kept f n p0 size0 gs base first (import.Transcode o e.from.def e.from.memory64 e.to.def e.to.memory64) a live us o b room st v w.state inv reads long l.1 l.2 l.3 l.4 z t)
+        (λ rs after. other_stays steps _ (position c live) (λ d. refl)) (λ rs w1 typed hp. walks_give (reached rs w1 typed (hp of_from of_to))))))
       where
         called : MemoryOption → MemoryOption → Action PathPoint
         called m k = Ask (import.Transcode o m.def m.memory64 k.def k.memory64) (source_args c.transfer o b v ++ target_args c.transfer (transcode_kind o) b room v) (transcode_types (transcode_kind o) m.memory64 k.memory64) (λ rs. Give (passed c.transfer (transcode_kind o) b rs v))
@@ -233,11 +239,11 @@ module _ {c : TransferSetting} (e : IsEquipped c) (Kept Good : Type 0) (kept : G
               us = us;
               stage = after_pass n (transcode_kind o) b st hp.wrote numbers;
               holds = on.1;
-              inv = behind_pass e Kept Good kept f n p0 size0 gs base first live us (transcode_kind o) (from_encoding o) (to_encoding o) b room st v w.state w1.state between o args rs (room_at n (transcode_kind o) b room st) _ hp.wrote says l.1 l.3 to on.0 refl l.0 l.2 hp refl later inv;
+              inv = behind_pass e Kept Good kept f n p0 size0 gs base first live us (transcode_kind o) (from_encoding o) (to_encoding o) b room st v w.state w1.state between o args rs (room_at n (transcode_kind o) b room st) _ hp.wrote says l.1 l.3 to on.0 refl l.0 l.2 hp refl later reads inv;
             }
 
     pub walks_path : (p : Path) (live : List Region) (us : List ℕ) (st : Stage) (v : PathPoint) (w : World) (P : List ℕ → Stage → Type 0) → ReadsIn f p → Leads n Kept Good p us st P → Known live us st v w.state
-        → Walks c next Kept Good (calls p) live (WalkReached P) (walk c.transfer p v) w
+        → Walks c next Kept Good Text (calls p) live (WalkReached P) (walk c.transfer p v) w
     walks_path End live us st v w P reads l inv = walks_give (record { us = us; stage = st; holds = l; inv = inv })
     walks_path (Limit most p) live us st v w P reads l inv =
         walks_unless StringOutOfBounds (nat_le v.length (most_string_bytes / most)) (λ no g. false≢true (sym no ∙ le-leb v.length (most_string_bytes / most) (let le = l.0 g in omega (arith, le, inv.length_is))))
@@ -245,11 +251,11 @@ module _ {c : TransferSetting} (e : IsEquipped c) (Kept Good : Type 0) (kept : G
     walks_path (Resize x y p) live us st v w P reads l inv =
         let ex : amount c.transfer x v ≡ st.size = amount_is c.transfer x v n st inv.length_is inv.written_is (omega (arith, l.0, inv.small)) ∙ l.0 in
         let ey : amount c.transfer y v ≡ amount_at n y st = amount_is c.transfer y v n st inv.length_is inv.written_is l.1 in
-        subst (λ a. Walks c next Kept Good (7 + calls p) live (WalkReached P) (reallocate c.transfer.concurrency c.transfer.to StringOutOfBounds v.region a (align_of c.transfer.to.encoding) (amount c.transfer y v) (λ q. walk c.transfer p (record v { region = q }))) w) (sym ex)
-        (subst (λ b. Walks c next Kept Good (7 + calls p) live (WalkReached P) (reallocate c.transfer.concurrency c.transfer.to StringOutOfBounds v.region st.size (align_of c.transfer.to.encoding) b (λ q. walk c.transfer p (record v { region = q }))) w) (sym ey)
+        subst (λ a. Walks c next Kept Good Text (7 + calls p) live (WalkReached P) (reallocate c.transfer.concurrency c.transfer.to StringOutOfBounds v.region a (align_of c.transfer.to.encoding) (amount c.transfer y v) (λ q. walk c.transfer p (record v { region = q }))) w) (sym ex)
+        (subst (λ b. Walks c next Kept Good Text (7 + calls p) live (WalkReached P) (reallocate c.transfer.concurrency c.transfer.to StringOutOfBounds v.region st.size (align_of c.transfer.to.encoding) b (λ q. walk c.transfer p (record v { region = q }))) w) (sym ey)
         (walks_reallocate e Kept Good kept steps StringOutOfBounds v.region st.size (amount_at n y st) (λ q. walk c.transfer p (record v { region = q })) w inv.there (λ q w1 got.
         let z = resize e Kept Good kept f n p0 size0 gs base first live us st v w.state w1.state q (amount_at n y st) l.1 inv got in
-        subst (λ gs1. Walks c next Kept Good (calls p) (record { at = q; size = amount_at n y st; align = align_of c.transfer.to.encoding } ∷ gs1) (WalkReached P) (walk c.transfer p (record v { region = q })) w1) (sym inv.others)
+        subst (λ gs1. Walks c next Kept Good Text (calls p) (record { at = q; size = amount_at n y st; align = align_of c.transfer.to.encoding } ∷ gs1) (WalkReached P) (walk c.transfer p (record v { region = q })) w1) (sym inv.others)
         (walks_path p (record { at = q; size = amount_at n y st; align = align_of c.transfer.to.encoding } ∷ gs) z.us2 _ (record v { region = q }) w1 P reads (l.2 z.us2 z.have z.l1 z.l2 z.same z.keeps) z.inv))))
     walks_path (Pass o b room p) live us st v w P reads l inv =
         walks_bind (transcode c.transfer o b room v) (λ u. walk c.transfer p u) w (omega arith) (walks_pass o b room p live us st v w P reads.0 l inv)

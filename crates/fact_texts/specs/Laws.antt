@@ -45,6 +45,7 @@ use Rattle.fact_texts.specs.Answerable.{CanBeAnswered}
 use Rattle.fact_texts.specs.Parts.{pair_of_source, parts_of}
 use Rattle.fact_texts.specs.PastLimits.{first_factor, greatest_factor, OutgrowsFirst, IsPastLimit, EndsAtTrap}
 use Rattle.fact_texts.specs.Premises.{KnowsMemories, HasMeans}
+use Rattle.fact_texts.specs.ReadTexts.{AreValuesThere, ReadTexts}
 use Rattle.fact_texts.specs.Requested.{AsksFor, params_parts, results_parts, AreRequested}
 use Rattle.fact_texts.specs.Rooms.{part_bytes, parts_bytes, items_bytes, requests_bytes, AllCutsShrink}
 use Rattle.fact_texts.specs.Trapped.{LastTraps, answers_so_far, IsHonestUntilTrap, IsHonestStartUntilTrap, IsHonestReturnUntilTrap}
@@ -105,6 +106,14 @@ TranscodersNeedMeans =
     (p : ImportPlaces) (u : AdapterTunables) (a : LinkedAdapter) (w : World)
     → ((args : List CoreValue) → (HasMeans (options_of a.lower) (options_of a.lift) → ⊥) → AreOfNoTranscoder (calls_in (run p (move_params u a args) w)))
     × ((given : List CoreValue) (pointer : ℕ) → (HasMeans (options_of a.lift) (options_of a.lower) → ⊥) → AreOfNoTranscoder (calls_in (run p (move_results u a given pointer) w)))
+
+-- In a run whose answers are honest, but for a last one that may be a trap, and whose values are there on the side that they come from, each
+-- transcoder is to read a whole text, the last one too, and has the room that it needs where it widens what is there.
+abbrev pub TranscodersReadTexts : Type 0
+TranscodersReadTexts =
+    (p : ImportPlaces) (u : AdapterTunables) (a : LinkedAdapter) (args : List CoreValue) (w : World)
+    → flag_in p a.lower.instance w.state.globals ≢ I32 0 → IsCheckedAdapter p a → HasSyncSides a → IsHonestUntilTrap p a args w.state (ended_sync p u a args w)
+    → AreValuesThere p a args w.state (calls_in (ended_sync p u a args w)) → ReadTexts p (calls_in (ended_sync p u a args w))
 
 -- ---- honest runs
 

@@ -4,6 +4,7 @@ pub mod Parts
 pub mod PastLimits
 pub mod PassingChecks
 pub mod Premises
+pub mod ReadTexts
 pub mod Requested
 pub mod Rooms
 pub mod Trapped

@@ -1,5 +1,5 @@
 -- What of the values at a source asks for regions at a destination, by what stands there: a list or a map by its length, and a text
--- by the form and the units that its length tells. In the order of the destination, the outer before the inner (canonical ABI,
+-- by its pointer, and the form and the units that its length tells. In the order of the destination, the outer before the inner (canonical ABI,
 -- "Storing").
 use Rattle.std.specs.Prelude.{ℕ, zero, suc, ◌+◌, ◌*◌, List, [], ◌∷◌, ◌++◌, Option, Some, None, if◌then◌else◌}
 use Rattle.std.specs.Str.{bytes_eq}
@@ -50,7 +50,7 @@ parts_of_each i (suc n) f = f i ++ parts_of_each (suc i) n f
 
 abbrev pub parts_of_plain : TransferSetting → InterfaceType → InterfaceType → Source → List RequestPart
 parts_of_plain c ty.String ty.String s =
-    parts_of_some (pair_of_source c s) (λ q. TextPart (form_in c.transfer.from.encoding q.count) (form_of c.transfer.from.encoding q.count).units ∷ [])
+    parts_of_some (pair_of_source c s) (λ q. TextPart (form_in c.transfer.from.encoding q.count) q.pointer (form_of c.transfer.from.encoding q.count).units ∷ [])
 parts_of_plain c t u s = []
 
 -- lists and maps: the region first, and then the parts of each element or entry

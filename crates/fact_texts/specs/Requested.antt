@@ -55,9 +55,11 @@ abbrev pub AreFromCallee : LinkedAdapter → List Call → Type 0
 AreFromCallee a [] = Unit {0}
 AreFromCallee a (c ∷ cs) = (c.what ≡ import.CoreDef a.callee) × AreOutsideTransfers None cs
 
--- Each core function that a transfer calls is the realloc of its destination.
+-- Each core function that a transfer calls is the realloc of its destination, and it hands nothing to the runtime.
 abbrev pub IsOwnRealloc : (to : LiftLowerOptions) → Import → Type 0
 IsOwnRealloc to (import.CoreDef f) = (d : CoreDef) × (to.realloc ≡ Some d) × (same_def d f ≡ true)
+IsOwnRealloc to (import.PrepareCall memory) = ⊥
+IsOwnRealloc to (import.StartCall callback post_return) = ⊥
 IsOwnRealloc to i = Unit {0}
 
 abbrev pub CallOwnRealloc : (to : LiftLowerOptions) → List Call → Type 0

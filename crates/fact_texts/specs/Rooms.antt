@@ -28,7 +28,7 @@ path_bytes align (Assert t test p) n = path_bytes align p n
 -- What the parts of values take, of which texts go to an encoding.
 abbrev pub part_bytes : StringEncoding → RequestPart → ℕ
 part_bytes to (RegionPart align size) = align + size
-part_bytes to (TextPart form units) = path_bytes (align_of to) (path form to) units
+part_bytes to (TextPart form pointer units) = path_bytes (align_of to) (path form to) units
 
 abbrev pub parts_bytes : StringEncoding → List RequestPart → ℕ
 parts_bytes to [] = 0
@@ -83,4 +83,4 @@ CutsShrink tr (Assert t test p) v answers K = CutsShrink tr p v answers K
 abbrev pub AllCutsShrink : Transfer → List RequestPart → (answers : List (List CoreValue)) → Type 0
 AllCutsShrink tr [] answers = Unit {0}
 AllCutsShrink tr (RegionPart align size ∷ parts) answers = OfNext answers (λ rs more. AllCutsShrink tr parts more)
-AllCutsShrink tr (TextPart f n ∷ parts) answers = CutsShrink tr (path f tr.to.encoding) (path_start 0 n) answers (λ v more. AllCutsShrink tr parts more)
+AllCutsShrink tr (TextPart f p n ∷ parts) answers = CutsShrink tr (path f tr.to.encoding) (path_start 0 n) answers (λ v more. AllCutsShrink tr parts more)

@@ -1,9 +1,9 @@
 //! Laws of the moves of texts.
 
-ghost use Rattle.fact_texts.specs.Laws.{TranscodersAreRanged, StartTranscodersAreRanged, ReturnTranscodersAreRanged, TranscodersCanBeAnswered, StartTranscodersCanBeAnswered, ReturnTranscodersCanBeAnswered, TranscodersNeedMeans, TextsAreMoved, TextsMoveInAdapters, AdaptersAreFaithful, AdaptersWeigh, AdaptersComeToEnd, CheckedStartsComeToEnd, CheckedReturnsComeToEnd, ChecksPass, StartChecksPass, ReturnChecksPass, RequestsAreCalledFor, StartRequestsAreCalledFor, ReturnRequestsAreCalledFor, FirstRequestIsCalledFor, AnswersAreSoFar, CalleesAreGiven, PartsTakeNoMore, ParamsTakeNoMore, ResultsTakeNoMore, RequestsTakeNoMore, LimitsAreThoseOfPaths, LongWalksTrap, TextsPastLimitsTrap, SomeTextsOutgrow};
+ghost use Rattle.fact_texts.specs.Laws.{TranscodersAreRanged, StartTranscodersAreRanged, ReturnTranscodersAreRanged, TranscodersCanBeAnswered, StartTranscodersCanBeAnswered, ReturnTranscodersCanBeAnswered, TranscodersNeedMeans, TranscodersReadTexts, TextsAreMoved, TextsMoveInAdapters, AdaptersAreFaithful, AdaptersWeigh, AdaptersComeToEnd, CheckedStartsComeToEnd, CheckedReturnsComeToEnd, ChecksPass, StartChecksPass, ReturnChecksPass, RequestsAreCalledFor, StartRequestsAreCalledFor, ReturnRequestsAreCalledFor, FirstRequestIsCalledFor, AnswersAreSoFar, CalleesAreGiven, PartsTakeNoMore, ParamsTakeNoMore, ResultsTakeNoMore, RequestsTakeNoMore, LimitsAreThoseOfPaths, LongWalksTrap, TextsPastLimitsTrap, SomeTextsOutgrow};
 
 /// What holds of the moves of texts: of the ranges of their transcoders, and that each can be answered honestly, but for malformed
-/// text, whatever all others answer; in honest runs of what is moved, and that no debug check fails where upper halves are 0; of
+/// text, whatever all others answer, and that each reads a whole text where values are there; in honest runs of what is moved, and that no debug check fails where upper halves are 0; of
 /// texts past the limits, which end in a trap; of what is asked of realloc, and what the callee is given, in runs that are honest
 /// but for a last call that may trap; and of how many bytes that takes. The call does nothing: its contract is the laws.
 pub fn laws_of_texts()
@@ -14,6 +14,7 @@ pub fn laws_of_texts()
     ensures start_transcoders_can_be_answered { StartTranscodersCanBeAnswered }
     ensures return_transcoders_can_be_answered { ReturnTranscodersCanBeAnswered }
     ensures transcoders_need_means { TranscodersNeedMeans }
+    ensures transcoders_read_texts { TranscodersReadTexts }
     ensures texts_are_moved { TextsAreMoved }
     ensures texts_move { TextsMoveInAdapters }
     ensures adapters_are_faithful { AdaptersAreFaithful }

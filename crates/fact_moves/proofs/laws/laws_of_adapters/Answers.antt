@@ -7,7 +7,7 @@ use Rattle.fact_moves.proofs.ValidTypes.{valid_types_serve}
 use Rattle.fact_moves.proofs.Sources.{sources_are_left}
 use Rattle.fact_moves.proofs.Stays.{typed_runs_stay, typed_same_instance_stays}
 use Rattle.fact_moves.proofs.CheckedMoves.{sync_checked, start_checked, return_checked}
-use Rattle.fact_moves.proofs.Confines.{confined}
+use Rattle.fact_moves.proofs.Confines.{confined, requests_give_up_live}
 use Rattle.fact_moves.proofs.Ordered.{ordered_calls}
 use Rattle.fact_moves.proofs.NamedPlain.{sync_is_named}
 use Rattle.fact_moves.proofs.laws.laws_of_adapters.Goals as goal
@@ -21,6 +21,7 @@ returns c = record {
   sources_are_left = sources_are_left;
   typed_runs_stay = typed_runs_stay;
   writes_are_own = confined;
+  requests_give_up_live = requests_give_up_live;
   outcomes_are_named = sync_is_named;
   same_instance_traps = same_instance_traps;
   typed_same_instance_stays = typed_same_instance_stays;

@@ -2,7 +2,7 @@ use Rattle.fact_moves.proofs.AlignedMoves.{start_places_aligned, return_places_a
 use Rattle.fact_moves.proofs.AdapterEnds.{few_start_calls, few_return_calls, async_calls_twice, async_calls_write_nothing}
 use Rattle.fact_moves.proofs.Sources.{start_leaves_source, return_leaves_source}
 use Rattle.fact_moves.proofs.Stays.{typed_starts_stay, typed_returns_stay, typed_async_calls_stay}
-use Rattle.fact_moves.proofs.Confines.{start_confined, return_confined}
+use Rattle.fact_moves.proofs.Confines.{start_confined, return_confined, start_requests_give_up_live, return_requests_give_up_live}
 use Rattle.fact_moves.proofs.Ordered.{start_is_transfer, return_is_transfer}
 use Rattle.fact_moves.proofs.laws.laws_of_async_adapters.Goals as goal
 
@@ -18,6 +18,8 @@ returns c = record {
   typed_returns_stay = typed_returns_stay;
   start_writes_are_own = start_confined;
   return_writes_are_own = return_confined;
+  start_requests_give_up_live = start_requests_give_up_live;
+  return_requests_give_up_live = return_requests_give_up_live;
   start_places_are_aligned = start_places_aligned;
   return_places_are_aligned = return_places_aligned;
   async_calls_twice = async_calls_twice;

@@ -1,3 +1,4 @@
+use Rattle.fact_texts.proofs.AdapterReads.{transcoders_read_texts}
 use Rattle.fact_texts.proofs.AdapterRanges.{transcoders_are_ranged, start_transcoders_are_ranged, return_transcoders_are_ranged, transcoders_can_be_answered, start_transcoders_can_be_answered, return_transcoders_can_be_answered}
 use Rattle.fact_texts.proofs.Finished.{texts_are_moved, texts_move, adapters_are_faithful, adapters_weigh}
 use Rattle.fact_texts.proofs.ChecksPass.{adapters_come_to_end, starts_come_to_end, returns_come_to_end, checks_pass, start_checks_pass, return_checks_pass}
@@ -22,6 +23,7 @@ returns c = record {
   start_transcoders_can_be_answered = start_transcoders_can_be_answered;
   return_transcoders_can_be_answered = return_transcoders_can_be_answered;
   transcoders_need_means = transcoders_need_means;
+  transcoders_read_texts = transcoders_read_texts;
   texts_are_moved = texts_are_moved;
   texts_move = texts_move;
   adapters_are_faithful = adapters_are_faithful;
