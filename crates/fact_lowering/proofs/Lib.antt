@@ -1,39 +1,39 @@
-mod Agreeing
+pub mod Agreeing
 mod CoreCaseSteps
 mod CoreCases
-mod CoreKinds
-mod CoreMembers
-mod CoreNodes
-mod CoreNumbers
+pub mod CoreKinds
+pub mod CoreMembers
+pub mod CoreNodes
+pub mod CoreNumbers
 mod CorePushes
-mod CoreReads
-mod CoreWrites
+pub mod CoreReads
+pub mod CoreWrites
 mod Decoded
 mod FlagBytes
 mod FlagWords
 mod FlatLaws
-mod OwnRooms
+pub mod OwnRooms
 mod RoomKinds
 mod RoomLaws
-mod SmallAlignments
-mod SpellingLaws
+pub mod SmallAlignments
+pub mod SpellingLaws
 mod StoreCaseSteps
-mod StoreCases
+pub mod StoreCases
 mod StoreEntries
 mod StoreItems
-mod StoreKinds
-mod StoreLeaves
-mod StoreNodes
-mod StoreSteps
-mod StoreWalks
-mod Stored
+pub mod StoreKinds
+pub mod StoreLeaves
+pub mod StoreNodes
+pub mod StoreSteps
+pub mod StoreWalks
+pub mod Stored
 mod StoredCases
-mod StoredPlain
-mod StoredTexts
-mod TupleBehind
+pub mod StoredPlain
+pub mod StoredTexts
+pub mod TupleBehind
 mod TupleExtents
-mod TupleLifts
-mod TupleLowers
+pub mod TupleLifts
+pub mod TupleLowers
 mod TupleSizes
-mod TuplesDone
+pub mod TuplesDone
 mod WideLaws

@@ -1,0 +1,13 @@
+pub mod Allocator
+pub mod Beginning
+pub mod Begun
+pub mod Called
+pub mod Callees
+pub mod Contract
+pub mod Describes
+pub mod Fitting
+pub mod HonestLaws
+pub mod Hosts
+pub mod Lawful
+pub mod Roles
+pub mod Rules
