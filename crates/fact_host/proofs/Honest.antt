@@ -11,12 +11,11 @@ use Rattle.fact_wasm.specs.declared.types.ValType.{ValType}
 use Rattle.fact_wasm.specs.declared.module.WasmModule.{WasmModule}
 use Rattle.fact_types.specs.declared.outside.CoreDef.{CoreDef}
 use Rattle.fact_types.specs.declared.outside.CoreDef.TheVariants as def
-use Rattle.fact_types.specs.declared.outside.MemoryOption.{MemoryOption}
 use Rattle.fact_types.specs.declared.outside.Transcode.{Transcode}
 use Rattle.fact_types.specs.declared.outside.UnsafeIntrinsic.TheVariants as slot
 use Rattle.fact_types.specs.declared.import.Import.{Import}
 use Rattle.fact_types.specs.declared.import.Import.TheVariants as import
-use Rattle.fact_types.specs.Adapters.{Side, LinkedAdapter, same_def}
+use Rattle.fact_types.specs.Adapters.{LinkedAdapter, same_def}
 use Rattle.fact_types.specs.Exact.{exact_key}
 use Rattle.fact_types.specs.Signatures.{address}
 use Rattle.fact_types.specs.Tables.{Tables}
@@ -46,10 +45,11 @@ use Rattle.fact_host.specs.declared.roles.Role.TheVariants as role
 use Rattle.fact_host.specs.Contract.{NamesEachOnce, AreDistinct, if_named}
 use Rattle.fact_host.specs.Beginning.{IsNamedMemory}
 use Rattle.fact_host.specs.HonestLaws.{HasRole, AnswersAreHonest}
-use Rattle.fact_host.specs.Describes.{Describes, DescribesSide, IsImportOf, named_calls}
+use Rattle.fact_host.specs.Describes.{Describes, IsImportOf, named_calls}
 use Rattle.fact_host.specs.declared.known.Known.{Known}
-use Rattle.fact_host.specs.Rules.{memory_at, bytes_of_memory, side_bytes, with_memory_at, cursor_of, raised, is_live, live_without, Asked, is_old_live, stays, next_region, MustRefuse, OtherTransfer, NoAlignment, NotLive, NoRoom, given_at, moved_bytes, after_region, bytes_after_region, DestinationOutside, told_of, told_room, units_read, CallShapes, Answers, AreAnswers, ReallocsAt, StoresAt, TranscodesBy, AreOfCoreTypes}
+use Rattle.fact_host.specs.Rules.{memory_at, bytes_of_memory, with_memory_at, cursor_of, raised, is_live, live_without, Asked, is_old_live, stays, next_region, MustRefuse, OtherTransfer, NoAlignment, NotLive, NoRoom, given_at, moved_bytes, after_region, bytes_after_region, DestinationOutside, told_of, told_room, units_read, CallShapes, Answers, AreAnswers, ReallocsAt, StoresAt, TranscodesBy, AreOfCoreTypes}
 use Rattle.fact_host.proofs.Regular.{HasLengths, AreRegular, are_regular}
+use Rattle.fact_host.proofs.SideMemories.{changed_here, changed_other, length_at, side_is, there_at}
 use Rattle.fact_host.proofs.LiveLaws.{kept, has, live_is_has, kept_without, AllBelow, below_rises, below_without, has_below, AllOut, out_rises, out_below, out_both, out_right, any_out, between_apart, AllApart, apart_without, given_up_apart, smaller_apart, empty_apart}
 
 -- ---- core definitions that are equal by content
@@ -114,39 +114,6 @@ pub record Keeps (c : HostCall) (a : LinkedAdapter) (args : List CoreValue) (len
   pub inside : (n : ℕ) → cursor_of k n ≤ get_or lengths n 0
   pub cursors : (n : ℕ) → IsNamedMemory c n → n < length k.cursors
   pub memories : (n : ℕ) → IsNamedMemory c n → n < length lengths
-
--- ---- memories
-
-length_at : (s : MachineState) (lengths : List ℕ) (n : ℕ) → HasLengths lengths s → length (memory_at s n) ≡ get_or lengths n 0
-length_at s lengths n h = by s.memories n ∙ ap (λ l. get_or l n 0) h
-  where
-    by : (ms : List (List ℕ)) (n : ℕ) → length (get_or ms n []) ≡ get_or (map length ms) n 0
-    by [] n = refl
-    by (m ∷ ms) zero = refl
-    by (m ∷ ms) (suc n) = by ms n
-
-there_at : (s : MachineState) (lengths : List ℕ) (n : ℕ) → HasLengths lengths s → n < length lengths → n < length s.memories
-there_at s lengths n h lt = let e : length s.memories ≡ length lengths = sym (by s.memories) ∙ ap length h in omega arith
-  where
-    by : (ms : List (List ℕ)) → length (map length ms) ≡ length ms
-    by [] = refl
-    by (m ∷ ms) = ap suc (by ms)
-
--- a memory that was changed is what it was changed to, and the others are as they were
-changed_here : (s : MachineState) (n : ℕ) (bytes : List ℕ) → n < length s.memories → memory_at (with_memory_at s n bytes) n ≡ bytes
-changed_here s n bytes lt = get_or-set_same s.memories n bytes [] lt
-
-changed_other : (s : MachineState) (n : ℕ) (bytes : List ℕ) (o : Option ℕ) → (o ≡ Some n → ⊥) → bytes_of_memory o (with_memory_at s n bytes) ≡ bytes_of_memory o s
-changed_other s n bytes None h = refl
-changed_other s n bytes (Some m) h = let other : m ≢ n = λ e. h (ap (λ k. Some k) e) in get_or-set_other s.memories n m bytes [] other
-
--- the bytes of a side, by its description
-side_is : (t : Tables) (p : ImportPlaces) (h : HostSide) (s : Side) → DescribesSide t h p s → (st : MachineState) → side_memory p (options_of s) st ≡ side_bytes h st
-side_is t p h s d st = by s.memory d.memory
-  where
-    by : (o : Option MemoryOption) → option_map (λ m. p.memory m.def) o ≡ h.memory → (elim o [ None ↦ [] | Some m ↦ get_or st.memories (p.memory m.def) [] ]) ≡ bytes_of_memory h.memory st
-    by None q = ap (λ z. bytes_of_memory z st) q
-    by (Some m) q = ap (λ z. bytes_of_memory z st) q
 
 -- ---- the answers that leave all as it is
 

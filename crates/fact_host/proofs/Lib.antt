@@ -15,6 +15,7 @@ pub mod Regular
 pub mod RequestsFit
 pub mod Resulting
 pub mod RoleNames
+pub mod SideMemories
 pub mod Starting
 pub mod Transcoded
 pub mod Transcoding
