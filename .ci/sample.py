@@ -237,7 +237,8 @@ class Plan:
         if kind in ("record", "variant"):
             pairs = [(name, self.twin(part)) for name, part in inner]
             if kind == "variant" and self.chance(0.5):
-                pairs.append(("more", self.random.choice([None, "u64", "f32"])))
+                name = "more" if "more" not in dict(pairs) else f"more{len(pairs)}"
+                pairs.append((name, self.random.choice([None, "u64", "f32"])))
             self.random.shuffle(pairs)
             return kind, pairs
         if kind in ("list", "option"):
@@ -320,7 +321,10 @@ class Plan:
         results = self.trees([0, 0, 1, 1, 1, 2, 3, 16, 17], {**drawn, "borrows": False})
         lift = Side(True, lift_waits, self.chance(0.3), [self.twin(tree) for tree in params], results)
         lower = Side(False, lower_waits, self.chance(0.3), params, [self.twin(tree) for tree in results])
+        return self.linked(name, lift, lower, lift_at, lower_at, mark)
 
+    def linked(self, name, lift, lower, lift_at, lower_at, mark=False):
+        """Adds the adapter of two sides of two instances."""
         keys = {"lift": self.options(lift, lift_at), "lower": self.options(lower, lower_at)}
         sides = {"lift": self.typed(lift, keys["lift"], mark), "lower": self.typed(lower, keys["lower"], mark)}
         adapter = {"name": name, "func": self.callee(lift, lift_at), **sides}
@@ -328,7 +332,7 @@ class Plan:
             adapter["transparent"] = True
             self.forms["transparent"] += 1
         self.json["adapters"].append(adapter)
-        is_awaited = lift_at != lower_at and (mark or lift_waits or lower_waits)
+        is_awaited = lift_at != lower_at and (mark or lift.is_async or lower.is_async)
         self.forms["marked async"] += mark
         if lift_at == lower_at:
             self.forms["within one instance"] += 1
@@ -575,4 +579,5 @@ def main(program, validator, seed, count):
     return 0
 
 
-sys.exit(main(sys.argv[1], sys.argv[4:], int(sys.argv[2]), int(sys.argv[3])))
+if __name__ == "__main__":
+    sys.exit(main(sys.argv[1], sys.argv[4:], int(sys.argv[2]), int(sys.argv[3])))

@@ -29,7 +29,7 @@ def examples():
 
 def drawn(seed, count):
     """Plans of .ci/sample.py, whose pages all have 65,536 bytes, since few engines have others."""
-    source = (TOP / ".ci" / "sample.py").read_text().split("\nsys.exit(main(")[0]
+    source = (TOP / ".ci" / "sample.py").read_text()
     sample = {"__name__": "sample"}
     exec(compile(source, "sample.py", "exec"), sample)
     for number in range(count):

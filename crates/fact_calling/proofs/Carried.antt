@@ -39,6 +39,7 @@ use Rattle.fact_promises.specs.Runs.{IsHonestSoFar}
 use Rattle.fact_calling.specs.Carrying.{HasCarried}
 use Rattle.fact_calling.proofs.Back.{lifts_so}
 use Rattle.fact_calling.proofs.Bridge.{core_is, is_what, stands_so}
+use Rattle.fact_calling.proofs.CarriedTypes.{given_typed, got_typed}
 use Rattle.fact_calling.proofs.Given.{abi_is, given_is, passed_so, side_is}
 use Rattle.fact_calling.proofs.Numbers.{Numbered, numbered, stored_transfers}
 use Rattle.fact_calling.proofs.Places.{CalleeDid, HonestParts, Parts, Ruled, callee_did, honest_parts, parts, ruled_parts}
@@ -250,8 +251,10 @@ module _ (x : Setting) (h : Called x) (whole : AreHonestSync (places x) x.adapte
     returned = ap (λ (o : Outcome). o.end) (run_is x h) ∙ returned;
     given = faithful.params.outs;
     given_are = params_called;
+    given_typed = given_typed x h faithful.params.outs params_called;
     params = params_reached_so came;
     got = faithful.results.outs;
     got_are = results_called;
+    got_typed = got_typed x h faithful.results.outs results_called;
     results = results_reached_so came;
   }

@@ -1,5 +1,5 @@
 -- A call of an adapter on a host asks the callee, returns, and carries, where transcoders read whole texts.
-use Rattle.std.proofs.Common.{◌≡◌, ◌≢◌, ℕ, true, List, Option, Some, None, inl, inr, refl, ap, ◌∙◌, subst}
+use Rattle.std.proofs.Common.{◌≡◌, ◌≢◌, ℕ, true, List, Some, None, inl, inr, refl, ap, ◌∙◌, subst}
 use Rattle.fact_machine.specs.declared.types.CoreValue.{CoreValue}
 use Rattle.fact_machine.specs.declared.types.End.TheVariants.{Lacks, Returned}
 use Rattle.fact_machine.specs.declared.types.Outcome.{Outcome}

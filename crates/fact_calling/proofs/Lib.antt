@@ -7,6 +7,8 @@ pub mod Bounds
 pub mod Bridge
 pub mod Calling
 pub mod Carried
+pub mod CarriedLists
+pub mod CarriedTypes
 pub mod Cursors
 pub mod EachRole
 pub mod Ends

@@ -45,15 +45,18 @@ pub record CallsAdapter (m : WasmModule) (is : List Import) (t : Tables) (c : Ho
   pub callee : (places_in m is).function (import.CoreDef a.callee) ≡ c.callee
   pub post_return : option_map (λ d. (places_in m is).function (import.CoreDef d)) a.lift.post_return ≡ c.post_return
 
--- It returned. The callee was given the arguments and the caller got the results, carried, with the numbers from 1 on for their handles.
+-- It returned. The callee was given the arguments and the caller got the results, carried, with the numbers from 1 on for their handles, so that they
+-- are of the types of its own side.
 pub record HasCarried (s : CallShapes) (args answered : List Value) (o : HostOutcome) : Type 0 where
   pub values : List CoreValue
   pub returned : o.outcome.end ≡ Returned values
   pub given : List Value
   pub given_are : called_params s.lower_params s.lift_params args ≡ Some given
+  pub given_typed : AreOfTypes s.lift_params given
   pub params : o.params ≡ Some given
   pub got : List Value
   pub got_are : called_results s.lower_params s.lift_params s.lift_results s.lower_results args answered ≡ Some got
+  pub got_typed : AreOfTypes s.lower_results got
   pub results : o.results ≡ Some got
 
 -- So it is with every outcome that a host's contract allows, where the arguments and what the callee answered are of the types and fit.

@@ -22,9 +22,10 @@ use Rattle.clap.proofs.OnLiterals.{clap_on_literals}
 use Rattle.clap.specs.Simple.{App, is_simple, matches_of, with_rule}
 use Rattle.clap.specs.Faults.{fault_of, is_simple_and_free}
 use Rattle.std.specs.Prelude.{Bool, true, false, ◌&&◌, codes, if◌then◌else◌, is_some, IfSome}
+use Rattle.fact_types.proofs.ShapeLaws.{none_some}
 use Rattle.fact_command.specs.declared.command.CommandOptions.{CommandOptions}
 use Rattle.fact_generate.specs.Generated.{most_generated}
-use Rattle.fact_command.specs.Command.{are_taken, bare_command, command, flag, fuel_or_default, generated_in, in_one_mode, is_from_words, is_number, is_plain_number, is_used, least_fuel, most_fuel, number_in, option, options_in, reading, source_of}
+use Rattle.fact_command.specs.Command.{HasOneMode, are_several, are_taken, bare_command, command, flag, fuel_or_default, generated_in, in_one_mode, is_from_words, is_number, is_plain_number, is_used, least_fuel, most_fuel, number_in, option, options_in, reading, source_of}
 
 source-rows : (f : Found) (id : List ℕ) → option_and_then (λ (a : MatchedArg). a.source) (matched_of f id) ≡ source_of id (rows_of f)
 source-rows f id = go (find (λ (e : Entry). bytes_eq e.0.now id) f.entries.items) ∙ ap (option_and_then (λ (r : Row). r.source)) (sym (find_row f.entries.items id))
@@ -38,10 +39,11 @@ pub used : (f : Found) (id : List ℕ) (o : Option ValueSource) → o ≡ option
 used f id o e = ap (λ (s : Option ValueSource). option_map_or is_from_words s false) (e ∙ source-rows f id)
 
 -- the command by its options
-pub with-options : (a b c d e f : App) (p q r s t : Rule) → a ≡ bare_command → p ≡ flag (codes "debug") → b ≡ with_rule a p → q ≡ option (codes "fuel") → c ≡ with_rule b q
-    → r ≡ flag (codes "imports") → d ≡ with_rule c r → s ≡ option (codes "generate") → e ≡ with_rule d s → t ≡ flag (codes "check") → f ≡ with_rule e t → f ≡ command
-with-options a b c d e f p q r s t bare debug with_debug fuel with_fuel imports with_imports generate with_generate check with_check =
-    let with_all : f ≡ with_rule (with_rule (with_rule (with_rule (with_rule bare_command (flag (codes "debug"))) (option (codes "fuel"))) (flag (codes "imports"))) (option (codes "generate"))) (flag (codes "check")) = cc in
+pub with-options : (a b c d e f g : App) (p q r s t u : Rule) → a ≡ bare_command → p ≡ flag (codes "debug") → b ≡ with_rule a p → q ≡ option (codes "fuel") → c ≡ with_rule b q
+    → r ≡ flag (codes "imports") → d ≡ with_rule c r → s ≡ option (codes "generate") → e ≡ with_rule d s → t ≡ flag (codes "check") → f ≡ with_rule e t
+    → u ≡ option (codes "call") → g ≡ with_rule f u → g ≡ command
+with-options a b c d e f g p q r s t u bare debug with_debug fuel with_fuel imports with_imports generate with_generate check with_check call with_call =
+    let with_all : g ≡ with_rule (with_rule (with_rule (with_rule (with_rule (with_rule bare_command (flag (codes "debug"))) (option (codes "fuel"))) (flag (codes "imports"))) (option (codes "generate"))) (flag (codes "check"))) (option (codes "call")) = cc in
     with_all
 
 pub simple : is_simple command ≡ true
@@ -100,10 +102,14 @@ fuel f o e = ap fuel_or_default (e ∙ first_value-rows f (codes "fuel"))
 pub generated-behind : (f : Found) (o : Option (List ℕ)) → o ≡ first_value f (codes "generate") → generated_in o ≡ generated_in (first_of (codes "generate") (rows_of f))
 generated-behind f o e = ap generated_in (e ∙ first_value-rows f (codes "generate"))
 
+-- the name that stands behind its option
+pub call-behind : (f : Found) (o : Option (List ℕ)) → o ≡ first_value f (codes "call") → o ≡ first_of (codes "call") (rows_of f)
+call-behind f o e = e ∙ first_value-rows f (codes "call")
+
 -- ---- the numbers are within their bounds
 
 abbrev IsWithinBounds : CommandOptions → Type 0
-IsWithinBounds o = (1 ≤ o.fuel) × IfSome o.generate (λ n. n ≤ most_generated) × (o.check ≡ true → o.generate ≡ None)
+IsWithinBounds o = (1 ≤ o.fuel) × IfSome o.generate (λ n. n ≤ most_generated) × HasOneMode o
 
 number-within : (least most : ℕ) (text : List ℕ) → IfSome (number_in least most text) (λ n. (least ≤ n) × (n ≤ most))
 number-within least most text = go (is_number least most text) refl
@@ -129,18 +135,29 @@ number-behind (Some text) = go (number_in 0 most_generated text) (number-within 
     go (Some n) h = h.1
 
 in-mode : (o : CommandOptions) → 1 ≤ o.fuel → IfSome o.generate (λ n. n ≤ most_generated) → IfSome (in_one_mode o) IsWithinBounds
-in-mode o h k = go o.check o.generate refl refl
+in-mode o h k = go o.check o.generate o.call refl refl refl
   where
-    go : (check : Bool) (generate : Option ℕ) → o.check ≡ check → o.generate ≡ generate → IfSome (if check && is_some generate then None else Some o) IsWithinBounds
-    go true None c g = (h, k, λ _. g)
-    go true (Some n) c g = tt
-    go false generate c g = (h, k, λ check. absurd (true≢false (sym check ∙ c)))
+    unchecked : {A : Type 0} → o.check ≡ false → o.check ≡ true → A
+    unchecked c e = absurd (true≢false (sym e ∙ c))
 
-with-numbers : (fuel : Option ℕ) (generate : Option (Option ℕ)) (debug imports check : Bool) → IfSome fuel (λ n. 1 ≤ n) → IfSome generate (λ g. IfSome g (λ n. n ≤ most_generated))
-    → IfSome (option_and_then (λ n. option_and_then (λ g. in_one_mode (record { debug = debug; imports = imports; fuel = n; generate = g; check = check })) generate) fuel) IsWithinBounds
-with-numbers None generate debug imports check h k = tt
-with-numbers (Some n) None debug imports check h k = tt
-with-numbers (Some n) (Some g) debug imports check h k = in-mode (record { debug = debug; imports = imports; fuel = n; generate = g; check = check }) h k
+    uncalled : {A : Type 0} (x : List ℕ) → o.call ≡ None → o.call ≡ Some x → A
+    uncalled x n e = absurd (none_some o.call x n e)
+
+    go : (check : Bool) (generate : Option ℕ) (call : Option (List ℕ)) → o.check ≡ check → o.generate ≡ generate → o.call ≡ call
+        → IfSome (if are_several check (is_some generate) (is_some call) then None else Some o) IsWithinBounds
+    go true None None c g n = (h, k, record { check = λ e. (g, n); call = λ x e. uncalled x n e })
+    go true None (Some x) c g n = tt
+    go true (Some m) call c g n = tt
+    go false None None c g n = (h, k, record { check = λ e. unchecked c e; call = λ x e. uncalled x n e })
+    go false None (Some x) c g n = (h, k, record { check = λ e. unchecked c e; call = λ y e. (g, c) })
+    go false (Some m) None c g n = (h, k, record { check = λ e. unchecked c e; call = λ x e. uncalled x n e })
+    go false (Some m) (Some x) c g n = tt
+
+with-numbers : (fuel : Option ℕ) (generate : Option (Option ℕ)) (debug imports check : Bool) (call : Option (List ℕ)) → IfSome fuel (λ n. 1 ≤ n) → IfSome generate (λ g. IfSome g (λ n. n ≤ most_generated))
+    → IfSome (option_and_then (λ n. option_and_then (λ g. in_one_mode (record { debug = debug; imports = imports; fuel = n; generate = g; check = check; call = call })) generate) fuel) IsWithinBounds
+with-numbers None generate debug imports check call h k = tt
+with-numbers (Some n) None debug imports check call h k = tt
+with-numbers (Some n) (Some g) debug imports check call h k = in-mode (record { debug = debug; imports = imports; fuel = n; generate = g; check = check; call = call }) h k
 
 where-taken : (b : Bool) (o : Option CommandOptions) → IfSome o IsWithinBounds → IfSome (if b then o else None) IsWithinBounds
 where-taken true o h = h
@@ -151,7 +168,7 @@ unfolding reading
 within words =
     let rows = matches_of command words in
     where-taken (are_taken words) (options_in rows) (with-numbers (fuel_or_default (first_of (codes "fuel") rows)) (generated_in (first_of (codes "generate") rows))
-    (is_used (codes "debug") rows) (is_used (codes "imports") rows) (is_used (codes "check") rows) (fuel-behind (first_of (codes "fuel") rows)) (number-behind (first_of (codes "generate") rows)))
+    (is_used (codes "debug") rows) (is_used (codes "imports") rows) (is_used (codes "check") rows) (first_of (codes "call") rows) (fuel-behind (first_of (codes "fuel") rows)) (number-behind (first_of (codes "generate") rows)))
 
 pub has-fuel : (words : List (List ℕ)) → IfSome (reading words) (λ options. 1 ≤ options.fuel)
 has-fuel words = go (reading words) (within words)
@@ -167,9 +184,9 @@ has-number words = go (reading words) (within words)
     go None h = tt
     go (Some o) h = h.1
 
-pub has-mode : (words : List (List ℕ)) → IfSome (reading words) (λ options. options.check ≡ true → options.generate ≡ None)
+pub has-mode : (words : List (List ℕ)) → IfSome (reading words) HasOneMode
 has-mode words = go (reading words) (within words)
   where
-    go : (o : Option CommandOptions) → IfSome o IsWithinBounds → IfSome o (λ options. options.check ≡ true → options.generate ≡ None)
+    go : (o : Option CommandOptions) → IfSome o IsWithinBounds → IfSome o HasOneMode
     go None h = tt
     go (Some o) h = h.2

@@ -1,5 +1,5 @@
 -- What the words of the command line ask for: `clap`'s reading of them as one simple command.
-use Rattle.std.specs.Prelude.{ℕ, ◌==◌, ◌&&◌, nat_le, not, Bool, true, false, List, [], ◌∷◌, Option, Some, None, codes, find, if◌then◌else◌, is_some, length, option_and_then, option_map}
+use Rattle.std.specs.Prelude.{ℕ, ◌≡◌, ◌==◌, ◌&&◌, ◌||◌, nat_le, not, Bool, true, false, List, [], ◌∷◌, Option, Some, None, codes, find, if◌then◌else◌, is_some, length, option_and_then, option_map}
 use Rattle.std.specs.List.{list_all, list_any}
 use Rattle.std.specs.Char.{is_ascii_digit}
 use Rattle.std.specs.Option.{option_map_or}
@@ -34,7 +34,7 @@ bare_command = record {
 abbrev pub command : App
 command = record {
   top = record (new_shape (codes "factc")) {
-    rules = flag (codes "debug") ∷ option (codes "fuel") ∷ flag (codes "imports") ∷ option (codes "generate") ∷ flag (codes "check") ∷ [];
+    rules = flag (codes "debug") ∷ option (codes "fuel") ∷ flag (codes "imports") ∷ option (codes "generate") ∷ flag (codes "check") ∷ option (codes "call") ∷ [];
     no_binary_name = true;
     disable_help_flag = true;
     disable_version_flag = true;
@@ -88,9 +88,19 @@ source_of name rows = option_and_then (λ r. r.source) (find (λ r. bytes_eq r.i
 abbrev pub is_used : List ℕ → List Row → Bool
 is_used name rows = option_map_or is_from_words (source_of name rows) false
 
--- not two modes: bytes are checked, or a plan is generated, or one is read
+-- whether more than one of three is so
+abbrev pub are_several : (a b c : Bool) → Bool
+are_several true b c = b || c
+are_several false b c = b && c
+
+-- not two modes: bytes are checked, or a plan is generated, or an adapter is called, or a plan is read
 abbrev pub in_one_mode : CommandOptions → Option CommandOptions
-in_one_mode o = if o.check && is_some o.generate then None else Some o
+in_one_mode o = if are_several o.check (is_some o.generate) (is_some o.call) then None else Some o
+
+-- Where bytes are checked, nothing is generated or called, and where an adapter is called, nothing is generated.
+pub record HasOneMode (o : CommandOptions) : Type 0 where
+  pub check : o.check ≡ true → (o.generate ≡ None) × (o.call ≡ None)
+  pub call : (name : List ℕ) → o.call ≡ Some name → (o.generate ≡ None) × (o.check ≡ false)
 
 -- what the matches ask for, where the numbers have their form
 abbrev pub options_in : List Row → Option CommandOptions
@@ -100,6 +110,7 @@ options_in rows = option_and_then (λ fuel. option_and_then (λ generate. in_one
   fuel = fuel;
   generate = generate;
   check = is_used (codes "check") rows;
+  call = first_of (codes "call") rows;
 })) (generated_in (first_of (codes "generate") rows))) (fuel_or_default (first_of (codes "fuel") rows))
 
 -- `clap` finds no fault in the words, and none is a bare `--`

@@ -1,6 +1,6 @@
 //! The words of the command line.
 
-ghost use Rattle.std.specs.Prelude.{◌≡◌, ◌≤◌, IfOk, IfSome, None, codes, false, true, map, string_bytes};
+ghost use Rattle.std.specs.Prelude.{◌≡◌, ◌≤◌, IfOk, IfSome, codes, false, map, string_bytes};
 ghost use Rattle.std.specs.Char.{is_ascii_digit};
 ghost use Rattle.std.specs.List.{list_all, list_any};
 ghost use Rattle.std.specs.Option.{option_map_or};
@@ -9,13 +9,13 @@ ghost use Rattle.clap.specs.Simple.{app_of, with_rule};
 ghost use Rattle.clap.specs.Walk.{first_of, rows_of, rule_of};
 ghost use Rattle.clap.specs.Matches.{found_of};
 ghost use Rattle.fact_generate.specs.Generated.{most_generated};
-ghost use Rattle.fact_command.specs.Command.{bare_command, command, flag, fuel_or_default, generated_in, in_one_mode, is_from_words, is_plain_number, is_used, number_in, option, options_in, reading};
+ghost use Rattle.fact_command.specs.Command.{HasOneMode, are_several, bare_command, command, flag, fuel_or_default, generated_in, in_one_mode, is_from_words, is_plain_number, is_used, number_in, option, options_in, reading};
 
 use clap::error::ErrorKind;
 use clap::parser::ValueSource;
 use clap::{Arg, ArgAction, ArgMatches, Command};
 use fact_generate::MOST_GENERATED;
-use fact_wasm::OutOfMemory;
+use fact_wasm::{OutOfMemory, Text};
 use std::alloc::{AllocError, Global};
 
 const DEFAULT_FUEL: u32 = 1000;
@@ -24,8 +24,8 @@ const MIN_FUEL: u32 = 1;
 
 const MAX_FUEL: u32 = 1_000_000;
 
-/// What the words ask for.
-#[derive(Clone, Copy)]
+/// What the words ask for: a plan is read and its module printed, unless one mode is asked for, to generate, to check or to call.
+#[derive(Drop)]
 pub struct CommandOptions {
     /// Debug checks are emitted, whatever the plan says.
     pub debug: bool,
@@ -37,6 +37,8 @@ pub struct CommandOptions {
     pub generate: Option<u32>,
     /// Bytes in hex are read and checked, and no plan is.
     pub check: bool,
+    /// The adapter of this name is called, with the plan and the values that are read.
+    pub call: Option<Text>,
 }
 
 fn flag<'a>(alloc: Global, name: &'a str) -> Arg<'a>
@@ -80,7 +82,8 @@ fn command<'a>(alloc: Global) -> Result<Command<'a>, OutOfMemory>
     let with_fuel = with(with_debug, option(alloc, "fuel"))?;
     let with_imports = with(with_fuel, flag(alloc, "imports"))?;
     let with_generate = with(with_imports, option(alloc, "generate"))?;
-    with(with_generate, flag(alloc, "check"))
+    let with_check = with(with_generate, flag(alloc, "check"))?;
+    with(with_check, option(alloc, "call"))
 }
 
 fn are_digits(text: &[u8]) -> bool
@@ -149,29 +152,58 @@ fn generated_of(matches: &ArgMatches) -> Option<Option<u32>>
     }
 }
 
+/// The name of the adapter to call, where there is one.
+fn call_of(alloc: Global, matches: &ArgMatches) -> Result<Option<Text>, OutOfMemory>
+    ensures { IfOk result (λ name. name ≡ first_of (codes "call") (rows_of (found_of matches.now))) }
+{
+    match matches.get_str("call") {
+        Some(name) => Ok(Some(Text::from_str(alloc, name)?)),
+        None => Ok(None),
+    }
+}
+
+/// Whether more than one of three is so.
+fn are_several(a: bool, b: bool, c: bool) -> bool
+    ensures { result ≡ are_several a b c }
+{
+    if a { b || c } else { b && c }
+}
+
 /// The options, where they ask for one mode at most.
 fn in_one_mode(options: CommandOptions) -> Option<CommandOptions>
     ensures { result ≡ in_one_mode options }
 {
-    if options.check && options.generate.is_some() {
+    let several = are_several(
+        options.check,
+        options.generate.is_some(),
+        options.call.is_some(),
+    );
+    if several {
+        drop(options);
         None
     } else {
         Some(options)
     }
 }
 
-fn options_in(matches: &ArgMatches) -> Option<CommandOptions>
-    ensures { result ≡ options_in (rows_of (found_of matches.now)) }
+fn options_in(alloc: Global, matches: &ArgMatches) -> Result<Option<CommandOptions>, OutOfMemory>
+    ensures { IfOk result (λ options. options ≡ options_in (rows_of (found_of matches.now))) }
 {
-    let fuel = fuel_of(matches)?;
-    let generate = generated_of(matches)?;
-    in_one_mode(CommandOptions {
+    let Some(fuel) = fuel_of(matches) else {
+        return Ok(None);
+    };
+    let Some(generate) = generated_of(matches) else {
+        return Ok(None);
+    };
+    let call = call_of(alloc, matches)?;
+    Ok(in_one_mode(CommandOptions {
         debug: is_used(matches, "debug"),
         imports: is_used(matches, "imports"),
         fuel,
         generate,
         check: is_used(matches, "check"),
-    })
+        call,
+    }))
 }
 
 /// Whether a word is a bare `--`.
@@ -187,13 +219,13 @@ pub fn command_of(alloc: Global, words: &[String]) -> Result<Option<CommandOptio
     ensures reading { IfOk result (λ options. options ≡ reading (map string_bytes words.now)) }
     ensures fuel { IfOk result (λ options. IfSome options (λ o. 1 ≤ o.fuel)) }
     ensures generate { IfOk result (λ options. IfSome options (λ o. IfSome o.generate (λ n. n ≤ most_generated))) }
-    ensures one { IfOk result (λ options. IfSome options (λ o. o.check ≡ true → o.generate ≡ None)) }
+    ensures one { IfOk result (λ options. IfSome options HasOneMode) }
 {
     if has_bare_dashes(words) {
         return Ok(None);
     }
     match command(alloc)?.try_get_matches_from(words) {
-        Ok(matches) => Ok(options_in(&matches)),
+        Ok(matches) => options_in(alloc, &matches),
         Err(error) if error.kind() == ErrorKind::OutOfMemory => Err(AllocError),
         Err(_) => Ok(None),
     }

@@ -6,7 +6,7 @@ ghost use Rattle.fact_command.specs.Status.{line_of, exit_status_of};
 /// How a run ended.
 #[derive(Clone, Copy, Debug, Drop, PartialEq, Eq)]
 pub enum Status {
-    /// The module was printed, or the counts of the one that was generated or checked.
+    /// The module was printed, or the counts of the one that was generated or checked, or the call of an adapter was told.
     Done,
     /// The words are no command.
     Usage,
@@ -18,7 +18,7 @@ pub enum Status {
     TooLong,
     /// The input is no JSON text.
     NotJson,
-    /// The input is no plan.
+    /// The input is no plan, or no input of a call.
     BadPlan,
     /// The plan has a fault.
     Refused,
@@ -26,6 +26,12 @@ pub enum Status {
     NotHex,
     /// The bytes spell no adapter module.
     Rejected,
+    /// No sync adapter between two instances has the name.
+    NotCallable,
+    /// The arguments or the results of a call are not of their types.
+    BadValue,
+    /// They are too large, too many or too heavy for a host.
+    OverLimit,
     /// There was no memory.
     OutOfMemory,
 }
@@ -47,23 +53,33 @@ impl Status {
             Status::OutOfMemory => 9,
             Status::NotHex => 11,
             Status::Rejected => 12,
+            Status::NotCallable => 13,
+            Status::BadValue => 14,
+            Status::OverLimit => 15,
         }
     }
 
     /// The line that tells it, with its newline, where it is the same for every input; nothing for [`Status::Done`], and
-    /// for [`Status::BadPlan`], [`Status::Refused`] and [`Status::Rejected`], whose lines name the fault.
+    /// for [`Status::BadPlan`], [`Status::Refused`], [`Status::Rejected`] and [`Status::BadValue`], whose lines name the fault.
     pub fn line(self) -> &'static str
         ensures { result.now ≡ line_of self }
     {
         match self {
-            Status::Done | Status::BadPlan | Status::Refused | Status::Rejected => "",
-            Status::Usage =>
-                "usage: factc [--debug] [--fuel N] [--imports] [--generate N] [--check]\n",
+            Status::Done
+            | Status::BadPlan
+            | Status::Refused
+            | Status::Rejected
+            | Status::BadValue => "",
+            Status::Usage => {
+                "usage: factc [--debug] [--fuel N] [--imports] [--generate N] [--check] [--call NAME]\n"
+            }
             Status::ReadFault => "read fault\n",
             Status::WriteFault => "write fault\n",
             Status::TooLong => "input too long\n",
             Status::NotJson => "not json\n",
             Status::NotHex => "not hex\n",
+            Status::NotCallable => "not callable\n",
+            Status::OverLimit => "over limit\n",
             Status::OutOfMemory => "out of memory\n",
         }
     }

@@ -48,20 +48,20 @@ carried_through s m d v first second ks km kd h to on le lf small small2 =
 -- ---- how many handles cross
 
 -- so many numbers
-zeros : ℕ → List ℕ
+pub zeros : ℕ → List ℕ
 zeros n = replicate n 0
 
-zeros_small : (n : ℕ) → AllByRecursion (λ n. n < 2 ^ 32) (zeros n)
+pub zeros_small : (n : ℕ) → AllByRecursion (λ n. n < 2 ^ 32) (zeros n)
 unfolding zeros
 zeros_small zero = tt
 zeros_small (suc n) = (omega arith, zeros_small n)
 
-length_zeros : (n : ℕ) → length (zeros n) ≡ n
+pub length_zeros : (n : ℕ) → length (zeros n) ≡ n
 unfolding zeros
 length_zeros zero = refl
 length_zeros (suc n) = ap suc (length_zeros n)
 
-length_dropped : {X : Type 0} (n : ℕ) (xs : List X) → length (drop n xs) ≡ length xs - n
+pub length_dropped : {X : Type 0} (n : ℕ) (xs : List X) → length (drop n xs) ≡ length xs - n
 length_dropped zero xs = omega arith
 length_dropped (suc n) [] = omega arith
 length_dropped (suc n) (x ∷ xs) = omega (arith, length_dropped n xs)
@@ -80,14 +80,20 @@ carried_is_a s m v between first ks km c small = go (cases_lt (length first) (le
         let a = carried s m v first ks km c.is_a c.agrees enough small in
         subst (IsA m) (same_some (Some a.value) a.value between refl (sym (ap (option_map (λ r. r.0)) a.crossed) ∙ c.is)) a.is_a
 
+-- as many handles cross onward as directly, whatever the numbers of the first way
+pub same_count_between : (s m d : Shape) (v between : Value) (first left : List ℕ) → IsFormed s → IsFormed m → IsFormed d → IsA s v → IsA m between → Agrees s m → Agrees m d → crossed s m v first ≡ Some (between, left)
+    → length (handles m d between) ≡ length (handles s d v)
+same_count_between s m d v between first left ks km kd is_s is_m to on there =
+    let count = length (handles m d between) + length (handles s d v) in
+    let ns = zeros count in
+    let a = carried m d between ns km kd is_m on (omega (arith, length_zeros count)) (zeros_small count) in
+    let b = carried s d v ns ks kd is_s (agrees_through d m s to on) (omega (arith, length_zeros count)) (zeros_small count) in
+    let same = crossed_through s m d v between first left ns km kd on there in
+    let both = sym a.crossed ∙ same ∙ b.crossed in
+    same_taken (length (handles m d between)) (length (handles s d v)) (ap (λ r. r.1) (same_some (Some (a.value, drop (length (handles m d between)) ns)) (a.value, drop (length (handles m d between)) ns) (b.value, drop (length (handles s d v)) ns) refl both))
+
 pub same_count : (s m d : Shape) (v between : Value) (first : List ℕ) → IsFormed s → IsFormed m → IsFormed d → Agrees m d → Carries s m v first between → AllByRecursion (λ n. n < 2 ^ 32) first
     → length (handles m d between) ≡ length (handles s d v)
 same_count s m d v between first ks km kd on c small =
     let (r, there, at) = map_some (λ r. r.0) (crossed s m v first) between c.is in
-    let count = length (handles m d between) + length (handles s d v) in
-    let ns = zeros count in
-    let a = carried m d between ns km kd (carried_is_a s m v between first ks km c small) on (omega (arith, length_zeros count)) (zeros_small count) in
-    let b = carried s d v ns ks kd c.is_a (agrees_through d m s c.agrees on) (omega (arith, length_zeros count)) (zeros_small count) in
-    let same = crossed_through s m d v r.0 first r.1 ns km kd on there in
-    let both = sym a.crossed ∙ ap (λ u. crossed m d u ns) (sym at) ∙ same ∙ b.crossed in
-    same_taken (length (handles m d between)) (length (handles s d v)) (ap (λ r. r.1) (same_some (Some (a.value, drop (length (handles m d between)) ns)) (a.value, drop (length (handles m d between)) ns) (b.value, drop (length (handles s d v)) ns) refl both))
+    same_count_between s m d v between first r.1 ks km kd c.is_a (carried_is_a s m v between first ks km c small) c.agrees on (subst (λ u. crossed s m v first ≡ Some (u, r.1)) at there)

@@ -1,5 +1,5 @@
 -- How the ends of a run that checks bytes follow from what was read.
-use Rattle.std.proofs.Common.{◌≡◌, ◌≢◌, ℕ, ◌≤◌, Bool, true, false, List, length, Option, None, Some, IfSome, ◌⊎◌, inl, inr, refl, sym, subst, ◌∙◌, arith, string_bytes}
+use Rattle.std.proofs.Common.{◌≡◌, ℕ, ◌≤◌, Bool, true, List, length, Option, None, Some, IfSome, ◌⊎◌, inl, inr, refl, sym, subst, ◌∙◌, arith, string_bytes}
 use Rattle.std.specs.Prelude.{IsSome, IsSomeAnd}
 use Rattle.std.proofs.lemmas.Bool.{false≢true}
 use Rattle.std.specs.Io.KnownBytes.{Appends}
@@ -16,7 +16,7 @@ use Rattle.fact_command.specs.declared.command.CommandOptions.{CommandOptions}
 use Rattle.fact_command.specs.Command.{reading}
 use Rattle.fact_run.specs.Check.{HoldsAccepted, HoldsHex, HoldsNoHex, HoldsRejected, rejected_line}
 use Rattle.fact_run.specs.Answer.{IsCheckReply, IsEnding, IsReplyToBytes, IsReplyToCause, IsReplyToCheck, IsReplyUnder, TellsRejection}
-use Rattle.fact_run.specs.Run.{ChecksBytes, IsOrMemory, IsPlanMode, IsTooLong, IsUndisturbedCheck, Read, Sends, SendsAccepted, SendsBy, TellsLine, limit}
+use Rattle.fact_run.specs.Run.{ChecksBytes, IsCallMode, IsJsonMode, IsOrMemory, IsTooLong, IsUndisturbedCheck, Read, Sends, SendsAccepted, SendsBy, TellsLine, limit}
 use Rattle.fact_run.proofs.Ends.{past, so}
 
 -- ---- from what was read to a reply
@@ -32,6 +32,9 @@ replied-cause bytes e reply.NotJson h k = absurd k
 replied-cause bytes e (reply.BadPlan line) h k = absurd k
 replied-cause bytes e (reply.Refused line) h k = absurd k
 replied-cause bytes e reply.NotHex h k = absurd k
+replied-cause bytes e reply.NotCallable h k = absurd k
+replied-cause bytes e (reply.BadValue line) h k = absurd k
+replied-cause bytes e reply.OverLimit h k = absurd k
 
 -- bytes whose digits an input has
 pub replied-bytes : (input bytes : List ℕ) (r : Reply) → HoldsHex input bytes → IsReplyToBytes bytes r → IsReplyToCheck input r
@@ -44,6 +47,9 @@ replied-bytes input bytes reply.NotJson h k = absurd k
 replied-bytes input bytes (reply.BadPlan line) h k = absurd k
 replied-bytes input bytes (reply.Refused line) h k = absurd k
 replied-bytes input bytes reply.NotHex h k = absurd k
+replied-bytes input bytes reply.NotCallable h k = absurd k
+replied-bytes input bytes (reply.BadValue line) h k = absurd k
+replied-bytes input bytes reply.OverLimit h k = absurd k
 
 -- all the bytes of a source
 pub replied-input : (left left' : Option (List ℕ)) (fault : Type 0) (input : List ℕ) (r : Reply) → TakesAll left left' input → IsReplyToCheck input r → IsCheckReply left left' fault r
@@ -53,6 +59,9 @@ replied-input left left' fault input reply.TooLong all h = absurd h
 replied-input left left' fault input reply.NotJson all h = absurd h
 replied-input left left' fault input (reply.BadPlan line) all h = absurd h
 replied-input left left' fault input (reply.Refused line) all h = absurd h
+replied-input left left' fault input reply.NotCallable all h = absurd h
+replied-input left left' fault input (reply.BadValue line) all h = absurd h
+replied-input left left' fault input reply.OverLimit all h = absurd h
 replied-input left left' fault input reply.NotHex all h = record { bytes = input; all = all; is_so = h }
 replied-input left left' fault input (reply.Rejected line) all h = record { bytes = input; all = all; is_so = h }
 replied-input left left' fault input reply.OutOfMemory all h = tt
@@ -60,12 +69,15 @@ replied-input left left' fault input reply.OutOfMemory all h = tt
 -- what a source comes to, where bytes are checked
 pub replied-checked : (o : CommandOptions) (left left' : Option (List ℕ)) (fault : Type 0) (r : Reply) → o.check ≡ true → IsCheckReply left left' fault r → IsReplyUnder o left left' fault r
 replied-checked o left left' fault (reply.Page text) check h =
-    let P : Bool → Type 0 = λ b. SendsBy b o.generate o left left' (λ sent. sent ≡ string_bytes text) in subst P (sym check) h
+    let P : Bool → Type 0 = λ b. SendsBy b o.call o.generate o left left' (λ sent. sent ≡ string_bytes text) in subst P (sym check) h
 replied-checked o left left' fault reply.ReadFault check h = h
 replied-checked o left left' fault reply.TooLong check h = h
 replied-checked o left left' fault reply.NotJson check h = absurd h.is_so
 replied-checked o left left' fault (reply.BadPlan line) check h = absurd h.is_so
 replied-checked o left left' fault (reply.Refused line) check h = absurd h.is_so
+replied-checked o left left' fault reply.NotCallable check h = absurd h.is_so
+replied-checked o left left' fault (reply.BadValue line) check h = absurd h.is_so
+replied-checked o left left' fault reply.OverLimit check h = absurd h.is_so
 replied-checked o left left' fault reply.NotHex check h = (check, h)
 replied-checked o left left' fault (reply.Rejected line) check h = (check, h)
 replied-checked o left left' fault reply.OutOfMemory check h = h
@@ -86,14 +98,17 @@ none-checks words e g = let P : Option CommandOptions → Type 0 = λ r. IsSomeA
 pub bytes-checked : (words : List (List ℕ)) (o : CommandOptions) → reading words ≡ Some o → o.check ≡ true → ChecksBytes words
 bytes-checked words o e h = let P : Option CommandOptions → Type 0 = λ r. IsSomeAnd r (λ x. x.check ≡ true) in subst P (sym e) h
 
--- then no plan is read
-not-read : (words : List (List ℕ)) (o : CommandOptions) → reading words ≡ Some o → ChecksBytes words → IsPlanMode o → ⊥
+-- then no JSON text is read, and no adapter is called
+not-read : (words : List (List ℕ)) (o : CommandOptions) → reading words ≡ Some o → ChecksBytes words → IsJsonMode o → ⊥
 not-read words o e given mode = false≢true (sym mode.not_checked ∙ options-check words o e given)
+
+not-called : (words : List (List ℕ)) (o : CommandOptions) (name : List ℕ) → reading words ≡ Some o → ChecksBytes words → IsCallMode o name → ⊥
+not-called words o name e given mode = false≢true (sym mode.not_checked ∙ options-check words o e given)
 
 -- what was sent of bytes that were checked
 sent-checked : (words : List (List ℕ)) (o : CommandOptions) (left left' : Option (List ℕ)) (Sent : List ℕ → Type 0) → reading words ≡ Some o → ChecksBytes words → Sends o left left' Sent
     → Read left left' (λ input. SendsAccepted input Sent)
-sent-checked words o left left' Sent e given h = let P : Bool → Type 0 = λ b. SendsBy b o.generate o left left' Sent in subst P (options-check words o e given) h
+sent-checked words o left left' Sent e given h = let P : Bool → Type 0 = λ b. SendsBy b o.call o.generate o left left' Sent in subst P (options-check words o e given) h
 
 -- ---- each input comes to one end
 
@@ -121,6 +136,9 @@ check-end-of words input left' read old new write status.BadPlan line h given no
 check-end-of words input left' read old new write status.Refused line h given none = absurd (not-read words h.0 h.1 given h.2.0)
 check-end-of words input left' read old new write status.NotHex line h given none = inl (so input left' HoldsNoHex h.2.1)
 check-end-of words input left' read old new write status.Rejected line h given none = let t = so input left' (λ b. TellsRejection b line) h.2.1 in inl (t.cause, t.holds)
+check-end-of words input left' read old new write status.NotCallable line h given none = absurd (not-called words h.0 h.2.0 h.1 given h.2.1)
+check-end-of words input left' read old new write status.BadValue line h given none = absurd (not-called words h.0 h.2.0 h.1 given h.2.1)
+check-end-of words input left' read old new write status.OverLimit line h given none = absurd (not-called words h.0 h.2.0 h.1 given h.2.1)
 check-end-of words input left' read old new write status.OutOfMemory line h given none = inr refl
 
 -- an input has the digits of one list of bytes
@@ -146,6 +164,9 @@ check-long-end status.ReadFault input b (inl h) = absurd h
 check-long-end status.NotJson input b (inl h) = absurd h
 check-long-end status.BadPlan input b (inl h) = absurd h
 check-long-end status.Refused input b (inl h) = absurd h
+check-long-end status.NotCallable input b (inl h) = absurd h
+check-long-end status.BadValue input b (inl h) = absurd h
+check-long-end status.OverLimit input b (inl h) = absurd h
 check-long-end status.OutOfMemory input b (inl h) = absurd h
 
 pub hex-end : (s : Status) (input : List ℕ) → HoldsNoHex input → IsOfCheck s input ⊎ (s ≡ status.OutOfMemory) → IsOrMemory status.NotHex s
@@ -160,6 +181,9 @@ hex-end status.ReadFault input b (inl h) = absurd h
 hex-end status.NotJson input b (inl h) = absurd h
 hex-end status.BadPlan input b (inl h) = absurd h
 hex-end status.Refused input b (inl h) = absurd h
+hex-end status.NotCallable input b (inl h) = absurd h
+hex-end status.BadValue input b (inl h) = absurd h
+hex-end status.OverLimit input b (inl h) = absurd h
 hex-end status.OutOfMemory input b (inl h) = absurd h
 
 pub rejected-end : AcceptedHasNoCause → (s : Status) (input : List ℕ) → ((e : CheckError) × HoldsRejected input e) → IsOfCheck s input ⊎ (s ≡ status.OutOfMemory) → IsOrMemory status.Rejected s
@@ -174,6 +198,9 @@ rejected-end law status.ReadFault input b (inl h) = absurd h
 rejected-end law status.NotJson input b (inl h) = absurd h
 rejected-end law status.BadPlan input b (inl h) = absurd h
 rejected-end law status.Refused input b (inl h) = absurd h
+rejected-end law status.NotCallable input b (inl h) = absurd h
+rejected-end law status.BadValue input b (inl h) = absurd h
+rejected-end law status.OverLimit input b (inl h) = absurd h
 rejected-end law status.OutOfMemory input b (inl h) = absurd h
 
 pub accepted-end : AcceptedHasNoCause → (s : Status) (input : List ℕ) → (s ≡ status.WriteFault → ⊥) → ((m : WasmModule) × HoldsAccepted input m) → IsOfCheck s input ⊎ (s ≡ status.OutOfMemory) → IsOrMemory status.Done s
@@ -188,6 +215,9 @@ accepted-end law status.ReadFault input unfaulted b (inl h) = absurd h
 accepted-end law status.NotJson input unfaulted b (inl h) = absurd h
 accepted-end law status.BadPlan input unfaulted b (inl h) = absurd h
 accepted-end law status.Refused input unfaulted b (inl h) = absurd h
+accepted-end law status.NotCallable input unfaulted b (inl h) = absurd h
+accepted-end law status.BadValue input unfaulted b (inl h) = absurd h
+accepted-end law status.OverLimit input unfaulted b (inl h) = absurd h
 accepted-end law status.OutOfMemory input unfaulted b (inl h) = absurd h
 
 -- Where bytes are checked, what holds of a source's input decides the end.

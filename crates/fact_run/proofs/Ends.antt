@@ -26,7 +26,8 @@ use Rattle.fact_command.specs.declared.command.CommandOptions.{CommandOptions}
 use Rattle.fact_command.specs.Command.{reading}
 use Rattle.fact_command.specs.Refusal.{refusal_line}
 use Rattle.fact_command.specs.Status.{line_of}
-use Rattle.fact_run.specs.Run.{Counts, GeneratesPlan, HoldsFault, HoldsFaultless, HoldsNoJson, HoldsPlan, HoldsRefusal, IsEndUnread, IsOrMemory, IsPlanMode, IsTooLong, IsUndisturbed, Read, ReadsPlan, Sends, SendsAccepted, SendsBy, SendsCounts, SendsPage, TellsLine, limit}
+use Rattle.fact_types.proofs.ShapeLaws.{none_some}
+use Rattle.fact_run.specs.Run.{Counts, GeneratesPlan, HoldsFault, HoldsFaultBy, HoldsFaultless, HoldsNoJson, HoldsPlan, HoldsRefusal, HoldsRefusalBy, IsCallMode, IsEndUnread, IsJsonMode, IsOrMemory, IsPlanMode, IsTooLong, IsUndisturbed, Read, ReadsJson, ReadsPlan, Sends, SendsAccepted, SendsBy, SendsCall, SendsCounts, SendsPage, TellsLine, limit}
 
 -- ---- from what was read to a reply
 
@@ -53,6 +54,9 @@ replied-fault o bytes v f reply.NotJson within j h e = absurd e
 replied-fault o bytes v f (reply.Refused line) within j h e = absurd e
 replied-fault o bytes v f reply.NotHex within j h e = absurd e
 replied-fault o bytes v f (reply.Rejected line) within j h e = absurd e
+replied-fault o bytes v f reply.NotCallable within j h e = absurd e
+replied-fault o bytes v f (reply.BadValue line) within j h e = absurd e
+replied-fault o bytes v f reply.OverLimit within j h e = absurd e
 
 -- a plan that the bytes hold
 pub replied-plan : (o : CommandOptions) (bytes : List ℕ) (p : FusePlan) (r : Reply) → HoldsPlan bytes p → IsReplyToPlan o p r → IsReplyTo o bytes r
@@ -75,6 +79,9 @@ replied-plan o bytes p reply.TooLong h e = absurd e
 replied-plan o bytes p reply.NotJson h e = absurd e
 replied-plan o bytes p reply.NotHex h e = absurd e
 replied-plan o bytes p (reply.Rejected line) h e = absurd e
+replied-plan o bytes p reply.NotCallable h e = absurd e
+replied-plan o bytes p (reply.BadValue line) h e = absurd e
+replied-plan o bytes p reply.OverLimit h e = absurd e
 
 -- a source of which nothing was taken
 pub untaken : (left : Option (List ℕ)) (most : ℕ) → TakesUpTo left left most
@@ -90,6 +97,9 @@ replied o left left' fault bytes (reply.BadPlan line) all h = record { bytes = b
 replied o left left' fault bytes (reply.Refused line) all h = record { bytes = bytes; all = all; is_so = h }
 replied o left left' fault bytes reply.NotHex all h = absurd h
 replied o left left' fault bytes (reply.Rejected line) all h = absurd h
+replied o left left' fault bytes reply.NotCallable all h = absurd h
+replied o left left' fault bytes (reply.BadValue line) all h = absurd h
+replied o left left' fault bytes reply.OverLimit all h = absurd h
 replied o left left' fault bytes reply.OutOfMemory all h = tt
 
 -- ---- from a reply to an end
@@ -104,44 +114,60 @@ sent-counts o n text Q a q = record { text = a.text; counted = a.counted; sent =
 sent-accepted : (input text : List ℕ) (Q : List ℕ → Type 0) → SendsAccepted input (λ sent. sent ≡ text) → Q text → SendsAccepted input Q
 sent-accepted input text Q a q = record { found = a.found; holds = a.holds; sent = subst Q (sym a.sent) q }
 
-sent-by : (check : Bool) (m : Option ℕ) (o : CommandOptions) (left left' : Option (List ℕ)) (text : List ℕ) (Q : List ℕ → Type 0) → SendsBy check m o left left' (λ sent. sent ≡ text) → Q text → SendsBy check m o left left' Q
-sent-by true m o left left' text Q r q = record { bytes = r.bytes; all = r.all; is_so = sent-accepted r.bytes text Q r.is_so q }
-sent-by false None o left left' text Q r q = record {
+sent-call : (fuel : ℕ) (name bytes text : List ℕ) (Q : List ℕ → Type 0) → SendsCall fuel name bytes (λ sent. sent ≡ text) → Q text → SendsCall fuel name bytes Q
+sent-call fuel name bytes text Q a q = record { input = a.input; holds = a.holds; text = a.text; tells = a.tells; sent = subst Q (sym a.sent) q }
+
+sent-by : (check : Bool) (call : Option (List ℕ)) (m : Option ℕ) (o : CommandOptions) (left left' : Option (List ℕ)) (text : List ℕ) (Q : List ℕ → Type 0) → SendsBy check call m o left left' (λ sent. sent ≡ text) → Q text → SendsBy check call m o left left' Q
+sent-by true call m o left left' text Q r q = record { bytes = r.bytes; all = r.all; is_so = sent-accepted r.bytes text Q r.is_so q }
+sent-by false (Some name) m o left left' text Q r q = record { bytes = r.bytes; all = r.all; is_so = sent-call o.fuel name r.bytes text Q r.is_so q }
+sent-by false None None o left left' text Q r q = record {
   bytes = r.bytes;
   all = r.all;
   is_so = sent-as o r.bytes (λ sent. sent ≡ text) Q (λ t e. subst Q (sym e) q) r.is_so;
 }
-sent-by false (Some n) o left left' text Q a q = sent-counts o n text Q a q
+sent-by false None (Some n) o left left' text Q a q = sent-counts o n text Q a q
 
 -- the text that a run comes to was sent
 pub sent-of : (o : CommandOptions) (left left' : Option (List ℕ)) (text : List ℕ) (Q : List ℕ → Type 0) → Sends o left left' (λ sent. sent ≡ text) → Q text → Sends o left left' Q
-sent-of o left left' text Q r q = sent-by o.check o.generate o left left' text Q r q
+sent-of o left left' text Q r q = sent-by o.check o.call o.generate o left left' text Q r q
 
 -- ---- modes
 
 -- what was sent in a mode
-sends-in : (check : Bool) (m : Option ℕ) (o : CommandOptions) (left left' : Option (List ℕ)) (Sent : List ℕ → Type 0) → o.check ≡ check → o.generate ≡ m → SendsBy check m o left left' Sent → Sends o left left' Sent
-sends-in check m o left left' Sent c g h =
-    let P : Bool → Type 0 = λ b. SendsBy b m o left left' Sent in
-    let Q : Option ℕ → Type 0 = λ k. SendsBy o.check k o left left' Sent in
-    subst Q (sym g) (subst P (sym c) h)
+pub sends-in : (check : Bool) (call : Option (List ℕ)) (m : Option ℕ) (o : CommandOptions) (left left' : Option (List ℕ)) (Sent : List ℕ → Type 0) → o.check ≡ check → o.call ≡ call → o.generate ≡ m
+    → SendsBy check call m o left left' Sent → Sends o left left' Sent
+sends-in check call m o left left' Sent c n g h =
+    let P : Bool → Type 0 = λ b. SendsBy b call m o left left' Sent in
+    let N : Option (List ℕ) → Type 0 = λ x. SendsBy o.check x m o left left' Sent in
+    let Q : Option ℕ → Type 0 = λ k. SendsBy o.check o.call k o left left' Sent in
+    subst Q (sym g) (subst N (sym n) (subst P (sym c) h))
+
+-- a fault and a refusal that were told of a plan that was read
+told-in : (o : CommandOptions) (left left' : Option (List ℕ)) (line : List ℕ) → o.call ≡ None → Read left left' (λ bytes. TellsFault None bytes line) → Read left left' (λ bytes. TellsFault o.call bytes line)
+told-in o left left' line none h = let P : Option (List ℕ) → Type 0 = λ x. Read left left' (λ bytes. TellsFault x bytes line) in subst P (sym none) h
+
+refused-in : (o : CommandOptions) (left left' : Option (List ℕ)) (line : List ℕ) → o.call ≡ None → Read left left' (λ bytes. TellsRefusalIn None bytes line) → Read left left' (λ bytes. TellsRefusalIn o.call bytes line)
+refused-in o left left' line none h = let P : Option (List ℕ) → Type 0 = λ x. Read left left' (λ bytes. TellsRefusalIn x bytes line) in subst P (sym none) h
 
 -- what a source comes to, where a plan is read
-pub replied-read : (o : CommandOptions) (left left' : Option (List ℕ)) (fault : Type 0) (r : Reply) → o.generate ≡ None → o.check ≡ false → IsReply o left left' fault r → IsReplyUnder o left left' fault r
-replied-read o left left' fault (reply.Page text) none unchecked h = sends-in false None o left left' (λ sent. sent ≡ string_bytes text) unchecked none h
-replied-read o left left' fault reply.ReadFault none unchecked h = h
-replied-read o left left' fault reply.TooLong none unchecked h = h
-replied-read o left left' fault reply.NotJson none unchecked h = (record { not_generated = none; not_checked = unchecked }, h)
-replied-read o left left' fault (reply.BadPlan line) none unchecked h = (record { not_generated = none; not_checked = unchecked }, h)
-replied-read o left left' fault (reply.Refused line) none unchecked h = (record { not_generated = none; not_checked = unchecked }, h)
-replied-read o left left' fault reply.NotHex none unchecked h = absurd h.is_so
-replied-read o left left' fault (reply.Rejected line) none unchecked h = absurd h.is_so
-replied-read o left left' fault reply.OutOfMemory none unchecked h = h
+pub replied-read : (o : CommandOptions) (left left' : Option (List ℕ)) (fault : Type 0) (r : Reply) → o.generate ≡ None → o.check ≡ false → o.call ≡ None → IsReply o left left' fault r → IsReplyUnder o left left' fault r
+replied-read o left left' fault (reply.Page text) none unchecked uncalled h = sends-in false None None o left left' (λ sent. sent ≡ string_bytes text) unchecked uncalled none h
+replied-read o left left' fault reply.ReadFault none unchecked uncalled h = h
+replied-read o left left' fault reply.TooLong none unchecked uncalled h = h
+replied-read o left left' fault reply.NotJson none unchecked uncalled h = (record { not_generated = none; not_checked = unchecked }, h)
+replied-read o left left' fault (reply.BadPlan line) none unchecked uncalled h = (record { not_generated = none; not_checked = unchecked }, told-in o left left' (string_bytes line) uncalled h)
+replied-read o left left' fault (reply.Refused line) none unchecked uncalled h = (record { not_generated = none; not_checked = unchecked }, refused-in o left left' (string_bytes line) uncalled h)
+replied-read o left left' fault reply.NotHex none unchecked uncalled h = absurd h.is_so
+replied-read o left left' fault (reply.Rejected line) none unchecked uncalled h = absurd h.is_so
+replied-read o left left' fault reply.NotCallable none unchecked uncalled h = absurd h.is_so
+replied-read o left left' fault (reply.BadValue line) none unchecked uncalled h = absurd h.is_so
+replied-read o left left' fault reply.OverLimit none unchecked uncalled h = absurd h.is_so
+replied-read o left left' fault reply.OutOfMemory none unchecked uncalled h = h
 
 -- counts that were made of a plan that is generated
-pub replied-counts : (o : CommandOptions) (n : ℕ) (left left' : Option (List ℕ)) (text : List ℕ) → o.generate ≡ Some n → o.check ≡ false → Counts o n text → Sends o left left' (λ sent. sent ≡ text)
-replied-counts o n left left' text some unchecked made =
-    sends-in false (Some n) o left left' (λ sent. sent ≡ text) unchecked some (record { text = text; counted = made; sent = refl })
+pub replied-counts : (o : CommandOptions) (n : ℕ) (left left' : Option (List ℕ)) (text : List ℕ) → o.generate ≡ Some n → o.check ≡ false → o.call ≡ None → Counts o n text → Sends o left left' (λ sent. sent ≡ text)
+replied-counts o n left left' text some unchecked uncalled made =
+    sends-in false None (Some n) o left left' (λ sent. sent ≡ text) unchecked uncalled some (record { text = text; counted = made; sent = refl })
 
 -- a run that reads nothing ends as such runs do
 pub ended-unread : (r : Reply) → IsReplyUnread r → IsEndUnread (ending_with r).status
@@ -154,6 +180,9 @@ ended-unread (reply.BadPlan line) h = absurd h
 ended-unread (reply.Refused line) h = absurd h
 ended-unread reply.NotHex h = absurd h
 ended-unread (reply.Rejected line) h = absurd h
+ended-unread reply.NotCallable h = absurd h
+ended-unread (reply.BadValue line) h = absurd h
+ended-unread reply.OverLimit h = absurd h
 
 pub unread-done : (s : Status) → IsEndUnread s → (s ≡ status.WriteFault → ⊥) → IsOrMemory status.Done s
 unread-done s (inl done) clean = inl done
@@ -173,18 +202,19 @@ none-generates words e g = let P : Option CommandOptions → Type 0 = λ r. IsSo
 none-reads : (words : List (List ℕ)) → reading words ≡ None → ReadsPlan words → ⊥
 none-reads words e g = let P : Option CommandOptions → Type 0 = λ r. IsSomeAnd r IsPlanMode in subst P e g
 
--- and the other way round
-pub plan-read : (words : List (List ℕ)) (o : CommandOptions) → reading words ≡ Some o → IsPlanMode o → ReadsPlan words
-plan-read words o e h = let P : Option CommandOptions → Type 0 = λ r. IsSomeAnd r IsPlanMode in subst P (sym e) h
+-- and the other way round, of a JSON text
+pub json-read : (words : List (List ℕ)) (o : CommandOptions) → reading words ≡ Some o → IsJsonMode o → ReadsJson words
+json-read words o e h = let P : Option CommandOptions → Type 0 = λ r. IsSomeAnd r IsJsonMode in subst P (sym e) h
 
 -- what was sent of a plan that was read
 sent-read : (words : List (List ℕ)) (o : CommandOptions) (left left' : Option (List ℕ)) (Sent : List ℕ → Type 0) → reading words ≡ Some o → ReadsPlan words → Sends o left left' Sent
     → Read left left' (λ bytes. SendsPage o bytes Sent)
 sent-read words o left left' Sent e reads h =
     let mode = options-read words o e reads in
-    let P : Bool → Type 0 = λ b. SendsBy b o.generate o left left' Sent in
-    let Q : Option ℕ → Type 0 = λ m. SendsBy false m o left left' Sent in
-    subst Q mode.not_generated (subst P mode.not_checked h)
+    let P : Bool → Type 0 = λ b. SendsBy b o.call o.generate o left left' Sent in
+    let N : Option (List ℕ) → Type 0 = λ x. SendsBy false x o.generate o left left' Sent in
+    let Q : Option ℕ → Type 0 = λ m. SendsBy false None m o left left' Sent in
+    subst Q mode.not_generated (subst N mode.not_called (subst P mode.not_checked h))
 
 -- ---- each input comes to one end
 
@@ -258,6 +288,17 @@ past bytes (Some ys) r = omega (arith, r.past, ap length r.taken, length-append 
 unchecked : (words : List (List ℕ)) (o : CommandOptions) → reading words ≡ Some o → ReadsPlan words → o.check ≡ true → ⊥
 unchecked words o e given check = false≢true (sym (options-read words o e given).not_checked ∙ check)
 
+-- nor is an adapter called
+uncalled : (words : List (List ℕ)) (o : CommandOptions) (name : List ℕ) → reading words ≡ Some o → ReadsPlan words → IsCallMode o name → ⊥
+uncalled words o name e given mode = none_some o.call name (options-read words o e given).not_called mode.called
+
+-- and what the bytes hold is a plan
+fault-read : (o : CommandOptions) (bytes : List ℕ) (f : PlanFault) → o.call ≡ None → HoldsFaultBy o.call bytes f → HoldsFault bytes f
+fault-read o bytes f none h = let P : Option (List ℕ) → Type 0 = λ x. HoldsFaultBy x bytes f in subst P none h
+
+refusal-read : (o : CommandOptions) (bytes : List ℕ) (f : Fault) (place : Place) → o.call ≡ None → HoldsRefusalBy o.call bytes f place → HoldsRefusal bytes f place
+refusal-read o bytes f place none h = let P : Option (List ℕ) → Type 0 = λ x. HoldsRefusalBy x bytes f place in subst P none h
+
 -- an end without a fault, of a run whose words are read, tells what the bytes hold
 end-of : (words : List (List ℕ)) (bytes : List ℕ) (left' : Option (List ℕ)) (read : Type 0) (old new : Option (List ℕ)) (write : Type 0) (s : Status) (line : List ℕ)
     → IsEnding words (Some bytes) left' read old new write s line → ReadsPlan words → (read → ⊥) → IsOf s bytes ⊎ (s ≡ status.OutOfMemory)
@@ -267,10 +308,15 @@ end-of words bytes left' read old new write status.ReadFault line h given none =
 end-of words bytes left' read old new write status.WriteFault line h given none = inl (so bytes left' (λ b. SendsPage h.0 b (λ text. AppendsFront old new text)) (sent-read words h.0 (Some bytes) left' (λ text. AppendsFront old new text) h.1 given h.2.1)).holds
 end-of words bytes left' read old new write status.TooLong line h given none = inl (past bytes left' h.2.0)
 end-of words bytes left' read old new write status.NotJson line h given none = inl (so bytes left' HoldsNoJson h.2.1)
-end-of words bytes left' read old new write status.BadPlan line h given none = let t = so bytes left' _ h.2.1 in inl (t.fault, t.holds)
-end-of words bytes left' read old new write status.Refused line h given none = let t = so bytes left' _ h.2.1 in inl (t.fault, t.place, t.holds)
+end-of words bytes left' read old new write status.BadPlan line h given none =
+    let t = so bytes left' (λ b. TellsFault h.0.call b line) h.2.1 in inl (t.fault, fault-read h.0 bytes t.fault (options-read words h.0 h.1 given).not_called t.holds)
+end-of words bytes left' read old new write status.Refused line h given none =
+    let t = so bytes left' (λ b. TellsRefusalIn h.0.call b line) h.2.1 in inl (t.fault, t.place, refusal-read h.0 bytes t.fault t.place (options-read words h.0 h.1 given).not_called t.holds)
 end-of words bytes left' read old new write status.NotHex line h given none = absurd (unchecked words h.0 h.1 given h.2.0)
 end-of words bytes left' read old new write status.Rejected line h given none = absurd (unchecked words h.0 h.1 given h.2.0)
+end-of words bytes left' read old new write status.NotCallable line h given none = absurd (uncalled words h.0 h.2.0 h.1 given h.2.1)
+end-of words bytes left' read old new write status.BadValue line h given none = absurd (uncalled words h.0 h.2.0 h.1 given h.2.1)
+end-of words bytes left' read old new write status.OverLimit line h given none = absurd (uncalled words h.0 h.2.0 h.1 given h.2.1)
 end-of words bytes left' read old new write status.OutOfMemory line h given none = inr refl
 
 -- words that are not read are told so
@@ -287,6 +333,9 @@ usage-end words left left' read old new write status.BadPlan line h none = cc
 usage-end words left left' read old new write status.Refused line h none = cc
 usage-end words left left' read old new write status.NotHex line h none = cc
 usage-end words left left' read old new write status.Rejected line h none = cc
+usage-end words left left' read old new write status.NotCallable line h none = cc
+usage-end words left left' read old new write status.BadValue line h none = cc
+usage-end words left left' read old new write status.OverLimit line h none = cc
 
 -- before a plan is read, an end is that of its stage
 of-stage : (s : Status) (bytes : List ℕ) → IsOf s bytes → (stage_of bytes ≡ 3) ⊎ (s ≡ end_at (stage_of bytes))
@@ -300,6 +349,9 @@ of-stage status.Usage bytes h = absurd h
 of-stage status.ReadFault bytes h = absurd h
 of-stage status.NotHex bytes h = absurd h
 of-stage status.Rejected bytes h = absurd h
+of-stage status.NotCallable bytes h = absurd h
+of-stage status.BadValue bytes h = absurd h
+of-stage status.OverLimit bytes h = absurd h
 of-stage status.OutOfMemory bytes h = absurd h
 
 at-stage : (n : ℕ) (s : Status) (bytes : List ℕ) → n < 3 → stage_of bytes ≡ n → IsOf s bytes ⊎ (s ≡ status.OutOfMemory) → IsOrMemory (end_at n) s
@@ -340,6 +392,9 @@ refused-end status.Usage bytes r (inl h) = absurd h
 refused-end status.ReadFault bytes r (inl h) = absurd h
 refused-end status.NotHex bytes r (inl h) = absurd h
 refused-end status.Rejected bytes r (inl h) = absurd h
+refused-end status.NotCallable bytes r (inl h) = absurd h
+refused-end status.BadValue bytes r (inl h) = absurd h
+refused-end status.OverLimit bytes r (inl h) = absurd h
 refused-end status.OutOfMemory bytes r (inl h) = absurd h
 
 pub faultless-end : (s : Status) (bytes : List ℕ) → (s ≡ status.WriteFault → ⊥) → HoldsFaultless bytes → IsOf s bytes ⊎ (s ≡ status.OutOfMemory) → IsOrMemory status.Done s
@@ -354,6 +409,9 @@ faultless-end status.Usage bytes unfaulted b (inl h) = absurd h
 faultless-end status.ReadFault bytes unfaulted b (inl h) = absurd h
 faultless-end status.NotHex bytes unfaulted b (inl h) = absurd h
 faultless-end status.Rejected bytes unfaulted b (inl h) = absurd h
+faultless-end status.NotCallable bytes unfaulted b (inl h) = absurd h
+faultless-end status.BadValue bytes unfaulted b (inl h) = absurd h
+faultless-end status.OverLimit bytes unfaulted b (inl h) = absurd h
 faultless-end status.OutOfMemory bytes unfaulted b (inl h) = absurd h
 
 -- Where the words are read, what holds of a source's bytes decides the end.
@@ -372,32 +430,35 @@ no-write-fault words left left' read old new write s line h none e =
 
 -- the line of an end, but for one that names a fault
 pub plain-line : (words : List (List ℕ)) (left left' : Option (List ℕ)) (read : Type 0) (old new : Option (List ℕ)) (write : Type 0) (s : Status) (line : List ℕ)
-    → IsEnding words left left' read old new write s line → s ≢ status.BadPlan → s ≢ status.Refused → s ≢ status.Rejected → line ≡ line_of s
-plain-line words left left' read old new write status.Done line h bad refused rejected = h.2.1
-plain-line words left left' read old new write status.Usage line h bad refused rejected = h.2
-plain-line words left left' read old new write status.ReadFault line h bad refused rejected = h.2.2
-plain-line words left left' read old new write status.WriteFault line h bad refused rejected = h.2.2
-plain-line words left left' read old new write status.TooLong line h bad refused rejected = h.2.2
-plain-line words left left' read old new write status.NotJson line h bad refused rejected = h.2.3
-plain-line words left left' read old new write status.BadPlan line h bad refused rejected = absurd (bad refl)
-plain-line words left left' read old new write status.Refused line h bad refused rejected = absurd (refused refl)
-plain-line words left left' read old new write status.NotHex line h bad refused rejected = h.2.3
-plain-line words left left' read old new write status.Rejected line h bad refused rejected = absurd (rejected refl)
-plain-line words left left' read old new write status.OutOfMemory line h bad refused rejected = h.1
+    → IsEnding words left left' read old new write s line → s ≢ status.BadPlan → s ≢ status.Refused → s ≢ status.Rejected → s ≢ status.BadValue → line ≡ line_of s
+plain-line words left left' read old new write status.Done line h bad refused rejected value = h.2.1
+plain-line words left left' read old new write status.Usage line h bad refused rejected value = h.2
+plain-line words left left' read old new write status.ReadFault line h bad refused rejected value = h.2.2
+plain-line words left left' read old new write status.WriteFault line h bad refused rejected value = h.2.2
+plain-line words left left' read old new write status.TooLong line h bad refused rejected value = h.2.2
+plain-line words left left' read old new write status.NotJson line h bad refused rejected value = h.2.3
+plain-line words left left' read old new write status.BadPlan line h bad refused rejected value = absurd (bad refl)
+plain-line words left left' read old new write status.Refused line h bad refused rejected value = absurd (refused refl)
+plain-line words left left' read old new write status.NotHex line h bad refused rejected value = h.2.3
+plain-line words left left' read old new write status.Rejected line h bad refused rejected value = absurd (rejected refl)
+plain-line words left left' read old new write status.NotCallable line h bad refused rejected value = h.2.4
+plain-line words left left' read old new write status.BadValue line h bad refused rejected value = absurd (value refl)
+plain-line words left left' read old new write status.OverLimit line h bad refused rejected value = h.2.4
+plain-line words left left' read old new write status.OutOfMemory line h bad refused rejected value = h.1
 
 -- The fault of a plan was told, where its line was.
-pub told-fault : (left left' : Option (List ℕ)) (line : List ℕ) (old new : Option (List ℕ)) (before now : ℕ) → Read left left' (λ bytes. TellsFault bytes line) → TellsLine old new before now line
-    → Read left left' (λ bytes. (f : PlanFault) × HoldsFault bytes f × TellsLine old new before now (fault_line f))
-told-fault left left' line old new before now r h = record {
+pub told-fault : (call : Option (List ℕ)) (left left' : Option (List ℕ)) (line : List ℕ) (old new : Option (List ℕ)) (before now : ℕ) → Read left left' (λ bytes. TellsFault call bytes line) → TellsLine old new before now line
+    → Read left left' (λ bytes. (f : PlanFault) × HoldsFaultBy call bytes f × TellsLine old new before now (fault_line f))
+told-fault call left left' line old new before now r h = record {
   bytes = r.bytes;
   all = r.all;
   is_so = (r.is_so.fault, r.is_so.holds, subst (λ (l : List ℕ). TellsLine old new before now l) r.is_so.is_line h);
 }
 
 -- The refusal of a plan was told, where its line was.
-pub told-refusal : (left left' : Option (List ℕ)) (line : List ℕ) (old new : Option (List ℕ)) (before now : ℕ) → Read left left' (λ bytes. TellsRefusalIn bytes line) → TellsLine old new before now line
-    → Read left left' (λ bytes. (f : Fault) × (place : Place) × HoldsRefusal bytes f place × TellsLine old new before now (refusal_line f place))
-told-refusal left left' line old new before now r h = record {
+pub told-refusal : (call : Option (List ℕ)) (left left' : Option (List ℕ)) (line : List ℕ) (old new : Option (List ℕ)) (before now : ℕ) → Read left left' (λ bytes. TellsRefusalIn call bytes line) → TellsLine old new before now line
+    → Read left left' (λ bytes. (f : Fault) × (place : Place) × HoldsRefusalBy call bytes f place × TellsLine old new before now (refusal_line f place))
+told-refusal call left left' line old new before now r h = record {
   bytes = r.bytes;
   all = r.all;
   is_so = (r.is_so.fault, r.is_so.place, r.is_so.holds, subst (λ (l : List ℕ). TellsLine old new before now l) r.is_so.is_line h);

@@ -1,3 +1,4 @@
+pub mod CallEnds
 pub mod CheckEnds
 pub mod Configured
 pub mod Digits

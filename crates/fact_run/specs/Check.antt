@@ -1,5 +1,5 @@
 -- What the mode comes to that checks bytes: an input is hex digits, and at most one newline behind them.
-use Rattle.std.specs.Prelude.{◌≡◌, ◌≢◌, ℕ, ◌≤◌, ◌==◌, List, [], ◌∷◌, ◌++◌, Option, Some, None, Ok, codes, length, if◌then◌else◌}
+use Rattle.std.specs.Prelude.{◌≡◌, ◌≢◌, ℕ, ◌≤◌, ◌==◌, List, [], ◌∷◌, ◌++◌, Ok, codes, length, if◌then◌else◌}
 use Rattle.std.specs.Fmt.{decimal}
 use Rattle.hex.specs.Hex.{decode_of}
 use Rattle.fact_wasm.specs.declared.module.WasmModule.{WasmModule}
@@ -8,10 +8,7 @@ use Rattle.fact_check.specs.declared.error.CheckError.{CheckError}
 use Rattle.fact_check.specs.declared.error.CheckError.TheVariants as error
 use Rattle.fact_check.specs.declared.error.CheckPlace.{CheckPlace}
 use Rattle.fact_check.specs.declared.error.CheckPlace.TheVariants as place
-
--- the most bytes that an input may have
-abbrev pub limit : ℕ
-limit = 67_108_864
+pub use Rattle.fact_calls.specs.Calls.{limit}
 
 -- ---- what an input holds
 

@@ -24,7 +24,9 @@ use Rattle.fact_command.specs.declared.command.CommandOptions.{CommandOptions}
 use Rattle.fact_command.specs.declared.status.Status.{Status}
 use Rattle.fact_command.specs.declared.status.Status.TheVariants as status
 use Rattle.fact_command.specs.Command.{reading}
-pub use Rattle.fact_run.specs.Check.{limit}
+pub use Rattle.fact_calls.specs.Calls.{HoldsNoJson, limit}
+use Rattle.fact_calls.specs.Calls.{HasBadValue, HasInput, HoldsFaultyInput, HoldsInput, IsNotCallable, IsOverLimit, TellsInput}
+use Rattle.fact_calls.specs.Inputs.{CallInput}
 use Rattle.fact_run.specs.Check.{HoldsAccepted, accepted_line}
 use Rattle.fact_command.specs.ImportLines.{import_lines}
 
@@ -33,11 +35,6 @@ use Rattle.fact_command.specs.ImportLines.{import_lines}
 -- The bytes are more than an input may have.
 abbrev pub IsTooLong : List ℕ → Type 0
 IsTooLong bytes = limit < length bytes
-
--- The bytes are no JSON text, as `serde_json` reads it.
-pub record HoldsNoJson (bytes : List ℕ) : Type 0 where
-  pub within : length bytes ≤ limit
-  pub no_json : value_in bytes ≡ None
 
 -- The bytes are a JSON text whose value has this first fault.
 pub record HoldsFault (bytes : List ℕ) (f : PlanFault) : Type 0 where
@@ -64,6 +61,15 @@ pub record HoldsFaultless (bytes : List ℕ) : Type 0 where
   pub plan : FusePlan
   pub is_plan : HoldsPlan bytes plan
   pub faultless : IsFaultlessPlan plan
+
+-- Where an adapter of some name is called, the bytes hold an input in place of a plan: its first fault, and the first fault of its plan.
+abbrev pub HoldsFaultBy : (call : Option (List ℕ)) → List ℕ → PlanFault → Type 0
+HoldsFaultBy None bytes f = HoldsFault bytes f
+HoldsFaultBy (Some name) bytes f = HoldsFaultyInput bytes f
+
+abbrev pub HoldsRefusalBy : (call : Option (List ℕ)) → List ℕ → Fault → Place → Type 0
+HoldsRefusalBy None bytes f place = HoldsRefusal bytes f place
+HoldsRefusalBy (Some name) bytes f place = HasInput bytes (λ i. IsFirstAt i.plan f place)
 
 -- All that the source had was taken, and it is so.
 pub record Read (left left' : Option (List ℕ)) (P : List ℕ → Type 0) : Type 0 where
@@ -129,24 +135,53 @@ pub record SendsAccepted (input : List ℕ) (Sent : List ℕ → Type 0) : Type 
   pub holds : HoldsAccepted input found
   pub sent : Sent (accepted_line found)
 
--- What was sent: where bytes are checked of the line that accepts them, where a plan is generated of its counts, and else of the text
--- that prints the module of the plan that was read.
-abbrev pub SendsBy : (check : Bool) → Option ℕ → CommandOptions → (left left' : Option (List ℕ)) → (List ℕ → Type 0) → Type 0
-SendsBy true generate o left left' Sent = Read left left' (λ input. SendsAccepted input Sent)
-SendsBy false None o left left' Sent = Read left left' (λ bytes. SendsPage o bytes Sent)
-SendsBy false (Some n) o left left' Sent = SendsCounts o n Sent
+-- The bytes hold an input, and of the text that tells the call of an adapter of it this was sent.
+pub record SendsCall (fuel : ℕ) (name bytes : List ℕ) (Sent : List ℕ → Type 0) : Type 0 where
+  pub input : CallInput
+  pub holds : HoldsInput bytes input
+  pub text : List ℕ
+  pub tells : TellsInput fuel name input text
+  pub sent : Sent text
+
+-- What was sent: where bytes are checked of the line that accepts them, where an adapter is called of the text that tells the call, where a plan is
+-- generated of its counts, and else of the text that prints the module of the plan that was read.
+abbrev pub SendsBy : (check : Bool) → (call : Option (List ℕ)) → Option ℕ → CommandOptions → (left left' : Option (List ℕ)) → (List ℕ → Type 0) → Type 0
+SendsBy true call generate o left left' Sent = Read left left' (λ input. SendsAccepted input Sent)
+SendsBy false (Some name) generate o left left' Sent = Read left left' (λ bytes. SendsCall o.fuel name bytes Sent)
+SendsBy false None None o left left' Sent = Read left left' (λ bytes. SendsPage o bytes Sent)
+SendsBy false None (Some n) o left left' Sent = SendsCounts o n Sent
 
 abbrev pub Sends : CommandOptions → (left left' : Option (List ℕ)) → (List ℕ → Type 0) → Type 0
-Sends o left left' Sent = SendsBy o.check o.generate o left left' Sent
+Sends o left left' Sent = SendsBy o.check o.call o.generate o left left' Sent
 
 -- a plan is read
 pub record IsPlanMode (o : CommandOptions) : Type 0 where
+  pub not_generated : o.generate ≡ None
+  pub not_checked : o.check ≡ false
+  pub not_called : o.call ≡ None
+
+-- the adapter of a name is called
+pub record IsCallMode (o : CommandOptions) (name : List ℕ) : Type 0 where
+  pub not_generated : o.generate ≡ None
+  pub not_checked : o.check ≡ false
+  pub called : o.call ≡ Some name
+
+-- one of these: a JSON text is read
+pub record IsJsonMode (o : CommandOptions) : Type 0 where
   pub not_generated : o.generate ≡ None
   pub not_checked : o.check ≡ false
 
 -- The command takes the words, and a plan is read.
 abbrev pub ReadsPlan : List (List ℕ) → Type 0
 ReadsPlan words = IsSomeAnd (reading words) IsPlanMode
+
+-- The command takes the words, and a JSON text is read, of a plan or of the input of a call.
+abbrev pub ReadsJson : List (List ℕ) → Type 0
+ReadsJson words = IsSomeAnd (reading words) IsJsonMode
+
+-- The command takes the words, and the adapter of a name is called.
+abbrev pub AsksCall : List (List ℕ) → (name : List ℕ) → Type 0
+AsksCall words name = IsSomeAnd (reading words) (λ o. IsCallMode o name)
 
 -- The command takes the words, and a plan is generated.
 abbrev pub GeneratesPlan : List (List ℕ) → Type 0
@@ -180,3 +215,18 @@ pub record IsUndisturbedCheck (words : List (List ℕ)) (before now : ℕ) : Typ
 -- The end is this one, or a want of memory.
 abbrev pub IsOrMemory : Status → Status → Type 0
 IsOrMemory wanted s = (s ≡ wanted) ⊎ (s ≡ status.OutOfMemory)
+
+-- The command takes the words, the adapter of a name is called, and no read failed.
+pub record IsUndisturbedCall (words : List (List ℕ)) (name : List ℕ) (before now : ℕ) : Type 0 where
+  pub asks : AsksCall words name
+  pub no_fault : Rose before now → ⊥
+
+-- How a run that calls the adapter of a name ends, by what the bytes hold, where none can be called with them.
+pub record EndsAsCall (name bytes : List ℕ) (s : Status) : Type 0 where
+  pub too_long : IsTooLong bytes → IsOrMemory status.TooLong s
+  pub not_json : HoldsNoJson bytes → IsOrMemory status.NotJson s
+  pub bad_plan : ((f : PlanFault) × HoldsFaultyInput bytes f) → IsOrMemory status.BadPlan s
+  pub refused : ((f : Fault) × (place : Place) × HasInput bytes (λ i. IsFirstAt i.plan f place)) → IsOrMemory status.Refused s
+  pub not_callable : HasInput bytes (IsNotCallable name) → IsOrMemory status.NotCallable s
+  pub bad_value : ((f : PlanFault) × HasInput bytes (λ i. HasBadValue name i f)) → IsOrMemory status.BadValue s
+  pub over_limit : HasInput bytes (IsOverLimit name) → IsOrMemory status.OverLimit s

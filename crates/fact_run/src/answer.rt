@@ -23,7 +23,8 @@ use std::alloc::{AllocError, Global};
 /// What a run has to tell.
 #[derive(Drop)]
 pub enum Reply {
-    /// The text that is written: what prints the module, the counts of one that was generated, or the line of one that is accepted.
+    /// The text that is written: what prints the module, the counts of one that was generated, the line of one that is accepted, or what tells a
+    /// call.
     Page(String),
     ReadFault,
     TooLong,
@@ -35,6 +36,10 @@ pub enum Reply {
     NotHex,
     /// The line that tells why bytes are rejected.
     Rejected(String),
+    NotCallable,
+    /// The line that tells what is no value of a type.
+    BadValue(String),
+    OverLimit,
     OutOfMemory,
 }
 
@@ -47,7 +52,7 @@ impl From<AllocError> for Reply {
 }
 
 /// What a fault of a plan comes to.
-fn reply_to_fault(alloc: Global, fault: &PlanFault) -> Reply
+pub fn reply_to_fault(alloc: Global, fault: &PlanFault) -> Reply
     ensures { IsReplyToFault fault.now result }
 {
     if matches!(fault, PlanFault::OutOfMemory) {
@@ -74,8 +79,8 @@ fn plan_in(alloc: Global, bytes: &[u8]) -> Result<FusePlan, Reply>
 }
 
 /// The plan with the tunables that the words ask for.
-pub fn configure(plan: FusePlan, options: CommandOptions) -> FusePlan
-    ensures { result ≡ configured options plan }
+pub fn configure(plan: FusePlan, options: &CommandOptions) -> FusePlan
+    ensures { result ≡ configured options.now plan }
 {
     let tunables = PlanTunables {
         debug: plan.tunables.debug || options.debug,
@@ -89,10 +94,10 @@ pub fn configure(plan: FusePlan, options: CommandOptions) -> FusePlan
 fn fused_page(
     alloc: Global,
     plan: &FusePlan,
-    options: CommandOptions,
+    options: &CommandOptions,
 ) -> Result<String, OutOfMemory>
     requires { 1 ≤ plan.now.tunables.fuel }
-    ensures { (p : FusePlan) → plan.now ≡ configured options p → IfOk result (λ text. Prints options p (string_bytes text)) }
+    ensures { (p : FusePlan) → plan.now ≡ configured options.now p → IfOk result (λ text. Prints options.now p (string_bytes text)) }
 {
     bytes_spell_one_module();
     match fuse(alloc, plan) {
@@ -107,9 +112,9 @@ fn fused_page(
     }
 }
 
-fn print(alloc: Global, plan: FusePlan, options: CommandOptions) -> Result<String, OutOfMemory>
-    requires { 1 ≤ options.fuel }
-    ensures { IfOk result (λ text. Prints options plan (string_bytes text)) }
+fn print(alloc: Global, plan: FusePlan, options: &CommandOptions) -> Result<String, OutOfMemory>
+    requires { 1 ≤ options.now.fuel }
+    ensures { IfOk result (λ text. Prints options.now plan (string_bytes text)) }
 {
     let configured = configure(plan, options);
     let text = fused_page(alloc, &configured, options);
@@ -118,7 +123,7 @@ fn print(alloc: Global, plan: FusePlan, options: CommandOptions) -> Result<Strin
 }
 
 /// What a refusal of a plan comes to.
-fn reply_to_refusal(alloc: Global, error: &FuseError) -> Reply
+pub fn reply_to_refusal(alloc: Global, error: &FuseError) -> Reply
     ensures { IsReplyToRefusal (told error.now) result }
 {
     if matches!(error, FuseError::OutOfMemory) {
@@ -131,10 +136,10 @@ fn reply_to_refusal(alloc: Global, error: &FuseError) -> Reply
 }
 
 /// What a plan without faults comes to.
-fn reply_to_faultless(alloc: Global, plan: FusePlan, options: CommandOptions) -> Reply
+fn reply_to_faultless(alloc: Global, plan: FusePlan, options: &CommandOptions) -> Reply
     requires faultless { IsFaultlessPlan plan }
-    requires fuel { 1 ≤ options.fuel }
-    ensures { IsReplyToPlan options plan result }
+    requires fuel { 1 ≤ options.now.fuel }
+    ensures { IsReplyToPlan options.now plan result }
 {
     match print(alloc, plan, options) {
         Ok(text) => Reply::Page(text),
@@ -143,9 +148,9 @@ fn reply_to_faultless(alloc: Global, plan: FusePlan, options: CommandOptions) ->
 }
 
 /// What a plan comes to.
-fn reply_to_plan(alloc: Global, plan: FusePlan, options: CommandOptions) -> Reply
-    requires { 1 ≤ options.fuel }
-    ensures { IsReplyToPlan options plan result }
+fn reply_to_plan(alloc: Global, plan: FusePlan, options: &CommandOptions) -> Reply
+    requires { 1 ≤ options.now.fuel }
+    ensures { IsReplyToPlan options.now plan result }
 {
     if let Err(error) = check_plan(alloc, &plan) {
         drop(plan);
@@ -155,10 +160,10 @@ fn reply_to_plan(alloc: Global, plan: FusePlan, options: CommandOptions) -> Repl
 }
 
 /// What some bytes come to.
-fn reply_to(alloc: Global, bytes: &[u8], options: CommandOptions) -> Reply
+fn reply_to(alloc: Global, bytes: &[u8], options: &CommandOptions) -> Reply
     requires within { length bytes.now ≤ limit }
-    requires fuel { 1 ≤ options.fuel }
-    ensures { IsReplyTo options bytes.now result }
+    requires fuel { 1 ≤ options.now.fuel }
+    ensures { IsReplyTo options.now bytes.now result }
 {
     match plan_in(alloc, bytes) {
         Ok(plan) => reply_to_plan(alloc, plan, options),
@@ -167,9 +172,9 @@ fn reply_to(alloc: Global, bytes: &[u8], options: CommandOptions) -> Reply
 }
 
 /// What all that the source has comes to.
-pub fn reply_of<S: Source>(alloc: Global, source: &mut S, options: CommandOptions) -> Reply
-    requires { 1 ≤ options.fuel }
-    ensures reply { IsReply options (S.left source.old) (S.left source.new) (Rose (S.faults source.old) (S.faults source.new)) result }
+pub fn reply_of<S: Source>(alloc: Global, source: &mut S, options: &CommandOptions) -> Reply
+    requires { 1 ≤ options.now.fuel }
+    ensures reply { IsReply options.now (S.left source.old) (S.left source.new) (Rose (S.faults source.old) (S.faults source.new)) result }
     ensures most { TakesUpTo (S.left source.old) (S.left source.new) (limit + 1) }
     ensures no_fault { result ≢ Reply.ReadFault → S.faults source.new ≡ S.faults source.old }
 {

@@ -1,13 +1,15 @@
 //! What a run comes to, by its mode.
 
-ghost use Rattle.std.specs.Prelude.{◌≡◌, ◌≢◌, ◌≤◌, ◌+◌, IfOk, IfSome, IsSome, None, true, string_bytes};
+ghost use Rattle.std.specs.Prelude.{◌≡◌, ◌≢◌, ◌≤◌, ◌+◌, IfOk, IfSome, IsSome, false, string_bytes};
 ghost use Rattle.fact_io.specs.Faults.{Rose};
 ghost use Rattle.fact_io.specs.Transfers.{TakesUpTo};
+ghost use Rattle.fact_command.specs.Command.{HasOneMode};
 ghost use Rattle.fact_generate.specs.Generated.{generated, most_generated};
 ghost use Rattle.fact_run.specs.Answer.{IsReplyUnder, IsReplyUnread};
 ghost use Rattle.fact_run.specs.Run.{Counts, configured, counts, limit};
 
 use crate::answer::{Reply, configure, reply_of};
+use crate::call_mode::call_reply;
 use crate::check_mode::check_reply;
 use crate::counts::counts_text;
 use fact_command::CommandOptions;
@@ -21,12 +23,12 @@ use std::alloc::{AllocError, Global};
 fn fused_counts(
     alloc: Global,
     plan: &FusePlan,
-    options: CommandOptions,
+    options: &CommandOptions,
     n: u32,
 ) -> Result<String, OutOfMemory>
-    requires fuel { 1 ≤ options.fuel }
-    requires plan { plan.now ≡ configured options (generated n) }
-    ensures { IfOk result (λ text. Counts options n (string_bytes text)) }
+    requires fuel { 1 ≤ options.now.fuel }
+    requires plan { plan.now ≡ configured options.now (generated n) }
+    ensures { IfOk result (λ text. Counts options.now n (string_bytes text)) }
 {
     match fuse(alloc, plan) {
         Ok(fused) => {
@@ -39,10 +41,10 @@ fn fused_counts(
 }
 
 /// The counts of the plan of so many adapters, and of its module.
-fn generated_counts(alloc: Global, n: u32, options: CommandOptions) -> Result<String, OutOfMemory>
+fn generated_counts(alloc: Global, n: u32, options: &CommandOptions) -> Result<String, OutOfMemory>
     requires number { n ≤ most_generated }
-    requires fuel { 1 ≤ options.fuel }
-    ensures { IfOk result (λ text. Counts options n (string_bytes text)) }
+    requires fuel { 1 ≤ options.now.fuel }
+    ensures { IfOk result (λ text. Counts options.now n (string_bytes text)) }
 {
     let configured = configure(generate(alloc, n)?, options);
     let text = fused_counts(alloc, &configured, options, n);
@@ -50,24 +52,41 @@ fn generated_counts(alloc: Global, n: u32, options: CommandOptions) -> Result<St
     text
 }
 
-/// What a run with these options comes to: where bytes are checked no plan is read, and where a plan is generated nothing is.
-pub fn reply_under<S: Source>(alloc: Global, source: &mut S, options: CommandOptions) -> Reply
-    requires fuel { 1 ≤ options.fuel }
-    requires number { IfSome options.generate (λ n. n ≤ most_generated) }
-    requires one { options.check ≡ true → options.generate ≡ None }
-    ensures reply { IsReplyUnder options (S.left source.old) (S.left source.new) (Rose (S.faults source.old) (S.faults source.new)) result }
+/// What a run with these options comes to that neither checks bytes nor calls an adapter: where a plan is generated nothing is read.
+fn reply_uncalled<S: Source>(alloc: Global, source: &mut S, options: &CommandOptions) -> Reply
+    requires fuel { 1 ≤ options.now.fuel }
+    requires number { IfSome options.now.generate (λ n. n ≤ most_generated) }
+    requires unchecked { options.now.check ≡ false }
+    requires uncalled { options.now.call ≡ None }
+    ensures reply { IsReplyUnder options.now (S.left source.old) (S.left source.new) (Rose (S.faults source.old) (S.faults source.new)) result }
     ensures most { TakesUpTo (S.left source.old) (S.left source.new) (limit + 1) }
     ensures no_fault { result ≢ Reply.ReadFault → S.faults source.new ≡ S.faults source.old }
-    ensures unread { IsSome options.generate → (source.new ≡ source.old) × IsReplyUnread result }
+    ensures unread { IsSome options.now.generate → (source.new ≡ source.old) × IsReplyUnread result }
 {
-    if options.check {
-        return check_reply(alloc, source);
-    }
     match options.generate {
         Some(n) => match generated_counts(alloc, n, options) {
             Ok(text) => Reply::Page(text),
             Err(_) => Reply::OutOfMemory,
         },
         None => reply_of(alloc, source, options),
+    }
+}
+
+/// What a run with these options comes to: where bytes are checked or an adapter is called they are read in place of a plan.
+pub fn reply_under<S: Source>(alloc: Global, source: &mut S, options: &CommandOptions) -> Reply
+    requires fuel { 1 ≤ options.now.fuel }
+    requires number { IfSome options.now.generate (λ n. n ≤ most_generated) }
+    requires one { HasOneMode options.now }
+    ensures reply { IsReplyUnder options.now (S.left source.old) (S.left source.new) (Rose (S.faults source.old) (S.faults source.new)) result }
+    ensures most { TakesUpTo (S.left source.old) (S.left source.new) (limit + 1) }
+    ensures no_fault { result ≢ Reply.ReadFault → S.faults source.new ≡ S.faults source.old }
+    ensures unread { IsSome options.now.generate → (source.new ≡ source.old) × IsReplyUnread result }
+{
+    if options.check {
+        return check_reply(alloc, source);
+    }
+    match &options.call {
+        Some(name) => call_reply(alloc, source, name.as_str(), options.fuel),
+        None => reply_uncalled(alloc, source, options),
     }
 }

@@ -1,6 +1,6 @@
 //! The top call.
 
-ghost use Rattle.std.specs.Prelude.{◌≡◌, ◌≢◌, ◌≤◌, ◌+◌, IfSome, IsSome, None, Some, true, map, option_map, string_bytes};
+ghost use Rattle.std.specs.Prelude.{◌≡◌, ◌≢◌, ◌≤◌, ◌+◌, ℕ, List, IfSome, IsSome, None, Some, map, option_map, string_bytes};
 ghost use Rattle.std.specs.Io.KnownBytes.{Appends, Keeps};
 ghost use Rattle.fact_io.specs.Faults.{Rose};
 ghost use Rattle.fact_io.specs.Transfers.{AppendsFront, TakesPast, TakesUpTo};
@@ -10,13 +10,15 @@ ghost use Rattle.fact_generate.specs.Generated.{most_generated};
 ghost use Rattle.fact_plan_types.specs.declared.error.Place.{Place};
 ghost use Rattle.fact_plan_types.specs.Faults.{Fault};
 ghost use Rattle.fact_command.specs.declared.command.CommandOptions.{CommandOptions};
-ghost use Rattle.fact_command.specs.Command.{reading};
+ghost use Rattle.fact_command.specs.Command.{HasOneMode, reading};
 ghost use Rattle.fact_command.specs.Refusal.{refusal_line};
 ghost use Rattle.fact_run.specs.Answer.{IsEndUnder, IsEnding, ending_with, line_in};
 ghost use Rattle.fact_wasm.specs.declared.module.WasmModule.{WasmModule};
 ghost use Rattle.fact_check.specs.declared.error.CheckError.{CheckError};
 ghost use Rattle.fact_run.specs.Check.{HoldsAccepted, HoldsNoHex, HoldsRejected, rejected_line};
-ghost use Rattle.fact_run.specs.Run.{ChecksBytes, GeneratesPlan, HoldsFault, HoldsFaultless, HoldsNoJson, HoldsRefusal, IsEndUnread, IsOrMemory, IsTooLong, IsUndisturbed, IsUndisturbedCheck, Read, ReadsPlan, Sends, TellsLine, limit};
+ghost use Rattle.fact_value_json.specs.Lines.{bad_value_line};
+ghost use Rattle.fact_calls.specs.Calls.{HasBadValue, HasCall, HasInput, IsNotCallable, IsOverLimit};
+ghost use Rattle.fact_run.specs.Run.{AsksCall, ChecksBytes, EndsAsCall, GeneratesPlan, HoldsFault, HoldsFaultBy, HoldsFaultless, HoldsNoJson, HoldsRefusal, HoldsRefusalBy, IsEndUnread, IsJsonMode, IsOrMemory, IsTooLong, IsUndisturbed, IsUndisturbedCall, IsUndisturbedCheck, Read, ReadsJson, Sends, TellsLine, limit};
 ghost use Rattle.fact_command.specs.Status.{line_of};
 
 use crate::answer::Reply;
@@ -40,6 +42,9 @@ fn ending_with(reply: Reply) -> Ending
         Reply::Refused(line) => Ending::telling(Status::Refused, line),
         Reply::NotHex => Ending::of(Status::NotHex),
         Reply::Rejected(line) => Ending::telling(Status::Rejected, line),
+        Reply::NotCallable => Ending::of(Status::NotCallable),
+        Reply::BadValue(line) => Ending::telling(Status::BadValue, line),
+        Reply::OverLimit => Ending::of(Status::OverLimit),
         Reply::OutOfMemory => Ending::of(Status::OutOfMemory),
     }
 }
@@ -47,18 +52,18 @@ fn ending_with(reply: Reply) -> Ending
 /// Writes the text that a run with these options comes to.
 fn end<S: Source, K: Sink>(
     alloc: Global,
-    options: CommandOptions,
+    options: &CommandOptions,
     source: &mut S,
     out: &mut K,
 ) -> Ending
-    requires fuel { 1 ≤ options.fuel }
-    requires number { IfSome options.generate (λ n. n ≤ most_generated) }
-    requires one { options.check ≡ true → options.generate ≡ None }
-    ensures end { IsEndUnder options (S.left source.old) (S.left source.new) (Rose (S.faults source.old) (S.faults source.new))
+    requires fuel { 1 ≤ options.now.fuel }
+    requires number { IfSome options.now.generate (λ n. n ≤ most_generated) }
+    requires one { HasOneMode options.now }
+    ensures end { IsEndUnder options.now (S.left source.old) (S.left source.new) (Rose (S.faults source.old) (S.faults source.new))
         (K.written out.old) (K.written out.new) (Rose (K.faults out.old) (K.faults out.new)) result.status (line_in result.status (option_map string_bytes result.told)) }
     ensures most { TakesUpTo (S.left source.old) (S.left source.new) (limit + 1) }
     ensures taken { result.status ≢ Status.Usage }
-    ensures unread { IsSome options.generate → (source.new ≡ source.old) × IsEndUnread result.status }
+    ensures unread { IsSome options.now.generate → (source.new ≡ source.old) × IsEndUnread result.status }
     ensures no_read_fault { result.status ≢ Status.ReadFault → S.faults source.new ≡ S.faults source.old }
     ensures no_write_fault { result.status ≢ Status.WriteFault → K.faults out.new ≡ K.faults out.old }
 {
@@ -87,7 +92,11 @@ fn ending_of<S: Source, K: Sink>(
     ensures no_write_fault { result.status ≢ Status.WriteFault → K.faults out.new ≡ K.faults out.old }
 {
     match command_of(alloc, words) {
-        Ok(Some(options)) => end(alloc, options, source, out),
+        Ok(Some(options)) => {
+            let ending = end(alloc, &options, source, out);
+            drop(options);
+            ending
+        }
         Ok(None) => Ending::of(Status::Usage),
         Err(_) => Ending::of(Status::OutOfMemory),
     }
@@ -100,7 +109,11 @@ fn ending_of<S: Source, K: Sink>(
 /// reads nothing: the plan is the one that is generated for N adapters, and four lines are written, `adapters A`, `functions F`,
 /// `imports I` and `bytes B`, F counting the functions that its module defines. `--check` reads hex digits and at most one newline
 /// behind them in place of a plan, checks that their bytes spell an adapter module, and writes `ok F`, F counting the functions that
-/// it defines. Want of memory may be answered at any point.
+/// it defines. `--call NAME` reads an object of a plan, of arguments and of results (`plan`, `args`, `results`) in place of a plan: the plan is fused
+/// without debug checks, and its sync adapter between two instances that has this name is called on a host with the arguments and a callee that
+/// answers the results; three lines are written, `params J`, `results J` and `calls N`: the values that the callee was given, those that the caller got,
+/// as JSON lists, and how many calls of the outside the adapter's run made. At most one of these three is asked for. Want of memory may be answered at
+/// any point.
 pub fn run<S: Source, K: Sink, E: Sink>(
     alloc: Global,
     words: &[String],
@@ -108,18 +121,22 @@ pub fn run<S: Source, K: Sink, E: Sink>(
     out: &mut K,
     err: &mut E,
 ) -> Status
-    // Why each end comes, and in which mode: where a plan is read, where bytes are checked, or in any.
+    // Why each end comes, and in which mode: where a plan is read, where bytes are checked, where an adapter is called, or in several.
     ensures usage { result ≡ Status.Usage → reading (map string_bytes words.now) ≡ None }
     ensures read_fault { result ≡ Status.ReadFault → Rose (S.faults source.old) (S.faults source.new) }
     ensures too_long { result ≡ Status.TooLong → TakesPast (S.left source.old) (S.left source.new) limit }
-    ensures not_json { result ≡ Status.NotJson → ReadsPlan (map string_bytes words.now) × Read (S.left source.old) (S.left source.new) HoldsNoJson }
-    ensures bad_plan { result ≡ Status.BadPlan → ReadsPlan (map string_bytes words.now) × Read (S.left source.old) (S.left source.new) (λ bytes. (f : PlanFault)
-        × HoldsFault bytes f × TellsLine (E.written err.old) (E.written err.new) (E.faults err.old) (E.faults err.new) (fault_line f)) }
-    ensures refused { result ≡ Status.Refused → ReadsPlan (map string_bytes words.now) × Read (S.left source.old) (S.left source.new) (λ bytes. (f : Fault) × (place : Place)
-        × HoldsRefusal bytes f place × TellsLine (E.written err.old) (E.written err.new) (E.faults err.old) (E.faults err.new) (refusal_line f place)) }
+    ensures not_json { result ≡ Status.NotJson → ReadsJson (map string_bytes words.now) × Read (S.left source.old) (S.left source.new) HoldsNoJson }
+    ensures bad_plan { result ≡ Status.BadPlan → (o : CommandOptions) × (reading (map string_bytes words.now) ≡ Some o) × IsJsonMode o × Read (S.left source.old) (S.left source.new) (λ bytes. (f : PlanFault)
+        × HoldsFaultBy o.call bytes f × TellsLine (E.written err.old) (E.written err.new) (E.faults err.old) (E.faults err.new) (fault_line f)) }
+    ensures refused { result ≡ Status.Refused → (o : CommandOptions) × (reading (map string_bytes words.now) ≡ Some o) × IsJsonMode o × Read (S.left source.old) (S.left source.new) (λ bytes. (f : Fault) × (place : Place)
+        × HoldsRefusalBy o.call bytes f place × TellsLine (E.written err.old) (E.written err.new) (E.faults err.old) (E.faults err.new) (refusal_line f place)) }
     ensures not_hex { result ≡ Status.NotHex → ChecksBytes (map string_bytes words.now) × Read (S.left source.old) (S.left source.new) HoldsNoHex }
     ensures rejected { result ≡ Status.Rejected → ChecksBytes (map string_bytes words.now) × Read (S.left source.old) (S.left source.new) (λ input. (e : CheckError)
         × HoldsRejected input e × TellsLine (E.written err.old) (E.written err.new) (E.faults err.old) (E.faults err.new) (rejected_line e)) }
+    ensures not_callable { result ≡ Status.NotCallable → (name : List ℕ) × AsksCall (map string_bytes words.now) name × Read (S.left source.old) (S.left source.new) (λ bytes. HasInput bytes (IsNotCallable name)) }
+    ensures bad_value { result ≡ Status.BadValue → (name : List ℕ) × AsksCall (map string_bytes words.now) name × Read (S.left source.old) (S.left source.new) (λ bytes. (f : PlanFault)
+        × HasInput bytes (λ i. HasBadValue name i f) × TellsLine (E.written err.old) (E.written err.new) (E.faults err.old) (E.faults err.new) (bad_value_line f)) }
+    ensures over_limit { result ≡ Status.OverLimit → (name : List ℕ) × AsksCall (map string_bytes words.now) name × Read (S.left source.old) (S.left source.new) (λ bytes. HasInput bytes (IsOverLimit name)) }
     ensures write_fault { result ≡ Status.WriteFault → Rose (K.faults out.old) (K.faults out.new) }
     ensures done { result ≡ Status.Done → (o : CommandOptions) × (reading (map string_bytes words.now) ≡ Some o)
         × Sends o (S.left source.old) (S.left source.new) (λ text. Appends (K.written out.old) (K.written out.new) text) }
@@ -154,13 +171,18 @@ pub fn run<S: Source, K: Sink, E: Sink>(
     ensures complete_check { IsUndisturbedCheck (map string_bytes words.now) (S.faults source.old) (S.faults source.new)
         → (Rose (K.faults out.old) (K.faults out.new) → ⊥)
         → IfSome (S.left source.old) (λ input. ((m : WasmModule) × HoldsAccepted input m) → IsOrMemory Status.Done result) }
+    ensures exactly_call { (name : List ℕ) → IsUndisturbedCall (map string_bytes words.now) name (S.faults source.old) (S.faults source.new)
+        → IfSome (S.left source.old) (λ bytes. EndsAsCall name bytes result) }
+    ensures complete_call { (name : List ℕ) → IsUndisturbedCall (map string_bytes words.now) name (S.faults source.old) (S.faults source.new)
+        → (Rose (K.faults out.old) (K.faults out.new) → ⊥)
+        → IfSome (S.left source.old) (λ bytes. HasInput bytes (HasCall name) → IsOrMemory Status.Done result) }
     ensures complete_generated { GeneratesPlan (map string_bytes words.now) → (Rose (K.faults out.old) (K.faults out.new) → ⊥) → IsOrMemory Status.Done result }
 
     // What was written.
     ensures part { result ≡ Status.WriteFault → (o : CommandOptions) × (reading (map string_bytes words.now) ≡ Some o)
         × Sends o (S.left source.old) (S.left source.new) (λ text. AppendsFront (K.written out.old) (K.written out.new) text) }
     ensures kept { result ≢ Status.Done → result ≢ Status.WriteFault → Keeps (K.written out.old) (K.written out.new) }
-    ensures told { result ≢ Status.BadPlan → result ≢ Status.Refused → result ≢ Status.Rejected
+    ensures told { result ≢ Status.BadPlan → result ≢ Status.Refused → result ≢ Status.Rejected → result ≢ Status.BadValue
         → TellsLine (E.written err.old) (E.written err.new) (E.faults err.old) (E.faults err.new) (line_of result) }
 {
     accepted_bytes_have_no_cause();

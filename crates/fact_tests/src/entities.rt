@@ -39,12 +39,12 @@ fn puts_two(table: &mut PrimaryMap<TypeRecordIndex, u64>) -> Result<bool, PushEr
     let second = table.push(50)?;
     let next = table.next_key();
     Ok(
-        first.as_u32() == 0
-            && second.as_u32() == 1
-            && next.as_u32() == 2
-            && table[first] == 40
-            && table.get(second) == Some(&50)
-            && table.get(next).is_none(),
+        (first.as_u32() == 0)
+            & (second.as_u32() == 1)
+            & (next.as_u32() == 2)
+            & (table[first] == 40)
+            & (table.get(second) == Some(&50))
+            & table.get(next).is_none(),
     )
 }
 

@@ -26,8 +26,8 @@ fn are_copied() -> bool {
     matches!(
         twice(ComponentItem::AnyType(id)).1,
         ComponentItem::AnyType(_)
-    ) && matches!(twice(global).1, EntityType::Global { mutable: true, .. })
-        && matches!(
+    ) & matches!(twice(global).1, EntityType::Global { mutable: true, .. })
+        & matches!(
             twice(TypeDef::Interface(InterfaceType::Char)).1,
             TypeDef::Interface(InterfaceType::Char)
         )
@@ -46,13 +46,6 @@ fn is_same(first: &ComponentExternData, second: &ComponentExternData) -> bool {
     first.implements == second.implements && first.external_id == second.external_id
 }
 
-/// Whether what is said beside a type is copied.
-fn is_data_copied(alloc: Global) -> Result<bool, AllocError> {
-    let first = data(alloc)?;
-    let copy = first.try_clone()?;
-    Ok(is_same(&copy, &first))
-}
-
 /// An import or export of a type of characters.
 fn character(alloc: Global) -> Result<ComponentExtern, AllocError> {
     Ok(ComponentExtern {
@@ -67,22 +60,34 @@ fn is_copy(copy: &ComponentExtern, first: &ComponentExtern) -> bool {
         && is_same(&copy.extern_data, &first.extern_data)
 }
 
-/// Whether an import or export is copied.
-fn is_extern_copied(alloc: Global) -> Result<bool, AllocError> {
-    let first = character(alloc)?;
-    let copy = first.try_clone()?;
-    Ok(is_copy(&copy, &first))
+/// Whether an import or export is copied, with what is said beside its type.
+fn is_copied(first: &ComponentExtern) -> bool {
+    match first.try_clone() {
+        Ok(copy) => is_copy(&copy, first),
+        Err(_) => false,
+    }
 }
 
 /// Whether the words for what is exported are those of a user.
 fn are_described() -> bool {
-    (TypeDef::Component(EntityRef::from_u32(0)).desc() == "component")
-        & (TypeDef::ComponentInstance(EntityRef::from_u32(0)).desc() == "instance")
-        & (TypeDef::ComponentFunc(EntityRef::from_u32(0)).desc() == "function")
-        & (TypeDef::Interface(InterfaceType::U8).desc() == "type")
-        & (TypeDef::Module(EntityRef::from_u32(0)).desc() == "core module")
-        & (TypeDef::CoreFunc(EntityRef::from_u32(0)).desc() == "core function")
-        & (TypeDef::Resource(EntityRef::from_u32(0)).desc() == "resource")
+    let kinds = [
+        (TypeDef::Component(EntityRef::from_u32(0)), "component"),
+        (
+            TypeDef::ComponentInstance(EntityRef::from_u32(0)),
+            "instance",
+        ),
+        (TypeDef::ComponentFunc(EntityRef::from_u32(0)), "function"),
+        (TypeDef::Interface(InterfaceType::U8), "type"),
+        (TypeDef::Module(EntityRef::from_u32(0)), "core module"),
+        (TypeDef::CoreFunc(EntityRef::from_u32(0)), "core function"),
+        (TypeDef::Resource(EntityRef::from_u32(0)), "resource"),
+    ];
+    for (kind, words) in &kinds {
+        if kind.desc() != *words {
+            return false;
+        }
+    }
+    true
 }
 
 /// Whether a concrete table of handles has parts, and an abstract one has none.
@@ -99,7 +104,9 @@ fn have_parts() -> bool {
 
 /// Whether imports and exports are copied, and what they are is told.
 pub fn imports_and_exports_are_told(alloc: Global) -> bool {
-    let data = matches!(is_data_copied(alloc), Ok(true));
-    let whole = matches!(is_extern_copied(alloc), Ok(true));
-    data & whole & are_copied() & are_described() & have_parts()
+    let whole = match character(alloc) {
+        Ok(first) => is_copied(&first),
+        Err(_) => false,
+    };
+    whole & are_copied() & are_described() & have_parts()
 }

@@ -3,24 +3,32 @@
 use fact_wasm::{CoreTypes, Seq, Text, ValType};
 use std::alloc::{AllocError, Global};
 
-/// Whether a list holds what is pushed, and is equal to a list of the same items and to its copy.
-fn holds_two(alloc: Global) -> Result<bool, AllocError> {
-    let mut list = Seq::new(alloc);
-    list.push(7u32)?;
-    list.push(9u32)?;
-    let other = Seq::from_vec(vec![in alloc; 7u32, 9u32]?);
-    let copy = list.clone()?;
-    let items = [7, 9];
-    Ok(
-        (list == other)
-            & (list.as_slice() == items.as_slice())
-            & (copy.as_slice() == items.as_slice()),
-    )
+/// Pushes two items.
+fn push_two(list: &mut Seq<u32>) -> Result<(), AllocError> {
+    list.push(7)?;
+    list.push(9)
 }
 
-/// Whether lists hold what is pushed.
+/// Whether a list of two items is equal to a list of the same items.
+fn is_equal(alloc: Global, list: &Seq<u32>) -> bool {
+    let items = [7, 9];
+    match Vec::from_slice(alloc, &items) {
+        Ok(other) => (*list == Seq::from_vec(other)) & (list.as_slice() == items.as_slice()),
+        Err(_) => false,
+    }
+}
+
+/// Whether a list of two items has a copy of the same items.
+fn has_copy(list: &Seq<u32>) -> bool {
+    let copy: Result<Seq<u32>, _> = list.clone();
+    matches!(copy, Ok(copy) if copy.as_slice() == [7, 9].as_slice())
+}
+
+/// Whether a list holds what is pushed, and is equal to a list of the same items and to its copy.
 pub fn lists_hold_what_is_pushed(alloc: Global) -> bool {
-    matches!(holds_two(alloc), Ok(true))
+    let mut list = Seq::new(alloc);
+    let pushed = push_two(&mut list);
+    pushed.is_ok() & is_equal(alloc, &list) & has_copy(&list)
 }
 
 /// Whether a text is equal to its copy, and both copies have its characters.

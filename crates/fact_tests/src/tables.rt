@@ -11,20 +11,22 @@ use std::alloc::Global;
 
 /// Whether an index is the first of its table, and the table has no second entry.
 fn is_only<T: Lookup<I>, I: EntityRef>(table: &T, index: I) -> bool {
-    index.as_u32() == 0 && table.get(index).is_some() && table.get(I::from_u32(1)).is_none()
+    (index.as_u32() == 0) & table.get(index).is_some() & table.get(I::from_u32(1)).is_none()
 }
 
 /// Whether a type of core modules stands where it is put.
 fn puts_module(alloc: Global, types: &mut ComponentTypes) -> Result<bool, PushError> {
     let index = types.push_module(TypeModule::new(alloc))?;
-    let is_empty = types[index].imports.is_empty() & types[index].exports.is_empty();
+    let module = &types[index];
+    let is_empty = module.imports.is_empty() & module.exports.is_empty();
     Ok(is_empty & is_only(types, index))
 }
 
 /// Whether a type of components stands where it is put.
 fn puts_component(alloc: Global, types: &mut ComponentTypes) -> Result<bool, PushError> {
     let index = types.push_component(TypeComponent::new(alloc))?;
-    let is_empty = types[index].imports.is_empty() & types[index].exports.is_empty();
+    let component = &types[index];
+    let is_empty = component.imports.is_empty() & component.exports.is_empty();
     Ok(is_empty & is_only(types, index))
 }
 
@@ -61,10 +63,10 @@ fn is_interned(
 /// Whether a type of one i32 is interned, the same once more under its index, and one of nothing behind it.
 fn are_interned(alloc: Global, builder: &mut ModuleTypesBuilder) -> bool {
     is_interned(alloc, builder, &[ValType::I32], 0)
-        && is_interned(alloc, builder, &[ValType::I32], 0)
-        && is_interned(alloc, builder, &[], 1)
-        && builder.len() == 2
-        && builder.get(EntityRef::from_u32(2)).is_none()
+        & is_interned(alloc, builder, &[ValType::I32], 0)
+        & is_interned(alloc, builder, &[], 1)
+        & (builder.len() == 2)
+        & builder.get(EntityRef::from_u32(2)).is_none()
 }
 
 /// Whether module types are one of a parameter and one of none.

@@ -7,6 +7,7 @@ pub mod PrintWalkLaws
 pub mod ReadLaws
 pub mod RoundLaws
 pub mod StepLaws
+pub mod TextLaws
 pub mod TypeLaws
 pub mod ValuesLaws
 pub mod WalkLaws

@@ -1,6 +1,8 @@
 -- Laws of values in JSON: what is printed is read as what it was printed of.
 use Rattle.std.specs.Prelude.{◌≡◌, ℕ, List, Ok, IsUtf8}
 use Rattle.serde_json.specs.Data.{Data, null, boolean, number, string, array, object, Items, no_items, item, Members, no_members, member}
+use Rattle.serde_json.specs.View.{view}
+use Rattle.serde_json.specs.declared.value.Value.{Value as json_value}
 use Rattle.fact_types.specs.Shapes.{Shape}
 use Rattle.fact_types.specs.Tuples.{tuple_members}
 use Rattle.fact_types.specs.Valid.{IsRuled, AreRuled}
@@ -27,6 +29,10 @@ abbrev mutual
   pub MembersHaveTexts : Members → Type 0
   MembersHaveTexts no_members = Unit {0}
   MembersHaveTexts (member k d ms) = HasTexts d × MembersHaveTexts ms
+
+-- So are those of each value of the library, whose strings are UTF-8.
+abbrev pub ValuesHaveTexts : Type 0
+ValuesHaveTexts = (v : json_value) → HasTexts (view v)
 
 -- What is read by a type is a value of the type, and what is read by several types, at each path.
 abbrev pub ValuesReadAreOfTypes : Type 0

@@ -21,9 +21,10 @@ fn agrees(
     requires to_live { IsLive agreement.old to.now }
 {
     let answer = agreement.agrees(from, to)?;
-    let is_same = agreement.agrees(from, to)? == answer
-        && agreement.agree_all(&[*from], &[*to])? == answer
-        && !agreement.agree_all(&[*from], &[])?;
+    let again = agreement.agrees(from, to)?;
+    let one = agreement.agree_all(&[*from], &[*to])?;
+    let unpaired = agreement.agree_all(&[*from], &[])?;
+    let is_same = (again == answer) & (one == answer) & !unpaired;
     Ok(is_same.then_some(answer))
 }
 

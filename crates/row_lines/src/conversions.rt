@@ -312,26 +312,17 @@ fn add_lines(
     Ok(())
 }
 
-/// A builder in which an instance is set.
-fn converter_in(alloc: Global, instance: u32) -> ConvertingBuilder
-    ensures source { result.builder.source ≡ 7 }
-    ensures none_kept { result.resources.tables ≡ [] }
-{
-    let mut converter = ConvertingBuilder::new(alloc, SOURCE);
-    let resources = converter.resources_mut();
-    resources.set_current_instance(RuntimeComponentInstanceIndex::from_u32(instance));
-    converter
-}
-
 /// A builder in which the instance of a word is set, or none.
 fn converter_of(alloc: Global, word: &str) -> ConvertingBuilder
     ensures source { result.builder.source ≡ 7 }
     ensures none_kept { result.resources.tables ≡ [] }
 {
-    match word.parse::<u32>() {
-        Ok(instance) => converter_in(alloc, instance),
-        Err(_) => ConvertingBuilder::new(alloc, SOURCE),
+    let mut converter = ConvertingBuilder::new(alloc, SOURCE);
+    if let Ok(instance) = word.parse::<u32>() {
+        let resources = converter.resources_mut();
+        resources.set_current_instance(RuntimeComponentInstanceIndex::from_u32(instance));
     }
+    converter
 }
 
 /// Adds the answers to lines, where the entries make a source.

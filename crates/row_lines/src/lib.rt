@@ -4,12 +4,12 @@
 
 mod agreed;
 mod asking;
-mod checked;
 mod conversions;
 mod core_items;
 mod defined;
 mod finished;
 mod funcs;
+mod json_values;
 mod layouts;
 mod listed;
 mod live;
@@ -29,7 +29,6 @@ mod values;
 mod walked;
 mod words;
 
-pub use checked::add_checked;
 pub use conversions::add_lines_of_source;
 pub use made::{end_plan, made_of, plan_in};
 pub use modules::{add_of_module, end_module, is_spelled, module_of_bytes};

@@ -28,7 +28,7 @@ fn add_part(alloc: Global, bytes: &mut Vec<u8>, part: &str) -> Result<bool, Allo
 }
 
 /// The bytes of a line, where each of its parts is one.
-pub fn bytes_of(alloc: Global, parts: &str) -> Result<Option<Vec<u8>>, AllocError> {
+fn bytes_of(alloc: Global, parts: &str) -> Result<Option<Vec<u8>>, AllocError> {
     let mut bytes = Vec::new(alloc);
     for part in parts.split_whitespace() {
         if !add_part(alloc, &mut bytes, part)? {

@@ -4,14 +4,7 @@
 
 use fact_values::{HandleKind, Value};
 use fact_wasm::{Seq, Text};
-use std::alloc::{AllocError, Global};
-
-/// What is still to be told: a value, or a text as it is. In a list of them the last piece comes first.
-#[derive(Clone, Copy)]
-enum Piece<'a> {
-    Value(&'a Value),
-    Text(&'a str),
-}
+use std::alloc::AllocError;
 
 fn add_text(page: &mut String, chars: &Seq<char>) -> Result<(), AllocError> {
     page.push('"')?;
@@ -54,50 +47,44 @@ fn add_handle(
     write!(page, "{kind}:{table}:{number}")
 }
 
-/// Puts values between these two on top, with spaces between them.
-fn put_values<'a>(
-    pieces: &mut Vec<Piece<'a>>,
-    before: &'a str,
-    values: &'a [Value],
-    after: &'a str,
+/// Adds values between these two, with spaces between them.
+#[cycle(values)]
+fn add_values(
+    page: &mut String,
+    before: &str,
+    values: &[Value],
+    after: &str,
 ) -> Result<(), AllocError> {
-    pieces.push(Piece::Text(after))?;
-    for (place, value) in values.iter().rev().enumerate() {
-        pieces.push(Piece::Text(if place == 0 { "" } else { " " }))?;
-        pieces.push(Piece::Value(value))?;
+    page.push_str(before)?;
+    for (place, value) in values.iter().enumerate() {
+        add_space(page, place == 0)?;
+        add_value(page, value)?;
     }
-    pieces.push(Piece::Text(before))?;
-    Ok(())
+    page.push_str(after)
 }
 
-fn put_entries<'a>(
-    pieces: &mut Vec<Piece<'a>>,
-    entries: &'a [(Value, Value)],
-) -> Result<(), AllocError> {
-    pieces.push(Piece::Text(">"))?;
-    for (place, (key, value)) in entries.iter().rev().enumerate() {
-        pieces.push(Piece::Text(if place == 0 { "" } else { " " }))?;
-        pieces.push(Piece::Value(value))?;
-        pieces.push(Piece::Text(":"))?;
-        pieces.push(Piece::Value(key))?;
+#[cycle(values)]
+fn add_entries(page: &mut String, entries: &[(Value, Value)]) -> Result<(), AllocError> {
+    page.push('<')?;
+    for (place, (key, value)) in entries.iter().enumerate() {
+        add_space(page, place == 0)?;
+        add_value(page, key)?;
+        page.push(':')?;
+        add_value(page, value)?;
     }
-    pieces.push(Piece::Text("<"))?;
-    Ok(())
+    page.push('>')
 }
 
-fn put_fields<'a>(
-    pieces: &mut Vec<Piece<'a>>,
-    fields: &'a [(Text, Value)],
-) -> Result<(), AllocError> {
-    pieces.push(Piece::Text("}"))?;
-    for (place, (name, value)) in fields.iter().rev().enumerate() {
-        pieces.push(Piece::Text(if place == 0 { "" } else { " " }))?;
-        pieces.push(Piece::Value(value))?;
-        pieces.push(Piece::Text("="))?;
-        pieces.push(Piece::Text(name.as_str()))?;
+#[cycle(values)]
+fn add_fields(page: &mut String, fields: &[(Text, Value)]) -> Result<(), AllocError> {
+    page.push('{')?;
+    for (place, (name, value)) in fields.iter().enumerate() {
+        add_space(page, place == 0)?;
+        page.push_str(name.as_str())?;
+        page.push('=')?;
+        add_value(page, value)?;
     }
-    pieces.push(Piece::Text("{"))?;
-    Ok(())
+    page.push('}')
 }
 
 /// Adds a value without parts.
@@ -119,35 +106,18 @@ fn add_plain(page: &mut String, value: &Value) -> Result<(), AllocError> {
     }
 }
 
-/// Adds a value, or puts its parts on top.
-fn add_or_put<'a>(
-    page: &mut String,
-    pieces: &mut Vec<Piece<'a>>,
-    value: &'a Value,
-) -> Result<(), AllocError> {
+/// Adds a value.
+#[cycle(values)]
+pub fn add_value(page: &mut String, value: &Value) -> Result<(), AllocError> {
     match value {
-        Value::List(values) => put_values(pieces, "[", values.as_slice(), "]"),
-        Value::Tuple(values) => put_values(pieces, "(", values.as_slice(), ")"),
-        Value::Map(entries) => put_entries(pieces, entries.as_slice()),
-        Value::Record(fields) => put_fields(pieces, fields.as_slice()),
+        Value::List(values) => add_values(page, "[", values.as_slice(), "]"),
+        Value::Tuple(values) => add_values(page, "(", values.as_slice(), ")"),
+        Value::Map(entries) => add_entries(page, entries.as_slice()),
+        Value::Record(fields) => add_fields(page, fields.as_slice()),
         Value::Case { name, payload } => {
             page.push_str(name.as_str())?;
-            put_values(pieces, "(", payload.as_slice(), ")")
+            add_values(page, "(", payload.as_slice(), ")")
         }
         _ => add_plain(page, value),
     }
-}
-
-/// Adds a value.
-pub fn add_value(page: &mut String, alloc: Global, value: &Value) -> Result<(), AllocError> {
-    let mut pieces = Vec::new(alloc);
-    pieces.push(Piece::Value(value))?;
-    for _ in 0..u64::MAX {
-        match pieces.pop() {
-            Some(Piece::Value(value)) => add_or_put(page, &mut pieces, value)?,
-            Some(Piece::Text(text)) => page.push_str(text)?,
-            None => return Ok(()),
-        }
-    }
-    Ok(())
 }

@@ -2,6 +2,7 @@
 
 use crate::agreed::{add_agree, add_agree_all};
 use crate::funcs::{add_core_type, add_flattened, add_one_func, add_signature, add_tables};
+use crate::json_values::{add_json, add_read};
 use crate::layouts::{add_laid, add_next};
 use crate::live::are_live;
 use crate::types::{add_inside, add_known, add_layout, add_place, types_of};
@@ -35,6 +36,8 @@ fn add_of_named(
         ("lift", [ty]) => add_lifted(page, alloc, builder, ty, rest),
         ("carry", [ty, from, to]) => add_carried(page, alloc, builder, ty, from, to, rest),
         ("flatten", types) => add_flattened(page, builder, types, rest),
+        ("read", types) => add_read(page, alloc, builder, types, rest),
+        ("json", types) => add_json(page, alloc, builder, types, rest),
         _ => page.push_str("no such question"),
     }
 }

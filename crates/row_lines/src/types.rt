@@ -5,7 +5,7 @@ ghost use Rattle.fact_types.specs.Tables.{IsLive};
 use crate::words::yes_or_no;
 use fact_builder::ComponentTypesBuilder;
 use fact_types::{
-    CanonicalAbiInfo, FlatType, FlatTypes, InterfaceType, Lookup, TypeMap, VariantInfo,
+    CanonicalAbiInfo, FieldPlace, FlatType, FlatTypes, InterfaceType, Lookup, TypeMap, VariantInfo,
 };
 use fact_wasm::{Text, ValType};
 use std::alloc::{AllocError, Global};
@@ -174,7 +174,13 @@ pub fn add_inside(
     }
 }
 
-/// Adds the place of a field of a record among the core values and in both kinds of memories, and how many fields there are.
+/// Adds the place of a field among the core values and in both kinds of memories, and how many fields there are.
+fn add_field(page: &mut String, place: FieldPlace, count: usize) -> Result<(), AllocError> {
+    let (flat_place, place32, place64) = (place.flat_place, place.place32, place.place64);
+    write!(page, "{flat_place:?} {place32} {place64} of {count}")
+}
+
+/// Adds where a field of a record stands.
 pub fn add_place(
     page: &mut String,
     alloc: Global,
@@ -190,15 +196,10 @@ pub fn add_place(
         return page.push_str("no record");
     }
     let name = Text::from_str(alloc, name)?;
-    match types.find_field(record, &name) {
-        Some(field) => write!(
-            page,
-            "{:?} {} {} of {}",
-            field.flat_place,
-            field.place32,
-            field.place64,
-            builder[record].fields.len()
-        ),
+    let place = types.find_field(record, &name);
+    drop(name);
+    match place {
+        Some(place) => add_field(page, place, builder[record].fields.len()),
         None => page.push_str("none"),
     }
 }

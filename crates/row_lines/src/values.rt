@@ -18,7 +18,7 @@ fn add_copied(page: &mut String, alloc: Global, value: Option<Value>) -> Result<
     let copy = value.try_clone();
     drop(value);
     let copy = copy?;
-    let added = add_value(page, alloc, &copy);
+    let added = add_value(page, &copy);
     drop(copy);
     added
 }

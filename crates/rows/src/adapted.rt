@@ -66,16 +66,63 @@ fn put(
     }
 }
 
-/// What a module says to an adapter of a component. Its many facts are not asked for here.
-fn answer_of(
-    made: &mut Module<'_>,
-    name: &str,
-    component: &ComponentDfg,
-    id: AdapterId,
-) -> Result<(), FuseError>
-    requires { id.number < length component.now.adapters }
+/// Adds the adapter of a callee and of numbers to a component, and answers its id.
+fn put_words(
+    alloc: Global,
+    component: &mut ComponentDfg,
+    words: &str,
+) -> Result<AdapterId, AllocError>
+    ensures { IfOk result (λ id. id.number < length component.new.adapters) }
 {
-    made.adapt(name, component, id)
+    let adapter = adapter_of(alloc, words)?;
+    put(component, adapter, words.ends_with("marked"))
+}
+
+/// What takes adapters. What a module promises of its calls is not asked for here.
+trait Taker {
+    /// Takes an adapter of a component, or says why it is refused.
+    fn take(&mut self, name: &str, component: &ComponentDfg, id: AdapterId) -> Result<(), FuseError>
+        requires { id.number < length component.now.adapters };
+
+    /// The bytes so far.
+    fn bytes(&mut self) -> Result<Vec<u8>, AllocError>;
+
+    /// Whether what is built has these bytes.
+    fn is_built(&mut self, alloc: Global, bytes: &[u8]) -> Result<bool, AllocError>;
+
+    /// The imports so far.
+    fn told_imports(&self) -> &[Import];
+}
+
+impl Taker for Module<'_> {
+    fn take(
+        &mut self,
+        name: &str,
+        component: &ComponentDfg,
+        id: AdapterId,
+    ) -> Result<(), FuseError> {
+        self.adapt(name, component, id)
+    }
+
+    fn bytes(&mut self) -> Result<Vec<u8>, AllocError> {
+        match self.encode() {
+            Ok(bytes) => Ok(bytes),
+            Err(_) => Err(AllocError),
+        }
+    }
+
+    fn is_built(&mut self, alloc: Global, bytes: &[u8]) -> Result<bool, AllocError> {
+        let Ok(module) = self.build() else {
+            return Err(AllocError);
+        };
+        let is = is_spelled(alloc, &module, bytes);
+        end_module(Some(module));
+        is
+    }
+
+    fn told_imports(&self) -> &[Import] {
+        self.imports()
+    }
 }
 
 /// Adds what a module says.
@@ -85,20 +132,6 @@ fn add_answer(page: &mut String, answer: Result<(), FuseError>) -> Result<(), Al
         Err(FuseError::OutOfMemory) => Err(AllocError),
         Err(refusal) => write!(page, "{refusal}"),
     }
-}
-
-/// Adds an adapter to a component, and what the module says to it.
-fn add_adapter(
-    page: &mut String,
-    alloc: Global,
-    made: &mut Module<'_>,
-    component: &mut ComponentDfg,
-    step: &str,
-) -> Result<(), AllocError> {
-    let (name, words) = word_of(step);
-    let adapter = adapter_of(alloc, words)?;
-    let id = put(component, adapter, words.ends_with("marked"))?;
-    add_answer(page, answer_of(made, name, component, id))
 }
 
 /// Adds imports, each with its copy.
@@ -112,59 +145,46 @@ fn add_imports(page: &mut String, imports: &[Import]) -> Result<(), AllocError> 
     Ok(())
 }
 
-/// The bytes of a module.
-fn bytes_of(made: &mut Module<'_>) -> Result<Vec<u8>, AllocError> {
-    match made.encode() {
-        Ok(bytes) => Ok(bytes),
-        Err(_) => Err(AllocError),
-    }
-}
-
-/// Whether a module is built as these bytes say.
-fn is_built(alloc: Global, made: &mut Module<'_>, bytes: &[u8]) -> Result<bool, AllocError> {
-    let Ok(module) = made.build() else {
-        return Err(AllocError);
-    };
-    let is = is_spelled(alloc, &module, bytes);
-    end_module(Some(module));
-    is
-}
-
 /// Adds bytes in hex.
 fn add_hex(page: &mut String, alloc: Global, bytes: &[u8]) -> Result<(), AllocError> {
     let digits = hex::encode(alloc, bytes)?;
     page.push_str(digits.as_str())
 }
 
-/// Adds bytes, and whether a module is built as they say.
-fn add_bytes(
+/// Adds the bytes of a module, whether it is built as they say, and its imports.
+fn add_told(
     page: &mut String,
     alloc: Global,
-    made: &mut Module<'_>,
     bytes: &[u8],
+    is_built: bool,
+    imports: &[Import],
 ) -> Result<(), AllocError> {
     add_hex(page, alloc, bytes)?;
-    page.push_str(if is_built(alloc, made, bytes)? {
+    page.push_str(if is_built {
         " is built,"
     } else {
         " is not built,"
-    })
+    })?;
+    add_imports(page, imports)
 }
 
-/// Adds the bytes of a module, whether it is built as they say, and its imports.
-fn add_page(page: &mut String, alloc: Global, made: &mut Module<'_>) -> Result<(), AllocError> {
-    let bytes = bytes_of(made)?;
-    let added = add_bytes(page, alloc, made, bytes.as_slice());
+/// Adds the page of a module.
+fn add_page<T: Taker>(page: &mut String, alloc: Global, made: &mut T) -> Result<(), AllocError> {
+    let bytes = made.bytes()?;
+    let built = made.is_built(alloc, bytes.as_slice());
+    let added = match built {
+        Ok(is) => add_told(page, alloc, bytes.as_slice(), is, made.told_imports()),
+        Err(error) => Err(error),
+    };
     drop(bytes);
-    added?;
-    add_imports(page, made.imports())
+    added
 }
 
 /// Adds what comes of steps.
-fn add_steps(
+fn add_steps<T: Taker>(
     page: &mut String,
     alloc: Global,
-    made: &mut Module<'_>,
+    made: &mut T,
     component: &mut ComponentDfg,
     steps: &str,
 ) -> Result<(), AllocError> {
@@ -172,7 +192,9 @@ fn add_steps(
         if step == "page" {
             add_page(page, alloc, made)?;
         } else {
-            add_adapter(page, alloc, made, component, step)?;
+            let (name, words) = word_of(step);
+            let id = put_words(alloc, component, words)?;
+            add_answer(page, made.take(name, component, id))?;
         }
         page.push_str(" ; ")?;
     }

@@ -1,7 +1,9 @@
 //! Blocks of a table: of plans, of the bytes of modules, of types, of sources, and of tests of the libraries.
 
 use crate::adapted::add_adapted;
-use crate::command::{add_asked, add_bytes, add_end, add_imports, add_page, add_prefixes};
+use crate::command::{
+    add_asked, add_bytes, add_checked, add_end, add_imports, add_page, add_prefixes,
+};
 use crate::fueled::add_fueled;
 use crate::plans::{add_entries, add_fused, add_generates};
 use crate::printed::module_of_block;
@@ -10,8 +12,8 @@ use fact_plan_types::{FuseError, PlanTypes};
 use fact_tests::holds;
 use fact_wasm::WasmModule;
 use row_lines::{
-    add_checked, add_lines_of_source, add_of_module, add_of_types, add_run, begins_answer, edited,
-    end_module, made_of, word_of,
+    add_lines_of_source, add_of_module, add_of_types, add_run, begins_answer, edited, end_module,
+    made_of, word_of,
 };
 use std::alloc::{AllocError, Global};
 
@@ -83,7 +85,7 @@ impl Head for Result<PlanTypes, FuseError> {
 
 impl Head for OfTests {
     fn add_came(&self, page: &mut String, alloc: Global, line: &str) -> Result<(), AllocError> {
-        page.push_str(if holds(alloc, line) {
+        page.push_str(if holds(alloc, line) || host_tests::holds(alloc, line) {
             "as it should be"
         } else {
             "not as it should be"

@@ -84,13 +84,13 @@ fn words_of(alloc: Global, words: &str) -> Result<Vec<String>, AllocError> {
 }
 
 fn sink(alloc: Global, piece: usize, failing: u64) -> Result<BytesSink, AllocError> {
-    let failing = vec![in alloc; failing]?;
+    let failing = Vec::from_slice(alloc, &[failing])?;
     BytesSink::new(alloc, ROOM, piece.max(1), failing)
 }
 
 fn source(alloc: Global, given: &Given) -> Result<BytesSource, AllocError> {
     let input = Vec::from_slice(alloc, given.input)?;
-    let failing = vec![in alloc; given.failing_read]?;
+    let failing = Vec::from_slice(alloc, &[given.failing_read])?;
     Ok(BytesSource::new(input, given.piece.max(1), failing))
 }
 
@@ -173,6 +173,24 @@ pub fn add_bytes(page: &mut String, alloc: Global, line: &str) -> Result<(), All
         ..plain("")
     };
     add_seen(page, alloc, &given)
+}
+
+/// Parts without the spaces between them.
+fn joined(alloc: Global, parts: &str) -> Result<String, AllocError> {
+    let mut text = String::new(alloc);
+    for part in parts.split_whitespace() {
+        text.push_str(part)?;
+    }
+    Ok(text)
+}
+
+/// Adds what the command says with `--check` of the bytes of a line, behind the words that tell a reader what they are.
+pub fn add_checked(page: &mut String, alloc: Global, line: &str) -> Result<(), AllocError> {
+    let (_, parts) = first_of(line);
+    let digits = joined(alloc, parts)?;
+    let seen = run_on(alloc, &asked("", "|--check", digits.as_str()))?;
+    page.push_str(seen.printed().trim_end())?;
+    page.push_str(seen.told().trim_start_matches("rejected: ").trim_end())
 }
 
 /// Adds what the command prints for a plan.

@@ -3,9 +3,9 @@
 //!
 //! A line `block NAME HEAD` begins a block, whose lines below it speak of what its head is: a plan; the bytes of a module (`modules` of
 //! `row_lines`, as all that is named below and is not here); or, behind `types`, the types that a plan has or words make (`made`); or, behind
-//! `source`, types that are converted (`conversions`). Where it is `tests`, the lines are names of tests of the libraries (`fact_tests`). Each
-//! of them is answered by one line: the name, the number of the line in its block, and what came, or why the head makes no types. A line that
-//! begins with `#` is copied. Parts of a line are parted by ` | `.
+//! `source`, types that are converted (`conversions`). Where it is `tests`, the lines are names of tests of the libraries (`fact_tests`,
+//! `host_tests`). Each of them is answered by one line: the name, the number of the line in its block, and what came, or why the head makes
+//! no types. A line that begins with `#` is copied. Parts of a line are parted by ` | `.
 //!
 //! Of a plan:
 //!
@@ -20,7 +20,8 @@
 //!     generates N, entries N                      whether it is the plan of N adapters that is generated, and what that has: `plans`
 //!     fuel N ..                                   what the module is like that it prints with `--fuel N`, and runs of it: `fueled`
 //!     shows ..                                    what the module is like, where the table does not have all its bytes: `shown`
-//!     check WHAT | BYTES                          what the check of adapter modules says of these bytes: `checked`
+//!     check WHAT | BYTES                          what the command says of these bytes, in parts of hex, with `--check`: `ok` and how many
+//!                                                 functions the module defines, or the cause for which it is no adapter module
 //!
 //! Of a module by its bytes: `run`, `spells`, `call` and `tree`, as `modules` tells.
 //!
@@ -41,6 +42,8 @@
 //!     lift K | SIDE BYTES CORE..   the value that core values stand for
 //!     carry K K K | NUMBERS SIDE BYTES CORE..   what the value of a type becomes between a source type and a destination type
 //!     adapt STEP ; STEP ..         what a module over the types says to adapters, one after another: `adapted`
+//!     read K.. | JSON              the values that a JSON list has for these types, or its first fault: `json_values`
+//!     json K.. | JSON              the JSON that is printed of them
 //!     laid KIND MEMBER..           a layout made of layouts: `layouts`
 //!     next MEMBER OFFSET           where a field stands behind an offset, and where it ends
 #![tactic(auto)]

@@ -8,6 +8,8 @@
 //!     same WORDS          whether the same is printed with these words
 //!     generated N         its functions, and whether `--generate N` counts what it has
 
+ghost use Rattle.std.specs.Prelude.{◌≤◌, length};
+
 use crate::command::{asked, plain, run_on};
 use fact_wasm::{ImportType, WasmImport, WasmModule};
 use row_lines::{add_types, word_of};
@@ -61,15 +63,27 @@ fn add_sizes(page: &mut String, alloc: Global, plan: &str) -> Result<(), AllocEr
     write!(page, "{bytes} {imports}")
 }
 
+/// The place of a line before the first one that is greater.
+fn place_of(lines: &[&str], line: &str) -> usize
+    ensures { result ≤ length lines.now }
+{
+    for (place, other) in lines.iter().enumerate() {
+        if line < *other {
+            return place;
+        }
+    }
+    lines.len()
+}
+
 /// Adds the lines of the imports, the least one first.
 fn add_sorted(page: &mut String, alloc: Global, plan: &str) -> Result<(), AllocError> {
     let seen = run_on(alloc, &asked("", "|--imports", plan))?;
     let (_, text) = seen.printed().split_once("\n").unwrap_or(("", ""));
     let mut lines = Vec::new(alloc);
     for line in text.lines() {
-        lines.push(line)?;
+        let place = place_of(lines.as_slice(), line);
+        lines.insert(place, line)?;
     }
-    lines.sort_unstable();
     for line in lines.iter() {
         write!(page, "{line}$")?;
     }

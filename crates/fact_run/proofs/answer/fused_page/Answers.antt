@@ -7,5 +7,5 @@ pub returns-in-Ok : goal.returns-in-Ok
 returns-in-Ok c = λ p is.
     let f = c.in-Ok.fused in
     let made = subst (IsFused f) is c.in-Ok.ensures.fused in
-    printed-page c.args.options p f c.page_text-text.result made (λ m r s. c.bytes_spell_one_module.ensures f.bytes m f.«module» r made.in_range s made.spelled)
+    printed-page c.args.options.now p f c.page_text-text.result made (λ m r s. c.bytes_spell_one_module.ensures f.bytes m f.«module» r made.in_range s made.spelled)
     (rw (c.as_slice-bytes.ensures, c.as_slice-imports.ensures) at c.page_text-text.ensures)

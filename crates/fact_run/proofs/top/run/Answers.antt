@@ -1,6 +1,7 @@
 use Rattle.fact_command.specs.declared.status.Status.TheVariants as status
+use Rattle.fact_run.proofs.CallEnds.{call-asked, complete-call, exactly-called, told-bad-value}
 use Rattle.fact_run.proofs.CheckEnds.{accepted-end, bytes-checked, check-long-end, exactly-checked, hex-end, rejected-end, told-rejection}
-use Rattle.fact_run.proofs.Ends.{exactly, faultless-end, no-write-fault, plan-read, printed, printed-front, usage-end, fault-end, json-end, long-end, refused-end, unread-done, plain-line, told, told-fault, told-refusal, is-end}
+use Rattle.fact_run.proofs.Ends.{exactly, faultless-end, json-read, no-write-fault, printed, printed-front, usage-end, fault-end, json-end, long-end, refused-end, unread-done, plain-line, told, told-fault, told-refusal, is-end}
 use Rattle.fact_run.proofs.top.run.Goals as goal
 
 pub returns-clause-exactly_too_long : goal.returns-clause-exactly_too_long
@@ -37,7 +38,7 @@ returns-clause-complete_check g c = λ calm unfaulted.
     exactly-checked _ _ _ _ _ _ _ _ _ _ _ _ (λ input. accepted-end c.accepted_bytes_have_no_cause.ensures _ input (no-write-fault _ _ _ _ _ _ _ _ _ c.ending_of-ending.ensures.end unfaulted)) c.ending_of-ending.ensures.end calm
 
 pub returns-clause-not_json : goal.returns-clause-not_json
-returns-clause-not_json g c = λ e. let k = is-end _ _ _ _ _ _ _ _ status.NotJson _ c.ending_of-ending.ensures.end e in (plan-read _ _ k.1 k.2.0, k.2.1)
+returns-clause-not_json g c = λ e. let k = is-end _ _ _ _ _ _ _ _ status.NotJson _ c.ending_of-ending.ensures.end e in (json-read _ _ k.1 k.2.0, k.2.1)
 
 pub returns-clause-not_hex : goal.returns-clause-not_hex
 returns-clause-not_hex g c = λ e. let k = is-end _ _ _ _ _ _ _ _ status.NotHex _ c.ending_of-ending.ensures.end e in (bytes-checked _ _ k.1 k.2.0, k.2.1)
@@ -47,14 +48,14 @@ returns-clause-bad_plan g c =
     λ e. let line = told c.write_text.result _ _ _ _ _ (rw (c.as_bytes.ensures.value, c.line.ensures) at c.write_text.ensures.whole)
     (rw (c.as_bytes.ensures.value, c.line.ensures) at c.write_text.ensures.part) c.write_text.ensures.rose in
     let k = is-end _ _ _ _ _ _ _ _ status.BadPlan _ c.ending_of-ending.ensures.end e in
-    (plan-read _ _ k.1 k.2.0, told-fault _ _ _ _ _ _ _ k.2.1 line)
+    (k.0, k.1, k.2.0, told-fault _ _ _ _ _ _ _ _ k.2.1 line)
 
 pub returns-clause-refused : goal.returns-clause-refused
 returns-clause-refused g c =
     λ e. let line = told c.write_text.result _ _ _ _ _ (rw (c.as_bytes.ensures.value, c.line.ensures) at c.write_text.ensures.whole)
     (rw (c.as_bytes.ensures.value, c.line.ensures) at c.write_text.ensures.part) c.write_text.ensures.rose in
     let k = is-end _ _ _ _ _ _ _ _ status.Refused _ c.ending_of-ending.ensures.end e in
-    (plan-read _ _ k.1 k.2.0, told-refusal _ _ _ _ _ _ _ k.2.1 line)
+    (k.0, k.1, k.2.0, told-refusal _ _ _ _ _ _ _ _ k.2.1 line)
 
 pub returns-clause-rejected : goal.returns-clause-rejected
 returns-clause-rejected g c =
@@ -63,9 +64,29 @@ returns-clause-rejected g c =
     let k = is-end _ _ _ _ _ _ _ _ status.Rejected _ c.ending_of-ending.ensures.end e in
     (bytes-checked _ _ k.1 k.2.0, told-rejection _ _ _ _ _ _ _ k.2.1 line)
 
+pub returns-clause-not_callable : goal.returns-clause-not_callable
+returns-clause-not_callable g c = λ e. let k = is-end _ _ _ _ _ _ _ _ status.NotCallable _ c.ending_of-ending.ensures.end e in (k.2.0, call-asked _ k.0 k.2.0 k.1 k.2.1, k.2.2)
+
+pub returns-clause-bad_value : goal.returns-clause-bad_value
+returns-clause-bad_value g c =
+    λ e. let line = told c.write_text.result _ _ _ _ _ (rw (c.as_bytes.ensures.value, c.line.ensures) at c.write_text.ensures.whole)
+    (rw (c.as_bytes.ensures.value, c.line.ensures) at c.write_text.ensures.part) c.write_text.ensures.rose in
+    let k = is-end _ _ _ _ _ _ _ _ status.BadValue _ c.ending_of-ending.ensures.end e in
+    (k.2.0, call-asked _ k.0 k.2.0 k.1 k.2.1, told-bad-value k.2.0 _ _ _ _ _ _ _ k.2.2 line)
+
+pub returns-clause-over_limit : goal.returns-clause-over_limit
+returns-clause-over_limit g c = λ e. let k = is-end _ _ _ _ _ _ _ _ status.OverLimit _ c.ending_of-ending.ensures.end e in (k.2.0, call-asked _ k.0 k.2.0 k.1 k.2.1, k.2.2)
+
+pub returns-clause-exactly_call : goal.returns-clause-exactly_call
+returns-clause-exactly_call g c = λ name. exactly-called _ name _ _ _ _ _ _ _ _ _ c.ending_of-ending.ensures.end
+
+pub returns-clause-complete_call : goal.returns-clause-complete_call
+returns-clause-complete_call g c = λ name calm unfaulted.
+    complete-call _ name _ _ _ _ _ _ _ _ _ (no-write-fault _ _ _ _ _ _ _ _ _ c.ending_of-ending.ensures.end unfaulted) c.ending_of-ending.ensures.end calm
+
 pub returns-clause-told : goal.returns-clause-told
 returns-clause-told g c =
-    λ bad refused rejected. rw (← plain-line _ _ _ _ _ _ _ _ _ c.ending_of-ending.ensures.end bad refused rejected)
+    λ bad refused rejected value. rw (← plain-line _ _ _ _ _ _ _ _ _ c.ending_of-ending.ensures.end bad refused rejected value)
     (told c.write_text.result _ _ _ _ _ (rw (c.as_bytes.ensures.value, c.line.ensures) at c.write_text.ensures.whole)
     (rw (c.as_bytes.ensures.value, c.line.ensures) at c.write_text.ensures.part) c.write_text.ensures.rose)
 

@@ -1,0 +1,13 @@
+pub mod CallTold
+pub mod Callable
+pub mod Counting
+pub mod Exported
+pub mod FoundLaws
+pub mod HostSides
+pub mod InputLaws
+pub mod KnownImports
+pub mod NamedExports
+pub mod PlanLaws
+pub mod Promising
+pub mod ReplyLaws
+pub mod WantsOfMemory

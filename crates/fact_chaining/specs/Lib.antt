@@ -1,0 +1,3 @@
+pub mod ChainInputs
+pub mod ChainTexts
+pub mod Chains
