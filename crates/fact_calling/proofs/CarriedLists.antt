@@ -64,12 +64,12 @@ handles_few (RegionItem a n ∷ is) = omega (arith, handles_few is)
 handles_few (TextItem cs ∷ is) = omega (arith, handles_few is)
 
 -- with enough numbers a tuple is carried
-record Crossed (n : ℕ) (ss ds : List Shape) (vs : List Value) (ns : List ℕ) : Type 0 where
+pub record Crossed (n : ℕ) (ss ds : List Shape) (vs : List Value) (ns : List ℕ) : Type 0 where
   pub outs : List Value
   pub left : List ℕ
   pub is : cross_places take_number (members_from n ss) vs (members_from n ds) ns ≡ Some (outs, left)
 
-there_crossed : (n : ℕ) (ss ds : List Shape) (vs : List Value) (ns : List ℕ) → AreFormed (members_from n ss) → AreFormed (members_from n ds) → AgreesPlaces (members_from n ss) (members_from n ds) → AreMembers (members_from n ss) vs → AreNumbers ns
+pub there_crossed : (n : ℕ) (ss ds : List Shape) (vs : List Value) (ns : List ℕ) → AreFormed (members_from n ss) → AreFormed (members_from n ds) → AgreesPlaces (members_from n ss) (members_from n ds) → AreMembers (members_from n ss) vs → AreNumbers ns
     → length (all_handles ss ds vs) ≤ length ns → Crossed n ss ds vs ns
 unfolding cross_places AreMembers
 there_crossed n [] [] vs ns fs fd agree are small le = record { outs = []; left = ns; is = refl }

@@ -8,6 +8,7 @@ pub mod InputLaws
 pub mod KnownImports
 pub mod NamedExports
 pub mod PlanLaws
+pub mod Promised
 pub mod Promising
 pub mod ReplyLaws
 pub mod WantsOfMemory

@@ -163,7 +163,7 @@ adapter_replied fuel name i a reply.OutOfMemory c h = tt
 
 -- ---- a plan that is refused
 
-told_first : (p : FusePlan) (e : FuseError) → e ≢ error.OutOfMemory → IfSome (told e) (λ x. IsFirstAt p x.0 x.1) → TellsRefused p e
+pub told_first : (p : FusePlan) (e : FuseError) → e ≢ error.OutOfMemory → IfSome (told e) (λ x. IsFirstAt p x.0 x.1) → TellsRefused p e
 told_first p error.OutOfMemory h first = absurd (h refl)
 told_first p (error.UnknownIndex place) h first = record { fault = _; place = place; is_told = refl; is_first = first }
 told_first p (error.BadType place) h first = record { fault = _; place = place; is_told = refl; is_first = first }

@@ -47,7 +47,7 @@ fn is_named(plan: &FusePlan, adapter: &PlanAdapter, name: &str) -> bool
 }
 
 /// The place of the sync adapter between two instances that has a name, where there is one.
-pub(crate) fn callable_place(plan: &FusePlan, name: &str) -> Option<usize>
+pub fn callable_place(plan: &FusePlan, name: &str) -> Option<usize>
     requires { AreLinked plan.now }
     ensures { MatchOption result (callable_named name.now (adapters_of plan.now) ≡ None) (IsAtPlace plan.now name.now) }
 {

@@ -19,7 +19,7 @@ use serde_json::Value as Json;
 use std::alloc::Global;
 
 /// A plan without debug checks, and with this fuel.
-fn without_debug(plan: FusePlan, fuel: u32) -> FusePlan
+pub fn without_debug(plan: FusePlan, fuel: u32) -> FusePlan
     ensures { result ≡ without_debug_checks fuel plan }
 {
     let tunables = PlanTunables {

@@ -14,6 +14,9 @@ mod reply;
 mod telling;
 mod values;
 
-pub use calling::reply_to_call;
+pub use adapters::callable_place;
+pub use calling::{reply_to_call, without_debug};
 pub use fact_wasm::OutOfMemory;
+pub use places::{func_named, host_call};
 pub use reply::CallReply;
+pub use telling::{there, values_line};

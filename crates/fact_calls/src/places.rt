@@ -142,7 +142,7 @@ fn host_side(
 }
 
 /// The number of the defined function that a module exports under a name.
-pub(crate) fn func_named(module: &WasmModule, name: &str) -> u32
+pub fn func_named(module: &WasmModule, name: &str) -> u32
     requires { (k : ℕ) × (exported_as name.now «module».now.exports ≡ Some (func_name.Defined k)) }
     ensures { exported_as name.now «module».now.exports ≡ Some (func_name.Defined result) }
 {
@@ -158,7 +158,7 @@ pub(crate) fn func_named(module: &WasmModule, name: &str) -> u32
 }
 
 /// The call of an adapter, whose function has this number.
-pub(crate) fn host_call(
+pub fn host_call(
     alloc: Global,
     fused: &Fused,
     types: &PlanTypes,

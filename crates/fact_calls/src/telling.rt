@@ -18,7 +18,7 @@ use fact_wasm::{OutOfMemory, Seq};
 use std::alloc::Global;
 
 /// A word and the JSON text of values of live types on one line.
-fn values_line(
+pub fn values_line(
     alloc: Global,
     types: &ComponentTypes,
     word: &str,
@@ -61,7 +61,7 @@ fn text_of(
 }
 
 /// The values that are there.
-fn there(values: &Option<Seq<Value>>) -> &[Value]
+pub fn there(values: &Option<Seq<Value>>) -> &[Value]
     requires { (vs : List a_value) × (values.now ≡ Some vs) }
     ensures { values.now ≡ Some result.now }
 {

@@ -9,7 +9,7 @@ use Rattle.fact_host.specs.declared.callee.HostError.TheVariants.{OutOfMemory, U
 use Rattle.fact_host.specs.declared.calling.HostCall.{HostCall}
 use Rattle.fact_host.specs.declared.calling.HostOutcome.{HostOutcome}
 use Rattle.fact_host.specs.Callees.{number_of_error}
-use Rattle.fact_host.specs.Contract.{HasNoCause, IsCause, IsOutcomeOf}
+use Rattle.fact_host.specs.Contract.{HasNoCause, IsCause, IsOutcomeOf, IsReachedBy}
 use Rattle.fact_host.specs.Describes.{HasCallShapes}
 use Rattle.fact_host.specs.Rules.{CallShapes}
 use Rattle.fact_chain.specs.declared.passing.Passing.{Passing}
@@ -79,9 +79,10 @@ module _ (m : WasmModule) (t : Tables) (first second : HostCall) (args results :
       } in
       subst (λ z. IsChained m t first second args results (record { outer = outer; inner = z })) (sym is) at
 
-  pub chain_cause : IsPassingTo m t second results p → IsPassing p → (e : HostError) → ((s : CallShapes) → HasCallShapes t first s → IsCause s args p.last (passed_results p.outcome) e) → IsChainCause m t first second args results e
-  chain_cause to holds e h = record { given = p.given; inner = p.outcome; last = p.last; passed = passed_to m t second results p to holds; cause = h }
+  pub chain_cause : IsPassingTo m t second results p → IsPassing p → (e : HostError) → ((s : CallShapes) → HasCallShapes t first s → IsReachedBy m t first s args p.given e)
+      → ((s : CallShapes) → HasCallShapes t first s → IsCause s args p.last (passed_results p.outcome) e) → IsChainCause m t first second args results e
+  chain_cause to holds e reached h = record { given = p.given; inner = p.outcome; last = p.last; passed = passed_to m t second results p to holds; reached = reached; cause = h }
 
 -- there was no memory to begin
 pub no_memory : (m : WasmModule) (t : Tables) (first second : HostCall) (args results : List Value) → IsChainCause m t first second args results OutOfMemory
-no_memory m t first second args results = record { given = None; inner = None; last = 0; passed = inl refl; cause = λ s shapes. tt }
+no_memory m t first second args results = record { given = None; inner = None; last = 0; passed = inl refl; reached = λ s shapes. tt; cause = λ s shapes. tt }

@@ -7,7 +7,7 @@ use Rattle.fact_values.specs.declared.value.Value.{Value}
 use Rattle.fact_host.specs.declared.calling.HostCall.{HostCall}
 use Rattle.fact_host.specs.declared.calling.HostOutcome.{HostOutcome}
 use Rattle.fact_host.specs.declared.callee.HostError.{HostError}
-use Rattle.fact_host.specs.Contract.{HasNoCause, IsCause, IsOutcomeOf}
+use Rattle.fact_host.specs.Contract.{HasNoCause, IsCause, IsOutcomeOf, IsReachedBy}
 use Rattle.fact_host.specs.Describes.{HasCallShapes}
 use Rattle.fact_host.specs.Rules.{CallShapes}
 use Rattle.fact_chain.specs.declared.chaining.Chained.{Chained}
@@ -26,10 +26,12 @@ pub record IsChained (m : WasmModule) (t : Tables) (first second : HostCall) (ar
   pub no_cause : (s : CallShapes) → HasCallShapes t first s → HasNoCause s args 0 (passed_results c.inner)
   pub inner : IsInner m t second results c.outer.params c.inner
 
--- Why a chain ends with an error: by a cause of the first call, whose callee made the second one, and answered what came of that.
+-- Why a chain ends with an error: by a cause of the first call, whose callee made the second one with what it was given, and answered what came of
+-- that.
 pub record IsChainCause (m : WasmModule) (t : Tables) (first second : HostCall) (args results : List Value) (error : HostError) : Type 0 where
   pub given : Option (List Value)
   pub inner : Option HostOutcome
   pub last : ℕ
   pub passed : HasPassed m t second results given inner last
+  pub reached : (s : CallShapes) → HasCallShapes t first s → IsReachedBy m t first s args given error
   pub cause : (s : CallShapes) → HasCallShapes t first s → IsCause s args last (passed_results inner) error

@@ -1,5 +1,5 @@
 -- Lists of values that are carried through types between: as many handles cross onward as directly, and they become what they become directly.
-use Rattle.std.proofs.Common.{◌≡◌, ℕ, suc, ◌+◌, List, [], ◌∷◌, length, length-append, Some, refl, sym, ap, ◌∙◌, subst, arith}
+use Rattle.std.proofs.Common.{◌≡◌, ℕ, zero, suc, ◌+◌, ◌^◌, ◌≤◌, List, [], ◌∷◌, length, length-append, Some, refl, sym, ap, ◌∙◌, subst, arith}
 use Rattle.std.specs.Prelude.{option_map}
 use Rattle.fact_types.specs.Agrees.{AgreesPlaces}
 use Rattle.fact_types.specs.Shapes.{Shape}
@@ -15,7 +15,7 @@ use Rattle.fact_carry.specs.Faithful.{all_handles}
 use Rattle.fact_composition.proofs.CompositionLaws.{places_crossed_through, same_count_between}
 use Rattle.fact_host.specs.Called.{carried_from, handle_count, numbers_from}
 pub use Rattle.fact_calling.proofs.CarriedLists.{count_few, fitting_weight, types_carried, types_formed}
-use Rattle.fact_calling.proofs.CarriedLists.{crossed_left}
+use Rattle.fact_calling.proofs.CarriedLists.{crossed_left, numbers_small, there_crossed}
 
 -- as many handles cross onward as directly
 counts : (n : ℕ) (ss ms ds : List Shape) (vs us : List Value) (ns left : List ℕ) → AreFormed (members_from n ss) → AreFormed (members_from n ms) → AreFormed (members_from n ds)
@@ -49,3 +49,15 @@ module _ (ss ms ds : List Shape) (vs us ws : List Value) (k n : ℕ) (fs : AreFo
       let same : handle_count ms ds us ≡ handle_count ss ds vs = counts 0 ss ms ds vs us (numbers_from k (handle_count ss ms vs)) l.0 fs fm fd to on are are_us l.1 in
       let through = places_crossed_through (tuple_members ss) (tuple_members ms) (tuple_members ds) vs us (numbers_from k (handle_count ss ms vs)) l.0 (numbers_from n (handle_count ms ds us)) fm fd on l.1 in
       sym (ap (λ count. option_map (λ r. r.0) (cross_places take_number (tuple_members ss) vs (tuple_members ds) (numbers_from n count))) same) ∙ sym (ap (option_map (λ r. r.0)) through) ∙ onward
+
+-- so many numbers
+numbers_count : (n count : ℕ) → length (numbers_from n count) ≡ count
+numbers_count n zero = refl
+numbers_count n (suc count) = ap suc (numbers_count (suc n) count)
+
+-- lists of few handles are carried
+pub lists_carried : (ss ds : List Shape) (vs : List Value) (n : ℕ) → AreFormed (tuple_members ss) → AreFormed (tuple_members ds) → AgreesPlaces (tuple_members ss) (tuple_members ds) → AreMembers (tuple_members ss) vs
+    → n + handle_count ss ds vs ≤ 2 ^ 32 → (us : List Value) × (carried_from n ss ds vs ≡ Some us)
+lists_carried ss ds vs n fs fd agree are few =
+    let l = there_crossed 0 ss ds vs (numbers_from n (handle_count ss ds vs)) fs fd agree are (numbers_small n (handle_count ss ds vs) few) (omega (arith, numbers_count n (handle_count ss ds vs))) in
+    (l.outs, ap (option_map (λ r. r.0)) l.is)

@@ -1,6 +1,6 @@
 -- What a chain of two adapters on a host comes to, where their module was fused without debug checks: both calls return, the last callee is given the
 -- arguments and the first caller gets the results, each carried as if one adapter led from the one to the other.
-use Rattle.std.specs.Prelude.{◌≡◌, ◌⊎◌, ℕ, true, false, List, Option, Some}
+use Rattle.std.specs.Prelude.{◌≡◌, ◌⊎◌, ℕ, true, false, List, Option, Some, None}
 use Rattle.fact_wasm.specs.declared.module.WasmModule.{WasmModule}
 use Rattle.fact_types.specs.declared.import.Import.{Import}
 use Rattle.fact_types.specs.Adapters.{LinkedAdapter}
@@ -11,6 +11,8 @@ use Rattle.fact_machine.specs.declared.types.End.TheVariants.{Returned}
 use Rattle.fact_values.specs.declared.value.Value.{Value}
 use Rattle.fact_moves.specs.Adapters.{AdapterTunables}
 use Rattle.fact_lowering.specs.Room.{fits}
+use Rattle.fact_host.specs.declared.callee.HostError.{HostError}
+use Rattle.fact_host.specs.declared.callee.HostError.TheVariants.{OutOfMemory}
 use Rattle.fact_host.specs.declared.calling.HostCall.{HostCall}
 use Rattle.fact_host.specs.declared.calling.HostOutcome.{HostOutcome}
 use Rattle.fact_host.specs.Called.{called_params, called_results}
@@ -18,7 +20,7 @@ use Rattle.fact_host.specs.Contract.{AreOfTypes, IsCallable}
 use Rattle.fact_host.specs.Rules.{CallShapes}
 use Rattle.fact_chain.specs.declared.chaining.Chained.{Chained}
 use Rattle.fact_chain.specs.Between.{AreLinked}
-use Rattle.fact_chain.specs.Chained.{IsChained}
+use Rattle.fact_chain.specs.Chained.{IsChainCause, IsChained}
 use Rattle.fact_calling.specs.Carrying.{CallsAdapter, IsPromised}
 
 -- ---- values on their two ways
@@ -57,7 +59,8 @@ IsOverOneWay s z args results =
 -- ---- the law
 
 -- Both calls were made and returned. The last callee was given the arguments, carried directly, with the numbers of the second call for their
--- handles; and the first caller got the results, carried directly, with those of the first call, which come behind those of its arguments.
+-- handles; and the first caller got the results, carried directly, with those of the first call, which come behind those of its arguments. Both are
+-- values of their types.
 pub record HasChained (first second : CallShapes) (args answered : List Value) (c : Chained) : Type 0 where
   pub inner : HostOutcome
   pub made : c.inner ≡ Some inner
@@ -67,18 +70,36 @@ pub record HasChained (first second : CallShapes) (args answered : List Value) (
   pub inner_returned : inner.outcome.end ≡ Returned inner_values
   pub seen : List Value
   pub seen_are : called_params first.lower_params second.lift_params args ≡ Some seen
+  pub seen_types : AreOfTypes second.lift_params seen
   pub params : inner.params ≡ Some seen
   pub got : List Value
   pub got_are : called_results first.lower_params first.lift_params second.lift_results first.lower_results args answered ≡ Some got
+  pub got_types : AreOfTypes first.lower_results got
   pub results : c.outer.results ≡ Some got
 
--- So it is with every chain of two adapters of a module that the contract of `chain` allows, where arguments and results are of their types and fit
--- on each of their ways.
+-- What came of a chain, by its second call: where that was made, arguments and results fit on each of their ways and were carried, and where it was
+-- not, one of them does not fit.
+abbrev pub HasComeTo : (first second : CallShapes) → (args answered : List Value) → Chained → (inner : Option HostOutcome) → Type 0
+HasComeTo s z args answered c None = IsOverOneWay s z args answered
+HasComeTo s z args answered c (Some inner) = FitBothWays s z args answered × HasChained s z args answered c
+
+-- So it is with every chain of two adapters of a module that the contract of `chain` allows, where arguments and results are of their types and the
+-- results fit on their first way.
 abbrev pub ChainsCarry : Type 0
 ChainsCarry =
     (m : WasmModule) (is : List Import) (u : AdapterTunables) (adapters : List LinkedAdapter) (a b : LinkedAdapter) (f g : ℕ)
     (t : Tables) (first second : HostCall) (s z : CallShapes) (args results : List Value) (c : Chained)
     → IsPromised m is u a adapters f → IsPromised m is u b adapters g → CallsAdapter m is t first a f → CallsAdapter m is t second b g
     → IsCallable m t first s → IsCallable m t second z → AreLinked first second
-    → AreOfTypes s.lower_params args → AreOfTypes z.lift_results results → FitBothWays s z args results
-    → IsChained m t first second args results c → HasChained s z args results c
+    → AreOfTypes s.lower_params args → AreOfTypes z.lift_results results → fits z.lift_results z.lower_results results ≡ true
+    → IsChained m t first second args results c → HasComeTo s z args results c c.inner
+
+-- And such a chain ends with no error but want of memory where they fit on each of their ways.
+abbrev pub ChainsEnd : Type 0
+ChainsEnd =
+    (m : WasmModule) (is : List Import) (u : AdapterTunables) (adapters : List LinkedAdapter) (a b : LinkedAdapter) (f g : ℕ)
+    (t : Tables) (first second : HostCall) (s z : CallShapes) (args results : List Value) (error : HostError)
+    → IsPromised m is u a adapters f → IsPromised m is u b adapters g → CallsAdapter m is t first a f → CallsAdapter m is t second b g
+    → IsCallable m t first s → IsCallable m t second z → AreLinked first second
+    → AreOfTypes s.lower_params args → AreOfTypes z.lift_results results
+    → IsChainCause m t first second args results error → (error ≡ OutOfMemory) ⊎ IsOverOneWay s z args results

@@ -1,3 +1,1 @@
-pub mod ChainInputs
-pub mod ChainTexts
 pub mod Chains

@@ -39,11 +39,12 @@ pub used : (f : Found) (id : List ℕ) (o : Option ValueSource) → o ≡ option
 used f id o e = ap (λ (s : Option ValueSource). option_map_or is_from_words s false) (e ∙ source-rows f id)
 
 -- the command by its options
-pub with-options : (a b c d e f g : App) (p q r s t u : Rule) → a ≡ bare_command → p ≡ flag (codes "debug") → b ≡ with_rule a p → q ≡ option (codes "fuel") → c ≡ with_rule b q
+pub with-options : (a b c d e f g h : App) (p q r s t u v : Rule) → a ≡ bare_command → p ≡ flag (codes "debug") → b ≡ with_rule a p → q ≡ option (codes "fuel") → c ≡ with_rule b q
     → r ≡ flag (codes "imports") → d ≡ with_rule c r → s ≡ option (codes "generate") → e ≡ with_rule d s → t ≡ flag (codes "check") → f ≡ with_rule e t
-    → u ≡ option (codes "call") → g ≡ with_rule f u → g ≡ command
-with-options a b c d e f g p q r s t u bare debug with_debug fuel with_fuel imports with_imports generate with_generate check with_check call with_call =
-    let with_all : g ≡ with_rule (with_rule (with_rule (with_rule (with_rule (with_rule bare_command (flag (codes "debug"))) (option (codes "fuel"))) (flag (codes "imports"))) (option (codes "generate"))) (flag (codes "check"))) (option (codes "call")) = cc in
+    → u ≡ option (codes "call") → g ≡ with_rule f u → v ≡ flag (codes "chain") → h ≡ with_rule g v → h ≡ command
+with-options a b c d e f g h p q r s t u v bare debug with_debug fuel with_fuel imports with_imports generate with_generate check with_check call with_call chain with_chain =
+    let with_all : h ≡ with_rule (with_rule (with_rule (with_rule (with_rule (with_rule (with_rule bare_command (flag (codes "debug"))) (option (codes "fuel"))) (flag (codes "imports"))) (option (codes "generate"))) (flag (codes "check"))) (option (codes "call"))) (flag (codes "chain")) =
+    cc in
     with_all
 
 pub simple : is_simple command ≡ true
@@ -135,29 +136,33 @@ number-behind (Some text) = go (number_in 0 most_generated text) (number-within 
     go (Some n) h = h.1
 
 in-mode : (o : CommandOptions) → 1 ≤ o.fuel → IfSome o.generate (λ n. n ≤ most_generated) → IfSome (in_one_mode o) IsWithinBounds
-in-mode o h k = go o.check o.generate o.call refl refl refl
+in-mode o h k = go o.check o.generate o.call o.chain refl refl refl refl
   where
-    unchecked : {A : Type 0} → o.check ≡ false → o.check ≡ true → A
-    unchecked c e = absurd (true≢false (sym e ∙ c))
+    not-so : {A : Type 0} (b : Bool) → b ≡ false → b ≡ true → A
+    not-so b c e = absurd (true≢false (sym e ∙ c))
 
     uncalled : {A : Type 0} (x : List ℕ) → o.call ≡ None → o.call ≡ Some x → A
     uncalled x n e = absurd (none_some o.call x n e)
 
-    go : (check : Bool) (generate : Option ℕ) (call : Option (List ℕ)) → o.check ≡ check → o.generate ≡ generate → o.call ≡ call
-        → IfSome (if are_several check (is_some generate) (is_some call) then None else Some o) IsWithinBounds
-    go true None None c g n = (h, k, record { check = λ e. (g, n); call = λ x e. uncalled x n e })
-    go true None (Some x) c g n = tt
-    go true (Some m) call c g n = tt
-    go false None None c g n = (h, k, record { check = λ e. unchecked c e; call = λ x e. uncalled x n e })
-    go false None (Some x) c g n = (h, k, record { check = λ e. unchecked c e; call = λ y e. (g, c) })
-    go false (Some m) None c g n = (h, k, record { check = λ e. unchecked c e; call = λ x e. uncalled x n e })
-    go false (Some m) (Some x) c g n = tt
+    go : (check : Bool) (generate : Option ℕ) (call : Option (List ℕ)) (chain : Bool) → o.check ≡ check → o.generate ≡ generate → o.call ≡ call → o.chain ≡ chain
+        → IfSome (if are_several check (is_some generate) (is_some call) chain then None else Some o) IsWithinBounds
+    go true None None false c g n l = (h, k, record { check = λ e. (g, n, l); call = λ x e. uncalled x n e; chain = λ e. not-so o.chain l e })
+    go true None None true c g n l = tt
+    go true None (Some x) chain c g n l = tt
+    go true (Some m) call chain c g n l = tt
+    go false None None false c g n l = (h, k, record { check = λ e. not-so o.check c e; call = λ x e. uncalled x n e; chain = λ e. not-so o.chain l e })
+    go false None None true c g n l = (h, k, record { check = λ e. not-so o.check c e; call = λ x e. uncalled x n e; chain = λ e. (g, c, n) })
+    go false None (Some x) false c g n l = (h, k, record { check = λ e. not-so o.check c e; call = λ y e. (g, c, l); chain = λ e. not-so o.chain l e })
+    go false None (Some x) true c g n l = tt
+    go false (Some m) None false c g n l = (h, k, record { check = λ e. not-so o.check c e; call = λ x e. uncalled x n e; chain = λ e. not-so o.chain l e })
+    go false (Some m) None true c g n l = tt
+    go false (Some m) (Some x) chain c g n l = tt
 
-with-numbers : (fuel : Option ℕ) (generate : Option (Option ℕ)) (debug imports check : Bool) (call : Option (List ℕ)) → IfSome fuel (λ n. 1 ≤ n) → IfSome generate (λ g. IfSome g (λ n. n ≤ most_generated))
-    → IfSome (option_and_then (λ n. option_and_then (λ g. in_one_mode (record { debug = debug; imports = imports; fuel = n; generate = g; check = check; call = call })) generate) fuel) IsWithinBounds
-with-numbers None generate debug imports check call h k = tt
-with-numbers (Some n) None debug imports check call h k = tt
-with-numbers (Some n) (Some g) debug imports check call h k = in-mode (record { debug = debug; imports = imports; fuel = n; generate = g; check = check; call = call }) h k
+with-numbers : (fuel : Option ℕ) (generate : Option (Option ℕ)) (debug imports check : Bool) (call : Option (List ℕ)) (chain : Bool) → IfSome fuel (λ n. 1 ≤ n) → IfSome generate (λ g. IfSome g (λ n. n ≤ most_generated))
+    → IfSome (option_and_then (λ n. option_and_then (λ g. in_one_mode (record { debug = debug; imports = imports; fuel = n; generate = g; check = check; call = call; chain = chain })) generate) fuel) IsWithinBounds
+with-numbers None generate debug imports check call chain h k = tt
+with-numbers (Some n) None debug imports check call chain h k = tt
+with-numbers (Some n) (Some g) debug imports check call chain h k = in-mode (record { debug = debug; imports = imports; fuel = n; generate = g; check = check; call = call; chain = chain }) h k
 
 where-taken : (b : Bool) (o : Option CommandOptions) → IfSome o IsWithinBounds → IfSome (if b then o else None) IsWithinBounds
 where-taken true o h = h
@@ -168,7 +173,7 @@ unfolding reading
 within words =
     let rows = matches_of command words in
     where-taken (are_taken words) (options_in rows) (with-numbers (fuel_or_default (first_of (codes "fuel") rows)) (generated_in (first_of (codes "generate") rows))
-    (is_used (codes "debug") rows) (is_used (codes "imports") rows) (is_used (codes "check") rows) (first_of (codes "call") rows) (fuel-behind (first_of (codes "fuel") rows)) (number-behind (first_of (codes "generate") rows)))
+    (is_used (codes "debug") rows) (is_used (codes "imports") rows) (is_used (codes "check") rows) (first_of (codes "call") rows) (is_used (codes "chain") rows) (fuel-behind (first_of (codes "fuel") rows)) (number-behind (first_of (codes "generate") rows)))
 
 pub has-fuel : (words : List (List ℕ)) → IfSome (reading words) (λ options. 1 ≤ options.fuel)
 has-fuel words = go (reading words) (within words)

@@ -34,7 +34,7 @@ bare_command = record {
 abbrev pub command : App
 command = record {
   top = record (new_shape (codes "factc")) {
-    rules = flag (codes "debug") ∷ option (codes "fuel") ∷ flag (codes "imports") ∷ option (codes "generate") ∷ flag (codes "check") ∷ option (codes "call") ∷ [];
+    rules = flag (codes "debug") ∷ option (codes "fuel") ∷ flag (codes "imports") ∷ option (codes "generate") ∷ flag (codes "check") ∷ option (codes "call") ∷ flag (codes "chain") ∷ [];
     no_binary_name = true;
     disable_help_flag = true;
     disable_version_flag = true;
@@ -88,19 +88,21 @@ source_of name rows = option_and_then (λ r. r.source) (find (λ r. bytes_eq r.i
 abbrev pub is_used : List ℕ → List Row → Bool
 is_used name rows = option_map_or is_from_words (source_of name rows) false
 
--- whether more than one of three is so
-abbrev pub are_several : (a b c : Bool) → Bool
-are_several true b c = b || c
-are_several false b c = b && c
+-- whether more than one of four is so
+abbrev pub are_several : (a b c d : Bool) → Bool
+are_several true b c d = b || (c || d)
+are_several false true c d = c || d
+are_several false false c d = c && d
 
--- not two modes: bytes are checked, or a plan is generated, or an adapter is called, or a plan is read
+-- not two modes: bytes are checked, or a plan is generated, or an adapter is called, or two are chained, or a plan is read
 abbrev pub in_one_mode : CommandOptions → Option CommandOptions
-in_one_mode o = if are_several o.check (is_some o.generate) (is_some o.call) then None else Some o
+in_one_mode o = if are_several o.check (is_some o.generate) (is_some o.call) o.chain then None else Some o
 
--- Where bytes are checked, nothing is generated or called, and where an adapter is called, nothing is generated.
+-- Where bytes are checked, nothing is generated, called or chained, and so where an adapter is called, and where two are chained.
 pub record HasOneMode (o : CommandOptions) : Type 0 where
-  pub check : o.check ≡ true → (o.generate ≡ None) × (o.call ≡ None)
-  pub call : (name : List ℕ) → o.call ≡ Some name → (o.generate ≡ None) × (o.check ≡ false)
+  pub check : o.check ≡ true → (o.generate ≡ None) × (o.call ≡ None) × (o.chain ≡ false)
+  pub call : (name : List ℕ) → o.call ≡ Some name → (o.generate ≡ None) × (o.check ≡ false) × (o.chain ≡ false)
+  pub chain : o.chain ≡ true → (o.generate ≡ None) × (o.check ≡ false) × (o.call ≡ None)
 
 -- what the matches ask for, where the numbers have their form
 abbrev pub options_in : List Row → Option CommandOptions
@@ -111,6 +113,7 @@ options_in rows = option_and_then (λ fuel. option_and_then (λ generate. in_one
   generate = generate;
   check = is_used (codes "check") rows;
   call = first_of (codes "call") rows;
+  chain = is_used (codes "chain") rows;
 })) (generated_in (first_of (codes "generate") rows))) (fuel_or_default (first_of (codes "fuel") rows))
 
 -- `clap` finds no fault in the words, and none is a bare `--`

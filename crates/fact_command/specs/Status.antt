@@ -18,11 +18,12 @@ exit_status_of status.Rejected = 12
 exit_status_of status.NotCallable = 13
 exit_status_of status.BadValue = 14
 exit_status_of status.OverLimit = 15
+exit_status_of status.NotChained = 16
 
 -- the line of an end that is told alike for every input; nothing for the others
 abbrev pub line_of : Status → List ℕ
 line_of status.Done = []
-line_of status.Usage = codes "usage: factc [--debug] [--fuel N] [--imports] [--generate N] [--check] [--call NAME]\n"
+line_of status.Usage = codes "usage: factc [--debug] [--fuel N] [--imports] [--generate N] [--check] [--call NAME] [--chain]\n"
 line_of status.ReadFault = codes "read fault\n"
 line_of status.WriteFault = codes "write fault\n"
 line_of status.TooLong = codes "input too long\n"
@@ -32,6 +33,7 @@ line_of status.Refused = []
 line_of status.NotHex = codes "not hex\n"
 line_of status.Rejected = []
 line_of status.NotCallable = codes "not callable\n"
+line_of status.NotChained = codes "not chained\n"
 line_of status.BadValue = []
 line_of status.OverLimit = codes "over limit\n"
 line_of status.OutOfMemory = codes "out of memory\n"

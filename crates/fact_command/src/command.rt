@@ -24,7 +24,7 @@ const MIN_FUEL: u32 = 1;
 
 const MAX_FUEL: u32 = 1_000_000;
 
-/// What the words ask for: a plan is read and its module printed, unless one mode is asked for, to generate, to check or to call.
+/// What the words ask for: a plan is read and its module printed, unless one mode is asked for, to generate, to check, to call or to chain.
 #[derive(Drop)]
 pub struct CommandOptions {
     /// Debug checks are emitted, whatever the plan says.
@@ -39,6 +39,8 @@ pub struct CommandOptions {
     pub check: bool,
     /// The adapter of this name is called, with the plan and the values that are read.
     pub call: Option<Text>,
+    /// Two adapters are chained, with the plan, the names and the values that are read.
+    pub chain: bool,
 }
 
 fn flag<'a>(alloc: Global, name: &'a str) -> Arg<'a>
@@ -83,7 +85,8 @@ fn command<'a>(alloc: Global) -> Result<Command<'a>, OutOfMemory>
     let with_imports = with(with_fuel, flag(alloc, "imports"))?;
     let with_generate = with(with_imports, option(alloc, "generate"))?;
     let with_check = with(with_generate, flag(alloc, "check"))?;
-    with(with_check, option(alloc, "call"))
+    let with_call = with(with_check, option(alloc, "call"))?;
+    with(with_call, flag(alloc, "chain"))
 }
 
 fn are_digits(text: &[u8]) -> bool
@@ -162,11 +165,18 @@ fn call_of(alloc: Global, matches: &ArgMatches) -> Result<Option<Text>, OutOfMem
     }
 }
 
-/// Whether more than one of three is so.
-fn are_several(a: bool, b: bool, c: bool) -> bool
-    ensures { result ≡ are_several a b c }
+/// Whether more than one of four is so.
+fn are_several(a: bool, b: bool, c: bool, d: bool) -> bool
+    ensures { result ≡ are_several a b c d }
 {
-    if a { b || c } else { b && c }
+    let is_other = c || d;
+    if a {
+        b || is_other
+    } else if b {
+        is_other
+    } else {
+        c && d
+    }
 }
 
 /// The options, where they ask for one mode at most.
@@ -177,6 +187,7 @@ fn in_one_mode(options: CommandOptions) -> Option<CommandOptions>
         options.check,
         options.generate.is_some(),
         options.call.is_some(),
+        options.chain,
     );
     if several {
         drop(options);
@@ -203,6 +214,7 @@ fn options_in(alloc: Global, matches: &ArgMatches) -> Result<Option<CommandOptio
         generate,
         check: is_used(matches, "check"),
         call,
+        chain: is_used(matches, "chain"),
     }))
 }
 

@@ -6,7 +6,7 @@ ghost use Rattle.fact_command.specs.Status.{line_of, exit_status_of};
 /// How a run ended.
 #[derive(Clone, Copy, Debug, Drop, PartialEq, Eq)]
 pub enum Status {
-    /// The module was printed, or the counts of the one that was generated or checked, or the call of an adapter was told.
+    /// The module was printed, or the counts of the one that was generated or checked, or the call of an adapter or of two was told.
     Done,
     /// The words are no command.
     Usage,
@@ -18,7 +18,7 @@ pub enum Status {
     TooLong,
     /// The input is no JSON text.
     NotJson,
-    /// The input is no plan, or no input of a call.
+    /// The input is no plan, or no input of a call or of a chain.
     BadPlan,
     /// The plan has a fault.
     Refused,
@@ -28,7 +28,9 @@ pub enum Status {
     Rejected,
     /// No sync adapter between two instances has the name.
     NotCallable,
-    /// The arguments or the results of a call are not of their types.
+    /// One of two names is that of no sync adapter between two instances, or the first of the two adapters does not lead to the second.
+    NotChained,
+    /// The arguments or the results of a call or of a chain are not of their types.
     BadValue,
     /// They are too large, too many or too heavy for a host.
     OverLimit,
@@ -56,6 +58,7 @@ impl Status {
             Status::NotCallable => 13,
             Status::BadValue => 14,
             Status::OverLimit => 15,
+            Status::NotChained => 16,
         }
     }
 
@@ -71,7 +74,7 @@ impl Status {
             | Status::Rejected
             | Status::BadValue => "",
             Status::Usage => {
-                "usage: factc [--debug] [--fuel N] [--imports] [--generate N] [--check] [--call NAME]\n"
+                "usage: factc [--debug] [--fuel N] [--imports] [--generate N] [--check] [--call NAME] [--chain]\n"
             }
             Status::ReadFault => "read fault\n",
             Status::WriteFault => "write fault\n",
@@ -79,6 +82,7 @@ impl Status {
             Status::NotJson => "not json\n",
             Status::NotHex => "not hex\n",
             Status::NotCallable => "not callable\n",
+            Status::NotChained => "not chained\n",
             Status::OverLimit => "over limit\n",
             Status::OutOfMemory => "out of memory\n",
         }

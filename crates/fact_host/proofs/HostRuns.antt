@@ -2,16 +2,29 @@
 use Rattle.std.proofs.Common.{◌≡◌, ℕ, List, [], Some, None, refl, sym, subst}
 use Rattle.fact_wasm.specs.declared.module.WasmModule.{WasmModule}
 use Rattle.fact_types.specs.Tables.{Tables}
+use Rattle.fact_machine.specs.declared.types.CoreValue.{CoreValue}
 use Rattle.fact_machine.specs.declared.types.Event.{Event}
+use Rattle.fact_machine.specs.declared.types.MachineState.{MachineState}
+use Rattle.fact_machine.specs.declared.types.Outcome.{Outcome}
+use Rattle.fact_machine.specs.Causes.{answers_of}
+use Rattle.fact_machine.specs.Machine.{run_of}
 use Rattle.fact_host.specs.declared.callee.HostError.{HostError}
+use Rattle.fact_host.specs.declared.callee.HostError.TheVariants.{OutOfMemory, Unsuited, OverLimit, NoResults}
 use Rattle.fact_host.specs.declared.calling.HostCall.{HostCall}
 use Rattle.fact_host.specs.declared.host.Host.{Host}
 use Rattle.fact_host.specs.declared.roles.Role.{Role}
-use Rattle.fact_host.specs.Contract.{IsFresh}
+use Rattle.fact_host.specs.Contract.{IsFresh, steps_given}
 use Rattle.fact_host.specs.Describes.{HasCallShapes}
-use Rattle.fact_host.specs.Lawful.{CameOf, HostStays, IsAfter, IsCalleeCause, IsLawfulHost, Told, first_known, hosted}
+use Rattle.fact_host.specs.Lawful.{CameOf, CameToGive, HasGivenBy, HostStays, Hosted, IsAfter, IsCalleeCause, IsEndedBy, IsLawfulHost, Told, WasGiven, first_known, hosted}
 use Rattle.fact_host.specs.Roles.{HaveRoles, imported_functions}
 use Rattle.fact_host.specs.Rules.{CallShapes}
+
+-- the cause of an error that ended a call
+ended_cause : (h : Hosted) (s : CallShapes) (t : Told) (events : List Event) (error : HostError) → IsEndedBy h s t events error → IsCalleeCause s t error
+ended_cause h s t events OutOfMemory a = tt
+ended_cause h s t events Unsuited a = a.0
+ended_cause h s t events OverLimit a = a.0
+ended_cause h s t events NoResults a = a.0
 
 module _ {C : Type 0} (tells : C → Told) where
   -- it is as it is
@@ -57,4 +70,22 @@ module _ {C : Type 0} (tells : C → Told) where
   pub cause_at : (t : Tables) (c : HostCall) (s : CallShapes) (begun : List ℕ) (roles : List Role) (last : Host C) (error : HostError)
       → last.types.now ≡ t → last.call.now ≡ c → last.kept.now.roles ≡ roles → IsLawfulHost tells begun last → last.kept.now.error ≡ Some error → HasCallShapes t c s → IsCalleeCause s (tells last.callee.now) error
   cause_at t c s begun roles last error types call roles_are lawful some shapes =
-      subst (IsAfter (record { types = t; call = c; roles = roles; begun = begun }) s (tells last.callee.now) last.kept.now.events last.kept.now.known last.kept.now.params) some (after_run begun t c roles last types call roles_are lawful s shapes)
+      ended_cause (record { types = t; call = c; roles = roles; begun = begun }) s (tells last.callee.now) last.kept.now.events error
+      (subst (IsAfter (record { types = t; call = c; roles = roles; begun = begun }) s (tells last.callee.now) last.kept.now.events last.kept.now.known last.kept.now.params) some (after_run begun t c roles last types call roles_are lawful s shapes))
+
+  pub given_at : (m : WasmModule) (t : Tables) (c : HostCall) (s : CallShapes) (begun : List ℕ) (roles : List Role) (last : Host C) (error : HostError) (args : List CoreValue) (first : MachineState) (o : Outcome)
+      → last.types.now ≡ t → last.call.now ≡ c → last.kept.now.roles ≡ roles → IsLawfulHost tells begun last → last.kept.now.error ≡ Some error → last.kept.now.events ≡ o.log → HaveRoles m c 0 (imported_functions m) roles → HasCallShapes t c s
+      → o ≡ run_of m c.func args first (answers_of o.log) steps_given → HasGivenBy m t c s begun args first (tells last.callee.now).given error
+  given_at m t c s begun roles last error args first o types call roles_are lawful some events have shapes is_run =
+      by error
+      (subst (λ l. IsEndedBy (record { types = t; call = c; roles = roles; begun = begun }) s (tells last.callee.now) l error) events
+      (subst (IsAfter (record { types = t; call = c; roles = roles; begun = begun }) s (tells last.callee.now) last.kept.now.events last.kept.now.known last.kept.now.params) some (after_run begun t c roles last types call roles_are lawful s shapes)))
+    where
+      came : WasGiven (record { types = t; call = c; roles = roles; begun = begun }) s (tells last.callee.now).given o.log → CameToGive m t c s begun args first (tells last.callee.now).given
+      came was = record { roles = roles; have = have; outcome = o; is_run = is_run; was = was }
+
+      by : (error : HostError) → IsEndedBy (record { types = t; call = c; roles = roles; begun = begun }) s (tells last.callee.now) o.log error → HasGivenBy m t c s begun args first (tells last.callee.now).given error
+      by OutOfMemory a = tt
+      by Unsuited a = came a.1
+      by OverLimit a = came a.1
+      by NoResults a = came a.1

@@ -40,8 +40,8 @@ error_cause s t OverLimit e = inl e
 error_cause s t NoResults e = e
 
 pub error_ends : (k : Known) (c : HostCall) (s : CallShapes) (t : Told) (params : List Value) (before : MachineState) (answer : Answer) (k' : Known) (error : HostError) (e : Option HostError)
-    → e ≡ Some error → t.last ≡ number_of_error error → IsAnswered k c s t params before answer k' e
-error_ends k c s t params before answer k' error e is last = subst (IsAnswered k c s t params before answer k') (sym is) (error_cause s t error last)
+    → e ≡ Some error → t.last ≡ number_of_error error → IsGiven t.given params → answer ≡ Traps → IsAnswered k c s t params before answer k' e
+error_ends k c s t params before answer k' error e is last given traps = subst (IsAnswered k c s t params before answer k') (sym is) (error_cause s t error last, given, traps)
 
 -- values of the callee that are not taken end it too
 refusal_cause : (s : CallShapes) (t : Told) (values : List Value) (error : HostError) → t.answered ≡ Some values → t.last ≡ 0 → IsRefusal s values error → IsCalleeCause s t error
@@ -51,8 +51,8 @@ refusal_cause s t values OverLimit answered none r = inr (none, subst (AnsweredT
 refusal_cause s t values NoResults answered none r = absurd r
 
 pub refusal_ends : (k : Known) (c : HostCall) (s : CallShapes) (t : Told) (params : List Value) (before : MachineState) (answer : Answer) (k' : Known) (values : List Value) (error : HostError) (e : Option HostError)
-    → e ≡ Some error → t.answered ≡ Some values → t.last ≡ 0 → IsRefusal s values error → IsAnswered k c s t params before answer k' e
-refusal_ends k c s t params before answer k' values error e is answered none r = subst (IsAnswered k c s t params before answer k') (sym is) (refusal_cause s t values error answered none r)
+    → e ≡ Some error → t.answered ≡ Some values → t.last ≡ 0 → IsRefusal s values error → IsGiven t.given params → answer ≡ Traps → IsAnswered k c s t params before answer k' e
+refusal_ends k c s t params before answer k' values error e is answered none r given traps = subst (IsAnswered k c s t params before answer k') (sym is) (refusal_cause s t values error answered none r, given, traps)
 
 -- others are answered by the rules
 pub taken_answered : (k : Known) (c : HostCall) (s : CallShapes) (t : Told) (params : List Value) (before : MachineState) (answer : Answer) (k' : Known) (values : List Value) (e : Option HostError)

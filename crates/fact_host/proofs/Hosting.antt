@@ -1,5 +1,5 @@
 -- What holds of a host between two calls is kept by each answer.
-use Rattle.std.proofs.Common.{◌≡◌, ◌≢◌, ℕ, inl, Bool, true, false, All, List, [], ◌∷◌, ◌++◌, Option, Some, None, refl, sym, ap, ◌∙◌, subst}
+use Rattle.std.proofs.Common.{◌≡◌, ◌≢◌, ℕ, inl, Bool, true, false, All, List, [], ◌∷◌, ◌++◌, Option, Some, None, refl, sym, ap, ◌∙◌, subst, append_assoc}
 use Rattle.std.specs.Prelude.{nat_eq, cond}
 use Rattle.std.proofs.lemmas.Bool.{eqb-true, eq-eqb, true≢false}
 use Rattle.std.proofs.lemmas.List.Elements.{All-append, All-cons, All-nil}
@@ -11,12 +11,13 @@ use Rattle.fact_machine.specs.declared.types.MachineState.{MachineState}
 use Rattle.fact_values.specs.declared.value.Value.{Value}
 use Rattle.fact_host.specs.declared.calling.HostCall.{HostCall}
 use Rattle.fact_host.specs.declared.callee.HostError.{HostError}
+use Rattle.fact_host.specs.declared.callee.HostError.TheVariants.{OutOfMemory, Unsuited, OverLimit, NoResults}
 use Rattle.fact_host.specs.declared.known.Known.{Known}
 use Rattle.fact_host.specs.declared.roles.Role.{Role}
 use Rattle.fact_host.specs.declared.roles.Role.TheVariants as role
 use Rattle.fact_host.specs.Contract.{AnsweredUnsuited, AnsweredTooMuch, first_call, params_reached}
 use Rattle.fact_host.specs.Hosts.{AreAnswersUntil, event_by}
-use Rattle.fact_host.specs.Lawful.{RoleAt, PlacesCallee, Hosted, Told, IsWaiting, AnswerStands, HasAnswered, IsRunning, IsAfter, IsAnswered}
+use Rattle.fact_host.specs.Lawful.{RoleAt, PlacesCallee, Hosted, Told, IsWaiting, AnswerStands, HasAnswered, IsRunning, IsAfter, IsAnswered, IsCalleeCause, IsEndedBy, WasGiven}
 use Rattle.fact_host.specs.Rules.{CallShapes, Answers, CallsBy, MustNotCall, Again, NoParams, params_of}
 
 -- ---- lists of events
@@ -124,10 +125,33 @@ other_stands c s answered e other = ((λ results after is q. absurd (other is)),
 not_callee : (h : Hosted) (n : ℕ) (r : Role) → PlacesCallee h.call h.roles → RoleAt h.roles n r → r ≢ role.Callee → n ≡ h.call.callee → ⊥
 not_callee h n r places at ne is = let e : Some r ≡ Some role.Callee = sym at ∙ (places n).1 is in let same : r ≡ role.Callee = cc in ne same
 
+-- what was given stays so, with one more event
+given_on : (h : Hosted) (s : CallShapes) (given : Option (List Value)) (events : List Event) (e : Event) → WasGiven h s given events → WasGiven h s given (events ++ e ∷ [])
+given_on h s given events e a = record {
+  front = a.front;
+  event = a.event;
+  behind = a.behind ++ e ∷ [];
+  events_are = ap (λ l. l ++ e ∷ []) a.events_are ∙ append_assoc a.front (a.event ∷ a.behind) (e ∷ []);
+  known = a.known;
+  ruled = a.ruled;
+  uncalled = a.uncalled;
+  is_callee = a.is_callee;
+  traps = a.traps;
+  params = a.params;
+  lifts = a.lifts;
+  given_is = a.given_is;
+}
+
+ended_on : (h : Hosted) (s : CallShapes) (t : Told) (events : List Event) (e : Event) (error : HostError) → IsEndedBy h s t events error → IsEndedBy h s t (events ++ e ∷ []) error
+ended_on h s t events e OutOfMemory a = tt
+ended_on h s t events e Unsuited a = (a.0, given_on h s t.given events e a.1)
+ended_on h s t events e OverLimit a = (a.0, given_on h s t.given events e a.1)
+ended_on h s t events e NoResults a = (a.0, given_on h s t.given events e a.1)
+
 pub go_quiet : (h : Hosted) (s : CallShapes) (t : Told) (events : List Event) (k k' : Known) (params : Option (List Value)) (error : Option HostError) (e : Event) (r : Role)
     → PlacesCallee h.call h.roles → RoleAt h.roles e.func r → r ≢ role.Callee → ((answered : Option (List Value)) → Answers h.call s answered r k e k') → k'.returned ≡ k.returned
     → IsAfter h s t events k params error → IsAfter h s t (events ++ e ∷ []) k' params error
-go_quiet h s t events k k' params (Some error) e r places at ne answers same a = a
+go_quiet h s t events k k' params (Some error) e r places at ne answers same a = ended_on h s t events e error a
 go_quiet h s t events k k' params None e r places at ne answers same a = subst (λ b. IsRunning h s t (events ++ e ∷ []) k' params b) (sym same) (by k.returned a)
   where
     other : e.func ≡ h.call.callee → ⊥
@@ -161,7 +185,7 @@ at_callee h places = (places h.call.callee).1 refl
 pub go_again : (h : Hosted) (s : CallShapes) (t : Told) (events : List Event) (k : Known) (params : Option (List Value)) (error : Option HostError) (args : List CoreValue) (before : MachineState)
     → PlacesCallee h.call h.roles → (error ≡ None → k.returned ≡ true)
     → IsAfter h s t events k params error → IsAfter h s t (events ++ event_by h.call.callee args before Traps ∷ []) k params error
-go_again h s t events k params (Some error) args before places again a = a
+go_again h s t events k params (Some error) args before places again a = ended_on h s t events (event_by h.call.callee args before Traps) error a
 go_again h s t events k params None args before places again a =
     let e : Event = event_by h.call.callee args before Traps in
     let x : HasAnswered h s t events k params = subst (IsRunning h s t events k params) (again refl) a in
@@ -209,7 +233,21 @@ go_unlifted h s t events k k' params args before places waits now none a =
 pub go_asked : (h : Hosted) (s : CallShapes) (t t' : Told) (events : List Event) (k k' : Known) (params : Option (List Value)) (error : Option HostError) (given : List Value) (args : List CoreValue) (before : MachineState) (answer : Answer)
     → PlacesCallee h.call h.roles → k.returned ≡ false → params_of h.call s.lift_params (event_by h.call.callee args before answer) ≡ Some given
     → IsAfter h s t events k params None → IsAnswered k h.call s t' given before answer k' error → IsAfter h s t' (events ++ event_by h.call.callee args before answer ∷ []) k' (Some given) error
-go_asked h s t t' events k k' params (Some error) given args before answer places waits lifts a x = x
+go_asked h s t t' events k k' params (Some error) given args before answer places waits lifts a x = by error x.0
+  where
+    e : Event
+    e = event_by h.call.callee args before answer
+
+    was : WasGiven h s t'.given (events ++ e ∷ [])
+    was =
+        let w : IsWaiting h s t events k params = waited h s t events k params waits a in
+        record { front = events; event = e; behind = []; events_are = refl; known = k; ruled = w.ruled; uncalled = w.uncalled; is_callee = refl; traps = x.2; params = given; lifts = lifts; given_is = x.1 }
+
+    by : (error : HostError) → IsCalleeCause s t' error → IsEndedBy h s t' (events ++ e ∷ []) error
+    by OutOfMemory c = tt
+    by Unsuited c = (c, was)
+    by OverLimit c = (c, was)
+    by NoResults c = (c, was)
 go_asked h s t t' events k k' params None given args before answer places waits lifts a x =
     let e : Event = event_by h.call.callee args before answer in
     let w : IsWaiting h s t events k params = waited h s t events k params waits a in

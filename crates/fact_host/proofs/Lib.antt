@@ -11,6 +11,7 @@ pub mod LiveLaws
 pub mod Loops
 pub mod Outcomes
 pub mod Passing
+pub mod Reached
 pub mod Regular
 pub mod RequestsFit
 pub mod Resulting

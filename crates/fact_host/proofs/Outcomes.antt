@@ -165,7 +165,7 @@ hosting_of m t c s roles h live have = record { sound = sound_of m t c s h live;
 
 -- ---- what came of the callee
 
-rules_of : (m : WasmModule) (c : HostCall) (s : CallShapes) (roles : List Role) → HaveRoles m c 0 (imported_functions m) roles → (answered : Option (List Value)) (k last : Known) (log : List Event)
+pub rules_of : (m : WasmModule) (c : HostCall) (s : CallShapes) (roles : List Role) → HaveRoles m c 0 (imported_functions m) roles → (answered : Option (List Value)) (k last : Known) (log : List Event)
     → AreAnswersUntil (RoleAt roles) c s answered k log last → AreAnswers (HasRole m c) c s answered k log
 rules_of m c s roles have answered k last [] u = tt
 rules_of m c s roles have answered k last (e ∷ es) u = (u.0, named m c roles have e.func u.0 u.1, u.2, u.3, rules_of m c s roles have answered u.2 last es u.4)
@@ -246,7 +246,7 @@ module _ (m : WasmModule) (t : Tables) (c : HostCall) (s : CallShapes) (values :
       by (inl lt) = at_place lt (is_place c.lower.memory n) refl
       by (inr ge) = inl (past_none cursors n (omega (arith, ge, at.count)))
 
-  first_is : IsFirstKnown c s values (first_known cursors)
+  pub first_is : IsFirstKnown c s values (first_known cursors)
   first_is = record {
     live = refl;
     returned = refl;
@@ -333,7 +333,7 @@ module _ (m : WasmModule) (t : Tables) (c : HostCall) (s : CallShapes) (values :
         by None q kept = subst (λ o. AllByRecursion (IsOut n) (areas o)) (sym (flats_are ∙ none_flat q)) (out (subst Kept q kept), tt)
         by (Some fs) q kept = subst (λ o. AllByRecursion (IsOut n) (areas o)) (sym (flats_are ∙ (some_flat fs q).1)) tt
 
-    begins_at : Begins c a args (lengths_of state) (first_known cursors)
+    pub begins_at : Begins c a args (lengths_of state) (first_known cursors)
     begins_at = record {
       live = refl;
       returned = refl;
@@ -395,7 +395,7 @@ module _ (m : WasmModule) (t : Tables) (c : HostCall) (s : CallShapes) (values :
 
 -- ---- the answers
 
-bits_of_typed : (vs : List CoreValue) (ts : List ValType) → AllZip (λ v ty. IsValue v ty) vs ts → AreBits vs
+pub bits_of_typed : (vs : List CoreValue) (ts : List ValType) → AllZip (λ v ty. IsValue v ty) vs ts → AreBits vs
 bits_of_typed [] [] h = tt
 bits_of_typed [] (t ∷ ts) h = absurd h
 bits_of_typed (v ∷ vs) [] h = absurd h

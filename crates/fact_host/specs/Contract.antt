@@ -16,13 +16,14 @@ use Rattle.fact_types.specs.PointerPairs.{any_pointer_pair}
 use Rattle.fact_types.specs.Tables.{Tables, IsLive}
 use Rattle.fact_types.specs.Tuples.{tuple_members, tuple_of}
 use Rattle.fact_types.specs.Shapes.{Shape}
-use Rattle.fact_machine.specs.declared.types.Answer.TheVariants.{Returns}
+use Rattle.fact_machine.specs.declared.types.Answer.TheVariants.{Returns, Traps}
 use Rattle.fact_machine.specs.declared.types.CoreValue.{CoreValue}
 use Rattle.fact_machine.specs.declared.types.CoreValue.TheVariants.{I32}
 use Rattle.fact_machine.specs.declared.types.Event.{Event}
 use Rattle.fact_machine.specs.declared.types.End.{End}
 use Rattle.fact_machine.specs.declared.types.End.TheVariants.{Returned, Trapped, Thrown, Lacks, Going, Stuck}
 use Rattle.fact_machine.specs.declared.types.MachineState.{MachineState}
+use Rattle.fact_machine.specs.declared.types.Outcome.{Outcome}
 use Rattle.fact_machine.specs.Causes.{answers_of}
 use Rattle.fact_machine.specs.Lengths.{lengths_of}
 use Rattle.fact_machine.specs.Machine.{memory_import, run_of}
@@ -273,3 +274,46 @@ pub record HasNoCause (s : CallShapes) (args : List Value) (last : ℕ) (answere
   pub no_error : last ≡ 0
   pub answer_suited : AnsweredUnsuited s answered → ⊥
   pub answer_fits : AnsweredTooMuch s answered → ⊥
+
+-- ---- what the callee was given, where an error ended the call
+
+-- A run of a call with these arguments came to the callee's first call, whose parameters lift to these values.
+pub record HasReached (m : WasmModule) (t : Tables) (c : HostCall) (s : CallShapes) (values params : List Value) : Type 0 where
+  pub first : MachineState
+  pub args : List CoreValue
+  pub outcome : Outcome
+  pub is_run : outcome ≡ run_of m c.func args first (answers_of outcome.log) steps_given
+  -- The callee's call is the last one, and answered by a trap.
+  pub front : List Event
+  pub event : Event
+  pub log_is : outcome.log ≡ front ++ event ∷ []
+  pub is_callee : IsCallee c event
+  pub traps : event.answer ≡ Traps
+  pub uncalled : first_call c.callee front ≡ None
+  pub lifts : lift_param_values c.lift.abi (side_bytes c.lift event.before) s.lift_params event.args ≡ Some params
+  -- Those before it are answered by the host's rules, whatever the callee answers, typed and honest.
+  pub known : Known
+  pub known_first : IsFirstKnown c s values known
+  pub known_cursors : length known.cursors ≡ length first.memories
+  pub ruled : (answered : Option (List Value)) → AreAnswers (λ n r. (w : WasmImport) × (slice_get (imported_functions m) n ≡ Some w) × IsRole m c n w r) c s answered known front
+  pub answers_typed : All (λ e. TypedAnswer m e.func e.before e.answer) front
+  pub honest : (p : ImportPlaces) (a : LinkedAdapter) (names : ℕ → Import) → Describes m t c p a names → AreHonestSync p a args (named_calls names front)
+  -- So it began.
+  pub state_typed : TypedState m first
+  pub args_typed : AllZip (λ v ty. IsValue v ty) args (sync_lower c.lower.abi.memory64 s.lower_params s.lower_results).params
+  pub flags : ones first
+  pub lower_memory : HasFirstMemory c.lower first
+  pub lift_memory : HasFirstMemory c.lift first
+  pub area : IsAreaSound c s args first
+  pub stored : lower_param_values false c.lower.abi (side_bytes c.lower first) s.lower_params args ≡ Some values
+  pub stored_forms : TupleIsByForm c.lower.abi (side_bytes c.lower first) 16 s.lower_params args
+
+-- a callee that keeps what it is given was given nothing, or what such a run came to; want of memory tells nothing
+abbrev pub IsReached : WasmModule → Tables → HostCall → CallShapes → (values : List Value) → (given : Option (List Value)) → Type 0
+IsReached m t c s values given = (given ≡ None) ⊎ ((params : List Value) × (given ≡ Some params) × HasReached m t c s values params)
+
+abbrev pub IsReachedBy : WasmModule → Tables → HostCall → CallShapes → (values : List Value) → (given : Option (List Value)) → HostError → Type 0
+IsReachedBy m t c s values given OutOfMemory = Unit {0}
+IsReachedBy m t c s values given Unsuited = IsReached m t c s values given
+IsReachedBy m t c s values given OverLimit = IsReached m t c s values given
+IsReachedBy m t c s values given NoResults = IsReached m t c s values given

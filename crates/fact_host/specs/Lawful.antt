@@ -6,10 +6,13 @@ use Rattle.fact_types.specs.Agrees.{AgreesPlaces}
 use Rattle.fact_types.specs.Tables.{Tables}
 use Rattle.fact_types.specs.Tuples.{tuple_members}
 use Rattle.fact_machine.specs.declared.types.Answer.{Answer}
-use Rattle.fact_machine.specs.declared.types.Answer.TheVariants.{Returns}
+use Rattle.fact_machine.specs.declared.types.Answer.TheVariants.{Returns, Traps}
 use Rattle.fact_machine.specs.declared.types.CoreValue.{CoreValue}
 use Rattle.fact_machine.specs.declared.types.Event.{Event}
 use Rattle.fact_machine.specs.declared.types.MachineState.{MachineState}
+use Rattle.fact_machine.specs.declared.types.Outcome.{Outcome}
+use Rattle.fact_machine.specs.Causes.{answers_of}
+use Rattle.fact_machine.specs.Machine.{run_of}
 use Rattle.fact_values.specs.declared.value.Value.{Value}
 use Rattle.fact_host.specs.declared.calling.HostCall.{HostCall}
 use Rattle.fact_host.specs.declared.callee.HostError.{HostError}
@@ -19,7 +22,7 @@ use Rattle.fact_host.specs.declared.known.Known.{Known}
 use Rattle.fact_host.specs.declared.roles.Role.{Role}
 use Rattle.fact_host.specs.declared.roles.Role.TheVariants as role
 use Rattle.fact_host.specs.Callees.{IsGiven}
-use Rattle.fact_host.specs.Contract.{AreLive, HaveNeeds, AnsweredUnsuited, AnsweredTooMuch, AnswerLifts, IsCallee, IsFresh, first_call, params_reached}
+use Rattle.fact_host.specs.Contract.{AreLive, HaveNeeds, AnsweredUnsuited, AnsweredTooMuch, AnswerLifts, IsCallee, IsFresh, first_call, params_reached, steps_given}
 use Rattle.fact_host.specs.Describes.{HasCallShapes}
 use Rattle.fact_host.specs.Hosts.{AreAnswersUntil, event_by}
 use Rattle.fact_host.specs.Roles.{HaveRoles, imported_functions}
@@ -105,10 +108,33 @@ IsCalleeCause s t Unsuited = (t.last ≡ 2) ⊎ ((t.last ≡ 0) × AnsweredUnsui
 IsCalleeCause s t OverLimit = (t.last ≡ 3) ⊎ ((t.last ≡ 0) × AnsweredTooMuch s t.answered)
 IsCalleeCause s t NoResults = t.last ≡ 4
 
+-- Among the events is the first call of the callee, which was given what its parameters lift to, and is answered by a trap. Those before it are
+-- answered by the rules, whatever the callee answers.
+pub record WasGiven (h : Hosted) (s : CallShapes) (given : Option (List Value)) (events : List Event) : Type 0 where
+  pub front : List Event
+  pub event : Event
+  pub behind : List Event
+  pub events_are : events ≡ front ++ (event ∷ behind)
+  pub known : Known
+  pub ruled : (answered : Option (List Value)) → AreRuled h s answered front known
+  pub uncalled : first_call h.call.callee front ≡ None
+  pub is_callee : event.func ≡ h.call.callee
+  pub traps : event.answer ≡ Traps
+  pub params : List Value
+  pub lifts : params_of h.call s.lift_params event ≡ Some params
+  pub given_is : IsGiven given params
+
+-- An error ends the whole call, of which the callee's call is the cause. Want of memory tells nothing.
+abbrev pub IsEndedBy : Hosted → CallShapes → Told → List Event → HostError → Type 0
+IsEndedBy h s t events OutOfMemory = Unit {0}
+IsEndedBy h s t events Unsuited = IsCalleeCause s t Unsuited × WasGiven h s t.given events
+IsEndedBy h s t events OverLimit = IsCalleeCause s t OverLimit × WasGiven h s t.given events
+IsEndedBy h s t events NoResults = IsCalleeCause s t NoResults × WasGiven h s t.given events
+
 -- So it is between two calls, with the error that ends the whole call, if any.
 abbrev pub IsAfter : Hosted → CallShapes → Told → List Event → Known → (params : Option (List Value)) → Option HostError → Type 0
 IsAfter h s t events k params None = IsRunning h s t events k params k.returned
-IsAfter h s t events k params (Some error) = IsCalleeCause s t error
+IsAfter h s t events k params (Some error) = IsEndedBy h s t events error
 
 abbrev pub IsLawful : Hosted → Told → List Event → Known → (params : Option (List Value)) → Option HostError → Type 0
 IsLawful h t events k params error = (s : CallShapes) → HasCallShapes h.types h.call s → IsAfter h s t events k params error
@@ -141,7 +167,7 @@ pub record IsTaken (k : Known) (c : HostCall) (s : CallShapes) (values : List Va
 -- What came of asking a callee, when so much was known: what it answered is taken, or there is an error that ends the call.
 abbrev pub IsAnswered : (k : Known) → HostCall → CallShapes → Told → (params : List Value) → MachineState → Answer → (k' : Known) → Option HostError → Type 0
 IsAnswered k c s t params before answer k' None = (values : List Value) × (t.answered ≡ Some values) × (t.last ≡ 0) × IsGiven t.given params × IsTaken k c s values before answer k'
-IsAnswered k c s t params before answer k' (Some error) = IsCalleeCause s t error
+IsAnswered k c s t params before answer k' (Some error) = IsCalleeCause s t error × IsGiven t.given params × (answer ≡ Traps)
 
 -- ---- hosts
 
@@ -194,3 +220,17 @@ pub record CameOf (m : WasmModule) (t : Tables) (c : HostCall) (s : CallShapes) 
   pub have : HaveRoles m c 0 (imported_functions m) roles
   pub known : Known
   pub running : IsRunning (record { types = t; call = c; roles = roles; begun = begun }) s told log known params known.returned
+
+-- A run on a host whose call an error ended: what its callee was given.
+pub record CameToGive (m : WasmModule) (t : Tables) (c : HostCall) (s : CallShapes) (begun : List ℕ) (args : List CoreValue) (first : MachineState) (given : Option (List Value)) : Type 0 where
+  pub roles : List Role
+  pub have : HaveRoles m c 0 (imported_functions m) roles
+  pub outcome : Outcome
+  pub is_run : outcome ≡ run_of m c.func args first (answers_of outcome.log) steps_given
+  pub was : WasGiven (record { types = t; call = c; roles = roles; begun = begun }) s given outcome.log
+
+abbrev pub HasGivenBy : WasmModule → Tables → HostCall → CallShapes → (begun : List ℕ) → (args : List CoreValue) → (first : MachineState) → (given : Option (List Value)) → HostError → Type 0
+HasGivenBy m t c s begun args first given OutOfMemory = Unit {0}
+HasGivenBy m t c s begun args first given Unsuited = CameToGive m t c s begun args first given
+HasGivenBy m t c s begun args first given OverLimit = CameToGive m t c s begun args first given
+HasGivenBy m t c s begun args first given NoResults = CameToGive m t c s begun args first given

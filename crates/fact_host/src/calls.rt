@@ -3,9 +3,9 @@
 ghost use Rattle.std.specs.Prelude.{◌≡◌, ◌≢◌, ◌++◌, ℕ, List, IfErr, IfOk};
 ghost use Rattle.fact_machine.specs.Causes.{answers_of};
 ghost use Rattle.fact_machine.specs.Machine.{run_of};
-ghost use Rattle.fact_host.specs.Contract.{AreLive, AreSuited, HasNoCause, IsCallable, IsCause, IsFresh, IsOutcomeOf, results_reached, steps_given};
+ghost use Rattle.fact_host.specs.Contract.{AreLive, AreSuited, HasNoCause, IsCallable, IsCause, IsFresh, IsOutcomeOf, IsReachedBy, results_reached, steps_given};
 ghost use Rattle.fact_host.specs.Describes.{HasCallShapes};
-ghost use Rattle.fact_host.specs.Lawful.{CameOf, IsCalleeCause, IsHosting, IsLawfulHost, IsSameHost, told_by};
+ghost use Rattle.fact_host.specs.Lawful.{CameOf, HasGivenBy, IsCalleeCause, IsHosting, IsLawfulHost, IsSameHost, told_by};
 ghost use Rattle.fact_host.specs.Rules.{CallShapes};
 
 use crate::answers::memory_of;
@@ -108,6 +108,7 @@ fn run_on_host<C: Callee>(
     ensures lacks_none { IfOk result (λ run. run.outcome.end ≢ End.Lacks) }
     ensures came { IfOk result (λ run. (s : CallShapes) → HasCallShapes types.now call.now s → CameOf «module».now types.now call.now s cursors (told_by C.last C.answered C.given callee.new) run.outcome.log run.params) }
     ensures cause { IfErr result (λ error. (s : CallShapes) → HasCallShapes types.now call.now s → IsCalleeCause s (told_by C.last C.answered C.given callee.new) error) }
+    ensures given { IfErr result (λ error. (s : CallShapes) → HasCallShapes types.now call.now s → HasGivenBy «module».now types.now call.now s cursors begun.now.args begun.now.state (C.given callee.new) error) }
 {
     let roles = roles_of(alloc, module, call)?;
     let known = Known {
@@ -159,6 +160,7 @@ pub fn call<C: Callee>(
     ensures outcome { IfOk result (λ o. (s : CallShapes) → HasCallShapes types.now call.now s → IsOutcomeOf «module».now types.now call.now s args.now (C.answered callee.new) (C.given callee.new) o) }
     ensures no_cause { IfOk result (λ o. (s : CallShapes) → HasCallShapes types.now call.now s → HasNoCause s args.now (C.last callee.new) (C.answered callee.new)) }
     ensures cause { IfErr result (λ e. (s : CallShapes) → HasCallShapes types.now call.now s → IsCause s args.now (C.last callee.new) (C.answered callee.new) e) }
+    ensures reached { IfErr result (λ e. (s : CallShapes) → HasCallShapes types.now call.now s → IsReachedBy «module».now types.now call.now s args.now (C.given callee.new) e) }
     // Where the arguments cannot be carried, the callee is not asked.
     ensures unasked { (s : CallShapes) → HasCallShapes types.now call.now s → (AreSuited s args.now → ⊥) → IsFresh (C.last callee.new) (C.answered callee.new) (C.given callee.new) }
     ensures stays { (first : C) → C.stays first callee.old → C.stays first callee.new }
@@ -172,12 +174,12 @@ pub fn call<C: Callee>(
     }
     let started = start(alloc, types, module, call, args)?;
     let Started { begun, cursors } = started;
-    let run = run_on_host(alloc, types, module, call, &begun, cursors, callee)?;
-    let HostRun { outcome, params } = run;
-    let results = results_of(alloc, types, call, begun.args.as_slice(), &outcome)?;
     read_constants(module);
     laws_of_seen();
     laws_of_typed_answers();
+    let run = run_on_host(alloc, types, module, call, &begun, cursors, callee)?;
+    let HostRun { outcome, params } = run;
+    let results = results_of(alloc, types, call, begun.args.as_slice(), &outcome)?;
     Ok(HostOutcome {
         outcome,
         params,

@@ -29,8 +29,8 @@ use Rattle.fact_command.specs.Command.{HasOneMode, reading}
 use Rattle.fact_run.specs.declared.answer.Reply.{Reply}
 use Rattle.fact_run.specs.declared.answer.Reply.TheVariants as reply
 use Rattle.fact_run.specs.Answer.{IsCallReply, IsEnding, IsReplyToCalled, IsReplyToFault, IsReplyToRefusal, IsReplyToValue, IsReplyUnder, IsToldReply, TellsBadValue, TellsFault, TellsRefusalIn}
-use Rattle.fact_run.specs.Run.{AsksCall, EndsAsCall, HoldsFaultBy, HoldsRefusalBy, IsCallMode, IsOrMemory, IsTooLong, IsUndisturbedCall, Read, Sends, SendsBy, SendsCall, TellsLine, limit}
-use Rattle.fact_run.proofs.Ends.{past, sends-in, so}
+use Rattle.fact_run.specs.Run.{AsksCall, EndsAsCall, HoldsBadValueBy, HoldsOverLimitBy, IsCallMode, IsOrMemory, IsTooLong, IsUndisturbedCall, Read, Sends, SendsBy, SendsCall, TellsLine, limit}
+use Rattle.fact_run.proofs.Ends.{fault-by, over-by, over-in, past, refusal-by, refused-in, sends-in, so, told-in, value-by, value-in}
 
 -- ---- from what was read to a reply
 
@@ -46,6 +46,7 @@ told-bad fuel name bytes f (reply.Refused line) h e = absurd e
 told-bad fuel name bytes f reply.NotHex h e = absurd e
 told-bad fuel name bytes f (reply.Rejected line) h e = absurd e
 told-bad fuel name bytes f reply.NotCallable h e = absurd e
+told-bad fuel name bytes f reply.NotChained h e = absurd e
 told-bad fuel name bytes f (reply.BadValue line) h e = absurd e
 told-bad fuel name bytes f reply.OverLimit h e = absurd e
 
@@ -61,6 +62,7 @@ told-refused fuel name bytes f place (reply.BadPlan line) h e = absurd e
 told-refused fuel name bytes f place reply.NotHex h e = absurd e
 told-refused fuel name bytes f place (reply.Rejected line) h e = absurd e
 told-refused fuel name bytes f place reply.NotCallable h e = absurd e
+told-refused fuel name bytes f place reply.NotChained h e = absurd e
 told-refused fuel name bytes f place (reply.BadValue line) h e = absurd e
 told-refused fuel name bytes f place reply.OverLimit h e = absurd e
 
@@ -77,6 +79,7 @@ told-value fuel name bytes f (reply.Refused line) h e = absurd e
 told-value fuel name bytes f reply.NotHex h e = absurd e
 told-value fuel name bytes f (reply.Rejected line) h e = absurd e
 told-value fuel name bytes f reply.NotCallable h e = absurd e
+told-value fuel name bytes f reply.NotChained h e = absurd e
 told-value fuel name bytes f reply.OverLimit h e = absurd e
 
 -- the line of each reply to a call
@@ -104,6 +107,7 @@ replied-call fuel name left left' fault bytes (reply.Refused line) all h = recor
 replied-call fuel name left left' fault bytes reply.NotHex all h = absurd h
 replied-call fuel name left left' fault bytes (reply.Rejected line) all h = absurd h
 replied-call fuel name left left' fault bytes reply.NotCallable all h = record { bytes = bytes; all = all; is_so = h }
+replied-call fuel name left left' fault bytes reply.NotChained all h = absurd h
 replied-call fuel name left left' fault bytes (reply.BadValue line) all h = record { bytes = bytes; all = all; is_so = h }
 replied-call fuel name left left' fault bytes reply.OverLimit all h = record { bytes = bytes; all = all; is_so = h }
 replied-call fuel name left left' fault bytes reply.OutOfMemory all h = tt
@@ -112,27 +116,22 @@ replied-call fuel name left left' fault bytes reply.OutOfMemory all h = tt
 
 -- where an adapter is called, that is all that is done
 pub is-call-mode : (o : CommandOptions) (name : List ℕ) → HasOneMode o → o.call ≡ Some name → IsCallMode o name
-is-call-mode o name one e = let alone = one.call name e in record { not_generated = alone.0; not_checked = alone.1; called = e }
-
-fault-called : (o : CommandOptions) (name : List ℕ) (left left' : Option (List ℕ)) (line : List ℕ) → o.call ≡ Some name → Read left left' (λ bytes. TellsFault (Some name) bytes line) → Read left left' (λ bytes. TellsFault o.call bytes line)
-fault-called o name left left' line e h = let P : Option (List ℕ) → Type 0 = λ x. Read left left' (λ bytes. TellsFault x bytes line) in subst P (sym e) h
-
-refusal-called : (o : CommandOptions) (name : List ℕ) (left left' : Option (List ℕ)) (line : List ℕ) → o.call ≡ Some name → Read left left' (λ bytes. TellsRefusalIn (Some name) bytes line) → Read left left' (λ bytes. TellsRefusalIn o.call bytes line)
-refusal-called o name left left' line e h = let P : Option (List ℕ) → Type 0 = λ x. Read left left' (λ bytes. TellsRefusalIn x bytes line) in subst P (sym e) h
+is-call-mode o name one e = let alone = one.call name e in record { not_generated = alone.0; not_checked = alone.1; called = e; not_chained = alone.2 }
 
 -- what a source comes to, where an adapter is called
 pub replied-called : (o : CommandOptions) (name : List ℕ) (left left' : Option (List ℕ)) (fault : Type 0) (r : Reply) → IsCallMode o name → IsCallReply o.fuel name left left' fault r → IsReplyUnder o left left' fault r
-replied-called o name left left' fault (reply.Page text) mode h = sends-in false (Some name) None o left left' (λ sent. sent ≡ string_bytes text) mode.not_checked mode.called mode.not_generated h
+replied-called o name left left' fault (reply.Page text) mode h = sends-in false false (Some name) None o left left' (λ sent. sent ≡ string_bytes text) mode.not_checked mode.not_chained mode.called mode.not_generated h
 replied-called o name left left' fault reply.ReadFault mode h = h
 replied-called o name left left' fault reply.TooLong mode h = h
 replied-called o name left left' fault reply.NotJson mode h = (record { not_generated = mode.not_generated; not_checked = mode.not_checked }, h)
-replied-called o name left left' fault (reply.BadPlan line) mode h = (record { not_generated = mode.not_generated; not_checked = mode.not_checked }, fault-called o name left left' (string_bytes line) mode.called h)
-replied-called o name left left' fault (reply.Refused line) mode h = (record { not_generated = mode.not_generated; not_checked = mode.not_checked }, refusal-called o name left left' (string_bytes line) mode.called h)
+replied-called o name left left' fault (reply.BadPlan line) mode h = (record { not_generated = mode.not_generated; not_checked = mode.not_checked }, told-in false (Some name) o left left' (string_bytes line) mode.not_chained mode.called h)
+replied-called o name left left' fault (reply.Refused line) mode h = (record { not_generated = mode.not_generated; not_checked = mode.not_checked }, refused-in false (Some name) o left left' (string_bytes line) mode.not_chained mode.called h)
 replied-called o name left left' fault reply.NotHex mode h = absurd h.is_so
 replied-called o name left left' fault (reply.Rejected line) mode h = absurd h.is_so
 replied-called o name left left' fault reply.NotCallable mode h = (name, mode, h)
-replied-called o name left left' fault (reply.BadValue line) mode h = (name, mode, h)
-replied-called o name left left' fault reply.OverLimit mode h = (name, mode, h)
+replied-called o name left left' fault reply.NotChained mode h = absurd h.is_so
+replied-called o name left left' fault (reply.BadValue line) mode h = (record { not_generated = mode.not_generated; not_checked = mode.not_checked }, value-in false (Some name) o left left' (string_bytes line) mode.not_chained mode.called h)
+replied-called o name left left' fault reply.OverLimit mode h = (record { not_generated = mode.not_generated; not_checked = mode.not_checked }, over-in false (Some name) o left left' mode.not_chained mode.called h)
 replied-called o name left left' fault reply.OutOfMemory mode h = tt
 
 -- the words ask for the call
@@ -154,9 +153,10 @@ sent-called : (words : List (List ℕ)) (o : CommandOptions) (name : List ℕ) (
     → Read left left' (λ bytes. SendsCall o.fuel name bytes Sent)
 sent-called words o name left left' Sent e asks h =
     let mode = options-call words o name e asks in
-    let P : Bool → Type 0 = λ b. SendsBy b o.call o.generate o left left' Sent in
-    let N : Option (List ℕ) → Type 0 = λ x. SendsBy false x o.generate o left left' Sent in
-    subst N mode.called (subst P mode.not_checked h)
+    let P : Bool → Type 0 = λ b. SendsBy b o.chain o.call o.generate o left left' Sent in
+    let L : Bool → Type 0 = λ b. SendsBy false b o.call o.generate o left left' Sent in
+    let N : Option (List ℕ) → Type 0 = λ x. SendsBy false false x o.generate o left left' Sent in
+    subst N mode.called (subst L mode.not_chained (subst P mode.not_checked h))
 
 -- ---- each input comes to one end
 
@@ -191,25 +191,26 @@ call-end-of words name bytes left' read old new write status.WriteFault line h g
 call-end-of words name bytes left' read old new write status.TooLong line h given none = inl (past bytes left' h.2.0)
 call-end-of words name bytes left' read old new write status.NotJson line h given none = inl (so bytes left' HoldsNoJson h.2.1)
 call-end-of words name bytes left' read old new write status.BadPlan line h given none =
-    let t = so bytes left' (λ b. TellsFault h.0.call b line) h.2.1 in
-    let P : Option (List ℕ) → Type 0 = λ x. HoldsFaultBy x bytes t.fault in
-    inl (t.fault, subst P (options-call words h.0 name h.1 given).called t.holds)
+    let t = so bytes left' (λ b. TellsFault h.0.chain h.0.call b line) h.2.1 in
+    let mode = options-call words h.0 name h.1 given in
+    inl (t.fault, fault-by h.0 false (Some name) bytes t.fault mode.not_chained mode.called t.holds)
 call-end-of words name bytes left' read old new write status.Refused line h given none =
-    let t = so bytes left' (λ b. TellsRefusalIn h.0.call b line) h.2.1 in
-    let P : Option (List ℕ) → Type 0 = λ x. HoldsRefusalBy x bytes t.fault t.place in
-    inl (t.fault, t.place, subst P (options-call words h.0 name h.1 given).called t.holds)
+    let t = so bytes left' (λ b. TellsRefusalIn h.0.chain h.0.call b line) h.2.1 in
+    let mode = options-call words h.0 name h.1 given in
+    inl (t.fault, t.place, refusal-by h.0 false (Some name) bytes t.fault t.place mode.not_chained mode.called t.holds)
 call-end-of words name bytes left' read old new write status.NotHex line h given none = absurd (false≢true (sym (options-call words h.0 name h.1 given).not_checked ∙ h.2.0))
 call-end-of words name bytes left' read old new write status.Rejected line h given none = absurd (false≢true (sym (options-call words h.0 name h.1 given).not_checked ∙ h.2.0))
 call-end-of words name bytes left' read old new write status.NotCallable line h given none =
     let P : List ℕ → Type 0 = λ x. HasInput bytes (IsNotCallable x) in
     inl (subst P (same-name h.0 h.2.0 name h.2.1 (options-call words h.0 name h.1 given)) (so bytes left' (λ b. HasInput b (IsNotCallable h.2.0)) h.2.2))
+call-end-of words name bytes left' read old new write status.NotChained line h given none = absurd (false≢true (sym (options-call words h.0 name h.1 given).not_chained ∙ h.2.0.chained))
 call-end-of words name bytes left' read old new write status.BadValue line h given none =
-    let t = so bytes left' (λ b. TellsBadValue h.2.0 b line) h.2.2 in
-    let P : List ℕ → Type 0 = λ x. HasInput bytes (λ i. HasBadValue x i t.fault) in
-    inl (t.fault, subst P (same-name h.0 h.2.0 name h.2.1 (options-call words h.0 name h.1 given)) t.holds)
+    let t = so bytes left' (λ b. TellsBadValue h.0.chain h.0.call b line) h.2.1 in
+    let mode = options-call words h.0 name h.1 given in
+    inl (t.fault, value-by h.0 false (Some name) bytes t.fault mode.not_chained mode.called t.holds)
 call-end-of words name bytes left' read old new write status.OverLimit line h given none =
-    let P : List ℕ → Type 0 = λ x. HasInput bytes (IsOverLimit x) in
-    inl (subst P (same-name h.0 h.2.0 name h.2.1 (options-call words h.0 name h.1 given)) (so bytes left' (λ b. HasInput b (IsOverLimit h.2.0)) h.2.2))
+    let mode = options-call words h.0 name h.1 given in
+    inl (over-by h.0 false (Some name) bytes mode.not_chained mode.called (so bytes left' (λ b. HoldsOverLimitBy h.0.chain h.0.call b) h.2.1))
 call-end-of words name bytes left' read old new write status.OutOfMemory line h given none = inr refl
 
 -- ---- how far the reading of an input comes: to its length, to JSON, to an input, to an adapter, to values, to their room, or past these
@@ -339,6 +340,7 @@ module _ (name bytes : List ℕ) where
   at status.BadPlan h = Ends (sym (ap end_at (stage-fault h.0 h.1)))
   at status.Refused h = Refuses h
   at status.NotCallable h = Ends (sym (ap end_at (stage-none h)))
+  at status.NotChained h = absurd h
   at status.BadValue h = Ends (sym (ap end_at (stage-bad h.0 h.1)))
   at status.OverLimit h = Ends (sym (ap end_at (stage-over h)))
   at status.Done h = Ends (sym (ap end_at (stage-call h)))
@@ -366,6 +368,7 @@ module _ (name bytes : List ℕ) where
   refused-call status.NotJson r (inl h) = absurd (no-input h r)
   refused-call status.BadPlan r (inl h) = absurd (faulty-input h.0 h.1 r)
   refused-call status.NotCallable r (inl h) = absurd (not-refused h.input h.holds h.is_so.faultless r)
+  refused-call status.NotChained r (inl h) = absurd h
   refused-call status.BadValue r (inl h) = absurd (not-refused h.1.input h.1.holds h.1.is_so.callable.faultless r)
   refused-call status.OverLimit r (inl h) = absurd (not-refused h.input h.holds h.is_so.callable.faultless r)
   refused-call status.Done r (inl h) = absurd (not-refused h.input h.holds h.is_so.callable.faultless r)
@@ -407,9 +410,9 @@ complete-call words name (Some bytes) left' before now old new write s line clea
 -- ---- what is told
 
 -- What is no value was told, where its line was.
-pub told-bad-value : (name : List ℕ) (left left' : Option (List ℕ)) (line : List ℕ) (old new : Option (List ℕ)) (before now : ℕ) → Read left left' (λ bytes. TellsBadValue name bytes line) → TellsLine old new before now line
-    → Read left left' (λ bytes. (f : PlanFault) × HasInput bytes (λ i. HasBadValue name i f) × TellsLine old new before now (bad_value_line f))
-told-bad-value name left left' line old new before now r h = record {
+pub told-bad-value : (chain : Bool) (call : Option (List ℕ)) (left left' : Option (List ℕ)) (line : List ℕ) (old new : Option (List ℕ)) (before now : ℕ) → Read left left' (λ bytes. TellsBadValue chain call bytes line) → TellsLine old new before now line
+    → Read left left' (λ bytes. (f : PlanFault) × HoldsBadValueBy chain call bytes f × TellsLine old new before now (bad_value_line f))
+told-bad-value chain call left left' line old new before now r h = record {
   bytes = r.bytes;
   all = r.all;
   is_so = (r.is_so.fault, r.is_so.holds, subst (λ (l : List ℕ). TellsLine old new before now l) r.is_so.is_line h);

@@ -16,7 +16,7 @@ use Rattle.fact_command.specs.declared.command.CommandOptions.{CommandOptions}
 use Rattle.fact_command.specs.Command.{reading}
 use Rattle.fact_run.specs.Check.{HoldsAccepted, HoldsHex, HoldsNoHex, HoldsRejected, rejected_line}
 use Rattle.fact_run.specs.Answer.{IsCheckReply, IsEnding, IsReplyToBytes, IsReplyToCause, IsReplyToCheck, IsReplyUnder, TellsRejection}
-use Rattle.fact_run.specs.Run.{ChecksBytes, IsCallMode, IsJsonMode, IsOrMemory, IsTooLong, IsUndisturbedCheck, Read, Sends, SendsAccepted, SendsBy, TellsLine, limit}
+use Rattle.fact_run.specs.Run.{ChecksBytes, IsCallMode, IsChainMode, IsJsonMode, IsOrMemory, IsTooLong, IsUndisturbedCheck, Read, Sends, SendsAccepted, SendsBy, TellsLine, limit}
 use Rattle.fact_run.proofs.Ends.{past, so}
 
 -- ---- from what was read to a reply
@@ -33,6 +33,7 @@ replied-cause bytes e (reply.BadPlan line) h k = absurd k
 replied-cause bytes e (reply.Refused line) h k = absurd k
 replied-cause bytes e reply.NotHex h k = absurd k
 replied-cause bytes e reply.NotCallable h k = absurd k
+replied-cause bytes e reply.NotChained h k = absurd k
 replied-cause bytes e (reply.BadValue line) h k = absurd k
 replied-cause bytes e reply.OverLimit h k = absurd k
 
@@ -48,6 +49,7 @@ replied-bytes input bytes (reply.BadPlan line) h k = absurd k
 replied-bytes input bytes (reply.Refused line) h k = absurd k
 replied-bytes input bytes reply.NotHex h k = absurd k
 replied-bytes input bytes reply.NotCallable h k = absurd k
+replied-bytes input bytes reply.NotChained h k = absurd k
 replied-bytes input bytes (reply.BadValue line) h k = absurd k
 replied-bytes input bytes reply.OverLimit h k = absurd k
 
@@ -60,6 +62,7 @@ replied-input left left' fault input reply.NotJson all h = absurd h
 replied-input left left' fault input (reply.BadPlan line) all h = absurd h
 replied-input left left' fault input (reply.Refused line) all h = absurd h
 replied-input left left' fault input reply.NotCallable all h = absurd h
+replied-input left left' fault input reply.NotChained all h = absurd h
 replied-input left left' fault input (reply.BadValue line) all h = absurd h
 replied-input left left' fault input reply.OverLimit all h = absurd h
 replied-input left left' fault input reply.NotHex all h = record { bytes = input; all = all; is_so = h }
@@ -69,13 +72,14 @@ replied-input left left' fault input reply.OutOfMemory all h = tt
 -- what a source comes to, where bytes are checked
 pub replied-checked : (o : CommandOptions) (left left' : Option (List ℕ)) (fault : Type 0) (r : Reply) → o.check ≡ true → IsCheckReply left left' fault r → IsReplyUnder o left left' fault r
 replied-checked o left left' fault (reply.Page text) check h =
-    let P : Bool → Type 0 = λ b. SendsBy b o.call o.generate o left left' (λ sent. sent ≡ string_bytes text) in subst P (sym check) h
+    let P : Bool → Type 0 = λ b. SendsBy b o.chain o.call o.generate o left left' (λ sent. sent ≡ string_bytes text) in subst P (sym check) h
 replied-checked o left left' fault reply.ReadFault check h = h
 replied-checked o left left' fault reply.TooLong check h = h
 replied-checked o left left' fault reply.NotJson check h = absurd h.is_so
 replied-checked o left left' fault (reply.BadPlan line) check h = absurd h.is_so
 replied-checked o left left' fault (reply.Refused line) check h = absurd h.is_so
 replied-checked o left left' fault reply.NotCallable check h = absurd h.is_so
+replied-checked o left left' fault reply.NotChained check h = absurd h.is_so
 replied-checked o left left' fault (reply.BadValue line) check h = absurd h.is_so
 replied-checked o left left' fault reply.OverLimit check h = absurd h.is_so
 replied-checked o left left' fault reply.NotHex check h = (check, h)
@@ -98,17 +102,20 @@ none-checks words e g = let P : Option CommandOptions → Type 0 = λ r. IsSomeA
 pub bytes-checked : (words : List (List ℕ)) (o : CommandOptions) → reading words ≡ Some o → o.check ≡ true → ChecksBytes words
 bytes-checked words o e h = let P : Option CommandOptions → Type 0 = λ r. IsSomeAnd r (λ x. x.check ≡ true) in subst P (sym e) h
 
--- then no JSON text is read, and no adapter is called
+-- then no JSON text is read, no adapter is called, and none are chained
 not-read : (words : List (List ℕ)) (o : CommandOptions) → reading words ≡ Some o → ChecksBytes words → IsJsonMode o → ⊥
 not-read words o e given mode = false≢true (sym mode.not_checked ∙ options-check words o e given)
 
 not-called : (words : List (List ℕ)) (o : CommandOptions) (name : List ℕ) → reading words ≡ Some o → ChecksBytes words → IsCallMode o name → ⊥
 not-called words o name e given mode = false≢true (sym mode.not_checked ∙ options-check words o e given)
 
+not-chained : (words : List (List ℕ)) (o : CommandOptions) → reading words ≡ Some o → ChecksBytes words → IsChainMode o → ⊥
+not-chained words o e given mode = false≢true (sym mode.not_checked ∙ options-check words o e given)
+
 -- what was sent of bytes that were checked
 sent-checked : (words : List (List ℕ)) (o : CommandOptions) (left left' : Option (List ℕ)) (Sent : List ℕ → Type 0) → reading words ≡ Some o → ChecksBytes words → Sends o left left' Sent
     → Read left left' (λ input. SendsAccepted input Sent)
-sent-checked words o left left' Sent e given h = let P : Bool → Type 0 = λ b. SendsBy b o.call o.generate o left left' Sent in subst P (options-check words o e given) h
+sent-checked words o left left' Sent e given h = let P : Bool → Type 0 = λ b. SendsBy b o.chain o.call o.generate o left left' Sent in subst P (options-check words o e given) h
 
 -- ---- each input comes to one end
 
@@ -137,8 +144,9 @@ check-end-of words input left' read old new write status.Refused line h given no
 check-end-of words input left' read old new write status.NotHex line h given none = inl (so input left' HoldsNoHex h.2.1)
 check-end-of words input left' read old new write status.Rejected line h given none = let t = so input left' (λ b. TellsRejection b line) h.2.1 in inl (t.cause, t.holds)
 check-end-of words input left' read old new write status.NotCallable line h given none = absurd (not-called words h.0 h.2.0 h.1 given h.2.1)
-check-end-of words input left' read old new write status.BadValue line h given none = absurd (not-called words h.0 h.2.0 h.1 given h.2.1)
-check-end-of words input left' read old new write status.OverLimit line h given none = absurd (not-called words h.0 h.2.0 h.1 given h.2.1)
+check-end-of words input left' read old new write status.NotChained line h given none = absurd (not-chained words h.0 h.1 given h.2.0)
+check-end-of words input left' read old new write status.BadValue line h given none = absurd (not-read words h.0 h.1 given h.2.0)
+check-end-of words input left' read old new write status.OverLimit line h given none = absurd (not-read words h.0 h.1 given h.2.0)
 check-end-of words input left' read old new write status.OutOfMemory line h given none = inr refl
 
 -- an input has the digits of one list of bytes
@@ -165,6 +173,7 @@ check-long-end status.NotJson input b (inl h) = absurd h
 check-long-end status.BadPlan input b (inl h) = absurd h
 check-long-end status.Refused input b (inl h) = absurd h
 check-long-end status.NotCallable input b (inl h) = absurd h
+check-long-end status.NotChained input b (inl h) = absurd h
 check-long-end status.BadValue input b (inl h) = absurd h
 check-long-end status.OverLimit input b (inl h) = absurd h
 check-long-end status.OutOfMemory input b (inl h) = absurd h
@@ -182,6 +191,7 @@ hex-end status.NotJson input b (inl h) = absurd h
 hex-end status.BadPlan input b (inl h) = absurd h
 hex-end status.Refused input b (inl h) = absurd h
 hex-end status.NotCallable input b (inl h) = absurd h
+hex-end status.NotChained input b (inl h) = absurd h
 hex-end status.BadValue input b (inl h) = absurd h
 hex-end status.OverLimit input b (inl h) = absurd h
 hex-end status.OutOfMemory input b (inl h) = absurd h
@@ -199,6 +209,7 @@ rejected-end law status.NotJson input b (inl h) = absurd h
 rejected-end law status.BadPlan input b (inl h) = absurd h
 rejected-end law status.Refused input b (inl h) = absurd h
 rejected-end law status.NotCallable input b (inl h) = absurd h
+rejected-end law status.NotChained input b (inl h) = absurd h
 rejected-end law status.BadValue input b (inl h) = absurd h
 rejected-end law status.OverLimit input b (inl h) = absurd h
 rejected-end law status.OutOfMemory input b (inl h) = absurd h
@@ -216,6 +227,7 @@ accepted-end law status.NotJson input unfaulted b (inl h) = absurd h
 accepted-end law status.BadPlan input unfaulted b (inl h) = absurd h
 accepted-end law status.Refused input unfaulted b (inl h) = absurd h
 accepted-end law status.NotCallable input unfaulted b (inl h) = absurd h
+accepted-end law status.NotChained input unfaulted b (inl h) = absurd h
 accepted-end law status.BadValue input unfaulted b (inl h) = absurd h
 accepted-end law status.OverLimit input unfaulted b (inl h) = absurd h
 accepted-end law status.OutOfMemory input unfaulted b (inl h) = absurd h

@@ -21,13 +21,13 @@ use Rattle.fact_command.specs.declared.status.Status.{Status}
 use Rattle.fact_command.specs.declared.status.Status.TheVariants as status
 use Rattle.fact_run.specs.declared.answer.Reply.{Reply}
 use Rattle.fact_run.specs.declared.answer.Reply.TheVariants as reply
-use Rattle.fact_run.specs.Answer.{IsEnding, IsReply, IsReplyTo, IsReplyToFault, IsReplyToPlan, IsReplyUnder, IsReplyUnread, TellsFault, TellsRefusalIn, ending_with}
+use Rattle.fact_run.specs.Answer.{IsEnding, IsReply, IsReplyTo, IsReplyToFault, IsReplyToPlan, IsReplyUnder, IsReplyUnread, TellsBadValue, TellsFault, TellsRefusalIn, ending_with}
 use Rattle.fact_command.specs.declared.command.CommandOptions.{CommandOptions}
 use Rattle.fact_command.specs.Command.{reading}
 use Rattle.fact_command.specs.Refusal.{refusal_line}
 use Rattle.fact_command.specs.Status.{line_of}
 use Rattle.fact_types.proofs.ShapeLaws.{none_some}
-use Rattle.fact_run.specs.Run.{Counts, GeneratesPlan, HoldsFault, HoldsFaultBy, HoldsFaultless, HoldsNoJson, HoldsPlan, HoldsRefusal, HoldsRefusalBy, IsCallMode, IsEndUnread, IsJsonMode, IsOrMemory, IsPlanMode, IsTooLong, IsUndisturbed, Read, ReadsJson, ReadsPlan, Sends, SendsAccepted, SendsBy, SendsCall, SendsCounts, SendsPage, TellsLine, limit}
+use Rattle.fact_run.specs.Run.{Counts, GeneratesPlan, HoldsBadValueBy, HoldsFault, HoldsFaultBy, HoldsFaultless, HoldsNoJson, HoldsOverLimitBy, HoldsPlan, HoldsRefusal, HoldsRefusalBy, IsCallMode, IsChainMode, IsEndUnread, IsJsonMode, IsOrMemory, IsPlanMode, IsTooLong, IsUndisturbed, Read, ReadsJson, ReadsPlan, Sends, SendsAccepted, SendsBy, SendsCall, SendsChain, SendsCounts, SendsPage, TellsLine, limit}
 
 -- ---- from what was read to a reply
 
@@ -55,6 +55,7 @@ replied-fault o bytes v f (reply.Refused line) within j h e = absurd e
 replied-fault o bytes v f reply.NotHex within j h e = absurd e
 replied-fault o bytes v f (reply.Rejected line) within j h e = absurd e
 replied-fault o bytes v f reply.NotCallable within j h e = absurd e
+replied-fault o bytes v f reply.NotChained within j h e = absurd e
 replied-fault o bytes v f (reply.BadValue line) within j h e = absurd e
 replied-fault o bytes v f reply.OverLimit within j h e = absurd e
 
@@ -80,6 +81,7 @@ replied-plan o bytes p reply.NotJson h e = absurd e
 replied-plan o bytes p reply.NotHex h e = absurd e
 replied-plan o bytes p (reply.Rejected line) h e = absurd e
 replied-plan o bytes p reply.NotCallable h e = absurd e
+replied-plan o bytes p reply.NotChained h e = absurd e
 replied-plan o bytes p (reply.BadValue line) h e = absurd e
 replied-plan o bytes p reply.OverLimit h e = absurd e
 
@@ -98,6 +100,7 @@ replied o left left' fault bytes (reply.Refused line) all h = record { bytes = b
 replied o left left' fault bytes reply.NotHex all h = absurd h
 replied o left left' fault bytes (reply.Rejected line) all h = absurd h
 replied o left left' fault bytes reply.NotCallable all h = absurd h
+replied o left left' fault bytes reply.NotChained all h = absurd h
 replied o left left' fault bytes (reply.BadValue line) all h = absurd h
 replied o left left' fault bytes reply.OverLimit all h = absurd h
 replied o left left' fault bytes reply.OutOfMemory all h = tt
@@ -117,57 +120,86 @@ sent-accepted input text Q a q = record { found = a.found; holds = a.holds; sent
 sent-call : (fuel : ℕ) (name bytes text : List ℕ) (Q : List ℕ → Type 0) → SendsCall fuel name bytes (λ sent. sent ≡ text) → Q text → SendsCall fuel name bytes Q
 sent-call fuel name bytes text Q a q = record { input = a.input; holds = a.holds; text = a.text; tells = a.tells; sent = subst Q (sym a.sent) q }
 
-sent-by : (check : Bool) (call : Option (List ℕ)) (m : Option ℕ) (o : CommandOptions) (left left' : Option (List ℕ)) (text : List ℕ) (Q : List ℕ → Type 0) → SendsBy check call m o left left' (λ sent. sent ≡ text) → Q text → SendsBy check call m o left left' Q
-sent-by true call m o left left' text Q r q = record { bytes = r.bytes; all = r.all; is_so = sent-accepted r.bytes text Q r.is_so q }
-sent-by false (Some name) m o left left' text Q r q = record { bytes = r.bytes; all = r.all; is_so = sent-call o.fuel name r.bytes text Q r.is_so q }
-sent-by false None None o left left' text Q r q = record {
+sent-chain : (fuel : ℕ) (bytes text : List ℕ) (Q : List ℕ → Type 0) → SendsChain fuel bytes (λ sent. sent ≡ text) → Q text → SendsChain fuel bytes Q
+sent-chain fuel bytes text Q a q = record { input = a.input; holds = a.holds; text = a.text; tells = a.tells; sent = subst Q (sym a.sent) q }
+
+sent-by : (check chain : Bool) (call : Option (List ℕ)) (m : Option ℕ) (o : CommandOptions) (left left' : Option (List ℕ)) (text : List ℕ) (Q : List ℕ → Type 0) → SendsBy check chain call m o left left' (λ sent. sent ≡ text) → Q text
+    → SendsBy check chain call m o left left' Q
+sent-by true chain call m o left left' text Q r q = record { bytes = r.bytes; all = r.all; is_so = sent-accepted r.bytes text Q r.is_so q }
+sent-by false true call m o left left' text Q r q = record { bytes = r.bytes; all = r.all; is_so = sent-chain o.fuel r.bytes text Q r.is_so q }
+sent-by false false (Some name) m o left left' text Q r q = record { bytes = r.bytes; all = r.all; is_so = sent-call o.fuel name r.bytes text Q r.is_so q }
+sent-by false false None None o left left' text Q r q = record {
   bytes = r.bytes;
   all = r.all;
   is_so = sent-as o r.bytes (λ sent. sent ≡ text) Q (λ t e. subst Q (sym e) q) r.is_so;
 }
-sent-by false None (Some n) o left left' text Q a q = sent-counts o n text Q a q
+sent-by false false None (Some n) o left left' text Q a q = sent-counts o n text Q a q
 
 -- the text that a run comes to was sent
 pub sent-of : (o : CommandOptions) (left left' : Option (List ℕ)) (text : List ℕ) (Q : List ℕ → Type 0) → Sends o left left' (λ sent. sent ≡ text) → Q text → Sends o left left' Q
-sent-of o left left' text Q r q = sent-by o.check o.call o.generate o left left' text Q r q
+sent-of o left left' text Q r q = sent-by o.check o.chain o.call o.generate o left left' text Q r q
 
 -- ---- modes
 
 -- what was sent in a mode
-pub sends-in : (check : Bool) (call : Option (List ℕ)) (m : Option ℕ) (o : CommandOptions) (left left' : Option (List ℕ)) (Sent : List ℕ → Type 0) → o.check ≡ check → o.call ≡ call → o.generate ≡ m
-    → SendsBy check call m o left left' Sent → Sends o left left' Sent
-sends-in check call m o left left' Sent c n g h =
-    let P : Bool → Type 0 = λ b. SendsBy b call m o left left' Sent in
-    let N : Option (List ℕ) → Type 0 = λ x. SendsBy o.check x m o left left' Sent in
-    let Q : Option ℕ → Type 0 = λ k. SendsBy o.check o.call k o left left' Sent in
-    subst Q (sym g) (subst N (sym n) (subst P (sym c) h))
+pub sends-in : (check chain : Bool) (call : Option (List ℕ)) (m : Option ℕ) (o : CommandOptions) (left left' : Option (List ℕ)) (Sent : List ℕ → Type 0) → o.check ≡ check → o.chain ≡ chain → o.call ≡ call → o.generate ≡ m
+    → SendsBy check chain call m o left left' Sent → Sends o left left' Sent
+sends-in check chain call m o left left' Sent c l n g h =
+    let P : Bool → Type 0 = λ b. SendsBy b chain call m o left left' Sent in
+    let L : Bool → Type 0 = λ b. SendsBy o.check b call m o left left' Sent in
+    let N : Option (List ℕ) → Type 0 = λ x. SendsBy o.check o.chain x m o left left' Sent in
+    let Q : Option ℕ → Type 0 = λ k. SendsBy o.check o.chain o.call k o left left' Sent in
+    subst Q (sym g) (subst N (sym n) (subst L (sym l) (subst P (sym c) h)))
 
 -- a fault and a refusal that were told of a plan that was read
-told-in : (o : CommandOptions) (left left' : Option (List ℕ)) (line : List ℕ) → o.call ≡ None → Read left left' (λ bytes. TellsFault None bytes line) → Read left left' (λ bytes. TellsFault o.call bytes line)
-told-in o left left' line none h = let P : Option (List ℕ) → Type 0 = λ x. Read left left' (λ bytes. TellsFault x bytes line) in subst P (sym none) h
+pub told-in : (chain : Bool) (call : Option (List ℕ)) (o : CommandOptions) (left left' : Option (List ℕ)) (line : List ℕ) → o.chain ≡ chain → o.call ≡ call → Read left left' (λ bytes. TellsFault chain call bytes line)
+    → Read left left' (λ bytes. TellsFault o.chain o.call bytes line)
+told-in chain call o left left' line l n h =
+    let L : Bool → Type 0 = λ b. Read left left' (λ bytes. TellsFault b call bytes line) in
+    let P : Option (List ℕ) → Type 0 = λ x. Read left left' (λ bytes. TellsFault o.chain x bytes line) in
+    subst P (sym n) (subst L (sym l) h)
 
-refused-in : (o : CommandOptions) (left left' : Option (List ℕ)) (line : List ℕ) → o.call ≡ None → Read left left' (λ bytes. TellsRefusalIn None bytes line) → Read left left' (λ bytes. TellsRefusalIn o.call bytes line)
-refused-in o left left' line none h = let P : Option (List ℕ) → Type 0 = λ x. Read left left' (λ bytes. TellsRefusalIn x bytes line) in subst P (sym none) h
+pub refused-in : (chain : Bool) (call : Option (List ℕ)) (o : CommandOptions) (left left' : Option (List ℕ)) (line : List ℕ) → o.chain ≡ chain → o.call ≡ call → Read left left' (λ bytes. TellsRefusalIn chain call bytes line)
+    → Read left left' (λ bytes. TellsRefusalIn o.chain o.call bytes line)
+refused-in chain call o left left' line l n h =
+    let L : Bool → Type 0 = λ b. Read left left' (λ bytes. TellsRefusalIn b call bytes line) in
+    let P : Option (List ℕ) → Type 0 = λ x. Read left left' (λ bytes. TellsRefusalIn o.chain x bytes line) in
+    subst P (sym n) (subst L (sym l) h)
+
+-- and a fault of values, and such that do not fit
+pub value-in : (chain : Bool) (call : Option (List ℕ)) (o : CommandOptions) (left left' : Option (List ℕ)) (line : List ℕ) → o.chain ≡ chain → o.call ≡ call → Read left left' (λ bytes. TellsBadValue chain call bytes line)
+    → Read left left' (λ bytes. TellsBadValue o.chain o.call bytes line)
+value-in chain call o left left' line l n h =
+    let L : Bool → Type 0 = λ b. Read left left' (λ bytes. TellsBadValue b call bytes line) in
+    let P : Option (List ℕ) → Type 0 = λ x. Read left left' (λ bytes. TellsBadValue o.chain x bytes line) in
+    subst P (sym n) (subst L (sym l) h)
+
+pub over-in : (chain : Bool) (call : Option (List ℕ)) (o : CommandOptions) (left left' : Option (List ℕ)) → o.chain ≡ chain → o.call ≡ call → Read left left' (λ bytes. HoldsOverLimitBy chain call bytes) → Read left left' (λ bytes. HoldsOverLimitBy o.chain o.call bytes)
+over-in chain call o left left' l n h =
+    let L : Bool → Type 0 = λ b. Read left left' (λ bytes. HoldsOverLimitBy b call bytes) in
+    let P : Option (List ℕ) → Type 0 = λ x. Read left left' (λ bytes. HoldsOverLimitBy o.chain x bytes) in
+    subst P (sym n) (subst L (sym l) h)
 
 -- what a source comes to, where a plan is read
-pub replied-read : (o : CommandOptions) (left left' : Option (List ℕ)) (fault : Type 0) (r : Reply) → o.generate ≡ None → o.check ≡ false → o.call ≡ None → IsReply o left left' fault r → IsReplyUnder o left left' fault r
-replied-read o left left' fault (reply.Page text) none unchecked uncalled h = sends-in false None None o left left' (λ sent. sent ≡ string_bytes text) unchecked uncalled none h
-replied-read o left left' fault reply.ReadFault none unchecked uncalled h = h
-replied-read o left left' fault reply.TooLong none unchecked uncalled h = h
-replied-read o left left' fault reply.NotJson none unchecked uncalled h = (record { not_generated = none; not_checked = unchecked }, h)
-replied-read o left left' fault (reply.BadPlan line) none unchecked uncalled h = (record { not_generated = none; not_checked = unchecked }, told-in o left left' (string_bytes line) uncalled h)
-replied-read o left left' fault (reply.Refused line) none unchecked uncalled h = (record { not_generated = none; not_checked = unchecked }, refused-in o left left' (string_bytes line) uncalled h)
-replied-read o left left' fault reply.NotHex none unchecked uncalled h = absurd h.is_so
-replied-read o left left' fault (reply.Rejected line) none unchecked uncalled h = absurd h.is_so
-replied-read o left left' fault reply.NotCallable none unchecked uncalled h = absurd h.is_so
-replied-read o left left' fault (reply.BadValue line) none unchecked uncalled h = absurd h.is_so
-replied-read o left left' fault reply.OverLimit none unchecked uncalled h = absurd h.is_so
-replied-read o left left' fault reply.OutOfMemory none unchecked uncalled h = h
+pub replied-read : (o : CommandOptions) (left left' : Option (List ℕ)) (fault : Type 0) (r : Reply) → o.generate ≡ None → o.check ≡ false → o.call ≡ None → o.chain ≡ false → IsReply o left left' fault r → IsReplyUnder o left left' fault r
+replied-read o left left' fault (reply.Page text) none unchecked uncalled unchained h = sends-in false false None None o left left' (λ sent. sent ≡ string_bytes text) unchecked unchained uncalled none h
+replied-read o left left' fault reply.ReadFault none unchecked uncalled unchained h = h
+replied-read o left left' fault reply.TooLong none unchecked uncalled unchained h = h
+replied-read o left left' fault reply.NotJson none unchecked uncalled unchained h = (record { not_generated = none; not_checked = unchecked }, h)
+replied-read o left left' fault (reply.BadPlan line) none unchecked uncalled unchained h = (record { not_generated = none; not_checked = unchecked }, told-in false None o left left' (string_bytes line) unchained uncalled h)
+replied-read o left left' fault (reply.Refused line) none unchecked uncalled unchained h = (record { not_generated = none; not_checked = unchecked }, refused-in false None o left left' (string_bytes line) unchained uncalled h)
+replied-read o left left' fault reply.NotHex none unchecked uncalled unchained h = absurd h.is_so
+replied-read o left left' fault (reply.Rejected line) none unchecked uncalled unchained h = absurd h.is_so
+replied-read o left left' fault reply.NotCallable none unchecked uncalled unchained h = absurd h.is_so
+replied-read o left left' fault reply.NotChained none unchecked uncalled unchained h = absurd h.is_so
+replied-read o left left' fault (reply.BadValue line) none unchecked uncalled unchained h = absurd h.is_so
+replied-read o left left' fault reply.OverLimit none unchecked uncalled unchained h = absurd h.is_so
+replied-read o left left' fault reply.OutOfMemory none unchecked uncalled unchained h = h
 
 -- counts that were made of a plan that is generated
-pub replied-counts : (o : CommandOptions) (n : ℕ) (left left' : Option (List ℕ)) (text : List ℕ) → o.generate ≡ Some n → o.check ≡ false → o.call ≡ None → Counts o n text → Sends o left left' (λ sent. sent ≡ text)
-replied-counts o n left left' text some unchecked uncalled made =
-    sends-in false None (Some n) o left left' (λ sent. sent ≡ text) unchecked uncalled some (record { text = text; counted = made; sent = refl })
+pub replied-counts : (o : CommandOptions) (n : ℕ) (left left' : Option (List ℕ)) (text : List ℕ) → o.generate ≡ Some n → o.check ≡ false → o.call ≡ None → o.chain ≡ false → Counts o n text → Sends o left left' (λ sent. sent ≡ text)
+replied-counts o n left left' text some unchecked uncalled unchained made =
+    sends-in false false None (Some n) o left left' (λ sent. sent ≡ text) unchecked unchained uncalled some (record { text = text; counted = made; sent = refl })
 
 -- a run that reads nothing ends as such runs do
 pub ended-unread : (r : Reply) → IsReplyUnread r → IsEndUnread (ending_with r).status
@@ -181,6 +213,7 @@ ended-unread (reply.Refused line) h = absurd h
 ended-unread reply.NotHex h = absurd h
 ended-unread (reply.Rejected line) h = absurd h
 ended-unread reply.NotCallable h = absurd h
+ended-unread reply.NotChained h = absurd h
 ended-unread (reply.BadValue line) h = absurd h
 ended-unread reply.OverLimit h = absurd h
 
@@ -211,10 +244,11 @@ sent-read : (words : List (List ℕ)) (o : CommandOptions) (left left' : Option 
     → Read left left' (λ bytes. SendsPage o bytes Sent)
 sent-read words o left left' Sent e reads h =
     let mode = options-read words o e reads in
-    let P : Bool → Type 0 = λ b. SendsBy b o.call o.generate o left left' Sent in
-    let N : Option (List ℕ) → Type 0 = λ x. SendsBy false x o.generate o left left' Sent in
-    let Q : Option ℕ → Type 0 = λ m. SendsBy false None m o left left' Sent in
-    subst Q mode.not_generated (subst N mode.not_called (subst P mode.not_checked h))
+    let P : Bool → Type 0 = λ b. SendsBy b o.chain o.call o.generate o left left' Sent in
+    let L : Bool → Type 0 = λ b. SendsBy false b o.call o.generate o left left' Sent in
+    let N : Option (List ℕ) → Type 0 = λ x. SendsBy false false x o.generate o left left' Sent in
+    let Q : Option ℕ → Type 0 = λ m. SendsBy false false None m o left left' Sent in
+    subst Q mode.not_generated (subst N mode.not_called (subst L mode.not_chained (subst P mode.not_checked h)))
 
 -- ---- each input comes to one end
 
@@ -292,12 +326,34 @@ unchecked words o e given check = false≢true (sym (options-read words o e give
 uncalled : (words : List (List ℕ)) (o : CommandOptions) (name : List ℕ) → reading words ≡ Some o → ReadsPlan words → IsCallMode o name → ⊥
 uncalled words o name e given mode = none_some o.call name (options-read words o e given).not_called mode.called
 
--- and what the bytes hold is a plan
-fault-read : (o : CommandOptions) (bytes : List ℕ) (f : PlanFault) → o.call ≡ None → HoldsFaultBy o.call bytes f → HoldsFault bytes f
-fault-read o bytes f none h = let P : Option (List ℕ) → Type 0 = λ x. HoldsFaultBy x bytes f in subst P none h
+-- nor are two chained
+unchained : (words : List (List ℕ)) (o : CommandOptions) → reading words ≡ Some o → ReadsPlan words → IsChainMode o → ⊥
+unchained words o e given mode = false≢true (sym (options-read words o e given).not_chained ∙ mode.chained)
 
-refusal-read : (o : CommandOptions) (bytes : List ℕ) (f : Fault) (place : Place) → o.call ≡ None → HoldsRefusalBy o.call bytes f place → HoldsRefusal bytes f place
-refusal-read o bytes f place none h = let P : Option (List ℕ) → Type 0 = λ x. HoldsRefusalBy x bytes f place in subst P none h
+-- what the bytes hold is what they hold in this mode
+pub fault-by : (o : CommandOptions) (chain : Bool) (call : Option (List ℕ)) (bytes : List ℕ) (f : PlanFault) → o.chain ≡ chain → o.call ≡ call → HoldsFaultBy o.chain o.call bytes f → HoldsFaultBy chain call bytes f
+fault-by o chain call bytes f l n h =
+    let L : Bool → Type 0 = λ b. HoldsFaultBy b o.call bytes f in
+    let P : Option (List ℕ) → Type 0 = λ x. HoldsFaultBy chain x bytes f in
+    subst P n (subst L l h)
+
+pub refusal-by : (o : CommandOptions) (chain : Bool) (call : Option (List ℕ)) (bytes : List ℕ) (f : Fault) (place : Place) → o.chain ≡ chain → o.call ≡ call → HoldsRefusalBy o.chain o.call bytes f place → HoldsRefusalBy chain call bytes f place
+refusal-by o chain call bytes f place l n h =
+    let L : Bool → Type 0 = λ b. HoldsRefusalBy b o.call bytes f place in
+    let P : Option (List ℕ) → Type 0 = λ x. HoldsRefusalBy chain x bytes f place in
+    subst P n (subst L l h)
+
+pub value-by : (o : CommandOptions) (chain : Bool) (call : Option (List ℕ)) (bytes : List ℕ) (f : PlanFault) → o.chain ≡ chain → o.call ≡ call → HoldsBadValueBy o.chain o.call bytes f → HoldsBadValueBy chain call bytes f
+value-by o chain call bytes f l n h =
+    let L : Bool → Type 0 = λ b. HoldsBadValueBy b o.call bytes f in
+    let P : Option (List ℕ) → Type 0 = λ x. HoldsBadValueBy chain x bytes f in
+    subst P n (subst L l h)
+
+pub over-by : (o : CommandOptions) (chain : Bool) (call : Option (List ℕ)) (bytes : List ℕ) → o.chain ≡ chain → o.call ≡ call → HoldsOverLimitBy o.chain o.call bytes → HoldsOverLimitBy chain call bytes
+over-by o chain call bytes l n h =
+    let L : Bool → Type 0 = λ b. HoldsOverLimitBy b o.call bytes in
+    let P : Option (List ℕ) → Type 0 = λ x. HoldsOverLimitBy chain x bytes in
+    subst P n (subst L l h)
 
 -- an end without a fault, of a run whose words are read, tells what the bytes hold
 end-of : (words : List (List ℕ)) (bytes : List ℕ) (left' : Option (List ℕ)) (read : Type 0) (old new : Option (List ℕ)) (write : Type 0) (s : Status) (line : List ℕ)
@@ -309,14 +365,24 @@ end-of words bytes left' read old new write status.WriteFault line h given none 
 end-of words bytes left' read old new write status.TooLong line h given none = inl (past bytes left' h.2.0)
 end-of words bytes left' read old new write status.NotJson line h given none = inl (so bytes left' HoldsNoJson h.2.1)
 end-of words bytes left' read old new write status.BadPlan line h given none =
-    let t = so bytes left' (λ b. TellsFault h.0.call b line) h.2.1 in inl (t.fault, fault-read h.0 bytes t.fault (options-read words h.0 h.1 given).not_called t.holds)
+    let t = so bytes left' (λ b. TellsFault h.0.chain h.0.call b line) h.2.1 in
+    let mode = options-read words h.0 h.1 given in
+    inl (t.fault, fault-by h.0 false None bytes t.fault mode.not_chained mode.not_called t.holds)
 end-of words bytes left' read old new write status.Refused line h given none =
-    let t = so bytes left' (λ b. TellsRefusalIn h.0.call b line) h.2.1 in inl (t.fault, t.place, refusal-read h.0 bytes t.fault t.place (options-read words h.0 h.1 given).not_called t.holds)
+    let t = so bytes left' (λ b. TellsRefusalIn h.0.chain h.0.call b line) h.2.1 in
+    let mode = options-read words h.0 h.1 given in
+    inl (t.fault, t.place, refusal-by h.0 false None bytes t.fault t.place mode.not_chained mode.not_called t.holds)
 end-of words bytes left' read old new write status.NotHex line h given none = absurd (unchecked words h.0 h.1 given h.2.0)
 end-of words bytes left' read old new write status.Rejected line h given none = absurd (unchecked words h.0 h.1 given h.2.0)
 end-of words bytes left' read old new write status.NotCallable line h given none = absurd (uncalled words h.0 h.2.0 h.1 given h.2.1)
-end-of words bytes left' read old new write status.BadValue line h given none = absurd (uncalled words h.0 h.2.0 h.1 given h.2.1)
-end-of words bytes left' read old new write status.OverLimit line h given none = absurd (uncalled words h.0 h.2.0 h.1 given h.2.1)
+end-of words bytes left' read old new write status.NotChained line h given none = absurd (unchained words h.0 h.1 given h.2.0)
+end-of words bytes left' read old new write status.BadValue line h given none =
+    let t = so bytes left' (λ b. TellsBadValue h.0.chain h.0.call b line) h.2.1 in
+    let mode = options-read words h.0 h.1 given in
+    absurd (value-by h.0 false None bytes t.fault mode.not_chained mode.not_called t.holds)
+end-of words bytes left' read old new write status.OverLimit line h given none =
+    let mode = options-read words h.0 h.1 given in
+    absurd (over-by h.0 false None bytes mode.not_chained mode.not_called (so bytes left' (λ b. HoldsOverLimitBy h.0.chain h.0.call b) h.2.1))
 end-of words bytes left' read old new write status.OutOfMemory line h given none = inr refl
 
 -- words that are not read are told so
@@ -334,6 +400,7 @@ usage-end words left left' read old new write status.Refused line h none = cc
 usage-end words left left' read old new write status.NotHex line h none = cc
 usage-end words left left' read old new write status.Rejected line h none = cc
 usage-end words left left' read old new write status.NotCallable line h none = cc
+usage-end words left left' read old new write status.NotChained line h none = cc
 usage-end words left left' read old new write status.BadValue line h none = cc
 usage-end words left left' read old new write status.OverLimit line h none = cc
 
@@ -350,6 +417,7 @@ of-stage status.ReadFault bytes h = absurd h
 of-stage status.NotHex bytes h = absurd h
 of-stage status.Rejected bytes h = absurd h
 of-stage status.NotCallable bytes h = absurd h
+of-stage status.NotChained bytes h = absurd h
 of-stage status.BadValue bytes h = absurd h
 of-stage status.OverLimit bytes h = absurd h
 of-stage status.OutOfMemory bytes h = absurd h
@@ -393,6 +461,7 @@ refused-end status.ReadFault bytes r (inl h) = absurd h
 refused-end status.NotHex bytes r (inl h) = absurd h
 refused-end status.Rejected bytes r (inl h) = absurd h
 refused-end status.NotCallable bytes r (inl h) = absurd h
+refused-end status.NotChained bytes r (inl h) = absurd h
 refused-end status.BadValue bytes r (inl h) = absurd h
 refused-end status.OverLimit bytes r (inl h) = absurd h
 refused-end status.OutOfMemory bytes r (inl h) = absurd h
@@ -410,6 +479,7 @@ faultless-end status.ReadFault bytes unfaulted b (inl h) = absurd h
 faultless-end status.NotHex bytes unfaulted b (inl h) = absurd h
 faultless-end status.Rejected bytes unfaulted b (inl h) = absurd h
 faultless-end status.NotCallable bytes unfaulted b (inl h) = absurd h
+faultless-end status.NotChained bytes unfaulted b (inl h) = absurd h
 faultless-end status.BadValue bytes unfaulted b (inl h) = absurd h
 faultless-end status.OverLimit bytes unfaulted b (inl h) = absurd h
 faultless-end status.OutOfMemory bytes unfaulted b (inl h) = absurd h
@@ -442,23 +512,24 @@ plain-line words left left' read old new write status.Refused line h bad refused
 plain-line words left left' read old new write status.NotHex line h bad refused rejected value = h.2.3
 plain-line words left left' read old new write status.Rejected line h bad refused rejected value = absurd (rejected refl)
 plain-line words left left' read old new write status.NotCallable line h bad refused rejected value = h.2.4
+plain-line words left left' read old new write status.NotChained line h bad refused rejected value = h.2.3
 plain-line words left left' read old new write status.BadValue line h bad refused rejected value = absurd (value refl)
-plain-line words left left' read old new write status.OverLimit line h bad refused rejected value = h.2.4
+plain-line words left left' read old new write status.OverLimit line h bad refused rejected value = h.2.3
 plain-line words left left' read old new write status.OutOfMemory line h bad refused rejected value = h.1
 
 -- The fault of a plan was told, where its line was.
-pub told-fault : (call : Option (List ℕ)) (left left' : Option (List ℕ)) (line : List ℕ) (old new : Option (List ℕ)) (before now : ℕ) → Read left left' (λ bytes. TellsFault call bytes line) → TellsLine old new before now line
-    → Read left left' (λ bytes. (f : PlanFault) × HoldsFaultBy call bytes f × TellsLine old new before now (fault_line f))
-told-fault call left left' line old new before now r h = record {
+pub told-fault : (chain : Bool) (call : Option (List ℕ)) (left left' : Option (List ℕ)) (line : List ℕ) (old new : Option (List ℕ)) (before now : ℕ) → Read left left' (λ bytes. TellsFault chain call bytes line) → TellsLine old new before now line
+    → Read left left' (λ bytes. (f : PlanFault) × HoldsFaultBy chain call bytes f × TellsLine old new before now (fault_line f))
+told-fault chain call left left' line old new before now r h = record {
   bytes = r.bytes;
   all = r.all;
   is_so = (r.is_so.fault, r.is_so.holds, subst (λ (l : List ℕ). TellsLine old new before now l) r.is_so.is_line h);
 }
 
 -- The refusal of a plan was told, where its line was.
-pub told-refusal : (call : Option (List ℕ)) (left left' : Option (List ℕ)) (line : List ℕ) (old new : Option (List ℕ)) (before now : ℕ) → Read left left' (λ bytes. TellsRefusalIn call bytes line) → TellsLine old new before now line
-    → Read left left' (λ bytes. (f : Fault) × (place : Place) × HoldsRefusalBy call bytes f place × TellsLine old new before now (refusal_line f place))
-told-refusal call left left' line old new before now r h = record {
+pub told-refusal : (chain : Bool) (call : Option (List ℕ)) (left left' : Option (List ℕ)) (line : List ℕ) (old new : Option (List ℕ)) (before now : ℕ) → Read left left' (λ bytes. TellsRefusalIn chain call bytes line) → TellsLine old new before now line
+    → Read left left' (λ bytes. (f : Fault) × (place : Place) × HoldsRefusalBy chain call bytes f place × TellsLine old new before now (refusal_line f place))
+told-refusal chain call left left' line old new before now r h = record {
   bytes = r.bytes;
   all = r.all;
   is_so = (r.is_so.fault, r.is_so.place, r.is_so.holds, subst (λ (l : List ℕ). TellsLine old new before now l) r.is_so.is_line h);

@@ -1,4 +1,5 @@
 pub mod CallEnds
+pub mod ChainEnds
 pub mod CheckEnds
 pub mod Configured
 pub mod Digits

@@ -1,6 +1,6 @@
 -- Cited by private clauses alone.
 -- What an inner answer and an ending say of the source and of the sink.
-use Rattle.std.specs.Prelude.{ℕ, ◌≡◌, ◌≢◌, true, List, Option, Some, None, string_bytes}
+use Rattle.std.specs.Prelude.{ℕ, ◌≡◌, ◌≢◌, Bool, true, false, List, Option, Some, None, string_bytes}
 use Rattle.std.specs.Io.KnownBytes.{Appends, Keeps}
 use Rattle.fact_io.specs.Transfers.{AppendsFront, TakesPast}
 use Rattle.fact_plan.specs.declared.fault.PlanFault.{PlanFault}
@@ -26,21 +26,24 @@ use Rattle.fact_value_json.specs.Lines.{bad_value_line}
 use Rattle.fact_plan_types.specs.PlanTypes.{told as told_fault}
 use Rattle.fact_calls.specs.declared.reply.CallReply.{CallReply}
 use Rattle.fact_calls.specs.declared.reply.CallReply.TheVariants as call_reply
-use Rattle.fact_calls.specs.Calls.{HasBadValue, HasInput, IsNotCallable, IsOverLimit}
-use Rattle.fact_run.specs.Run.{HoldsFaultBy, HoldsNoJson, HoldsRefusalBy, IsCallMode, IsJsonMode, Prints, Read, Sends, SendsAccepted, SendsCall, SendsPage, limit}
+use Rattle.fact_calls.specs.Calls.{HasInput, IsNotCallable, IsOverLimit}
+use Rattle.fact_chains.specs.declared.reply.ChainReply.{ChainReply}
+use Rattle.fact_chains.specs.declared.reply.ChainReply.TheVariants as chain_reply
+use Rattle.fact_chains.specs.ChainTexts.{HasChainInput, IsChainOverLimit, IsNotChained}
+use Rattle.fact_run.specs.Run.{HoldsBadValueBy, HoldsFaultBy, HoldsNoJson, HoldsOverLimitBy, HoldsRefusalBy, IsCallMode, IsChainMode, IsJsonMode, Prints, Read, Sends, SendsAccepted, SendsCall, SendsChain, SendsPage, limit}
 use Rattle.fact_command.specs.Status.{line_of}
 
--- the line tells the fault that the bytes hold, of a plan or of the input of a call
-pub record TellsFault (call : Option (List ℕ)) (bytes : List ℕ) (line : List ℕ) : Type 0 where
+-- the line tells the fault that the bytes hold, of a plan or of the input of a call or a chain
+pub record TellsFault (chain : Bool) (call : Option (List ℕ)) (bytes : List ℕ) (line : List ℕ) : Type 0 where
   pub fault : PlanFault
-  pub holds : HoldsFaultBy call bytes fault
+  pub holds : HoldsFaultBy chain call bytes fault
   pub is_line : line ≡ fault_line fault
 
 -- the line tells the first fault of the plan that the bytes hold, or that their input has
-pub record TellsRefusalIn (call : Option (List ℕ)) (bytes : List ℕ) (line : List ℕ) : Type 0 where
+pub record TellsRefusalIn (chain : Bool) (call : Option (List ℕ)) (bytes : List ℕ) (line : List ℕ) : Type 0 where
   pub fault : Fault
   pub place : Place
-  pub holds : HoldsRefusalBy call bytes fault place
+  pub holds : HoldsRefusalBy chain call bytes fault place
   pub is_line : line ≡ refusal_line fault place
 
 -- what a fault comes to
@@ -75,11 +78,12 @@ IsReplyTo o bytes (reply.Page text) = SendsPage o bytes (λ sent. sent ≡ strin
 IsReplyTo o bytes reply.ReadFault = ⊥
 IsReplyTo o bytes reply.TooLong = ⊥
 IsReplyTo o bytes reply.NotJson = HoldsNoJson bytes
-IsReplyTo o bytes (reply.BadPlan line) = TellsFault None bytes (string_bytes line)
-IsReplyTo o bytes (reply.Refused line) = TellsRefusalIn None bytes (string_bytes line)
+IsReplyTo o bytes (reply.BadPlan line) = TellsFault false None bytes (string_bytes line)
+IsReplyTo o bytes (reply.Refused line) = TellsRefusalIn false None bytes (string_bytes line)
 IsReplyTo o bytes reply.NotHex = ⊥
 IsReplyTo o bytes (reply.Rejected line) = ⊥
 IsReplyTo o bytes reply.NotCallable = ⊥
+IsReplyTo o bytes reply.NotChained = ⊥
 IsReplyTo o bytes (reply.BadValue line) = ⊥
 IsReplyTo o bytes reply.OverLimit = ⊥
 IsReplyTo o bytes reply.OutOfMemory = Unit {0}
@@ -91,10 +95,10 @@ IsReply o left left' fault reply.TooLong = TakesPast left left' limit
 IsReply o left left' fault reply.OutOfMemory = Unit {0}
 IsReply o left left' fault r = Read left left' (λ bytes. IsReplyTo o bytes r)
 
--- the line tells what is no value of a type, in the input of a call that the bytes hold
-pub record TellsBadValue (name bytes : List ℕ) (line : List ℕ) : Type 0 where
+-- the line tells what is no value of a type, in the input of a call or of a chain that the bytes hold
+pub record TellsBadValue (chain : Bool) (call : Option (List ℕ)) (bytes : List ℕ) (line : List ℕ) : Type 0 where
   pub fault : PlanFault
-  pub holds : HasInput bytes (λ i. HasBadValue name i fault)
+  pub holds : HoldsBadValueBy chain call bytes fault
   pub is_line : line ≡ bad_value_line fault
 
 -- what a fault of values comes to
@@ -118,10 +122,10 @@ IsToldReply call_reply.OutOfMemory r = r ≡ reply.OutOfMemory
 abbrev pub IsReplyToCalled : (fuel : ℕ) → (name bytes : List ℕ) → Reply → Type 0
 IsReplyToCalled fuel name bytes (reply.Page text) = SendsCall fuel name bytes (λ sent. sent ≡ string_bytes text)
 IsReplyToCalled fuel name bytes reply.NotJson = HoldsNoJson bytes
-IsReplyToCalled fuel name bytes (reply.BadPlan line) = TellsFault (Some name) bytes (string_bytes line)
-IsReplyToCalled fuel name bytes (reply.Refused line) = TellsRefusalIn (Some name) bytes (string_bytes line)
+IsReplyToCalled fuel name bytes (reply.BadPlan line) = TellsFault false (Some name) bytes (string_bytes line)
+IsReplyToCalled fuel name bytes (reply.Refused line) = TellsRefusalIn false (Some name) bytes (string_bytes line)
 IsReplyToCalled fuel name bytes reply.NotCallable = HasInput bytes (IsNotCallable name)
-IsReplyToCalled fuel name bytes (reply.BadValue line) = TellsBadValue name bytes (string_bytes line)
+IsReplyToCalled fuel name bytes (reply.BadValue line) = TellsBadValue false (Some name) bytes (string_bytes line)
 IsReplyToCalled fuel name bytes reply.OverLimit = HasInput bytes (IsOverLimit name)
 IsReplyToCalled fuel name bytes reply.OutOfMemory = Unit {0}
 IsReplyToCalled fuel name bytes _ = ⊥
@@ -132,6 +136,36 @@ IsCallReply fuel name left left' fault reply.ReadFault = fault
 IsCallReply fuel name left left' fault reply.TooLong = TakesPast left left' limit
 IsCallReply fuel name left left' fault reply.OutOfMemory = Unit {0}
 IsCallReply fuel name left left' fault r = Read left left' (λ bytes. IsReplyToCalled fuel name bytes r)
+
+-- what the reply to a chain comes to
+abbrev pub IsToldChainReply : ChainReply → Reply → Type 0
+IsToldChainReply chain_reply.NotJson r = r ≡ reply.NotJson
+IsToldChainReply (chain_reply.BadPlan f) r = IsReplyToFault f r
+IsToldChainReply (chain_reply.Refused e) r = IsReplyToRefusal (told_fault e) r
+IsToldChainReply chain_reply.NotChained r = r ≡ reply.NotChained
+IsToldChainReply (chain_reply.BadValue f) r = IsReplyToValue f r
+IsToldChainReply chain_reply.OverLimit r = r ≡ reply.OverLimit
+IsToldChainReply (chain_reply.Page text) r = r ≡ reply.Page text
+IsToldChainReply chain_reply.OutOfMemory r = r ≡ reply.OutOfMemory
+
+-- what the bytes of the input of a chain come to, no more than an input may have
+abbrev pub IsReplyToChained : (fuel : ℕ) → (bytes : List ℕ) → Reply → Type 0
+IsReplyToChained fuel bytes (reply.Page text) = SendsChain fuel bytes (λ sent. sent ≡ string_bytes text)
+IsReplyToChained fuel bytes reply.NotJson = HoldsNoJson bytes
+IsReplyToChained fuel bytes (reply.BadPlan line) = TellsFault true None bytes (string_bytes line)
+IsReplyToChained fuel bytes (reply.Refused line) = TellsRefusalIn true None bytes (string_bytes line)
+IsReplyToChained fuel bytes reply.NotChained = HasChainInput bytes IsNotChained
+IsReplyToChained fuel bytes (reply.BadValue line) = TellsBadValue true None bytes (string_bytes line)
+IsReplyToChained fuel bytes reply.OverLimit = HasChainInput bytes IsChainOverLimit
+IsReplyToChained fuel bytes reply.OutOfMemory = Unit {0}
+IsReplyToChained fuel bytes _ = ⊥
+
+-- what a source comes to whose input is that of a chain
+abbrev pub IsChainReply : (fuel : ℕ) → Option (List ℕ) → Option (List ℕ) → Type 0 → Reply → Type 0
+IsChainReply fuel left left' fault reply.ReadFault = fault
+IsChainReply fuel left left' fault reply.TooLong = TakesPast left left' limit
+IsChainReply fuel left left' fault reply.OutOfMemory = Unit {0}
+IsChainReply fuel left left' fault r = Read left left' (λ bytes. IsReplyToChained fuel bytes r)
 
 -- the line tells the cause for which the bytes of an input are rejected
 pub record TellsRejection (input : List ℕ) (line : List ℕ) : Type 0 where
@@ -173,13 +207,14 @@ IsReplyUnder o left left' fault (reply.Page text) = Sends o left left' (λ sent.
 IsReplyUnder o left left' fault reply.ReadFault = fault
 IsReplyUnder o left left' fault reply.TooLong = TakesPast left left' limit
 IsReplyUnder o left left' fault reply.NotJson = IsJsonMode o × Read left left' HoldsNoJson
-IsReplyUnder o left left' fault (reply.BadPlan line) = IsJsonMode o × Read left left' (λ bytes. TellsFault o.call bytes (string_bytes line))
-IsReplyUnder o left left' fault (reply.Refused line) = IsJsonMode o × Read left left' (λ bytes. TellsRefusalIn o.call bytes (string_bytes line))
+IsReplyUnder o left left' fault (reply.BadPlan line) = IsJsonMode o × Read left left' (λ bytes. TellsFault o.chain o.call bytes (string_bytes line))
+IsReplyUnder o left left' fault (reply.Refused line) = IsJsonMode o × Read left left' (λ bytes. TellsRefusalIn o.chain o.call bytes (string_bytes line))
 IsReplyUnder o left left' fault reply.NotHex = (o.check ≡ true) × Read left left' HoldsNoHex
 IsReplyUnder o left left' fault (reply.Rejected line) = (o.check ≡ true) × Read left left' (λ input. TellsRejection input (string_bytes line))
 IsReplyUnder o left left' fault reply.NotCallable = (name : List ℕ) × IsCallMode o name × Read left left' (λ bytes. HasInput bytes (IsNotCallable name))
-IsReplyUnder o left left' fault (reply.BadValue line) = (name : List ℕ) × IsCallMode o name × Read left left' (λ bytes. TellsBadValue name bytes (string_bytes line))
-IsReplyUnder o left left' fault reply.OverLimit = (name : List ℕ) × IsCallMode o name × Read left left' (λ bytes. HasInput bytes (IsOverLimit name))
+IsReplyUnder o left left' fault reply.NotChained = IsChainMode o × Read left left' (λ bytes. HasChainInput bytes IsNotChained)
+IsReplyUnder o left left' fault (reply.BadValue line) = IsJsonMode o × Read left left' (λ bytes. TellsBadValue o.chain o.call bytes (string_bytes line))
+IsReplyUnder o left left' fault reply.OverLimit = IsJsonMode o × Read left left' (λ bytes. HoldsOverLimitBy o.chain o.call bytes)
 IsReplyUnder o left left' fault reply.OutOfMemory = Unit {0}
 
 -- the replies of a run that reads nothing
@@ -199,6 +234,7 @@ ending_with (reply.Refused line) = record { status = status.Refused; told = Some
 ending_with reply.NotHex = record { status = status.NotHex; told = None }
 ending_with (reply.Rejected line) = record { status = status.Rejected; told = Some line }
 ending_with reply.NotCallable = record { status = status.NotCallable; told = None }
+ending_with reply.NotChained = record { status = status.NotChained; told = None }
 ending_with (reply.BadValue line) = record { status = status.BadValue; told = Some line }
 ending_with reply.OverLimit = record { status = status.OverLimit; told = None }
 ending_with reply.OutOfMemory = record { status = status.OutOfMemory; told = None }
@@ -216,13 +252,14 @@ IsEndUnder o left left' read old new write status.ReadFault line = read × Keeps
 IsEndUnder o left left' read old new write status.WriteFault line = write × Sends o left left' (λ text. AppendsFront old new text) × (line ≡ line_of status.WriteFault)
 IsEndUnder o left left' read old new write status.TooLong line = TakesPast left left' limit × Keeps old new × (line ≡ line_of status.TooLong)
 IsEndUnder o left left' read old new write status.NotJson line = IsJsonMode o × Read left left' HoldsNoJson × Keeps old new × (line ≡ line_of status.NotJson)
-IsEndUnder o left left' read old new write status.BadPlan line = IsJsonMode o × Read left left' (λ bytes. TellsFault o.call bytes line) × Keeps old new
-IsEndUnder o left left' read old new write status.Refused line = IsJsonMode o × Read left left' (λ bytes. TellsRefusalIn o.call bytes line) × Keeps old new
+IsEndUnder o left left' read old new write status.BadPlan line = IsJsonMode o × Read left left' (λ bytes. TellsFault o.chain o.call bytes line) × Keeps old new
+IsEndUnder o left left' read old new write status.Refused line = IsJsonMode o × Read left left' (λ bytes. TellsRefusalIn o.chain o.call bytes line) × Keeps old new
 IsEndUnder o left left' read old new write status.NotHex line = (o.check ≡ true) × Read left left' HoldsNoHex × Keeps old new × (line ≡ line_of status.NotHex)
 IsEndUnder o left left' read old new write status.Rejected line = (o.check ≡ true) × Read left left' (λ input. TellsRejection input line) × Keeps old new
 IsEndUnder o left left' read old new write status.NotCallable line = (name : List ℕ) × IsCallMode o name × Read left left' (λ bytes. HasInput bytes (IsNotCallable name)) × Keeps old new × (line ≡ line_of status.NotCallable)
-IsEndUnder o left left' read old new write status.BadValue line = (name : List ℕ) × IsCallMode o name × Read left left' (λ bytes. TellsBadValue name bytes line) × Keeps old new
-IsEndUnder o left left' read old new write status.OverLimit line = (name : List ℕ) × IsCallMode o name × Read left left' (λ bytes. HasInput bytes (IsOverLimit name)) × Keeps old new × (line ≡ line_of status.OverLimit)
+IsEndUnder o left left' read old new write status.NotChained line = IsChainMode o × Read left left' (λ bytes. HasChainInput bytes IsNotChained) × Keeps old new × (line ≡ line_of status.NotChained)
+IsEndUnder o left left' read old new write status.BadValue line = IsJsonMode o × Read left left' (λ bytes. TellsBadValue o.chain o.call bytes line) × Keeps old new
+IsEndUnder o left left' read old new write status.OverLimit line = IsJsonMode o × Read left left' (λ bytes. HoldsOverLimitBy o.chain o.call bytes) × Keeps old new × (line ≡ line_of status.OverLimit)
 IsEndUnder o left left' read old new write status.OutOfMemory line = Keeps old new × (line ≡ line_of status.OutOfMemory)
 
 -- how a run ends

@@ -27,6 +27,8 @@ use Rattle.fact_command.specs.Command.{reading}
 pub use Rattle.fact_calls.specs.Calls.{HoldsNoJson, limit}
 use Rattle.fact_calls.specs.Calls.{HasBadValue, HasInput, HoldsFaultyInput, HoldsInput, IsNotCallable, IsOverLimit, TellsInput}
 use Rattle.fact_calls.specs.Inputs.{CallInput}
+use Rattle.fact_chains.specs.ChainInputs.{ChainInput}
+use Rattle.fact_chains.specs.ChainTexts.{HasBadChainValue, HasChainInput, HoldsChain, HoldsFaultyChain, IsChainOverLimit, IsNotChained, TellsChainInput}
 use Rattle.fact_run.specs.Check.{HoldsAccepted, accepted_line}
 use Rattle.fact_command.specs.ImportLines.{import_lines}
 
@@ -62,14 +64,28 @@ pub record HoldsFaultless (bytes : List ℕ) : Type 0 where
   pub is_plan : HoldsPlan bytes plan
   pub faultless : IsFaultlessPlan plan
 
--- Where an adapter of some name is called, the bytes hold an input in place of a plan: its first fault, and the first fault of its plan.
-abbrev pub HoldsFaultBy : (call : Option (List ℕ)) → List ℕ → PlanFault → Type 0
-HoldsFaultBy None bytes f = HoldsFault bytes f
-HoldsFaultBy (Some name) bytes f = HoldsFaultyInput bytes f
+-- Where two adapters are chained, or one of some name is called, the bytes hold an input in place of a plan: its first fault, and the first fault of
+-- its plan.
+abbrev pub HoldsFaultBy : (chain : Bool) → (call : Option (List ℕ)) → List ℕ → PlanFault → Type 0
+HoldsFaultBy true call bytes f = HoldsFaultyChain bytes f
+HoldsFaultBy false None bytes f = HoldsFault bytes f
+HoldsFaultBy false (Some name) bytes f = HoldsFaultyInput bytes f
 
-abbrev pub HoldsRefusalBy : (call : Option (List ℕ)) → List ℕ → Fault → Place → Type 0
-HoldsRefusalBy None bytes f place = HoldsRefusal bytes f place
-HoldsRefusalBy (Some name) bytes f place = HasInput bytes (λ i. IsFirstAt i.plan f place)
+abbrev pub HoldsRefusalBy : (chain : Bool) → (call : Option (List ℕ)) → List ℕ → Fault → Place → Type 0
+HoldsRefusalBy true call bytes f place = HasChainInput bytes (λ i. IsFirstAt i.plan f place)
+HoldsRefusalBy false None bytes f place = HoldsRefusal bytes f place
+HoldsRefusalBy false (Some name) bytes f place = HasInput bytes (λ i. IsFirstAt i.plan f place)
+
+-- And there the values have this first fault, or do not fit.
+abbrev pub HoldsBadValueBy : (chain : Bool) → (call : Option (List ℕ)) → List ℕ → PlanFault → Type 0
+HoldsBadValueBy true call bytes f = HasChainInput bytes (λ i. HasBadChainValue i f)
+HoldsBadValueBy false None bytes f = ⊥
+HoldsBadValueBy false (Some name) bytes f = HasInput bytes (λ i. HasBadValue name i f)
+
+abbrev pub HoldsOverLimitBy : (chain : Bool) → (call : Option (List ℕ)) → List ℕ → Type 0
+HoldsOverLimitBy true call bytes = HasChainInput bytes IsChainOverLimit
+HoldsOverLimitBy false None bytes = ⊥
+HoldsOverLimitBy false (Some name) bytes = HasInput bytes (IsOverLimit name)
 
 -- All that the source had was taken, and it is so.
 pub record Read (left left' : Option (List ℕ)) (P : List ℕ → Type 0) : Type 0 where
@@ -143,28 +159,46 @@ pub record SendsCall (fuel : ℕ) (name bytes : List ℕ) (Sent : List ℕ → T
   pub tells : TellsInput fuel name input text
   pub sent : Sent text
 
--- What was sent: where bytes are checked of the line that accepts them, where an adapter is called of the text that tells the call, where a plan is
--- generated of its counts, and else of the text that prints the module of the plan that was read.
-abbrev pub SendsBy : (check : Bool) → (call : Option (List ℕ)) → Option ℕ → CommandOptions → (left left' : Option (List ℕ)) → (List ℕ → Type 0) → Type 0
-SendsBy true call generate o left left' Sent = Read left left' (λ input. SendsAccepted input Sent)
-SendsBy false (Some name) generate o left left' Sent = Read left left' (λ bytes. SendsCall o.fuel name bytes Sent)
-SendsBy false None None o left left' Sent = Read left left' (λ bytes. SendsPage o bytes Sent)
-SendsBy false None (Some n) o left left' Sent = SendsCounts o n Sent
+-- The bytes hold an input, and of the text that tells the chain of two adapters of it this was sent.
+pub record SendsChain (fuel : ℕ) (bytes : List ℕ) (Sent : List ℕ → Type 0) : Type 0 where
+  pub input : ChainInput
+  pub holds : HoldsChain bytes input
+  pub text : List ℕ
+  pub tells : TellsChainInput fuel input text
+  pub sent : Sent text
+
+-- What was sent: where bytes are checked of the line that accepts them, where an adapter is called or two are chained of the text that tells it, where
+-- a plan is generated of its counts, and else of the text that prints the module of the plan that was read.
+abbrev pub SendsBy : (check chain : Bool) → (call : Option (List ℕ)) → Option ℕ → CommandOptions → (left left' : Option (List ℕ)) → (List ℕ → Type 0) → Type 0
+SendsBy true chain call generate o left left' Sent = Read left left' (λ input. SendsAccepted input Sent)
+SendsBy false true call generate o left left' Sent = Read left left' (λ bytes. SendsChain o.fuel bytes Sent)
+SendsBy false false (Some name) generate o left left' Sent = Read left left' (λ bytes. SendsCall o.fuel name bytes Sent)
+SendsBy false false None None o left left' Sent = Read left left' (λ bytes. SendsPage o bytes Sent)
+SendsBy false false None (Some n) o left left' Sent = SendsCounts o n Sent
 
 abbrev pub Sends : CommandOptions → (left left' : Option (List ℕ)) → (List ℕ → Type 0) → Type 0
-Sends o left left' Sent = SendsBy o.check o.call o.generate o left left' Sent
+Sends o left left' Sent = SendsBy o.check o.chain o.call o.generate o left left' Sent
 
 -- a plan is read
 pub record IsPlanMode (o : CommandOptions) : Type 0 where
   pub not_generated : o.generate ≡ None
   pub not_checked : o.check ≡ false
   pub not_called : o.call ≡ None
+  pub not_chained : o.chain ≡ false
 
 -- the adapter of a name is called
 pub record IsCallMode (o : CommandOptions) (name : List ℕ) : Type 0 where
   pub not_generated : o.generate ≡ None
   pub not_checked : o.check ≡ false
   pub called : o.call ≡ Some name
+  pub not_chained : o.chain ≡ false
+
+-- two adapters are chained
+pub record IsChainMode (o : CommandOptions) : Type 0 where
+  pub not_generated : o.generate ≡ None
+  pub not_checked : o.check ≡ false
+  pub not_called : o.call ≡ None
+  pub chained : o.chain ≡ true
 
 -- one of these: a JSON text is read
 pub record IsJsonMode (o : CommandOptions) : Type 0 where
@@ -175,13 +209,17 @@ pub record IsJsonMode (o : CommandOptions) : Type 0 where
 abbrev pub ReadsPlan : List (List ℕ) → Type 0
 ReadsPlan words = IsSomeAnd (reading words) IsPlanMode
 
--- The command takes the words, and a JSON text is read, of a plan or of the input of a call.
+-- The command takes the words, and a JSON text is read, of a plan or of the input of a call or a chain.
 abbrev pub ReadsJson : List (List ℕ) → Type 0
 ReadsJson words = IsSomeAnd (reading words) IsJsonMode
 
 -- The command takes the words, and the adapter of a name is called.
 abbrev pub AsksCall : List (List ℕ) → (name : List ℕ) → Type 0
 AsksCall words name = IsSomeAnd (reading words) (λ o. IsCallMode o name)
+
+-- The command takes the words, and two adapters are chained.
+abbrev pub AsksChain : List (List ℕ) → Type 0
+AsksChain words = IsSomeAnd (reading words) IsChainMode
 
 -- The command takes the words, and a plan is generated.
 abbrev pub GeneratesPlan : List (List ℕ) → Type 0
@@ -230,3 +268,18 @@ pub record EndsAsCall (name bytes : List ℕ) (s : Status) : Type 0 where
   pub not_callable : HasInput bytes (IsNotCallable name) → IsOrMemory status.NotCallable s
   pub bad_value : ((f : PlanFault) × HasInput bytes (λ i. HasBadValue name i f)) → IsOrMemory status.BadValue s
   pub over_limit : HasInput bytes (IsOverLimit name) → IsOrMemory status.OverLimit s
+
+-- The command takes the words, two adapters are chained, and no read failed.
+pub record IsUndisturbedChain (words : List (List ℕ)) (before now : ℕ) : Type 0 where
+  pub asks : AsksChain words
+  pub no_fault : Rose before now → ⊥
+
+-- How a run that chains two adapters ends, by what the bytes hold, where none can be chained with them.
+pub record EndsAsChain (bytes : List ℕ) (s : Status) : Type 0 where
+  pub too_long : IsTooLong bytes → IsOrMemory status.TooLong s
+  pub not_json : HoldsNoJson bytes → IsOrMemory status.NotJson s
+  pub bad_plan : ((f : PlanFault) × HoldsFaultyChain bytes f) → IsOrMemory status.BadPlan s
+  pub refused : ((f : Fault) × (place : Place) × HasChainInput bytes (λ i. IsFirstAt i.plan f place)) → IsOrMemory status.Refused s
+  pub not_chained : HasChainInput bytes IsNotChained → IsOrMemory status.NotChained s
+  pub bad_value : ((f : PlanFault) × HasChainInput bytes (λ i. HasBadChainValue i f)) → IsOrMemory status.BadValue s
+  pub over_limit : HasChainInput bytes IsChainOverLimit → IsOrMemory status.OverLimit s

@@ -24,7 +24,7 @@ use std::alloc::{AllocError, Global};
 #[derive(Drop)]
 pub enum Reply {
     /// The text that is written: what prints the module, the counts of one that was generated, the line of one that is accepted, or what tells a
-    /// call.
+    /// call or a chain.
     Page(String),
     ReadFault,
     TooLong,
@@ -37,6 +37,7 @@ pub enum Reply {
     /// The line that tells why bytes are rejected.
     Rejected(String),
     NotCallable,
+    NotChained,
     /// The line that tells what is no value of a type.
     BadValue(String),
     OverLimit,

@@ -14,7 +14,7 @@ use fact_value_json::value_fault_line;
 use std::alloc::Global;
 
 /// What a fault of values comes to.
-fn reply_to_value(alloc: Global, fault: &PlanFault) -> Reply
+pub fn reply_to_value(alloc: Global, fault: &PlanFault) -> Reply
     ensures { IsReplyToValue fault.now result }
 {
     if matches!(fault, PlanFault::OutOfMemory) {

@@ -1,9 +1,10 @@
 //! The program's top call: a plan in JSON from a source, the adapter module in hex to a sink, with its imports where the words
-//! ask for them; or the counts of the module of a plan that is generated, the check of a module, or the call of an adapter.
+//! ask for them; or the counts of the module of a plan that is generated, the check of a module, or the call of an adapter or of two.
 #![tactic(auto)]
 
 mod answer;
 mod call_mode;
+mod chain_mode;
 mod check_mode;
 mod counts;
 mod ending;

@@ -10,6 +10,7 @@ ghost use Rattle.fact_run.specs.Run.{Counts, configured, counts, limit};
 
 use crate::answer::{Reply, configure, reply_of};
 use crate::call_mode::call_reply;
+use crate::chain_mode::chain_reply;
 use crate::check_mode::check_reply;
 use crate::counts::counts_text;
 use fact_command::CommandOptions;
@@ -52,12 +53,13 @@ fn generated_counts(alloc: Global, n: u32, options: &CommandOptions) -> Result<S
     text
 }
 
-/// What a run with these options comes to that neither checks bytes nor calls an adapter: where a plan is generated nothing is read.
+/// What a run with these options comes to that neither checks bytes nor calls adapters: where a plan is generated nothing is read.
 fn reply_uncalled<S: Source>(alloc: Global, source: &mut S, options: &CommandOptions) -> Reply
     requires fuel { 1 ≤ options.now.fuel }
     requires number { IfSome options.now.generate (λ n. n ≤ most_generated) }
     requires unchecked { options.now.check ≡ false }
     requires uncalled { options.now.call ≡ None }
+    requires unchained { options.now.chain ≡ false }
     ensures reply { IsReplyUnder options.now (S.left source.old) (S.left source.new) (Rose (S.faults source.old) (S.faults source.new)) result }
     ensures most { TakesUpTo (S.left source.old) (S.left source.new) (limit + 1) }
     ensures no_fault { result ≢ Reply.ReadFault → S.faults source.new ≡ S.faults source.old }
@@ -72,7 +74,7 @@ fn reply_uncalled<S: Source>(alloc: Global, source: &mut S, options: &CommandOpt
     }
 }
 
-/// What a run with these options comes to: where bytes are checked or an adapter is called they are read in place of a plan.
+/// What a run with these options comes to: where bytes are checked, or adapters are called, something else is read in place of a plan.
 pub fn reply_under<S: Source>(alloc: Global, source: &mut S, options: &CommandOptions) -> Reply
     requires fuel { 1 ≤ options.now.fuel }
     requires number { IfSome options.now.generate (λ n. n ≤ most_generated) }
@@ -84,6 +86,9 @@ pub fn reply_under<S: Source>(alloc: Global, source: &mut S, options: &CommandOp
 {
     if options.check {
         return check_reply(alloc, source);
+    }
+    if options.chain {
+        return chain_reply(alloc, source, options.fuel);
     }
     match &options.call {
         Some(name) => call_reply(alloc, source, name.as_str(), options.fuel),

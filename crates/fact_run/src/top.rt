@@ -17,8 +17,9 @@ ghost use Rattle.fact_wasm.specs.declared.module.WasmModule.{WasmModule};
 ghost use Rattle.fact_check.specs.declared.error.CheckError.{CheckError};
 ghost use Rattle.fact_run.specs.Check.{HoldsAccepted, HoldsNoHex, HoldsRejected, rejected_line};
 ghost use Rattle.fact_value_json.specs.Lines.{bad_value_line};
-ghost use Rattle.fact_calls.specs.Calls.{HasBadValue, HasCall, HasInput, IsNotCallable, IsOverLimit};
-ghost use Rattle.fact_run.specs.Run.{AsksCall, ChecksBytes, EndsAsCall, GeneratesPlan, HoldsFault, HoldsFaultBy, HoldsFaultless, HoldsNoJson, HoldsRefusal, HoldsRefusalBy, IsEndUnread, IsJsonMode, IsOrMemory, IsTooLong, IsUndisturbed, IsUndisturbedCall, IsUndisturbedCheck, Read, ReadsJson, Sends, TellsLine, limit};
+ghost use Rattle.fact_calls.specs.Calls.{HasCall, HasInput, IsNotCallable};
+ghost use Rattle.fact_chains.specs.ChainTexts.{HasChain, HasChainInput, IsNotChained};
+ghost use Rattle.fact_run.specs.Run.{AsksCall, AsksChain, ChecksBytes, EndsAsCall, EndsAsChain, GeneratesPlan, HoldsBadValueBy, HoldsFault, HoldsFaultBy, HoldsFaultless, HoldsNoJson, HoldsOverLimitBy, HoldsRefusal, HoldsRefusalBy, IsEndUnread, IsJsonMode, IsOrMemory, IsTooLong, IsUndisturbed, IsUndisturbedCall, IsUndisturbedChain, IsUndisturbedCheck, Read, ReadsJson, Sends, TellsLine, limit};
 ghost use Rattle.fact_command.specs.Status.{line_of};
 
 use crate::answer::Reply;
@@ -43,6 +44,7 @@ fn ending_with(reply: Reply) -> Ending
         Reply::NotHex => Ending::of(Status::NotHex),
         Reply::Rejected(line) => Ending::telling(Status::Rejected, line),
         Reply::NotCallable => Ending::of(Status::NotCallable),
+        Reply::NotChained => Ending::of(Status::NotChained),
         Reply::BadValue(line) => Ending::telling(Status::BadValue, line),
         Reply::OverLimit => Ending::of(Status::OverLimit),
         Reply::OutOfMemory => Ending::of(Status::OutOfMemory),
@@ -112,8 +114,11 @@ fn ending_of<S: Source, K: Sink>(
 /// it defines. `--call NAME` reads an object of a plan, of arguments and of results (`plan`, `args`, `results`) in place of a plan: the plan is fused
 /// without debug checks, and its sync adapter between two instances that has this name is called on a host with the arguments and a callee that
 /// answers the results; three lines are written, `params J`, `results J` and `calls N`: the values that the callee was given, those that the caller got,
-/// as JSON lists, and how many calls of the outside the adapter's run made. At most one of these three is asked for. Want of memory may be answered at
-/// any point.
+/// as JSON lists, and how many calls of the outside the adapter's run made. `--chain` reads an object of a plan, of the names of two of its adapters, of
+/// arguments and of results (`plan`, `first`, `second`, `args`, `results`) so, and the first adapter is called, whose callee passes on what it is given
+/// to the second one, whose callee answers the results; three lines are written, `seen J`, `results J` and `calls N M`: the values that the last callee
+/// was given, those that the first caller got, and how many calls of the outside the two runs made. At most one of these four is asked for. Want of
+/// memory may be answered at any point.
 pub fn run<S: Source, K: Sink, E: Sink>(
     alloc: Global,
     words: &[String],
@@ -121,22 +126,25 @@ pub fn run<S: Source, K: Sink, E: Sink>(
     out: &mut K,
     err: &mut E,
 ) -> Status
-    // Why each end comes, and in which mode: where a plan is read, where bytes are checked, where an adapter is called, or in several.
+    // Why each end comes, and in which mode: where a plan is read, where bytes are checked, where an adapter is called, where two are chained, or in
+    // several.
     ensures usage { result ≡ Status.Usage → reading (map string_bytes words.now) ≡ None }
     ensures read_fault { result ≡ Status.ReadFault → Rose (S.faults source.old) (S.faults source.new) }
     ensures too_long { result ≡ Status.TooLong → TakesPast (S.left source.old) (S.left source.new) limit }
     ensures not_json { result ≡ Status.NotJson → ReadsJson (map string_bytes words.now) × Read (S.left source.old) (S.left source.new) HoldsNoJson }
     ensures bad_plan { result ≡ Status.BadPlan → (o : CommandOptions) × (reading (map string_bytes words.now) ≡ Some o) × IsJsonMode o × Read (S.left source.old) (S.left source.new) (λ bytes. (f : PlanFault)
-        × HoldsFaultBy o.call bytes f × TellsLine (E.written err.old) (E.written err.new) (E.faults err.old) (E.faults err.new) (fault_line f)) }
+        × HoldsFaultBy o.chain o.call bytes f × TellsLine (E.written err.old) (E.written err.new) (E.faults err.old) (E.faults err.new) (fault_line f)) }
     ensures refused { result ≡ Status.Refused → (o : CommandOptions) × (reading (map string_bytes words.now) ≡ Some o) × IsJsonMode o × Read (S.left source.old) (S.left source.new) (λ bytes. (f : Fault) × (place : Place)
-        × HoldsRefusalBy o.call bytes f place × TellsLine (E.written err.old) (E.written err.new) (E.faults err.old) (E.faults err.new) (refusal_line f place)) }
+        × HoldsRefusalBy o.chain o.call bytes f place × TellsLine (E.written err.old) (E.written err.new) (E.faults err.old) (E.faults err.new) (refusal_line f place)) }
     ensures not_hex { result ≡ Status.NotHex → ChecksBytes (map string_bytes words.now) × Read (S.left source.old) (S.left source.new) HoldsNoHex }
     ensures rejected { result ≡ Status.Rejected → ChecksBytes (map string_bytes words.now) × Read (S.left source.old) (S.left source.new) (λ input. (e : CheckError)
         × HoldsRejected input e × TellsLine (E.written err.old) (E.written err.new) (E.faults err.old) (E.faults err.new) (rejected_line e)) }
     ensures not_callable { result ≡ Status.NotCallable → (name : List ℕ) × AsksCall (map string_bytes words.now) name × Read (S.left source.old) (S.left source.new) (λ bytes. HasInput bytes (IsNotCallable name)) }
-    ensures bad_value { result ≡ Status.BadValue → (name : List ℕ) × AsksCall (map string_bytes words.now) name × Read (S.left source.old) (S.left source.new) (λ bytes. (f : PlanFault)
-        × HasInput bytes (λ i. HasBadValue name i f) × TellsLine (E.written err.old) (E.written err.new) (E.faults err.old) (E.faults err.new) (bad_value_line f)) }
-    ensures over_limit { result ≡ Status.OverLimit → (name : List ℕ) × AsksCall (map string_bytes words.now) name × Read (S.left source.old) (S.left source.new) (λ bytes. HasInput bytes (IsOverLimit name)) }
+    ensures not_chained { result ≡ Status.NotChained → AsksChain (map string_bytes words.now) × Read (S.left source.old) (S.left source.new) (λ bytes. HasChainInput bytes IsNotChained) }
+    ensures bad_value { result ≡ Status.BadValue → (o : CommandOptions) × (reading (map string_bytes words.now) ≡ Some o) × IsJsonMode o × Read (S.left source.old) (S.left source.new) (λ bytes. (f : PlanFault)
+        × HoldsBadValueBy o.chain o.call bytes f × TellsLine (E.written err.old) (E.written err.new) (E.faults err.old) (E.faults err.new) (bad_value_line f)) }
+    ensures over_limit { result ≡ Status.OverLimit → (o : CommandOptions) × (reading (map string_bytes words.now) ≡ Some o) × IsJsonMode o
+        × Read (S.left source.old) (S.left source.new) (λ bytes. HoldsOverLimitBy o.chain o.call bytes) }
     ensures write_fault { result ≡ Status.WriteFault → Rose (K.faults out.old) (K.faults out.new) }
     ensures done { result ≡ Status.Done → (o : CommandOptions) × (reading (map string_bytes words.now) ≡ Some o)
         × Sends o (S.left source.old) (S.left source.new) (λ text. Appends (K.written out.old) (K.written out.new) text) }
@@ -176,6 +184,11 @@ pub fn run<S: Source, K: Sink, E: Sink>(
     ensures complete_call { (name : List ℕ) → IsUndisturbedCall (map string_bytes words.now) name (S.faults source.old) (S.faults source.new)
         → (Rose (K.faults out.old) (K.faults out.new) → ⊥)
         → IfSome (S.left source.old) (λ bytes. HasInput bytes (HasCall name) → IsOrMemory Status.Done result) }
+    ensures exactly_chain { IsUndisturbedChain (map string_bytes words.now) (S.faults source.old) (S.faults source.new)
+        → IfSome (S.left source.old) (λ bytes. EndsAsChain bytes result) }
+    ensures complete_chain { IsUndisturbedChain (map string_bytes words.now) (S.faults source.old) (S.faults source.new)
+        → (Rose (K.faults out.old) (K.faults out.new) → ⊥)
+        → IfSome (S.left source.old) (λ bytes. HasChainInput bytes HasChain → IsOrMemory Status.Done result) }
     ensures complete_generated { GeneratesPlan (map string_bytes words.now) → (Rose (K.faults out.old) (K.faults out.new) → ⊥) → IsOrMemory Status.Done result }
 
     // What was written.

@@ -22,4 +22,4 @@ returns-in-Err-clause-cause c =
     let t = c.args.types.now in
     let p = c.call-made.new.callee in
     let stay = c.call-made.ensures.stays c.new-passing.result (stays_itself c.new-passing.result c.new-passing.ensures.holds) in
-    chain_cause m t c.args.first.now c.args.second.now c.args.args.now c.args.results p (passing_on m t c.args.second.now c.args.results c.new-passing.result p c.new-passing.ensures.passes stay) stay.holds c.in-Err.error c.in-Err.ensures.cause
+    chain_cause m t c.args.first.now c.args.second.now c.args.args.now c.args.results p (passing_on m t c.args.second.now c.args.results c.new-passing.result p c.new-passing.ensures.passes stay) stay.holds c.in-Err.error c.in-Err.ensures.reached c.in-Err.ensures.cause

@@ -6,6 +6,7 @@ use Rattle.fact_host.specs.declared.calling.HostOutcome.{HostOutcome}
 use Rattle.fact_host.specs.Contract.{IsFresh, results_reached}
 use Rattle.fact_host.specs.Lawful.{told_by}
 use Rattle.fact_host.proofs.Outcomes.{callable_by, cause_of, no_cause_of, outcome_of, typed_log}
+use Rattle.fact_host.proofs.Reached.{reached_by}
 use Rattle.fact_host.proofs.calls.call.Goals as goal
 
 pub returns-then-not-branch-clause-cause : goal.returns-then-not-branch-clause-cause
@@ -34,6 +35,25 @@ returns-in_err-run-clause-cause g c =
     let have = subst (λ tys. HaveShapes c.args.types.now tys s.lower_params) (sym c.as_slice-tys.ensures) shapes.lower_params in
     let others = subst (λ tys. HaveShapes c.args.types.now tys s.lift_params) (sym c.as_slice.ensures) shapes.lift_params in
     cause_of s c.args.args.now told c.in_err-run.field-0.0 ((c.in_ok-are_values.ensures s.lower_params have).0 c.if-not-branch.false, sym (c.in_ok-fits.ensures s.lower_params s.lift_params have others) ∙ c.if-not-branch-2.false) (c.in_err-run.ensures.cause s shapes))
+
+pub returns-then-not-branch-clause-reached : goal.returns-then-not-branch-clause-reached
+returns-then-not-branch-clause-reached g c = λ s shapes. inl c.requires.fresh.not_given
+
+pub returns-then-not-branch-2-clause-reached : goal.returns-then-not-branch-2-clause-reached
+returns-then-not-branch-2-clause-reached g c = λ s shapes. inl c.requires.fresh.not_given
+
+pub returns-in_err-run-clause-reached : goal.returns-in_err-run-clause-reached
+returns-in_err-run-clause-reached g c =
+    let m = c.args.«module».now in
+    let t = c.args.types.now in
+    let call = c.args.call.now in
+    let started = c.in_ok-started.started in
+    let p = err_from_is_err_and c.from_residual-in_err-run.result c.from_residual-in_err-run.ensures.1 in
+    rw (p.1, p.2)
+    (λ s shapes.
+    let at = c.in_ok-started.ensures s shapes in
+    reached_by m t call s c.args.args.now at.before started.begun.state started.begun.args started.begun.cursor started.cursors (callable_by m t call c.requires.callable.0 s c.requires.callable.1 shapes) at.first at.begun at.at
+    c.laws_of_typed_answers.ensures c.laws_of_seen.ensures c.read_constants.ensures (g.C.Callee.given c.run_on_host.new.callee) c.in_err-run.field-0.0 (c.in_err-run.ensures.given s shapes))
 
 pub returns-in_err-run-clause-unasked : goal.returns-in_err-run-clause-unasked
 returns-in_err-run-clause-unasked g c = λ s shapes not_so.

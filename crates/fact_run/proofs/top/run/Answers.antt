@@ -1,5 +1,6 @@
 use Rattle.fact_command.specs.declared.status.Status.TheVariants as status
 use Rattle.fact_run.proofs.CallEnds.{call-asked, complete-call, exactly-called, told-bad-value}
+use Rattle.fact_run.proofs.ChainEnds.{chain-asked, complete-chain, exactly-chained}
 use Rattle.fact_run.proofs.CheckEnds.{accepted-end, bytes-checked, check-long-end, exactly-checked, hex-end, rejected-end, told-rejection}
 use Rattle.fact_run.proofs.Ends.{exactly, faultless-end, json-read, no-write-fault, printed, printed-front, usage-end, fault-end, json-end, long-end, refused-end, unread-done, plain-line, told, told-fault, told-refusal, is-end}
 use Rattle.fact_run.proofs.top.run.Goals as goal
@@ -48,14 +49,14 @@ returns-clause-bad_plan g c =
     λ e. let line = told c.write_text.result _ _ _ _ _ (rw (c.as_bytes.ensures.value, c.line.ensures) at c.write_text.ensures.whole)
     (rw (c.as_bytes.ensures.value, c.line.ensures) at c.write_text.ensures.part) c.write_text.ensures.rose in
     let k = is-end _ _ _ _ _ _ _ _ status.BadPlan _ c.ending_of-ending.ensures.end e in
-    (k.0, k.1, k.2.0, told-fault _ _ _ _ _ _ _ _ k.2.1 line)
+    (k.0, k.1, k.2.0, told-fault _ _ _ _ _ _ _ _ _ k.2.1 line)
 
 pub returns-clause-refused : goal.returns-clause-refused
 returns-clause-refused g c =
     λ e. let line = told c.write_text.result _ _ _ _ _ (rw (c.as_bytes.ensures.value, c.line.ensures) at c.write_text.ensures.whole)
     (rw (c.as_bytes.ensures.value, c.line.ensures) at c.write_text.ensures.part) c.write_text.ensures.rose in
     let k = is-end _ _ _ _ _ _ _ _ status.Refused _ c.ending_of-ending.ensures.end e in
-    (k.0, k.1, k.2.0, told-refusal _ _ _ _ _ _ _ _ k.2.1 line)
+    (k.0, k.1, k.2.0, told-refusal _ _ _ _ _ _ _ _ _ k.2.1 line)
 
 pub returns-clause-rejected : goal.returns-clause-rejected
 returns-clause-rejected g c =
@@ -72,10 +73,20 @@ returns-clause-bad_value g c =
     λ e. let line = told c.write_text.result _ _ _ _ _ (rw (c.as_bytes.ensures.value, c.line.ensures) at c.write_text.ensures.whole)
     (rw (c.as_bytes.ensures.value, c.line.ensures) at c.write_text.ensures.part) c.write_text.ensures.rose in
     let k = is-end _ _ _ _ _ _ _ _ status.BadValue _ c.ending_of-ending.ensures.end e in
-    (k.2.0, call-asked _ k.0 k.2.0 k.1 k.2.1, told-bad-value k.2.0 _ _ _ _ _ _ _ k.2.2 line)
+    (k.0, k.1, k.2.0, told-bad-value _ _ _ _ _ _ _ _ _ k.2.1 line)
 
 pub returns-clause-over_limit : goal.returns-clause-over_limit
-returns-clause-over_limit g c = λ e. let k = is-end _ _ _ _ _ _ _ _ status.OverLimit _ c.ending_of-ending.ensures.end e in (k.2.0, call-asked _ k.0 k.2.0 k.1 k.2.1, k.2.2)
+returns-clause-over_limit g c = λ e. let k = is-end _ _ _ _ _ _ _ _ status.OverLimit _ c.ending_of-ending.ensures.end e in (k.0, k.1, k.2.0, k.2.1)
+
+pub returns-clause-not_chained : goal.returns-clause-not_chained
+returns-clause-not_chained g c = λ e. let k = is-end _ _ _ _ _ _ _ _ status.NotChained _ c.ending_of-ending.ensures.end e in (chain-asked _ k.0 k.1 k.2.0, k.2.1)
+
+pub returns-clause-exactly_chain : goal.returns-clause-exactly_chain
+returns-clause-exactly_chain g c = exactly-chained _ _ _ _ _ _ _ _ _ _ c.ending_of-ending.ensures.end
+
+pub returns-clause-complete_chain : goal.returns-clause-complete_chain
+returns-clause-complete_chain g c = λ calm unfaulted.
+    complete-chain _ _ _ _ _ _ _ _ _ _ (no-write-fault _ _ _ _ _ _ _ _ _ c.ending_of-ending.ensures.end unfaulted) c.ending_of-ending.ensures.end calm
 
 pub returns-clause-exactly_call : goal.returns-clause-exactly_call
 returns-clause-exactly_call g c = λ name. exactly-called _ name _ _ _ _ _ _ _ _ _ c.ending_of-ending.ensures.end

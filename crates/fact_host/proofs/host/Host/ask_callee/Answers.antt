@@ -11,7 +11,8 @@ pub returns-in-Err-clause-asked : goal.returns-in-Err-clause-asked
 returns-in-Err-clause-asked g c = (
   refl,
   (λ s k shapes waits known.
-      error_ends k c.args.self.now.call.now s (told_by g.C.Callee.last g.C.Callee.answered g.C.Callee.given c.called-answered.new.self) c.args.params c.args.state.now Traps c.args.self.now.kept.now.known c.in-Err.error (Some c.in-Err.error) refl c.in-Err.ensures.error),
+      error_ends k c.args.self.now.call.now s (told_by g.C.Callee.last g.C.Callee.answered g.C.Callee.given c.called-answered.new.self) c.args.params c.args.state.now Traps c.args.self.now.kept.now.known c.in-Err.error (Some c.in-Err.error) refl c.in-Err.ensures.error
+      (subst (IsGiven (g.C.Callee.given c.called-answered.new.self)) c.as_slice.ensures c.called-answered.ensures.given) refl),
 )
 
 pub returns-in-Some-clause-asked : goal.returns-in-Some-clause-asked
@@ -19,7 +20,8 @@ returns-in-Some-clause-asked g c = (
   refl,
   (λ s k shapes waits known.
       refusal_ends k c.args.self.now.call.now s (told_by g.C.Callee.last g.C.Callee.answered g.C.Callee.given c.called-answered.new.self) c.args.params c.args.state.now Traps c.args.self.now.kept.now.known c.as_slice-values.result.now c.in-Some.error
-      (Some c.in-Some.error) refl (c.in-Ok.ensures.answers ∙ ap (λ z. Some z) (sym c.as_slice-values.ensures)) c.in-Ok.ensures.no_error (rw c.in-Some.is at (c.in_ok-error.ensures.why s shapes))),
+      (Some c.in-Some.error) refl (c.in-Ok.ensures.answers ∙ ap (λ z. Some z) (sym c.as_slice-values.ensures)) c.in-Ok.ensures.no_error (rw c.in-Some.is at (c.in_ok-error.ensures.why s shapes))
+      (subst (IsGiven (g.C.Callee.given c.called-answered.new.self)) c.as_slice.ensures c.called-answered.ensures.given) refl),
 )
 
 pub answer_of-requires-clause-suited : goal.answer_of-requires-clause-suited

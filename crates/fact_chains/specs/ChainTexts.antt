@@ -1,5 +1,5 @@
 -- What the bytes of an input come to where two adapters are to be chained, and the text that tells a chain.
-use Rattle.std.specs.Prelude.{◌≡◌, ◌⊎◌, ℕ, ◌≤◌, ◌&&◌, Bool, true, false, nat_eq, List, ◌++◌, length, Option, Some, None, Result, Ok, Err, codes}
+use Rattle.std.specs.Prelude.{◌≡◌, ◌⊎◌, ℕ, ◌≤◌, ◌&&◌, Bool, true, false, nat_eq, List, [], ◌∷◌, ◌++◌, length, Option, Some, None, Result, Ok, Err, codes}
 use Rattle.std.specs.Fmt.{decimal}
 use Rattle.serde_json.specs.Data.{Data}
 use Rattle.fact_wasm.specs.declared.instr.FuncName.TheVariants.{Defined}
@@ -10,30 +10,28 @@ use Rattle.fact_types.specs.Tuples.{tuple_of}
 use Rattle.fact_plan.specs.declared.fault.PlanFault.{PlanFault}
 use Rattle.fact_plan.specs.declared.plan.FusePlan.{FusePlan}
 use Rattle.fact_plan.specs.Reading.{value_in}
-use Rattle.fact_plan_types.specs.declared.error.Place.{Place}
-use Rattle.fact_plan_types.specs.Faults.{Fault}
 use Rattle.fact_plan_types.specs.PlanShapes.{same_shape}
 use Rattle.fact_checks.specs.Adapters.{adapters_of}
-use Rattle.fact_checks.specs.FirstFault.{IsFaultlessPlan, IsFirstAt}
+use Rattle.fact_checks.specs.FirstFault.{IsFaultlessPlan}
 use Rattle.fact_values.specs.declared.value.Value.{Value}
 use Rattle.fact_value_json.specs.Printing.{values_text}
 use Rattle.fact_value_json.specs.Reading.{values_at}
 use Rattle.fact_host.specs.declared.calling.HostCall.{HostCall}
 use Rattle.fact_host.specs.declared.calling.HostOutcome.{HostOutcome}
 use Rattle.fact_host.specs.Called.{called_params, called_results}
-use Rattle.fact_host.specs.Rules.{CallShapes}
 use Rattle.fact_chain.specs.declared.chaining.Chained.{Chained}
 use Rattle.fact_chain.specs.Between.{AreLinked, CanBeCalled}
 use Rattle.fact_chain.specs.Chained.{IsChained}
 use Rattle.fact_assembly.specs.Exports.{exported_as}
 use Rattle.fact_module.specs.declared.fusion.Fused.{Fused}
 use Rattle.fact_module.specs.Fused.{IsFused}
-use Rattle.fact_calls.specs.Calls.{callable_named, limit, without_debug, word_line}
 use Rattle.fact_calling.specs.Carrying.{CallsAdapter}
-use Rattle.fact_chaining.specs.ChainInputs.{ChainInput, chain_input}
 use Rattle.fact_chaining.specs.Chains.{FitBothWays, IsOverOneWay}
+use Rattle.fact_calls.specs.Calls.{callable_named, limit, without_debug, word_line}
+use Rattle.fact_calls.specs.Replies.{shapes_of}
+use Rattle.fact_chains.specs.ChainInputs.{ChainInput, chain_input}
 
--- ---- what the bytes of an input hold
+-- ---- what the bytes of an input hold: no JSON text, one whose value has a fault, or an input
 
 -- They are a JSON text whose value has this first fault.
 pub record HoldsFaultyChain (bytes : List ℕ) (f : PlanFault) : Type 0 where
@@ -48,6 +46,12 @@ pub record HoldsChain (bytes : List ℕ) (i : ChainInput) : Type 0 where
   pub value : Data
   pub is_json : value_in bytes ≡ Some value
   pub is_input : chain_input value ≡ Ok i
+
+-- They are that of an input of which this is so.
+pub record HasChainInput (bytes : List ℕ) (P : ChainInput → Type 0) : Type 0 where
+  pub input : ChainInput
+  pub holds : HoldsChain bytes input
+  pub is_so : P input
 
 -- ---- adapters that can be chained
 
@@ -85,22 +89,24 @@ chain_args a i = values_at (codes "chain.args") a.lower.params i.args
 abbrev pub chain_results : LinkedAdapter → ChainInput → Result (List Value) PlanFault
 chain_results b i = values_at (codes "chain.results") b.lift.results i.results
 
--- The arguments have this first fault, or they have none and the results have it.
+-- the arguments have this first fault, or they have none and the results have it
+abbrev pub AreBadChainValues : (first second : LinkedAdapter) → ChainInput → PlanFault → Type 0
+AreBadChainValues a b i f = (chain_args a i ≡ Err f) ⊎ ((args : List Value) × (chain_args a i ≡ Ok args) × (chain_results b i ≡ Err f))
+
 pub record HasBadChainValue (i : ChainInput) (f : PlanFault) : Type 0 where
   pub first : LinkedAdapter
   pub second : LinkedAdapter
   pub names : NamesChained i first second
-  pub fault : (chain_args first i ≡ Err f) ⊎ ((args : List Value) × (chain_args first i ≡ Ok args) × (chain_results second i ≡ Err f))
+  pub fault : AreBadChainValues first second i f
 
 -- They are these values of their types.
-pub record HasChainValues (i : ChainInput) (a b : LinkedAdapter) (args results : List Value) : Type 0 where
-  pub names : NamesChained i a b
-  pub args_are : chain_args a i ≡ Ok args
-  pub results_are : chain_results b i ≡ Ok results
+pub record AreChainValues (first second : LinkedAdapter) (i : ChainInput) (args results : List Value) : Type 0 where
+  pub args_are : chain_args first i ≡ Ok args
+  pub results_are : chain_results second i ≡ Ok results
 
--- the shapes of the types of an adapter
-abbrev pub shapes_of_adapter : LinkedAdapter → CallShapes
-shapes_of_adapter a = record { lower_params = a.lower.params; lower_results = a.lower.results; lift_params = a.lift.params; lift_results = a.lift.results }
+pub record HasChainValues (i : ChainInput) (first second : LinkedAdapter) (args results : List Value) : Type 0 where
+  pub names : NamesChained i first second
+  pub values : AreChainValues first second i args results
 
 -- One of the two lists does not fit on one of its two ways.
 pub record IsChainOverLimit (i : ChainInput) : Type 0 where
@@ -109,7 +115,7 @@ pub record IsChainOverLimit (i : ChainInput) : Type 0 where
   pub args : List Value
   pub results : List Value
   pub values : HasChainValues i first second args results
-  pub over : IsOverOneWay (shapes_of_adapter first) (shapes_of_adapter second) args results
+  pub over : IsOverOneWay (shapes_of first) (shapes_of second) args results
 
 -- Both fit on both.
 pub record HasChain (i : ChainInput) : Type 0 where
@@ -118,21 +124,7 @@ pub record HasChain (i : ChainInput) : Type 0 where
   pub args : List Value
   pub results : List Value
   pub values : HasChainValues i first second args results
-  pub fitting : FitBothWays (shapes_of_adapter first) (shapes_of_adapter second) args results
-
--- ---- what the bytes of an input come to: those that are no JSON text or too many, and each of these
-
-abbrev pub HoldsRefusedChain : (bytes : List ℕ) → Fault → Place → Type 0
-HoldsRefusedChain bytes f place = (i : ChainInput) × HoldsChain bytes i × IsFirstAt i.plan f place
-
-abbrev pub HoldsNotChained : (bytes : List ℕ) → Type 0
-HoldsNotChained bytes = (i : ChainInput) × HoldsChain bytes i × IsNotChained i
-
-abbrev pub HoldsBadChainValue : (bytes : List ℕ) → PlanFault → Type 0
-HoldsBadChainValue bytes f = (i : ChainInput) × HoldsChain bytes i × HasBadChainValue i f
-
-abbrev pub HoldsChainOverLimit : (bytes : List ℕ) → Type 0
-HoldsChainOverLimit bytes = (i : ChainInput) × HoldsChain bytes i × IsChainOverLimit i
+  pub fitting : FitBothWays (shapes_of first) (shapes_of second) args results
 
 -- ---- the text that tells a chain
 
@@ -160,10 +152,14 @@ pub record MakeCalls (fuel : ℕ) (p : FusePlan) (a b : LinkedAdapter) (args res
   pub inner_made : chained.inner ≡ Some inner
   pub inner_count_is : inner_count ≡ length inner.outcome.log
 
+-- two counts on a line
+abbrev pub calls_line : (outer inner : ℕ) → List ℕ
+calls_line n k = codes "calls " ++ (decimal n ++ (codes " " ++ (decimal k ++ 10 ∷ [])))
+
 -- what tells a chain: values of these types that the last callee was given, and of those that the first caller got, and two counts
 abbrev pub chain_text : (ps : List Shape) → (seen : List Value) → (rs : List Shape) → (got : List Value) → (outer_count inner_count : ℕ) → List ℕ
 chain_text ps seen rs got n k =
-    word_line (codes "seen") (values_text ps seen) ++ (word_line (codes "results") (values_text rs got) ++ word_line (codes "calls") (decimal n ++ (codes " " ++ decimal k)))
+    word_line (codes "seen") (values_text ps seen) ++ (word_line (codes "results") (values_text rs got) ++ calls_line n k)
 
 -- The text tells what the last callee is given, what the first caller gets, and how many calls of the outside the two runs make.
 pub record TellsChain (fuel : ℕ) (p : FusePlan) (a b : LinkedAdapter) (args results : List Value) (text : List ℕ) : Type 0 where

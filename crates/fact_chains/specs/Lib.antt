@@ -1,0 +1,3 @@
+pub mod ChainInputs
+pub mod ChainReplies
+pub mod ChainTexts
