@@ -1,5 +1,5 @@
--- The module can be called.
-use Rattle.std.proofs.Common.{◌≡◌, ℕ, zero, suc, ◌<◌, Bool, true, All, List, [], ◌∷◌, Option, Some, None, inl, inr, refl, ap, ◌∙◌, arith}
+-- Both functions of the module can be called.
+use Rattle.std.proofs.Common.{◌≡◌, ℕ, zero, suc, ◌<◌, ◌≤◌, Bool, true, All, List, [], ◌∷◌, Option, Some, None, inl, inr, refl, ap, ◌∙◌, arith}
 use Rattle.std.specs.Prelude.{◌&&◌, codes}
 use Rattle.std.proofs.lemmas.Bool.{false≢true}
 use Rattle.std.proofs.lemmas.List.Elements.{All-cons, All-nil}
@@ -13,8 +13,9 @@ use Rattle.fact_machine.proofs.TypingRows.{row_of, typing_is}
 use Rattle.fact_check.specs.Accepted.{IsAdapterModule}
 use Rattle.fact_check.specs.Imports.{IsAdapterImport, IsFunctionRow, fixed_signature, origin_of}
 use Rattle.fact_host.specs.declared.calling.HostSide.{HostSide}
-use Rattle.fact_host.specs.Contract.{AreLive, HasMeans, HaveNeeds, IsCallable, IsNameable, NamesEachOnce}
-use Rattle.host_tests.specs.Samples.{callee_import, calling_function, calling_module, no_numbers, no_shapes, plain_call, plain_side}
+use Rattle.fact_host.specs.Contract.{AreLive, HasMeans, HasSyncTypes, HaveNeeds, IsCallable, IsNameable, NamesEachOnce}
+use Rattle.fact_chain.specs.Between.{CanBeCalled}
+use Rattle.host_tests.specs.Samples.{callee_import, calling_function, calling_module, no_numbers, no_shapes, plain_call, plain_side, returning_function}
 
 -- ---- an adapter module
 
@@ -47,8 +48,8 @@ no_place n e = absurd cc
 means : (flags : ℕ) → HasMeans calling_module (plain_side flags)
 means flags = record { memory = λ n e. no_place n e; realloc = λ n e. no_place n e; with_memory = λ e. refl }
 
-needs : HaveNeeds plain_call no_shapes
-needs = record {
+needs : (n : ℕ) → HaveNeeds (plain_call n) no_shapes
+needs n = record {
   lower_params = λ p. absurd (false≢true p);
   lower_params_behind = λ p. absurd cc;
   lower_results = λ p. absurd (false≢true p);
@@ -59,25 +60,34 @@ needs = record {
   lift_results_behind = λ p. absurd cc;
 }
 
-once : NamesEachOnce plain_call
-once = record { functions = (refl, tt); memories = tt; flags = λ e. absurd (omega (arith, e)) }
+once : (n : ℕ) → NamesEachOnce (plain_call n)
+once n = record { functions = (refl, tt); memories = tt; flags = λ e. absurd (omega (arith, e)) }
 
 callee_named : IsNameable calling_module 0
 callee_named = record { import = callee_import; there = refl; origin = inr (inr (inl refl)) }
 
-pub sample_callable : (t : Tables) → IsCallable calling_module t plain_call no_shapes
-sample_callable t = record {
+sync_types : (n : ℕ) → n ≤ 1 → HasSyncTypes calling_module (plain_call n) no_shapes
+sync_types zero h = record { body = calling_function; defined = refl; func = refl; callee = refl; post_return = λ n e. no_place n e }
+sync_types (suc zero) h = record { body = returning_function; defined = refl; func = refl; callee = refl; post_return = λ n e. no_place n e }
+sync_types (suc (suc n)) h = absurd (omega (arith, h))
+
+pub sample_callable : (t : Tables) (n : ℕ) → n ≤ 1 → IsCallable calling_module t (plain_call n) no_shapes
+sample_callable t n h = record {
   adapter = is_adapter;
   named = All-cons (IsNameable calling_module) 0 [] callee_named (All-nil (IsNameable calling_module));
   shapes = record { lower_params = tt; lower_results = tt; lift_params = tt; lift_results = tt };
   lower_means = means 0;
   lift_means = means 1;
-  needs = needs;
-  once = once;
-  types = record { body = calling_function; defined = refl; func = refl; callee = refl; post_return = λ n e. no_place n e };
+  needs = needs n;
+  once = once n;
+  types = sync_types n h;
   params_agree = tt;
   results_agree = tt;
 }
 
-pub sample_live : (t : Tables) → AreLive t plain_call
-sample_live t = record { lower_params = All-nil (IsLive t); lower_results = All-nil (IsLive t); lift_params = All-nil (IsLive t); lift_results = All-nil (IsLive t) }
+pub sample_live : (t : Tables) (n : ℕ) → AreLive t (plain_call n)
+sample_live t n = record { lower_params = All-nil (IsLive t); lower_results = All-nil (IsLive t); lift_params = All-nil (IsLive t); lift_results = All-nil (IsLive t) }
+
+-- so each can be one of a chain
+pub can_be_called : (t : Tables) (n : ℕ) → n ≤ 1 → CanBeCalled calling_module t (plain_call n)
+can_be_called t n h = record { shapes = no_shapes; callable = sample_callable t n h; live = sample_live t n }

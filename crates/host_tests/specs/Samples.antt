@@ -1,5 +1,6 @@
 -- Cited by private clauses alone.
--- A module whose one function calls the one that it imports, and its call, in which nothing is taken and given.
+-- A module of two functions, of which the first one calls the one that it imports and the second one returns at once, and their calls, in which nothing is
+-- taken and given.
 use Rattle.std.specs.Prelude.{ℕ, false, [], ◌∷◌, None, codes}
 use Rattle.fact_wasm.specs.declared.instr.FuncName.TheVariants.{Import}
 use Rattle.fact_wasm.specs.declared.instr.Instr.TheVariants as I
@@ -16,8 +17,9 @@ use Rattle.fact_host.specs.Rules.{CallShapes}
 abbrev pub plain_side : (flags : ℕ) → HostSide
 plain_side n = record { abi = record { memory64 = false; encoding = Utf8 }; memory = None; realloc = None; flags = n; params = []; results = [] }
 
-abbrev pub plain_call : HostCall
-plain_call = record { lower = plain_side 0; lift = plain_side 1; callee = 0; post_return = None; func = 0 }
+-- the call of a function of the module by its number
+abbrev pub plain_call : ℕ → HostCall
+plain_call n = record { lower = plain_side 0; lift = plain_side 1; callee = 0; post_return = None; func = n }
 
 abbrev pub no_shapes : CallShapes
 no_shapes = record { lower_params = []; lower_results = []; lift_params = []; lift_results = [] }
@@ -31,5 +33,8 @@ callee_import = record { «module» = codes "callee"; name = codes "f"; ty = Fun
 abbrev pub calling_function : WasmFunc
 calling_function = record { ty = 0; locals = []; body = I.Call (Import 0) ∷ [] }
 
+abbrev pub returning_function : WasmFunc
+returning_function = record { ty = 0; locals = []; body = [] }
+
 abbrev pub calling_module : WasmModule
-calling_module = record { types = no_numbers ∷ []; imports = callee_import ∷ []; funcs = calling_function ∷ []; exports = [] }
+calling_module = record { types = no_numbers ∷ []; imports = callee_import ∷ []; funcs = calling_function ∷ returning_function ∷ []; exports = [] }

@@ -1,10 +1,12 @@
 //! Calls of the module, and what came of them.
 
+ghost use Rattle.std.specs.Prelude.{◌≤◌};
 ghost use Rattle.fact_host.specs.Contract.{IsFresh};
 
 use crate::refusing::Refusing;
 use crate::samples::{calling_module, plain_call};
 use fact_abi::Value;
+use fact_chain::{Chained, chain};
 use fact_host::{Callee, HostError, HostOutcome, Scripted, call};
 use fact_machine::End;
 use fact_types::ComponentTypes;
@@ -28,7 +30,7 @@ fn outcome_by<C: Callee>(
     requires ready { C.ready callee.old }
 {
     let made = calling_module(alloc)?;
-    let sample = plain_call(alloc);
+    let sample = plain_call(alloc, 0);
     let types = ComponentTypes::new(alloc);
     let outcome = call(alloc, &types, &made, &sample, args, callee);
     drop(types);
@@ -113,6 +115,52 @@ fn errors_of_callees_are_told(alloc: Global) -> bool {
         & is_handed_on(alloc, HostError::NoResults)
 }
 
+/// What comes of the call of a function whose callee calls the first one.
+fn chained_behind(alloc: Global, func: u32) -> Result<Chained, HostError>
+    requires { func ≤ 1 }
+{
+    let made = calling_module(alloc)?;
+    let outer = plain_call(alloc, func);
+    let inner = plain_call(alloc, 0);
+    let types = ComponentTypes::new(alloc);
+    let chained = chain(alloc, &types, &made, &outer, &inner, &[], &[]);
+    drop(types);
+    drop(inner);
+    drop(outer);
+    drop(made);
+    chained
+}
+
+/// Whether a chain of two calls arrives in both.
+fn chains_arrive(alloc: Global) -> bool {
+    match chained_behind(alloc, 0) {
+        Ok(chained) => {
+            let both = match &chained.inner {
+                Some(inner) => arrived(&chained.outer) & arrived(inner),
+                None => false,
+            };
+            drop(chained);
+            both
+        }
+        Err(_) => false,
+    }
+}
+
+/// Whether a chain whose first function never calls its callee has no second call, and returns.
+fn callee_between_is_not_reached(alloc: Global) -> bool {
+    match chained_behind(alloc, 1) {
+        Ok(chained) => {
+            let alone = chained.inner.is_none()
+                & chained.outer.params.is_none()
+                & are_none(&chained.outer.results)
+                & (chained.outer.outcome.log.len() == 0);
+            drop(chained);
+            alone
+        }
+        Err(_) => false,
+    }
+}
+
 /// Whether the test of a name finds all as it should be. There is none of another name.
 pub fn holds(alloc: Global, name: &str) -> bool {
     match name {
@@ -120,6 +168,8 @@ pub fn holds(alloc: Global, name: &str) -> bool {
         "unsuited results" => unsuited_results_are_told(alloc),
         "unsuited arguments" => unsuited_arguments_are_told(alloc),
         "errors of callees" => errors_of_callees_are_told(alloc),
+        "chains of calls" => chains_arrive(alloc),
+        "callee between not reached" => callee_between_is_not_reached(alloc),
         _ => false,
     }
 }

@@ -1,7 +1,7 @@
 //! A module that can be called, and its call.
 
 ghost use Rattle.std.specs.Prelude.{◌≡◌, ◌∷◌, [], IfOk};
-ghost use Rattle.host_tests.specs.Samples.{calling_function, calling_module, callee_import, no_numbers, plain_call, plain_side};
+ghost use Rattle.host_tests.specs.Samples.{calling_function, calling_module, callee_import, no_numbers, plain_call, plain_side, returning_function};
 
 use fact_abi::SideAbi;
 use fact_host::{HostCall, HostSide};
@@ -28,16 +28,16 @@ fn plain_side(alloc: Global, flags: u32) -> HostSide
     }
 }
 
-/// A call of the first function of a module, whose callee is the first one that it imports.
-pub fn plain_call(alloc: Global) -> HostCall
-    ensures { result ≡ plain_call }
+/// A call of a function of a module by its number, whose callee is the first one that it imports.
+pub fn plain_call(alloc: Global, func: u32) -> HostCall
+    ensures { result ≡ plain_call func }
 {
     HostCall {
         lower: plain_side(alloc, 0),
         lift: plain_side(alloc, 1),
         callee: 0,
         post_return: None,
-        func: 0,
+        func,
     }
 }
 
@@ -75,9 +75,9 @@ fn calling_code(alloc: Global) -> Result<Seq<Instr>, OutOfMemory>
     Ok(code)
 }
 
-/// A function that calls the first imported one.
-fn calling_functions(alloc: Global) -> Result<Seq<WasmFunc>, OutOfMemory>
-    ensures { IfOk result (λ funcs. funcs ≡ calling_function ∷ []) }
+/// A function that calls the first imported one, and one that returns at once.
+fn functions(alloc: Global) -> Result<Seq<WasmFunc>, OutOfMemory>
+    ensures { IfOk result (λ funcs. funcs ≡ calling_function ∷ returning_function ∷ []) }
 {
     let mut funcs = Seq::new(alloc);
     funcs.push(WasmFunc {
@@ -85,17 +85,22 @@ fn calling_functions(alloc: Global) -> Result<Seq<WasmFunc>, OutOfMemory>
         locals: Seq::new(alloc),
         body: calling_code(alloc)?,
     })?;
+    funcs.push(WasmFunc {
+        ty: 0,
+        locals: Seq::new(alloc),
+        body: Seq::new(alloc),
+    })?;
     Ok(funcs)
 }
 
-/// A module whose one function calls the one that it imports.
+/// A module whose first function calls the one that it imports, and whose second one returns at once.
 pub fn calling_module(alloc: Global) -> Result<WasmModule, OutOfMemory>
     ensures { IfOk result (λ m. m ≡ calling_module) }
 {
     Ok(WasmModule {
         types: function_types(alloc)?,
         imports: callee_imports(alloc)?,
-        funcs: calling_functions(alloc)?,
+        funcs: functions(alloc)?,
         exports: Seq::new(alloc),
     })
 }
