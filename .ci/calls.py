@@ -1,6 +1,6 @@
 """Compares calls of adapters, and chains of two, with a model of them (`calling`).
 
-    calls.py table                   the rows of crates/rows that call adapters, as the table has them
+    calls.py table                   the rows of crates/row_tests that call adapters, as the table has them
     calls.py PROGRAM [SEED [PLANS]]  what the program answers for values of adapters of plans, both drawn from a seed
 
 Of rows those are passed over whose words are no command, or whose plan has a fault, which the model doesn't know. Values are drawn by the
@@ -379,5 +379,5 @@ def main(program, seed, count):
 
 if __name__ == "__main__":
     if sys.argv[1:] == ["table"]:
-        sys.exit(compare_table(Path(__file__).parent.parent / "crates" / "rows"))
+        sys.exit(compare_table(Path(__file__).parent.parent / "crates" / "row_tests"))
     sys.exit(main(sys.argv[1], sys.argv[2] if len(sys.argv) > 2 else "1", int(sys.argv[3]) if len(sys.argv) > 3 else ENOUGH))

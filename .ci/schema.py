@@ -1,6 +1,6 @@
 """Judges the schema of plans that is named by the examples and by the texts of the tests.
 
-The texts stand in the table of crates/rows: what is asked in its stdin, what comes of it in its stdout. A block may be a plan, and lines
+The texts stand in the table of crates/row_tests: what is asked in its stdin, what comes of it in its stdout. A block may be a plan, and lines
 that ask how the command ends for it, or for the plan with some edits. Ends with status 1 where a text is not judged as it should be, where the
 schema is none or does not tell what a key is, and where the texts cannot be read or have become fewer.
 """
@@ -12,7 +12,7 @@ from pathlib import Path
 
 from jsonschema import Draft202012Validator
 
-ROWS = Path("crates/rows")
+ROWS = Path("crates/row_tests")
 
 # The block whose plan has all entries.
 RICH = "faults.of_types"

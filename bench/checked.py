@@ -1,7 +1,7 @@
-"""Writes a table for the program of crates/rows that has the check of adapter modules judge one module of some 4 MB or less:
+"""Writes a table for the program of crates/row_tests that has the check of adapter modules judge one module of some 4 MB or less:
 
     python3 bench/checked.py KIND COUNT > table
-    python3 bench/measure.py 3 table crates/rows/out/rows
+    python3 bench/measure.py 3 table crates/row_tests/out/row_tests
 
 KIND says what the module has COUNT of: `imports` of traps, `functions` and as many exports of them, `locals`, each in a run of its own and
 each read, `references` to functions that are exported, as many as there are functions, `names` of exports that differ in their last bytes

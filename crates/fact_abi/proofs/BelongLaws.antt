@@ -5,7 +5,7 @@ use Rattle.std.specs.List.{AllByRecursion}
 use Rattle.std.specs.Str.{bytes_eq}
 use Rattle.std.proofs.lemmas.List.{drop_all}
 use Rattle.std.proofs.lemmas.Option.{slice_get-get_or}
-use Rattle.fact_types.specs.Heights.{Within}
+use Rattle.fact_types.specs.Heights.{IsMemberOf}
 use Rattle.fact_types.specs.declared.interface.InterfaceType.{InterfaceType}
 use Rattle.fact_types.specs.Agrees.{chosen, names_of}
 use Rattle.fact_types.specs.Shapes.{Kind, k_list, k_map, k_fixed, Shape, s_plain, s_node, Members, no_members, bare, typed}
@@ -20,7 +20,7 @@ use Rattle.fact_abi.specs.Finding.{IsFirstNamed, IsIndexOf, IsNowhere, name_is, 
 use Rattle.fact_values.specs.Handles.{only}
 use Rattle.fact_values.specs.IsA.{IsHandle, IsPlainValue, IsRecord, IsTuple, IsListOf, IsFixedList, IsMap, IsFlags, IsCase, IsNodeValue, IsOnePayload, IsA, AreMembers, HasCase, IsElement}
 use Rattle.fact_abi.specs.Nodes.{AreOf, AreLower}
-use Rattle.fact_types.specs.Steps.{◌>>=◌}
+use Rattle.fact_types.specs.Options.{◌>>=◌}
 use Rattle.fact_values.specs.Numbers.{plain_of}
 use Rattle.fact_values.proofs.IsALaws.{bytes_are, bytes_same}
 use Rattle.fact_abi.proofs.LoadLaws.{split_typed, split_bare}
@@ -81,7 +81,7 @@ found (Some z) y e = ap (λ z. Some z) e
 pub place_found : (types : List (Option InterfaceType)) (i : ℕ) (y : InterfaceType) → member_type_at types i ≡ Some y → slice_get types i ≡ Some (Some y)
 place_found types i y e = found (slice_get types i) y e
 
-pub place_within : (t : Tables) (owner : InterfaceType) (types : List (Option InterfaceType)) (i : ℕ) (y : InterfaceType) → AreLower t owner types → member_type_at types i ≡ Some y → Within t y owner
+pub place_within : (t : Tables) (owner : InterfaceType) (types : List (Option InterfaceType)) (i : ℕ) (y : InterfaceType) → AreLower t owner types → member_type_at types i ≡ Some y → IsMemberOf t y owner
 place_within t owner types i y w e = w.each i y (place_found types i y e)
 
 pub front_typed : (types : List (Option InterfaceType)) (i : ℕ) (y : InterfaceType) → member_type_at types i ≡ Some y → drop i types ≡ Some y ∷ drop (suc i) types

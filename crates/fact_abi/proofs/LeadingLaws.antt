@@ -15,7 +15,7 @@ use Rattle.fact_types.specs.Agrees.{names_of}
 use Rattle.fact_types.specs.FlatShapes.{flat, flat_plain, flat_members, flat_any, joined, times}
 use Rattle.fact_types.specs.Layout.{flags_size, flags_flat}
 use Rattle.fact_types.specs.Shapes.{k_flags, k_enum, k_fixed, Shape, s_plain, s_node, Members, no_members, bare, typed, layouts_of}
-use Rattle.fact_types.specs.Steps.{◌>>=◌}
+use Rattle.fact_types.specs.Options.{◌>>=◌}
 use Rattle.fact_types.specs.Tables.{Tables, HasShape}
 use Rattle.fact_types.proofs.ShapeLaws.{same_some, none_some}
 use Rattle.fact_values.specs.Formed.{AreBare}

@@ -14,7 +14,7 @@ use Rattle.fact_types.specs.Agrees.{names_of}
 use Rattle.fact_types.specs.FlatShapes.{flat, flat_members, flat_any, flat_types, times}
 use Rattle.fact_types.specs.Layout.{flags_size, flags_flat}
 use Rattle.fact_types.specs.Shapes.{k_record, k_tuple, k_list, k_map, k_flags, k_fixed, k_future, k_stream, Shape, s_plain, s_node, Members, no_members, bare, typed}
-use Rattle.fact_types.specs.Steps.{◌>>=◌}
+use Rattle.fact_types.specs.Options.{◌>>=◌}
 use Rattle.fact_types.specs.Tables.{Tables, HasShape}
 use Rattle.fact_types.proofs.ShapeLaws.{same_some, none_some}
 use Rattle.fact_abi.specs.declared.nodes.NodeKind.{NodeKind}

@@ -23,8 +23,8 @@ use Rattle.fact_values.specs.declared.value.Value.TheVariants as value
 use Rattle.fact_values.specs.Load.{load, load_members, load_plain}
 use Rattle.fact_abi.specs.Loading.{Loading}
 use Rattle.fact_abi.specs.Nodes.{kind_of, AreOf, AreTold, AreLower, IsOfKind, HasNode}
-use Rattle.fact_types.specs.Heights.{Within}
-use Rattle.fact_types.specs.Steps.{◌>>=◌}
+use Rattle.fact_types.specs.Heights.{IsMemberOf}
+use Rattle.fact_types.specs.Options.{◌>>=◌}
 use Rattle.fact_values.specs.Numbers.{plain_of}
 use Rattle.fact_values.specs.Places.{width_of, typed_names}
 use Rattle.fact_abi.specs.Rooms.{RoomFor, RoomForMembers}
@@ -135,7 +135,7 @@ pub all_loaded : {t : Tables} {side : SideAbi} {bytes : List ℕ} {ms : Members}
 all_loaded {t} {side} {bytes} {ms} {types} {i} {n} {a} {values} ge g = all_read _ _ values g.same (nothing_left t side bytes a n g.rest (subst (λ xs. AreOf t xs g.rest) (drop_all i types ge) g.has))
 
 -- a member that is there is live and lower
-pub member_within : (t : Tables) (owner : InterfaceType) (types : List (Option InterfaceType)) (i : ℕ) (y : InterfaceType) → AreLower t owner types → i < length types → get_or types i None ≡ Some y → Within t y owner
+pub member_within : (t : Tables) (owner : InterfaceType) (types : List (Option InterfaceType)) (i : ℕ) (y : InterfaceType) → AreLower t owner types → i < length types → get_or types i None ≡ Some y → IsMemberOf t y owner
 member_within t owner types i y w lt e = w.each i y (slice_get-get_or types i None lt ∙ ap Some e)
 
 pub loading_starts : (t : Tables) (side : SideAbi) (bytes : List ℕ) (ms : Members) (types : List (Option InterfaceType)) (a : ℕ) → AreOf t types ms → Loading t side bytes ms types 0 0 a []

@@ -26,7 +26,7 @@ use Rattle.fact_types.specs.Agrees.{names_of}
 use Rattle.fact_values.specs.declared.value.Value.{Value}
 use Rattle.fact_values.specs.declared.value.Value.TheVariants as value
 use Rattle.fact_types.specs.Shapes.{k_map, k_flags, ends_of, Shape, s_node, Members, no_members, bare, typed, layouts_of, Parts, no_parts, case_parts, entry_parts, parts_by}
-use Rattle.fact_types.specs.Steps.{◌>>=◌}
+use Rattle.fact_types.specs.Options.{◌>>=◌}
 use Rattle.fact_types.specs.Tables as tables
 use Rattle.fact_types.specs.Tables.{Tables, node_of, HasShape, HasMembers, IsSound, abi_at, map_node}
 use Rattle.fact_types.proofs.ShapeLaws.{same_some, none_some, layout_is}

@@ -23,7 +23,7 @@ use Rattle.fact_abi.specs.CrossingWalks.{StepGives, CrossingGives, Meets, record
 use Rattle.fact_values.specs.Handles.{Step, done_step, then_step, given, each_step, table_number_of, members_of, cross_handle, cross_plain, cross_flags, cross, cross_places}
 use Rattle.fact_values.specs.Load.{entry_of}
 use Rattle.fact_abi.specs.Nodes.{kind_of, AreOf, AreTold, HasNode}
-use Rattle.fact_types.specs.Steps.{◌>>=◌}
+use Rattle.fact_types.specs.Options.{◌>>=◌}
 use Rattle.fact_values.specs.Numbers.{plain_of}
 use Rattle.fact_values.specs.Opened.{map_entries_in}
 use Rattle.fact_values.specs.Places.{typed_names}

@@ -14,7 +14,7 @@ use Rattle.fact_types.specs.Agrees.{names_of}
 use Rattle.fact_types.specs.Layout as Layout
 use Rattle.fact_types.specs.Layout.{extent, extents, aligned, greatest_align, greatest_size, payloads, payload_offset, variant_extent, discriminant_size, discriminant_bytes}
 use Rattle.fact_types.specs.Shapes.{Kind, k_list, k_fixed, k_future, k_stream, Shape, s_node, Members, no_members, bare, typed, layout_of, layouts_of}
-use Rattle.fact_types.specs.Steps.{◌>>=◌}
+use Rattle.fact_types.specs.Options.{◌>>=◌}
 use Rattle.fact_types.specs.Tables.{Tables, HasShape, IsSound, abi_at}
 use Rattle.fact_types.proofs.AlignLaws.{aligned_bounds, aligned_by_rest}
 use Rattle.fact_types.proofs.FieldLaws.{greatest_align_pos}

@@ -8,7 +8,7 @@ use Rattle.std.proofs.str.Utf16.{lone_unit_char_low, lone_unit_char_high}
 use Rattle.std.specs.Char.Utf16.{utf16_chars, lone_unit_char}
 use Rattle.std.specs.Str.{IsUtf8, is_utf8, chars}
 use Rattle.fact_types.specs.declared.outside.FixedEncoding.{FixedEncoding}
-use Rattle.fact_types.specs.Steps.{◌>>=◌}
+use Rattle.fact_types.specs.Options.{◌>>=◌}
 use Rattle.fact_abi.specs.Decoding.{Begins}
 use Rattle.fact_values.specs.Texts.{all_there, two_byte_units, Form, text_of_form, lies_aligned, decoded, unit_bytes, byte_length}
 

@@ -19,7 +19,7 @@ use Rattle.fact_values.specs.Formed.{AreBare}
 use Rattle.fact_values.specs.Handles.{Step, done_step, then_step, given, each_step, only, value_named, flag_named, flags_named, cross_flags, cross_handle, cross, cross_fields, cross_case, cross_places}
 use Rattle.fact_values.specs.IsA.{IsA}
 use Rattle.fact_abi.specs.Nodes.{AreOf}
-use Rattle.fact_types.specs.Steps.{◌>>=◌}
+use Rattle.fact_types.specs.Options.{◌>>=◌}
 use Rattle.fact_values.specs.Opened.{fields_in, members_in, elements_in, flags_in, map_entries_in, case_in, number_of_handle}
 use Rattle.fact_values.specs.Places.{typed_names}
 use Rattle.fact_abi.proofs.BelongLaws.{slice_front, slice_past, front_typed, bare_at, place_found}

@@ -3,7 +3,7 @@
 use Rattle.std.specs.Prelude.{◌≡◌, ℕ, List, ◌∷◌, Option, Some, None}
 use denote.Ref.{Bor}
 use Rattle.std.specs.Char.Utf16.{utf16_chars}
-use Rattle.fact_types.specs.Steps.{◌>>=◌}
+use Rattle.fact_types.specs.Options.{◌>>=◌}
 use Rattle.fact_values.specs.Texts.{all_there}
 
 -- Units begin with a scalar value, with other units behind it, or else they spell no text.

@@ -11,7 +11,7 @@ use Rattle.fact_values.specs.declared.value.Value.TheOpen.{Value-F}
 use Rattle.fact_values.specs.declared.value.Value.TheOpen as o
 use Rattle.fact_values.specs.IsA.{IsA, AreMembers}
 use Rattle.fact_abi.specs.Nodes.{AreOf}
-use Rattle.fact_types.specs.Steps.{◌>>=◌}
+use Rattle.fact_types.specs.Options.{◌>>=◌}
 
 -- ---- names among names
 

@@ -3,7 +3,7 @@ use Rattle.std.specs.Prelude.{◌≡◌, ℕ, List, [], ◌∷◌, map, Option, 
 use Rattle.fact_types.specs.declared.interface.InterfaceType.{InterfaceType}
 use Rattle.fact_types.specs.declared.kinds.RecordField.{RecordField}
 use Rattle.fact_types.specs.Agrees.{names_of}
-use Rattle.fact_types.specs.Heights.{Within}
+use Rattle.fact_types.specs.Heights.{IsMemberOf}
 use Rattle.fact_types.specs.Shapes.{Kind, k_record, k_variant, k_list, k_tuple, k_map, k_flags, k_enum, k_option, k_result, k_fixed, k_future, k_stream, Shape, s_plain, s_node, Members, no_members, bare, typed}
 use Rattle.fact_types.specs.Tables.{Tables, HasShape}
 use Rattle.fact_abi.specs.declared.nodes.NodeKind.{NodeKind}
@@ -65,7 +65,7 @@ pub record IsOfKind (t : Tables) (k : NodeKind) (names : List (List ℕ)) (types
 
 -- Types of members are live, and lower than a type.
 pub record AreLower (t : Tables) (owner : InterfaceType) (types : List (Option InterfaceType)) : Type 0 where
-  pub each : (i : ℕ) (m : InterfaceType) → slice_get types i ≡ Some (Some m) → Within t m owner
+  pub each : (i : ℕ) (m : InterfaceType) → slice_get types i ≡ Some (Some m) → IsMemberOf t m owner
 
 -- A type has members as told, each of them lower than the type.
 pub record HasNode (t : Tables) (ty : InterfaceType) (x : Node) : Type 0 where

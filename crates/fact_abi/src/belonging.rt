@@ -5,7 +5,7 @@ ghost use Rattle.std.specs.Char.{IsScalar};
 ghost use Rattle.std.specs.List.{AllByRecursion};
 ghost use Rattle.std.specs.Option.{option_copied};
 ghost use Rattle.fact_types.specs.Agrees.{names_of};
-ghost use Rattle.fact_types.specs.Heights.{Within};
+ghost use Rattle.fact_types.specs.Heights.{IsMemberOf};
 ghost use Rattle.fact_types.specs.Shapes.{Shape, Members};
 ghost use Rattle.fact_types.specs.Tables.{IsLive, HasShape};
 ghost use Rattle.fact_values.specs.declared.value.Value.{Value, out-Value};
@@ -438,7 +438,7 @@ fn is_list(
     element: &InterfaceType,
     value: &Value,
 ) -> Result<bool, OutOfMemory>
-    requires { Within types.now element.now owner.now }
+    requires { IsMemberOf types.now element.now owner.now }
     ensures { IfOk result (λ b. (s : Shape) → HasShape types.now element.now s → (IsTrue b ↔ IsListOf (λ v. IsA s v) (out-Value value.now))) }
 {
     let Value::List(values) = value else {
@@ -457,7 +457,7 @@ fn is_fixed_list(
     count: u32,
     value: &Value,
 ) -> Result<bool, OutOfMemory>
-    requires { Within types.now element.now owner.now }
+    requires { IsMemberOf types.now element.now owner.now }
     ensures { IfOk result (λ b. (s : Shape) → HasShape types.now element.now s → (IsTrue b ↔ IsFixedList count (λ v. IsA s v) (out-Value value.now))) }
 {
     let Value::List(values) = value else {
@@ -478,7 +478,7 @@ fn are_elements(
     element: &InterfaceType,
     values: &[Value],
 ) -> Result<bool, OutOfMemory>
-    requires { Within types.now element.now owner.now }
+    requires { IsMemberOf types.now element.now owner.now }
     ensures { IfOk result (λ b. (s : Shape) → HasShape types.now element.now s → (IsTrue b ↔ AllByRecursion (λ v. IsA s v) values.now)) }
 {
     for value in values {
@@ -499,8 +499,8 @@ fn is_map(
     item: &InterfaceType,
     value: &Value,
 ) -> Result<bool, OutOfMemory>
-    requires key { Within types.now key.now owner.now }
-    requires item { Within types.now item.now owner.now }
+    requires key { IsMemberOf types.now key.now owner.now }
+    requires item { IsMemberOf types.now item.now owner.now }
     ensures { IfOk result (λ b. (s u : Shape) → HasShape types.now key.now s → HasShape types.now item.now u → (IsTrue b ↔ IsMapOf (λ k. IsA s k) (λ v. IsA u v) (out-Value value.now))) }
 {
     let Value::Map(entries) = value else {
@@ -519,8 +519,8 @@ fn are_entries(
     item: &InterfaceType,
     entries: &[(Value, Value)],
 ) -> Result<bool, OutOfMemory>
-    requires key { Within types.now key.now owner.now }
-    requires item { Within types.now item.now owner.now }
+    requires key { IsMemberOf types.now key.now owner.now }
+    requires item { IsMemberOf types.now item.now owner.now }
     ensures { IfOk result (λ b. (s u : Shape) → HasShape types.now key.now s → HasShape types.now item.now u → (IsTrue b ↔ AllByRecursion (λ e. IsA s e.0 × IsA u e.1) entries.now)) }
 {
     for entry in entries {

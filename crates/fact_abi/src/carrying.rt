@@ -4,7 +4,7 @@ ghost use Rattle.std.specs.Prelude.{◌≡◌, ◌<◌, ◌≤◌, ◌↔◌, []
 ghost use Rattle.std.specs.Option.{option_copied};
 ghost use Rattle.std.specs.Str.{bytes_eq};
 ghost use Rattle.fact_types.specs.Agrees.{Agrees, AgreesFields, AgreesPlaces, named as shape_named, names_of};
-ghost use Rattle.fact_types.specs.Heights.{Within};
+ghost use Rattle.fact_types.specs.Heights.{IsMemberOf};
 ghost use Rattle.fact_types.specs.Shapes.{Shape, Members, typed};
 ghost use Rattle.fact_types.specs.Tables.{Tables, IsLive, HasShape};
 ghost use Rattle.fact_values.specs.declared.value.Value.{out-Value};
@@ -657,7 +657,7 @@ fn cross_elements(
     numbers: &mut Numbers<'_>,
 ) -> Result<Option<Seq<Value>>, OutOfMemory>
     requires from_live { IsLive types.now from.now }
-    requires within { Within types.now to.now owner.now }
+    requires within { IsMemberOf types.now to.now owner.now }
     ensures { IfOk result (λ o. (s d : Shape) → HasShape types.now from.now s → HasShape types.now to.now d → Agrees s d → StepGives o numbers.new (each_step (λ v. cross take_number s d v) values.now numbers.old)) }
 {
     let mut crossed = Seq::new(alloc);

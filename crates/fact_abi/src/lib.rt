@@ -16,6 +16,6 @@ pub use carrying::carry;
 pub use fact_values::{HandleKind, SideAbi, Value, laws_of_values};
 pub use fact_wasm::OutOfMemory;
 pub use lifting::lift;
-pub use loading::load;
+pub use loading::{case_bytes, load, named};
 pub use nodes::{Node, NodeKind, node_of_type};
 pub use texts::decoded;

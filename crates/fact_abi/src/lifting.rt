@@ -5,7 +5,7 @@ ghost use Rattle.fact_values.specs.declared.value.Value.TheVariants as a_value;
 ghost use Rattle.fact_types.specs.declared.flats.FlatType.TheVariants as f;
 ghost use Rattle.fact_types.specs.Agrees.{names_of};
 ghost use Rattle.fact_types.specs.FlatShapes.{flat, flat_members, flat_any, times};
-ghost use Rattle.fact_types.specs.Heights.{Within};
+ghost use Rattle.fact_types.specs.Heights.{IsMemberOf};
 ghost use Rattle.fact_types.specs.Layout.{flags_size, flags_flat};
 ghost use Rattle.fact_types.specs.Shapes.{k_record, k_tuple, k_list, k_map, Shape, s_node, Members};
 ghost use Rattle.fact_types.specs.Signatures.{width};
@@ -307,7 +307,7 @@ fn lift_list(
     bytes: &[u8],
     values: &[CoreValue],
 ) -> Result<Option<Value>, OutOfMemory>
-    requires { Within types.now element.now owner.now }
+    requires { IsMemberOf types.now element.now owner.now }
     ensures { IfOk result (λ o. (ms : Members) → AreOf types.now (Some element.now ∷ []) ms → o ≡ lift_leading side.now bytes.now (s_node k_list ms) values.now) }
 {
     let Some((pointer, count)) = first_pair(side, values) else {
@@ -349,7 +349,7 @@ fn lift_fixed_list(
     count: u32,
     values: &[CoreValue],
 ) -> Result<Option<Value>, OutOfMemory>
-    requires { Within types.now element.now owner.now }
+    requires { IsMemberOf types.now element.now owner.now }
     ensures { IfOk result (λ o. (s : Shape) → HasShape types.now element.now s → can_lead (times count (flat (width side.now.memory64) s)) values.now ≡ true → o ≡ option_map (λ vs. a_value.List vs) (each_of count (length (flat (width side.now.memory64) s)) (λ us. lift_leading side.now bytes.now s us) values.now)) }
 {
     let mut lifted = Seq::new(alloc);

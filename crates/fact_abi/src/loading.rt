@@ -5,7 +5,7 @@ ghost use Rattle.std.specs.List.{zip};
 ghost use Rattle.fact_values.specs.declared.value.Value.TheVariants as a_value;
 ghost use Rattle.fact_types.specs.declared.interface.InterfaceType.{InterfaceType};
 ghost use Rattle.fact_types.specs.Agrees.{names_of};
-ghost use Rattle.fact_types.specs.Heights.{Within};
+ghost use Rattle.fact_types.specs.Heights.{IsMemberOf};
 ghost use Rattle.fact_types.specs.Layout.{extent, extents, payloads, payload_offset, discriminant_size, discriminant_bytes, flags_size, flags_extent};
 ghost use Rattle.fact_types.specs.Shapes.{layouts_of, k_record, k_tuple, k_list, k_map, k_fixed, ends_of, Shape, s_node, Members, layout_of, place_of, next_of};
 ghost use Rattle.fact_types.specs.Signatures.{width};
@@ -285,8 +285,8 @@ fn load_case(
     }))
 }
 
-/// The bytes of the discriminant of so many cases.
-fn case_bytes(count: usize) -> usize
+/// The bytes of the discriminant of so many cases (canonical ABI, `discriminant_type`).
+pub fn case_bytes(count: usize) -> usize
     ensures value { result ≡ discriminant_bytes (discriminant_size count) }
     ensures few { result ≤ 4 }
 {
@@ -331,7 +331,7 @@ fn load_list(
     bytes: &[u8],
     address: u128,
 ) -> Result<Option<Value>, OutOfMemory>
-    requires within { Within types.now element.now owner.now }
+    requires within { IsMemberOf types.now element.now owner.now }
     requires low { address ≤ 2 ^ 90 }
     ensures { IfOk result (λ o. (ms : Members) → AreOf types.now (Some element.now ∷ []) ms → o ≡ stands side.now bytes.now (s_node k_list ms) address) }
 {
@@ -353,7 +353,7 @@ pub(crate) fn list_behind(
     pointer: u64,
     count: u64,
 ) -> Result<Option<Value>, OutOfMemory>
-    requires { Within types.now element.now owner.now }
+    requires { IsMemberOf types.now element.now owner.now }
     ensures { IfOk result (λ o. (ms : Members) → AreOf types.now (Some element.now ∷ []) ms → o ≡ list_value side.now bytes.now ms (λ b. element_stands side.now bytes.now ms b) (record { pointer = pointer; count = count })) }
 {
     let (size, align) = element_extent(types, element, side);
@@ -382,7 +382,7 @@ fn load_fixed_list(
     count: u32,
     address: u128,
 ) -> Result<Option<Value>, OutOfMemory>
-    requires within { Within types.now element.now owner.now }
+    requires within { IsMemberOf types.now element.now owner.now }
     requires room { address + count * (extent (width side.now.memory64) (abi_at types.now element.now)).size ≤ 2 ^ 90 }
     ensures { IfOk result (λ o. (ms : Members) → AreOf types.now (Some element.now ∷ []) ms → o ≡ stands side.now bytes.now (s_node (k_fixed count) ms) address) }
 {
@@ -553,7 +553,7 @@ fn load_elements(
     size: u32,
     address: u128,
 ) -> Result<Option<Seq<Value>>, OutOfMemory>
-    requires within { Within types.now element.now owner.now }
+    requires within { IsMemberOf types.now element.now owner.now }
     requires size { size ≡ (extent (width side.now.memory64) (abi_at types.now element.now)).size }
     requires room { address + count * size ≤ 2 ^ 90 }
     ensures { IfOk result (λ o. (s : Shape) → HasShape types.now element.now s → o ≡ each_at count size (λ b. stands side.now bytes.now s b) address) }
@@ -682,8 +682,8 @@ fn load_members(
     Ok(Some(values))
 }
 
-/// Values with their names.
-pub(crate) fn named(
+/// Values with their names, one by one: as many as there are of both.
+pub fn named(
     alloc: Global,
     names: &Seq<Text>,
     values: Seq<Value>,

@@ -6,7 +6,7 @@ ghost use Rattle.fact_types.specs.declared.interface.InterfaceType.TheVariants a
 ghost use Rattle.fact_types.specs.declared.widths.MemoryWidth.{MemoryWidth};
 ghost use Rattle.fact_types.specs.declared.flats.FlatType.TheVariants.{I32};
 ghost use Rattle.fact_types.specs.FlatShapes.{flat, flat_plain, flat_members, flat_any, times, pointer};
-ghost use Rattle.fact_types.specs.Heights.{Within};
+ghost use Rattle.fact_types.specs.Heights.{IsMemberOf};
 ghost use Rattle.fact_types.specs.Layout.{flags_size, flags_flat};
 ghost use Rattle.fact_types.specs.Shapes.{Shape, Members, plain_layout};
 ghost use Rattle.fact_types.specs.Signatures.{width};
@@ -264,7 +264,7 @@ fn leading_elements(
     count: u32,
     values: &[CoreValue],
 ) -> Result<Option<usize>, OutOfMemory>
-    requires { Within types.now element.now owner.now }
+    requires { IsMemberOf types.now element.now owner.now }
     ensures value { IfOk result (λ o. (s : Shape) → HasShape types.now element.now s → o ≡ leading (times count (flat (width side.now.memory64) s)) values.now) }
     ensures few { IfOk result (λ o. IfSome o (λ n. n ≤ length values.now)) }
 {

@@ -8,7 +8,7 @@ use Rattle.fact_entity.specs.declared.id.Id.{Id}
 use Rattle.fact_entity.specs.declared.table.Memories.{Memories}
 use Rattle.fact_types.specs.Adapters.{LinkedAdapter}
 use Rattle.fact_types.specs.Tables.{Tables}
-use Rattle.fact_moves.specs.Adapters.{AdapterTunables}
+use Rattle.fact_actions.specs.Adapters.{AdapterTunables}
 use Rattle.fact_emit.specs.ImportSection.{is_awaited}
 use Rattle.fact_emit.specs.States.{KeepsDefined, ModuleSoFar, export_as, with_callee, with_exported, with_numbered}
 use Rattle.fact_emit.specs.TaskCalls.{IsPrepareCallImported, IsStartCallImported}

@@ -5,30 +5,30 @@ use Rattle.std.proofs.lemmas.Option.{slice_get_within}
 use Rattle.fact_wasm.specs.declared.instr.FuncName.{FuncName}
 use Rattle.fact_wasm.specs.declared.module.WasmFunc.{WasmFunc}
 use Rattle.fact_machine.proofs.Tests.{get_append}
-use Rattle.fact_uses.specs.Bindings.{AreConsistent}
-use Rattle.fact_checks.specs.AdapterRules.{export_names, uses_of}
+use Rattle.fact_adapter_rules.specs.Bindings.{AreConsistent}
+use Rattle.fact_adapter_rules.specs.AdapterRules.{export_names, uses_of}
 use Rattle.fact_types.specs.Adapters.{LinkedAdapter}
 use Rattle.fact_types.specs.Tables.{Tables}
-use Rattle.fact_moves.specs.Adapters.{AdapterTunables}
+use Rattle.fact_actions.specs.Adapters.{AdapterTunables}
 use Rattle.fact_emit.specs.ImportSection.{adapter_mentions, mentions}
 use Rattle.fact_emit.specs.Imports.{Extended}
 use Rattle.fact_emit.specs.Known.{AreUsedAlike}
-use Rattle.fact_emit.specs.Listed.{AreLinkedInTurn}
+use Rattle.fact_emit.specs.Listed.{AreImportedInTurn}
 use Rattle.fact_emit.specs.States.{ModuleSoFar, module_of, nothing_so_far}
 use Rattle.fact_emit.specs.declared.helpers.Helper.{Helper}
 use Rattle.fact_emit.proofs.ImportLaws.{extended_none, extended_on, grows_none, grows_on}
-use Rattle.fact_emit.proofs.LinkedLaws.{linked_adapter}
+use Rattle.fact_emit.proofs.ImportedInTurn.{imported_adapter}
 use Rattle.fact_emit.proofs.ImportLists.{last-or-before}
-use Rattle.fact_forms.specs.Sound.{IsSoundAdapter}
+use Rattle.fact_assembly.specs.Sound.{IsSoundAdapter}
 use Rattle.fact_assembly.specs.Adding.{Adds, Given, helper_functions, own_functions}
 use Rattle.fact_assembly.specs.Exports.{exported_as, exported_functions_of}
 use Rattle.fact_assembly.specs.Holding.{HasAdded, Holds, NoneAdded, OneMore, count_at, counts_behind, first_count, first_function, function_count, named_from, numbered, own_names}
-use Rattle.fact_assembly.specs.Links.{links_of}
+use Rattle.fact_assembly.specs.ImportedData.{imports_of_data}
 use Rattle.fact_assembly.proofs.AddedFunctions.{AddsBehind, behind-kept, compiled-behind, helpers-behind, numbers-kept, own_callees}
 use Rattle.fact_assembly.proofs.AlikeLaws.{alike_next}
 use Rattle.fact_assembly.proofs.CompiledLaws.{added-extended, own-count}
-use Rattle.fact_assembly.proofs.HelperParts.{kept_linked}
-use Rattle.fact_assembly.proofs.LiftNamed.{linked-grown}
+use Rattle.fact_assembly.proofs.HelperParts.{kept_imported}
+use Rattle.fact_assembly.proofs.LiftNamed.{imported-grown}
 use Rattle.fact_assembly.proofs.NameLaws.{exported-still, get-behind}
 use Rattle.fact_assembly.proofs.OwnLaws.{known_of}
 use Rattle.fact_assembly.proofs.PartLaws.{bodies_adapter, callees_adapter, in_parts_adapter, in_parts_nothing, listed_adapter, listed_nothing}
@@ -92,12 +92,12 @@ count-last (c ∷ counts) n (suc k) h = count-last counts n k (omega (arith, h))
 
 module _ (t : Tables) (u : AdapterTunables) (given : Given) (old new : ModuleSoFar) (adapters : List LinkedAdapter) (a : LinkedAdapter) (tuples : ℕ → ℕ) {tuple : ℕ} (consistent : AreConsistent (flat_map uses_of (adapters ++ a ∷ [])))
     (h : Holds t u given old adapters tuples) (add : Adds t u given old new a tuple) where
-  in-turn : AreLinkedInTurn old add.linked (adapter_mentions a)
-  in-turn = linked_adapter old add.linked a (links_of add.«data») add.links
+  in-turn : AreImportedInTurn old add.imported (adapter_mentions a)
+  in-turn = imported_adapter old add.imported a (imports_of_data add.«data») add.is_imported
 
   -- what was there stays there
   pub grown-adds : Extended old new
-  grown-adds = extended_on (linked-grown add (mentions adapters) (known_of h.lists)) (added-extended add)
+  grown-adds = extended_on (imported-grown add (mentions adapters) (known_of h.lists)) (added-extended add)
 
   alike-here : AreUsedAlike (mentions adapters ++ adapter_mentions a)
   alike-here = alike_next adapters a consistent
@@ -109,7 +109,7 @@ module _ (t : Tables) (u : AdapterTunables) (given : Given) (old new : ModuleSoF
   pub added : AddsBehind old new (own_functions add.compiled ++ helper_functions add) (own_names a) (own_callees add.compiled)
   added =
       helpers-behind
-      (behind-kept (kept_linked (adapter_mentions a) old add.linked in-turn) (behind-kept (numbers-kept add.linked (length (exported_functions_of a))) (compiled-behind add.name add.compiled)))
+      (behind-kept (kept_imported (adapter_mentions a) old add.imported in-turn) (behind-kept (numbers-kept add.imported (length (exported_functions_of a))) (compiled-behind add.name add.compiled)))
       add.helpers
 
   pub functions-more : new.functions ≡ old.functions ++ (own_functions add.compiled ++ helper_functions add)

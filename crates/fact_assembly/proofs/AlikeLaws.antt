@@ -4,12 +4,12 @@ use Rattle.std.specs.List.{flat_map}
 use Rattle.std.proofs.lemmas.Grind.{flat_map-append}
 use Rattle.std.proofs.lemmas.List.Elements.{Contains-append_cases, Contains-append_left, Contains-append_right}
 use Rattle.fact_types.specs.Adapters.{LinkedAdapter}
-use Rattle.fact_uses.specs.Bindings.{AreConsistent}
-use Rattle.fact_checks.specs.AdapterRules.{uses_of}
+use Rattle.fact_adapter_rules.specs.Bindings.{AreConsistent}
+use Rattle.fact_adapter_rules.specs.AdapterRules.{uses_of}
 use Rattle.fact_emit.specs.ImportSection.{Mention, adapter_mentions, mentions}
 use Rattle.fact_emit.specs.Known.{AreUsedAlike}
 use Rattle.fact_emit.proofs.Mentions.{in-mentions}
-use Rattle.fact_forms.proofs.Uses.{mentions_alike}
+use Rattle.fact_assembly.proofs.Uses.{mentions_alike}
 
 pub alike_next : (adapters : List LinkedAdapter) (a : LinkedAdapter) → AreConsistent (flat_map uses_of (adapters ++ a ∷ [])) → AreUsedAlike (mentions adapters ++ adapter_mentions a)
 alike_next adapters a consistent = record { alike = λ q r q_in r_in e. (mentions_alike (adapters ++ a ∷ []) consistent).alike q r (all-in q q_in) (all-in r r_in) e }

@@ -11,8 +11,8 @@ use Rattle.fact_wasm.specs.declared.types.FuncType.{FuncType}
 use Rattle.fact_types.specs.Adapters.{LinkedAdapter, Side, is_async, is_crossing}
 use Rattle.fact_types.specs.Tables.{Tables}
 use Rattle.fact_types.specs.declared.outside.CoreDef.{CoreDef}
-use Rattle.fact_moves.specs.Adapters.{AdapterTunables}
-use Rattle.fact_emit.specs.AdapterLinks.{IsLinkedIfAny}
+use Rattle.fact_actions.specs.Adapters.{AdapterTunables}
+use Rattle.fact_emit.specs.AdapterImports.{IsImportedIfAny}
 use Rattle.fact_emit.specs.ImportSection.{Callback, PostReturn, Role, is_awaited}
 use Rattle.fact_emit.specs.Imports.{Extended}
 use Rattle.fact_emit.specs.Options.{number_if_any}
@@ -35,8 +35,8 @@ use Rattle.fact_compound.specs.declared.adapters.AdapterData.{AdapterData}
 use Rattle.fact_compound.specs.declared.adapters.AdapterOptions.{AdapterOptions}
 use Rattle.fact_compound.specs.declared.asyncs.AsyncPart.TheVariants as part
 use Rattle.fact_compound.proofs.CompiledAdapters.{numbered_later}
-use Rattle.fact_forms.specs.Sound.{IsSoundAdapter}
-use Rattle.fact_forms.proofs.Written.{sound_are_writable}
+use Rattle.fact_assembly.specs.Sound.{IsSoundAdapter}
+use Rattle.fact_assembly.proofs.Written.{sound_are_writable}
 use Rattle.fact_compound.specs.Keys.{AsksKeys, PartsAskKeys, sync_asks}
 use Rattle.fact_assembly.specs.Adding.{Adds, AsParts, AsSync, AsTrap, CompiledAs, Given, HasSideData, OwnKeys, numbered_for, own_functions}
 use Rattle.fact_assembly.specs.Exports.{exported_functions_of}
@@ -152,16 +152,16 @@ helpers-extended h =
     (extended_defined (ap (λ (s : ModuleSoFar). s.types) h.is) (ap (λ (s : ModuleSoFar). s.section) h.is) (ap (λ (s : ModuleSoFar). s.imports) h.is) (ap (λ (s : ModuleSoFar). s.helpers) h.is) (ap (λ (s : ModuleSoFar). s.numbered) h.is))
 
 -- and when its functions are numbered, and all of them are compiled
-pub added-extended : {t : Tables} {u : AdapterTunables} {given : Given} {old new : ModuleSoFar} {a : LinkedAdapter} {tuple : ℕ} (add : Adds t u given old new a tuple) → Extended add.linked new
-added-extended {a = a} add = extended_on (numbered_later add.linked (length (exported_functions_of a))) (extended_on (compiled-extended add.compiled) (helpers-extended add.helpers))
+pub added-extended : {t : Tables} {u : AdapterTunables} {given : Given} {old new : ModuleSoFar} {a : LinkedAdapter} {tuple : ℕ} (add : Adds t u given old new a tuple) → Extended add.imported new
+added-extended {a = a} add = extended_on (numbered_later add.imported (length (exported_functions_of a))) (extended_on (compiled-extended add.compiled) (helpers-extended add.helpers))
 
 -- ---- the data of an adapter
 
-linked-there : (old new : ModuleSoFar) (role : Role) (o : Option CoreDef) (n : Option (Id Funcs)) → IsLinkedIfAny old new role o (number_if_any n) → is_some n ≡ is_some o
-linked-there old new role None None l = refl
-linked-there old new role None (Some n) l = absurd (let no : Some n.number ≡ None = l.1 in cc)
-linked-there old new role (Some f) None l = absurd (let no : None ≡ Some l.number = l.place_is in cc)
-linked-there old new role (Some f) (Some n) l = refl
+imported-there : (old new : ModuleSoFar) (role : Role) (o : Option CoreDef) (n : Option (Id Funcs)) → IsImportedIfAny old new role o (number_if_any n) → is_some n ≡ is_some o
+imported-there old new role None None l = refl
+imported-there old new role None (Some n) l = absurd (let no : Some n.number ≡ None = l.1 in cc)
+imported-there old new role (Some f) None l = absurd (let no : None ≡ Some l.number = l.place_is in cc)
+imported-there old new role (Some f) (Some n) l = refl
 
 side-described : {t : Tables} {cores : List FuncType} {s : Side} {d : AdapterOptions} → HasSideData t cores s d → DescribesSide t d s
 side-described h = record { signature = h.signature; wide = sym h.memory64; mark = sym h.async_side }
@@ -169,11 +169,11 @@ side-described h = record { signature = h.signature; wide = sym h.memory64; mark
 module _ {t : Tables} {u : AdapterTunables} {given : Given} {old new : ModuleSoFar} {a : LinkedAdapter} {tuple : ℕ} (add : Adds t u given old new a tuple) where
   -- it has a post-return where its lift side has one
   pub has-post-return : is_some add.«data».lift.post_return ≡ is_some a.lift.post_return
-  has-post-return = linked-there add.links.called add.linked (PostReturn a.name a.lift.core_type.results) a.lift.post_return add.«data».lift.post_return add.links.post_return
+  has-post-return = imported-there add.is_imported.called add.imported (PostReturn a.name a.lift.core_type.results) a.lift.post_return add.«data».lift.post_return add.is_imported.post_return
 
   -- and a callback likewise
   has-callback : is_some add.«data».lift.options.callback ≡ is_some a.lift.callback
-  has-callback = linked-there add.links.lift.supplied add.links.lifted Callback a.lift.callback add.«data».lift.options.callback add.links.lift.callback
+  has-callback = imported-there add.is_imported.lift.supplied add.is_imported.lifted Callback a.lift.callback add.«data».lift.options.callback add.is_imported.lift.callback
 
   pub describes-lower : DescribesLower t add.«data» a
   describes-lower = record { signature = add.lower.signature; wide = sym add.lower.memory64; mark = sym add.lower.async_side }
@@ -214,7 +214,7 @@ module _ {t : Tables} {u : AdapterTunables} {given : Given} {old new : ModuleSoF
     pub types-added : AllZip (λ (f : WasmFunc) ty. slice_get new.types f.ty ≡ Some ty) (own_functions add.compiled) (own_types add.compiled)
     types-added = zip_map _ _ (λ f ty e. grown_get (helpers-extended add.helpers).types f.ty ty e) _ _ (by add.compiled)
       where
-        by : (c : CompiledAs new t add.«data» u a (numbered_for a add.linked) add.own) → AllZip (λ (f : WasmFunc) ty. slice_get add.own.types f.ty ≡ Some ty) (own_functions c) (own_types c)
+        by : (c : CompiledAs new t add.«data» u a (numbered_for a add.imported) add.own) → AllZip (λ (f : WasmFunc) ty. slice_get add.own.types f.ty ≡ Some ty) (own_functions c) (own_types c)
         by (AsTrap within c) = (c.typed a describes-lower, tt)
         by (AsSync crosses sync c) = (c.typed u a (describes sync), tt)
         by (AsParts awaited c) =

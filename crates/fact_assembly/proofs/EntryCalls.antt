@@ -18,8 +18,8 @@ use Rattle.fact_types.specs.Tables.{Tables}
 use Rattle.fact_types.specs.declared.import.Import.{Import}
 use Rattle.fact_types.specs.declared.import.Import.TheVariants as known
 use Rattle.fact_types.specs.declared.signature.Signature.{Signature}
-use Rattle.fact_moves.specs.Adapters.{def_of_memory}
-use Rattle.fact_moves.specs.Sides.{options_of}
+use Rattle.fact_actions.specs.Adapters.{def_of_memory}
+use Rattle.fact_actions.specs.Sides.{options_of}
 use Rattle.fact_emit.specs.ImportSection.{a_function, imported_type, imports_of, is_of, same_sort, sort_of}
 use Rattle.fact_emit.specs.Imports.{Extended, HasImport}
 use Rattle.fact_emit.specs.States.{HasType, ModuleSoFar, functions_of, import_as, module_of, with_import}
@@ -35,7 +35,7 @@ use Rattle.fact_compound.specs.Entries.{ImportsCalls, NamesLift}
 use Rattle.fact_compound.specs.Puts.{PutsFunction}
 use Rattle.fact_compound.specs.declared.adapters.AdapterData.{AdapterData}
 use Rattle.fact_compound.specs.declared.entries.EntryPlaces.{EntryPlaces}
-use Rattle.fact_promises.specs.AsyncRuns.{IsCallNamed, IsCallTyped}
+use Rattle.fact_function_laws.specs.AsyncRuns.{IsCallNamed, IsCallTyped}
 use Rattle.fact_assembly.proofs.LiftNamed.{lift-later}
 
 -- ---- imported functions of a section

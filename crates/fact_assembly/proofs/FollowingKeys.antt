@@ -5,7 +5,7 @@ use Rattle.std.proofs.lemmas.List.Elements.{Contains-append_cases}
 use Rattle.fact_machine.proofs.Tests.{get_append}
 use Rattle.fact_wasm.specs.declared.module.WasmFunc.{WasmFunc}
 use Rattle.fact_types.specs.Tables.{Tables}
-use Rattle.fact_moves.specs.Outlining.{AreFollowing, AreNew, HelperKey, LastComes, NoneWaits, helper_asks}
+use Rattle.fact_actions.specs.Outlining.{AreFollowing, AreNew, HelperKey, LastComes, NoneWaits, helper_asks}
 use Rattle.fact_emit.specs.Asked.{AskedHelper, entry_of}
 use Rattle.fact_emit.specs.NamedFunctions.{all_added_once}
 use Rattle.fact_emit.specs.States.{ModuleSoFar, next_number}

@@ -8,12 +8,12 @@ use Rattle.fact_wasm.specs.declared.module.WasmModule.{WasmModule}
 use Rattle.fact_wasm.specs.declared.types.FuncType.{FuncType}
 use Rattle.fact_machine.specs.Typing.{declares_numbers, is_typed_body, is_typed_function}
 use Rattle.fact_machine.proofs.Tests.{second_of}
-use Rattle.fact_uses.specs.Bindings.{AreConsistent}
-use Rattle.fact_checks.specs.AdapterRules.{uses_of}
+use Rattle.fact_adapter_rules.specs.Bindings.{AreConsistent}
+use Rattle.fact_adapter_rules.specs.AdapterRules.{uses_of}
 use Rattle.fact_types.specs.Adapters.{LinkedAdapter}
 use Rattle.fact_types.specs.Tables.{Tables}
-use Rattle.fact_moves.specs.Adapters.{AdapterTunables}
-use Rattle.fact_moves.specs.Running.{ImportPlaces}
+use Rattle.fact_actions.specs.Adapters.{AdapterTunables}
+use Rattle.fact_actions.specs.Running.{ImportPlaces}
 use Rattle.fact_plan_types.proofs.HandleLaws.{there as get-within}
 use Rattle.fact_emit.specs.Asked.{AskedHelper}
 use Rattle.fact_emit.specs.ImportSection.{adapter_mentions, mentions}
@@ -23,7 +23,7 @@ use Rattle.fact_emit.specs.States.{KeepsDefined, ModuleSoFar, module_of}
 use Rattle.fact_emit.specs.declared.helpers.Helper.{Helper}
 use Rattle.fact_emit.proofs.DefinedKept.{extended_defined}
 use Rattle.fact_emit.proofs.ImportLaws.{extended_none, extended_on, grown_get, grows_none}
-use Rattle.fact_emit.proofs.LinkedLaws.{linked_adapter}
+use Rattle.fact_emit.proofs.ImportedInTurn.{imported_adapter}
 use Rattle.fact_emit.proofs.ServingLaws.{serves_sooner}
 use Rattle.fact_compound.specs.Asks.{IsLaterModule}
 use Rattle.fact_compound.specs.Described.{KnowsAdapterData}
@@ -34,19 +34,19 @@ use Rattle.fact_compound.proofs.HelperUses.{HasOwnUse, HasUse, HaveUses, adapter
 use Rattle.fact_compound.proofs.HelpersThere.{have_asked}
 use Rattle.fact_compound.proofs.HelpersUsed.{AreUsed, uses_in_turn, uses_more}
 use Rattle.fact_compound.proofs.WaitingHelpers.{get_in, in_get}
-use Rattle.fact_forms.specs.Sound.{IsSoundAdapter}
+use Rattle.fact_assembly.specs.Sound.{IsSoundAdapter}
 use Rattle.fact_assembly.specs.Adding.{Adds, AsParts, AsSync, AsTrap, CompiledAs, Given, OwnKeys, helper_functions, numbered_for, own_functions}
 use Rattle.fact_assembly.specs.Exports.{exported_functions_of}
 use Rattle.fact_assembly.specs.Holding.{AreAdded, HasAdded, Holds, NoneAdded, OneMore, count_at, first_function}
-use Rattle.fact_assembly.specs.Links.{links_of}
+use Rattle.fact_assembly.specs.ImportedData.{imports_of_data}
 use Rattle.fact_assembly.proofs.AddedFunctions.{behind-kept, compiled-behind, helpers-behind, numbers-kept}
 use Rattle.fact_assembly.proofs.CompiledLaws.{added-extended, describes, describes-transfers, own-count}
-use Rattle.fact_assembly.proofs.HelperParts.{keeps-linked, kept_linked}
-use Rattle.fact_assembly.proofs.LiftNamed.{linked-grown}
+use Rattle.fact_assembly.proofs.HelperParts.{keeps-imported, kept_imported}
+use Rattle.fact_assembly.proofs.LiftNamed.{imported-grown}
 use Rattle.fact_assembly.proofs.NameLaws.{get-behind}
 use Rattle.fact_assembly.proofs.OwnLaws.{known_of}
 use Rattle.fact_assembly.proofs.WholeExports.{all-at, in-flat}
-use Rattle.fact_assembly.proofs.WholeFunctions.{links_added, serves}
+use Rattle.fact_assembly.proofs.WholeFunctions.{knows_added_data, serves}
 use Rattle.fact_assembly.proofs.WholeTyped.{HasTypedFunction}
 
 -- a typed function has a type
@@ -61,7 +61,7 @@ type-there M f typed = by (slice_get M.types f.ty) refl (second_of (list_all dec
 functions-added : {t : Tables} {u : AdapterTunables} {given : Given} {old new : ModuleSoFar} {a : LinkedAdapter} {tuple : ℕ} (adds : Adds t u given old new a tuple) → new.functions ≡ old.functions ++ (own_functions adds.compiled ++ helper_functions adds)
 functions-added {old = old} {a = a} adds =
     (helpers-behind
-    (behind-kept (kept_linked (adapter_mentions a) old adds.linked (linked_adapter old adds.linked a (links_of adds.«data») adds.links)) (behind-kept (numbers-kept adds.linked (length (exported_functions_of a))) (compiled-behind adds.name adds.compiled)))
+    (behind-kept (kept_imported (adapter_mentions a) old adds.imported (imported_adapter old adds.imported a (imports_of_data adds.«data») adds.is_imported)) (behind-kept (numbers-kept adds.imported (length (exported_functions_of a))) (compiled-behind adds.name adds.compiled)))
     adds.helpers).functions
 
 pub helpers-end : {t : Tables} {debug concurrency : Bool} {fuel first : ℕ} {own new : ModuleSoFar} (h : CompiledHelpers t debug concurrency fuel first own new) → Extended h.last new
@@ -80,29 +80,29 @@ module _ (t : Tables) (u : AdapterTunables) (given : Given) (s : ModuleSoFar) (a
 
   -- what an adapter's own functions ask for
   own-uses : {old new : ModuleSoFar} {a : LinkedAdapter} {tuple : ℕ} (adds : Adds t u given old new a tuple) → IsSoundAdapter a → KnowsAdapterData here places adds.«data» a → HaveUses t here places adds.asks
-  own-uses {new = new} {a = a} adds is-sound links = by adds.compiled adds.keys
+  own-uses {new = new} {a = a} adds is-sound knows_data = by adds.compiled adds.keys
     where
-      by : (c : CompiledAs new t adds.«data» u a (numbered_for a adds.linked) adds.own) → OwnKeys given.fuel adds.asks c → HaveUses t here places adds.asks
+      by : (c : CompiledAs new t adds.«data» u a (numbered_for a adds.imported) adds.own) → OwnKeys given.fuel adds.asks c → HaveUses t here places adds.asks
       by (AsTrap within c) none = subst (HaveUses t here places) (sym none) tt
-      by (AsSync crosses sync c) keys = let told = describes adds is-sound sync in adapter_uses u.concurrency told.transfers links adds.asks (sync_asks given.fuel a) (keys told).are
+      by (AsSync crosses sync c) keys = let told = describes adds is-sound sync in adapter_uses u.concurrency told.transfers knows_data adds.asks (sync_asks given.fuel a) (keys told).are
       by (AsParts awaited c) keys =
           let told = describes-transfers adds is-sound in
           subst (HaveUses t here places) (sym keys.is)
-          (all-append (λ (x : AskedHelper). HasUse t here places x.key) keys.first keys.second (adapter_uses u.concurrency told links keys.first (part_asks part.Start given.fuel a) (keys.starts u a told).are)
-          (adapter_uses u.concurrency told links keys.second (part_asks part.Return given.fuel a) (keys.returns u a told).are))
+          (all-append (λ (x : AskedHelper). HasUse t here places x.key) keys.first keys.second (adapter_uses u.concurrency told knows_data keys.first (part_asks part.Start given.fuel a) (keys.starts u a told).are)
+          (adapter_uses u.concurrency told knows_data keys.second (part_asks part.Return given.fuel a) (keys.returns u a told).are))
 
   used-upto : {end : ModuleSoFar} {few : List LinkedAdapter} → AreAdded t u given end few → Extended end s → ((b : LinkedAdapter) → Contains few b → Contains adapters b) → AreUsed t here places end
   used-upto NoneAdded later inside = λ e c. absurd (omega (arith, c.1))
   used-upto (OneMore old new before a tuple added lists adds) later inside =
-      let grown : Extended old new = extended_on (linked-grown adds (mentions before) (known_of lists)) (added-extended adds) in
+      let grown : Extended old new = extended_on (imported-grown adds (mentions before) (known_of lists)) (added-extended adds) in
       let used = used-upto added (extended_on grown later) (λ b c. inside b (Contains-append_left before (a ∷ []) b c)) in
-      let turn = linked_adapter old adds.linked a (links_of adds.«data») adds.links in
-      let keeps = keeps-linked (adapter_mentions a) old adds.linked turn in
-      let kept : KeepsDefined old adds.linked = kept_linked (adapter_mentions a) old adds.linked turn in
-      let numbered : AreUsed t here places (numbered_for a adds.linked) = λ e c. let was = used e (subst (λ es. Contains es e) keeps.helpers c) in (was.0, omega (arith, was.1, keeps.numbered, ap length kept.functions)) in
+      let turn = imported_adapter old adds.imported a (imports_of_data adds.«data») adds.is_imported in
+      let keeps = keeps-imported (adapter_mentions a) old adds.imported turn in
+      let kept : KeepsDefined old adds.imported = kept_imported (adapter_mentions a) old adds.imported turn in
+      let numbered : AreUsed t here places (numbered_for a adds.imported) = λ e c. let was = used e (subst (λ es. Contains es e) keeps.helpers c) in (was.0, omega (arith, was.1, keeps.numbered, ap length kept.functions)) in
       let at = in_get adapters a (inside a (Contains-push before a)) in
-      let links = links_added t u given s adapters tuples h sound consistent lists a adds later (all-at IsSoundAdapter adapters sound at.0 a at.1) (λ m c. in-flat adapter_mentions adapters at.0 a m at.1 c) in
-      let own = uses_more adds.asks adds.asked (own-uses adds (all-at IsSoundAdapter adapters sound at.0 a at.1) links) numbered in
+      let knows_data = knows_added_data t u given s adapters tuples h sound consistent lists a adds later (all-at IsSoundAdapter adapters sound at.0 a at.1) (λ m c. in-flat adapter_mentions adapters at.0 a m at.1 c) in
+      let own = uses_more adds.asks adds.asked (own-uses adds (all-at IsSoundAdapter adapters sound at.0 a at.1) knows_data) numbered in
       let last = uses_in_turn adds.helpers.wrote.in_turn own in
       λ e c. ((last e (subst (λ es. Contains es e) (ap (λ (q : ModuleSoFar). q.helpers) adds.helpers.is) c)).0, adds.there.writable.below e c)
 
@@ -120,7 +120,7 @@ module _ (t : Tables) (u : AdapterTunables) (given : Given) (s : ModuleSoFar) (a
     first = first_function h.counts adapters j
 
     abbrev first-helper : ℕ
-    first-helper = length placed.adds.linked.helpers
+    first-helper = length placed.adds.imported.helpers
 
     written-typed : (e : Helper × ℕ) (f : WasmFunc) (number : ℕ) → Contains s.helpers e → slice_get s.functions number ≡ Some f → WasWritten t u.debug u.concurrency given.fuel placed.adds.helpers.last e.0 f → HasTypedFunction here f
     written-typed e f number there at-number w =

@@ -12,15 +12,15 @@ use Rattle.fact_types.specs.Tables.{Tables}
 use Rattle.fact_types.specs.declared.import.Import.{Import}
 use Rattle.fact_emit.specs.declared.helpers.Helper.{Helper}
 use Rattle.fact_emit.specs.ImportSection.{Mention, adapter_mentions}
-use Rattle.fact_emit.specs.AdapterLinks.{AdapterLinks, IsAdapterLinked}
+use Rattle.fact_emit.specs.AdapterImports.{AdapterImports, IsAdapterImported}
 use Rattle.fact_emit.specs.Imports.{Extended}
-use Rattle.fact_emit.specs.Linked.{HasTypeIfAny}
-use Rattle.fact_emit.specs.Listed.{AreLinkedInTurn, ListsMentions}
+use Rattle.fact_emit.specs.DefImports.{HasTypeIfAny}
+use Rattle.fact_emit.specs.Listed.{AreImportedInTurn, ListsMentions}
 use Rattle.fact_emit.specs.States.{IsImported, KeepsDefined, ModuleSoFar, next_number}
 use Rattle.fact_emit.proofs.BroughtLaws.{brought_counts}
 use Rattle.fact_emit.proofs.DefinedKept.{defined_import, defined_on, defined_same, defined_type}
 use Rattle.fact_emit.proofs.ImportLaws.{extended_on}
-use Rattle.fact_emit.proofs.LinkedLaws.{linked_adapter}
+use Rattle.fact_emit.proofs.ImportedInTurn.{imported_adapter}
 use Rattle.fact_emit.proofs.ListedLaws.{listed_called, listed_even, listed_type}
 use Rattle.fact_compound.specs.Helpers.{AreWrittenInTurn, HelpersAreThere, NoneWaits as NoHelperWaits, OneIsNext, WroteHelper}
 use Rattle.fact_compound.proofs.AsksLaws.{writable_later}
@@ -35,11 +35,11 @@ kept_if_any : (old new : ModuleSoFar) (ty : Option FuncType) → HasTypeIfAny ol
 kept_if_any old new None same = defined_same same
 kept_if_any old new (Some ty) has = defined_type has
 
-pub kept_linked : (rs : List Mention) (old new : ModuleSoFar) → AreLinkedInTurn old new rs → KeepsDefined old new
-kept_linked [] old new l = defined_same l
-kept_linked (r ∷ rs) old new l = defined_on (kept_if_any old l.2.typed _ l.2.types) (defined_on (defined_import l.2.imported) (kept_linked rs l.0 new l.3))
+pub kept_imported : (rs : List Mention) (old new : ModuleSoFar) → AreImportedInTurn old new rs → KeepsDefined old new
+kept_imported [] old new l = defined_same l
+kept_imported (r ∷ rs) old new l = defined_on (kept_if_any old l.2.typed _ l.2.types) (defined_on (defined_import l.2.imported) (kept_imported rs l.0 new l.3))
 
--- ---- helpers stay while an adapter is linked
+-- ---- helpers stay while an adapter is imported
 
 pub record KeepsHelpers (old new : ModuleSoFar) : Type 0 where
   pub helpers : new.helpers ≡ old.helpers
@@ -62,9 +62,9 @@ keeps-import h = elim h.step [
   | inr anew ↦ record { helpers = ap (λ (s : ModuleSoFar). s.helpers) anew.0; numbered = ap (λ (s : ModuleSoFar). s.numbered) anew.0 }
 ]
 
-pub keeps-linked : (rs : List Mention) (old new : ModuleSoFar) → AreLinkedInTurn old new rs → KeepsHelpers old new
-keeps-linked [] old new l = keeps-same l
-keeps-linked (r ∷ rs) old new l = keeps-on (keeps-if-any old l.2.typed _ l.2.types) (keeps-on (keeps-import l.2.imported) (keeps-linked rs l.0 new l.3))
+pub keeps-imported : (rs : List Mention) (old new : ModuleSoFar) → AreImportedInTurn old new rs → KeepsHelpers old new
+keeps-imported [] old new l = keeps-same l
+keeps-imported (r ∷ rs) old new l = keeps-on (keeps-if-any old l.2.typed _ l.2.types) (keeps-on (keeps-import l.2.imported) (keeps-imported rs l.0 new l.3))
 
 -- each helper has its function still
 pub helpers-still : {t : Tables} {debug concurrency : Bool} {fuel : ℕ} {old new : ModuleSoFar} → Extended old new → KeepsDefined old new → KeepsHelpers old new → HelpersAreThere t debug concurrency fuel old → HelpersAreThere t debug concurrency fuel new
@@ -83,10 +83,10 @@ helpers-still {old = old} {new} later kept keeps h = record {
     before e c = subst (λ es. Contains es e) keeps.helpers c
 
 -- Where what an adapter names was imported each helper has its function still.
-pub helpers-linked : {t : Tables} {debug concurrency : Bool} {fuel : ℕ} {old new : ModuleSoFar} (a : LinkedAdapter) (places : AdapterLinks) → IsAdapterLinked old new a places → Extended old new → HelpersAreThere t debug concurrency fuel old → HelpersAreThere t debug concurrency fuel new
-helpers-linked {old = old} {new} a places links later h =
-    let in-turn = linked_adapter old new a places links in
-    helpers-still later (kept_linked (adapter_mentions a) old new in-turn) (keeps-linked (adapter_mentions a) old new in-turn) h
+pub helpers-imported : {t : Tables} {debug concurrency : Bool} {fuel : ℕ} {old new : ModuleSoFar} (a : LinkedAdapter) (places : AdapterImports) → IsAdapterImported old new a places → Extended old new → HelpersAreThere t debug concurrency fuel old → HelpersAreThere t debug concurrency fuel new
+helpers-imported {old = old} {new} a places is_imported later h =
+    let in-turn = imported_adapter old new a places is_imported in
+    helpers-still later (kept_imported (adapter_mentions a) old new in-turn) (keeps-imported (adapter_mentions a) old new in-turn) h
 
 -- ---- one helper
 

@@ -8,13 +8,13 @@ use Rattle.fact_builder.specs.Builder.{Builder}
 use Rattle.fact_plan_types.specs.Faults.{Fault, unknown_index, bad_type, too_large, bad_options, type_mismatch, bad_memory, bad_signature, import_conflict, duplicate_name, rank}
 use Rattle.fact_plan_types.specs.declared.error.Place.{Place}
 use Rattle.fact_plan_types.specs.declared.error.Place.TheVariants.{Adapter as at_adapter}
-use Rattle.fact_checks.specs.declared.adapter.Adapter.{Adapter}
-use Rattle.fact_checks.specs.declared.sides.Candidate.{Candidate}
+use Rattle.fact_adapter_rules.specs.declared.adapter.Adapter.{Adapter}
+use Rattle.fact_adapter_rules.specs.declared.sides.Candidate.{Candidate}
 use Rattle.fact_types.specs.Adapters.{LinkedAdapter}
-use Rattle.fact_checks.specs.AdapterRules.{LinkedHas}
-use Rattle.fact_checks.specs.Linked.{IsLinked}
-use Rattle.fact_forms.specs.Sound.{HasValidSides}
-use Rattle.fact_forms.proofs.RulesValid.{sides_valid}
+use Rattle.fact_adapter_rules.specs.AdapterRules.{LinkedHas}
+use Rattle.fact_adapter_rules.specs.Linked.{IsLinked}
+use Rattle.fact_assembly.specs.Sound.{HasValidSides}
+use Rattle.fact_assembly.proofs.RulesValid.{sides_valid}
 use Rattle.fact_assembly.specs.declared.dfg.ComponentDfg.{ComponentDfg}
 use Rattle.fact_assembly.specs.declared.taken.TakenAdapter.{TakenAdapter}
 use Rattle.fact_assembly.specs.Adapted.{HasFaultFor, IsFirst, OfAdapter, TypesHave, is_marked}

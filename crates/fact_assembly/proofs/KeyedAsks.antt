@@ -9,9 +9,9 @@ use Rattle.fact_types.specs.Adapters.{LinkedAdapter, Side, is_wide}
 use Rattle.fact_types.specs.Tables.{Tables}
 use Rattle.fact_types.specs.declared.outside.CoreDef.{CoreDef}
 use Rattle.fact_types.specs.declared.outside.MemoryOption.{MemoryOption}
-use Rattle.fact_moves.specs.Adapters.{AdapterTunables}
-use Rattle.fact_moves.specs.Outlining.{HelperKey, RouteEnd, helper_asks, route_end}
-use Rattle.fact_emit.specs.AdapterLinks.{IsSideLinked}
+use Rattle.fact_actions.specs.Adapters.{AdapterTunables}
+use Rattle.fact_actions.specs.Outlining.{HelperKey, RouteEnd, helper_asks, route_end}
+use Rattle.fact_emit.specs.AdapterImports.{IsSideImported}
 use Rattle.fact_emit.specs.Asked.{AskedHelper}
 use Rattle.fact_emit.specs.ImportSection.{Callback, Mention, Realloc}
 use Rattle.fact_emit.specs.Imports.{Extended}
@@ -29,10 +29,10 @@ use Rattle.fact_compound.specs.Keys.{AmongParams, AmongResults, IsKeyOfAdapter}
 use Rattle.fact_compound.specs.declared.adapters.AdapterOptions.{AdapterOptions}
 use Rattle.fact_assembly.specs.Adding.{Adds, Given, HasSideData}
 use Rattle.fact_assembly.specs.Holding.{HasNoSharedMemory}
-use Rattle.fact_assembly.specs.Links.{page_size_log2_of, side_links_of}
+use Rattle.fact_assembly.specs.ImportedData.{page_size_log2_of, side_imports_of}
 use Rattle.fact_assembly.proofs.CompiledLaws.{added-extended}
 use Rattle.fact_assembly.proofs.KeyedHelpers.{IsEndOf, IsKey, IsMemoryAt}
-use Rattle.fact_assembly.proofs.LiftNamed.{from-lifted, from-lowered, from-stored, from-supplied, function-later, function-linked, lifted, memory-later, memory-linked}
+use Rattle.fact_assembly.proofs.LiftNamed.{from-lifted, from-lowered, from-stored, from-supplied, function-later, function-imported, lifted, memory-later, memory-imported}
 
 -- ---- the ends of a side
 
@@ -46,18 +46,18 @@ memory-end s None (Some m) wide page wide-is page-is unshared h = absurd h
 memory-end s (Some i) None wide page wide-is page-is unshared h = absurd h
 memory-end s (Some i) (Some m) wide page wide-is page-is unshared h = (h, wide-is, page-is, unshared m refl)
 
-module _ {t : Tables} {cores : List FuncType} {old new : ModuleSoFar} (side : Side) (d : AdapterOptions) (has : HasSideData t cores side d) (ms : List Mention) (are-known : AreKnown old ms) (l : IsSideLinked old new side (side_links_of d))
+module _ {t : Tables} {cores : List FuncType} {old new : ModuleSoFar} (side : Side) (d : AdapterOptions) (has : HasSideData t cores side d) (ms : List Mention) (are-known : AreKnown old ms) (l : IsSideImported old new side (side_imports_of d))
     {s : ModuleSoFar} (later : Extended new s) (unshared : (m : MemoryOption) → side.memory ≡ Some m → m.shared ≡ false) where
   pub end-of-side : (loc : HelperLocation) → IsEndOf t cores s d.options loc (route_end side (place_of_location loc))
   end-of-side loc = record {
     encoding = has.encoding;
     memory =
         memory-end s d.options.linear.memory side.memory d.options.linear.memory64 d.options.linear.page_size_log2 has.memory64 has.page_size_log2 unshared
-        (memory-later (extended_on (from-stored old new side _ ms are-known l).grown later) d.options.linear.memory (definition-in side.memory) (memory-linked l.flagged l.stored side.memory d.options.linear.memory l.memory));
+        (memory-later (extended_on (from-stored old new side _ ms are-known l).grown later) d.options.linear.memory (definition-in side.memory) (memory-imported l.flagged l.stored side.memory d.options.linear.memory l.memory));
     realloc =
         function-later (extended_on (from-supplied old new side _ ms are-known l).grown later) d.options.linear.realloc side.realloc
-        (function-linked l.stored l.supplied (Realloc (is_wide side.memory)) side.realloc d.options.linear.realloc refl l.realloc);
-    callback = function-later later d.options.callback side.callback (function-linked l.supplied new Callback side.callback d.options.callback refl l.callback);
+        (function-imported l.stored l.supplied (Realloc (is_wide side.memory)) side.realloc d.options.linear.realloc refl l.realloc);
+    callback = function-later later d.options.callback side.callback (function-imported l.supplied new Callback side.callback d.options.callback refl l.callback);
     async_side = has.async_side;
     core_type = has.core_type;
     place = refl;
@@ -100,15 +100,15 @@ module _ (t : Tables) (cores : List FuncType) (s : ModuleSoFar) where
 
 module _ {t : Tables} {u : AdapterTunables} {given : Given} {old new : ModuleSoFar} {a : LinkedAdapter} {tuple : ℕ} (add : Adds t u given old new a tuple) (ms : List Mention) (are-known : AreKnown old ms) {s : ModuleSoFar} (later : Extended new s)
     (unshared : HasNoSharedMemory a) where
-  linked-later : Extended add.linked s
-  linked-later = extended_on (added-extended add) later
+  imported-later : Extended add.imported s
+  imported-later = extended_on (added-extended add) later
 
   lift-end : (loc : HelperLocation) → IsEndOf t given.cores s add.«data».lift.options loc (route_end a.lift (place_of_location loc))
-  lift-end = end-of-side a.lift add.«data».lift add.lift ms are-known add.links.lift (extended_on (from-lifted add ms are-known).grown linked-later) unshared.lift
+  lift-end = end-of-side a.lift add.«data».lift add.lift ms are-known add.is_imported.lift (extended_on (from-lifted add ms are-known).grown imported-later) unshared.lift
 
   lower-end : (loc : HelperLocation) → IsEndOf t given.cores s add.«data».lower.options loc (route_end a.lower (place_of_location loc))
   lower-end =
-      end-of-side a.lower add.«data».lower add.lower (lifted add ms are-known).mentioned (lifted add ms are-known).known add.links.lower (extended_on (from-lowered add ms are-known).grown linked-later) unshared.lower
+      end-of-side a.lower add.«data».lower add.lower (lifted add ms are-known).mentioned (lifted add ms are-known).known add.is_imported.lower (extended_on (from-lowered add ms are-known).grown imported-later) unshared.lower
 
   same-end : (o p : Options) (m : HelperLocation) (e f : RouteEnd) → IsEndOf t given.cores s o m e → p ≡ o → f ≡ e → IsEndOf t given.cores s p m f
   same-end o p m e f h same is = subst (IsEndOf t given.cores s p m) (sym is) (subst (λ q. IsEndOf t given.cores s q m e) (sym same) h)

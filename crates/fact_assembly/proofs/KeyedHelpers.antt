@@ -12,7 +12,7 @@ use Rattle.fact_types.specs.declared.import.Import.TheVariants as known
 use Rattle.fact_types.specs.declared.outside.CoreDef.{CoreDef}
 use Rattle.fact_types.specs.declared.outside.MemoryOption.{MemoryOption}
 use Rattle.fact_types.proofs.ShapeLaws.{one_shape}
-use Rattle.fact_moves.specs.Outlining.{HelperKey, RouteEnd, Stack, Memory}
+use Rattle.fact_actions.specs.Outlining.{HelperKey, RouteEnd, Stack, Memory}
 use Rattle.fact_emit.specs.Imports.{AreOnce, StandOnce}
 use Rattle.fact_emit.specs.Movable.{CanMove}
 use Rattle.fact_emit.specs.States.{ModuleSoFar, functions_of, memories_of}

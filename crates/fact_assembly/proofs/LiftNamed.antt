@@ -1,4 +1,4 @@
--- What the data of an adapter name on its lift side is imported at their places, from when it is linked on.
+-- What the data of an adapter name on its lift side is imported at their places, from when it is imported on.
 use Rattle.std.proofs.Common.{◌≡◌, ℕ, List, [], ◌∷◌, ◌++◌, Option, Some, None, refl, sym, ap, ◌∙◌, subst, slice_get}
 use Rattle.fact_entity.specs.declared.id.Id.{Id}
 use Rattle.fact_entity.specs.declared.table.Funcs.{Funcs}
@@ -8,18 +8,18 @@ use Rattle.fact_types.specs.Tables.{Tables}
 use Rattle.fact_types.specs.declared.import.Import.TheVariants as known
 use Rattle.fact_types.specs.declared.outside.CoreDef.{CoreDef}
 use Rattle.fact_types.specs.declared.outside.MemoryOption.{MemoryOption}
-use Rattle.fact_moves.specs.Adapters.{AdapterTunables, def_of_memory}
-use Rattle.fact_moves.specs.Sides.{options_of}
-use Rattle.fact_emit.specs.AdapterLinks.{IsLinkedIfAny, IsMemoryLinked, IsSideLinked, SideLinks}
+use Rattle.fact_actions.specs.Adapters.{AdapterTunables, def_of_memory}
+use Rattle.fact_actions.specs.Sides.{options_of}
+use Rattle.fact_emit.specs.AdapterImports.{IsImportedIfAny, IsMemoryImportedIfAny, IsSideImported, SideImports}
 use Rattle.fact_emit.specs.ImportSection.{Callback, Callee, Mention, PostReturn, Role, Storage, a_function, imports_of}
 use Rattle.fact_emit.specs.Imports.{Extended}
 use Rattle.fact_emit.specs.Known.{AreKnown}
-use Rattle.fact_emit.specs.Linked.{IsDefLinked}
+use Rattle.fact_emit.specs.DefImports.{IsDefImported}
 use Rattle.fact_emit.specs.Options.{number_if_any}
 use Rattle.fact_emit.specs.States.{ModuleSoFar, functions_of, memories_of}
 use Rattle.fact_emit.specs.TaskCalls.{IsFunctionThere, IsMemoryThere}
 use Rattle.fact_emit.proofs.ImportLaws.{extended_none, extended_on, grown_get}
-use Rattle.fact_emit.proofs.KnownLaws.{extended_link, known_link, linked_at}
+use Rattle.fact_emit.proofs.KnownLaws.{extended_def, known_def, imported_at}
 use Rattle.fact_emit.proofs.Named.{sort_for}
 use Rattle.fact_compound.specs.Entries.{NamesLift}
 use Rattle.fact_compound.specs.declared.adapters.AdapterData.{AdapterData}
@@ -47,27 +47,27 @@ module _ {s later : ModuleSoFar} (grown : Extended s later) where
     post_return = function-later d.lift.post_return a.lift.post_return h.post_return;
   }
 
--- ---- what was linked stands at its place
+-- ---- what was imported stands at its place
 
 same-number : (m n : ℕ) → Some m ≡ Some n → n ≡ m
 same-number m n e = cc
 
-pub function-linked : (old new : ModuleSoFar) (role : Role) (o : Option CoreDef) (f : Option (Id Funcs)) → sort_for role ≡ a_function → IsLinkedIfAny old new role o (number_if_any f) → IsFunctionThere new f o
-function-linked old new role None None is l = tt
-function-linked old new role None (Some f) is l = absurd (let no : Some f.number ≡ None = l.1 in cc)
-function-linked old new role (Some d) None is l = absurd (let no : None ≡ Some l.number = l.place_is in cc)
-function-linked old new role (Some d) (Some f) is l =
-    let there = subst (λ q. slice_get (imports_of q new.section new.imports) l.number ≡ Some (known.CoreDef d)) is (linked_at role l.linked) in
+pub function-imported : (old new : ModuleSoFar) (role : Role) (o : Option CoreDef) (f : Option (Id Funcs)) → sort_for role ≡ a_function → IsImportedIfAny old new role o (number_if_any f) → IsFunctionThere new f o
+function-imported old new role None None is l = tt
+function-imported old new role None (Some f) is l = absurd (let no : Some f.number ≡ None = l.1 in cc)
+function-imported old new role (Some d) None is l = absurd (let no : None ≡ Some l.number = l.place_is in cc)
+function-imported old new role (Some d) (Some f) is l =
+    let there = subst (λ q. slice_get (imports_of q new.section new.imports) l.number ≡ Some (known.CoreDef d)) is (imported_at role l.imported) in
     ap (slice_get (functions_of new)) (sym (same-number f.number l.number l.place_is)) ∙ there
 
-pub memory-linked : (old new : ModuleSoFar) (o : Option MemoryOption) (m : Option (Id Memories)) → IsMemoryLinked old new o (number_if_any m)
+pub memory-imported : (old new : ModuleSoFar) (o : Option MemoryOption) (m : Option (Id Memories)) → IsMemoryImportedIfAny old new o (number_if_any m)
     → IsMemoryThere new m (elim o as (λ (x : Option MemoryOption). Option CoreDef) [ None ↦ None | Some k ↦ Some k.def ])
-memory-linked old new None None l = tt
-memory-linked old new None (Some m) l = absurd (let no : Some m.number ≡ None = l.1 in cc)
-memory-linked old new (Some o) None l = absurd (let no : None ≡ Some l.number = l.place_is in cc)
-memory-linked old new (Some o) (Some m) l = ap (slice_get (memories_of new)) (sym (same-number m.number l.number l.place_is)) ∙ linked_at (Storage o.memory64 o.page_size_log2) l.linked
+memory-imported old new None None l = tt
+memory-imported old new None (Some m) l = absurd (let no : Some m.number ≡ None = l.1 in cc)
+memory-imported old new (Some o) None l = absurd (let no : None ≡ Some l.number = l.place_is in cc)
+memory-imported old new (Some o) (Some m) l = ap (slice_get (memories_of new)) (sym (same-number m.number l.number l.place_is)) ∙ imported_at (Storage o.memory64 o.page_size_log2) l.imported
 
--- ---- the module grows by links, and each import stays known as what it is mentioned as
+-- ---- the module grows by imports, and each import stays known as what it is mentioned as
 
 pub record IsLater (old new : ModuleSoFar) : Type 0 where
   pub grown : Extended old new
@@ -77,24 +77,24 @@ pub record IsLater (old new : ModuleSoFar) : Type 0 where
 later-same : (old new : ModuleSoFar) (ms : List Mention) → AreKnown old ms → new ≡ old → IsLater old new
 later-same old new ms known same = record { grown = extended_none same; mentioned = ms; known = subst (λ s. AreKnown s ms) (sym same) known }
 
-later-def : (old new : ModuleSoFar) (role : Role) (d : CoreDef) (place : ℕ) (ms : List Mention) → AreKnown old ms → IsDefLinked old new role d place → IsLater old new
+later-def : (old new : ModuleSoFar) (role : Role) (d : CoreDef) (place : ℕ) (ms : List Mention) → AreKnown old ms → IsDefImported old new role d place → IsLater old new
 later-def old new role d place ms known l =
     let m : Mention = record { def = d; role = role } in
-    record { grown = extended_link known l; mentioned = ms ++ m ∷ []; known = known_link m place l known }
+    record { grown = extended_def known l; mentioned = ms ++ m ∷ []; known = known_def m place l known }
 
-later-any : (old new : ModuleSoFar) (role : Role) (o : Option CoreDef) (place : Option ℕ) (ms : List Mention) → AreKnown old ms → IsLinkedIfAny old new role o place → IsLater old new
+later-any : (old new : ModuleSoFar) (role : Role) (o : Option CoreDef) (place : Option ℕ) (ms : List Mention) → AreKnown old ms → IsImportedIfAny old new role o place → IsLater old new
 later-any old new role None place ms known l = later-same old new ms known l.0
-later-any old new role (Some d) place ms known l = later-def old new role d l.number ms known l.linked
+later-any old new role (Some d) place ms known l = later-def old new role d l.number ms known l.imported
 
-later-memory : (old new : ModuleSoFar) (o : Option MemoryOption) (place : Option ℕ) (ms : List Mention) → AreKnown old ms → IsMemoryLinked old new o place → IsLater old new
+later-memory : (old new : ModuleSoFar) (o : Option MemoryOption) (place : Option ℕ) (ms : List Mention) → AreKnown old ms → IsMemoryImportedIfAny old new o place → IsLater old new
 later-memory old new None place ms known l = later-same old new ms known l.0
-later-memory old new (Some m) place ms known l = later-def old new (Storage m.memory64 m.page_size_log2) m.def l.number ms known l.linked
+later-memory old new (Some m) place ms known l = later-def old new (Storage m.memory64 m.page_size_log2) m.def l.number ms known l.imported
 
 later-on : {a b c : ModuleSoFar} → IsLater a b → IsLater b c → IsLater a c
 later-on x y = record { grown = extended_on x.grown y.grown; mentioned = y.mentioned; known = y.known }
 
 -- what a side names, behind its memory
-module _ (old new : ModuleSoFar) (s : Side) (at : SideLinks) (ms : List Mention) (known : AreKnown old ms) (l : IsSideLinked old new s at) where
+module _ (old new : ModuleSoFar) (s : Side) (at : SideImports) (ms : List Mention) (known : AreKnown old ms) (l : IsSideImported old new s at) where
   pub stored : IsLater old l.stored
   stored =
       let flagged = later-def old l.flagged _ _ at.flags ms known l.flags in
@@ -112,51 +112,51 @@ module _ (old new : ModuleSoFar) (s : Side) (at : SideLinks) (ms : List Mention)
 -- ---- an adapter
 
 module _ {t : Tables} {u : AdapterTunables} {given : Given} {old new : ModuleSoFar} {a : LinkedAdapter} {tuple : ℕ} (add : Adds t u given old new a tuple) (ms : List Mention) (are_known : AreKnown old ms) where
-  lift-stored : IsLater add.links.lift.stored add.links.lifted
-  lift-stored = from-stored old add.links.lifted a.lift _ ms are_known add.links.lift
+  lift-stored : IsLater add.is_imported.lift.stored add.is_imported.lifted
+  lift-stored = from-stored old add.is_imported.lifted a.lift _ ms are_known add.is_imported.lift
 
-  pub from-lifted : IsLater add.links.lifted add.linked
+  pub from-lifted : IsLater add.is_imported.lifted add.imported
   from-lifted =
-      let lower-stored = stored add.links.lifted add.links.lowered a.lower _ lift-stored.mentioned lift-stored.known add.links.lower in
-      let lowered = from-stored add.links.lifted add.links.lowered a.lower _ lift-stored.mentioned lift-stored.known add.links.lower in
-      let called = later-def add.links.lowered add.links.called _ a.callee _ lowered.mentioned lowered.known add.links.callee in
-      later-on lower-stored (later-on lowered (later-on called (later-any add.links.called add.linked _ a.lift.post_return _ called.mentioned called.known add.links.post_return)))
+      let lower-stored = stored add.is_imported.lifted add.is_imported.lowered a.lower _ lift-stored.mentioned lift-stored.known add.is_imported.lower in
+      let lowered = from-stored add.is_imported.lifted add.is_imported.lowered a.lower _ lift-stored.mentioned lift-stored.known add.is_imported.lower in
+      let called = later-def add.is_imported.lowered add.is_imported.called _ a.callee _ lowered.mentioned lowered.known add.is_imported.callee in
+      later-on lower-stored (later-on lowered (later-on called (later-any add.is_imported.called add.imported _ a.lift.post_return _ called.mentioned called.known add.is_imported.post_return)))
 
-  pub lifted : IsLater old add.links.lifted
-  lifted = later-on (stored old add.links.lifted a.lift _ ms are_known add.links.lift) lift-stored
+  pub lifted : IsLater old add.is_imported.lifted
+  lifted = later-on (stored old add.is_imported.lifted a.lift _ ms are_known add.is_imported.lift) lift-stored
 
   -- What was there before it is there still.
-  pub linked-grown : Extended old add.linked
-  linked-grown = extended_on lifted.grown from-lifted.grown
+  pub imported-grown : Extended old add.imported
+  imported-grown = extended_on lifted.grown from-lifted.grown
 
-  -- So is what was there when both sides were linked.
-  pub from-lowered : IsLater add.links.lowered add.linked
+  -- So is what was there when both sides were imported.
+  pub from-lowered : IsLater add.is_imported.lowered add.imported
   from-lowered =
-      let lowered = later-on (stored add.links.lifted add.links.lowered a.lower _ lifted.mentioned lifted.known add.links.lower) (from-stored add.links.lifted add.links.lowered a.lower _ lifted.mentioned lifted.known add.links.lower) in
-      let called = later-def add.links.lowered add.links.called _ a.callee _ lowered.mentioned lowered.known add.links.callee in
-      later-on called (later-any add.links.called add.linked _ a.lift.post_return _ called.mentioned called.known add.links.post_return)
+      let lowered = later-on (stored add.is_imported.lifted add.is_imported.lowered a.lower _ lifted.mentioned lifted.known add.is_imported.lower) (from-stored add.is_imported.lifted add.is_imported.lowered a.lower _ lifted.mentioned lifted.known add.is_imported.lower) in
+      let called = later-def add.is_imported.lowered add.is_imported.called _ a.callee _ lowered.mentioned lowered.known add.is_imported.callee in
+      later-on called (later-any add.is_imported.called add.imported _ a.lift.post_return _ called.mentioned called.known add.is_imported.post_return)
 
   -- The callee stands at its place.
-  pub callee-linked : slice_get (functions_of add.linked) add.«data».callee.number ≡ Some (known.CoreDef a.callee)
-  callee-linked =
-      let lowered = later-on (stored add.links.lifted add.links.lowered a.lower _ lifted.mentioned lifted.known add.links.lower) (from-stored add.links.lifted add.links.lowered a.lower _ lifted.mentioned lifted.known add.links.lower) in
-      let called = later-def add.links.lowered add.links.called _ a.callee _ lowered.mentioned lowered.known add.links.callee in
-      let behind = later-any add.links.called add.linked _ a.lift.post_return _ called.mentioned called.known add.links.post_return in
-      grown_get behind.grown.functions add.«data».callee.number (known.CoreDef a.callee) (linked_at (Callee a.name a.lift.core_type) add.links.callee)
+  pub callee-at-place : slice_get (functions_of add.imported) add.«data».callee.number ≡ Some (known.CoreDef a.callee)
+  callee-at-place =
+      let lowered = later-on (stored add.is_imported.lifted add.is_imported.lowered a.lower _ lifted.mentioned lifted.known add.is_imported.lower) (from-stored add.is_imported.lifted add.is_imported.lowered a.lower _ lifted.mentioned lifted.known add.is_imported.lower) in
+      let called = later-def add.is_imported.lowered add.is_imported.called _ a.callee _ lowered.mentioned lowered.known add.is_imported.callee in
+      let behind = later-any add.is_imported.called add.imported _ a.lift.post_return _ called.mentioned called.known add.is_imported.post_return in
+      grown_get behind.grown.functions add.«data».callee.number (known.CoreDef a.callee) (imported_at (Callee a.name a.lift.core_type) add.is_imported.callee)
 
-  -- All imports are known behind the links.
-  pub known-linked : AreKnown add.linked from-lifted.mentioned
-  known-linked = from-lifted.known
+  -- All imports are known behind the imports.
+  pub known-imported : AreKnown add.imported from-lifted.mentioned
+  known-imported = from-lifted.known
 
   -- The lift side's memory, its callback and its post-return stand at the places that the data say.
-  pub names-lift : NamesLift add.linked add.«data» a
+  pub names-lift : NamesLift add.imported add.«data» a
   names-lift = record {
     memory =
         memory-later (extended_on lift-stored.grown from-lifted.grown) add.«data».lift.options.linear.memory (def_of_memory (options_of a.lift))
-        (memory-linked add.links.lift.flagged add.links.lift.stored a.lift.memory add.«data».lift.options.linear.memory add.links.lift.memory);
+        (memory-imported add.is_imported.lift.flagged add.is_imported.lift.stored a.lift.memory add.«data».lift.options.linear.memory add.is_imported.lift.memory);
     callback =
         function-later from-lifted.grown add.«data».lift.options.callback a.lift.callback
-        (function-linked add.links.lift.supplied add.links.lifted Callback a.lift.callback add.«data».lift.options.callback refl add.links.lift.callback);
+        (function-imported add.is_imported.lift.supplied add.is_imported.lifted Callback a.lift.callback add.«data».lift.options.callback refl add.is_imported.lift.callback);
     post_return =
-        function-linked add.links.called add.linked (PostReturn a.name a.lift.core_type.results) a.lift.post_return add.«data».lift.post_return refl add.links.post_return;
+        function-imported add.is_imported.called add.imported (PostReturn a.name a.lift.core_type.results) a.lift.post_return add.«data».lift.post_return refl add.is_imported.post_return;
   }

@@ -14,7 +14,7 @@ use Rattle.fact_wasm.specs.declared.module.WasmModule.{WasmModule}
 use Rattle.fact_machine.proofs.Tests.{get_append}
 use Rattle.fact_types.specs.declared.import.Import.{Import}
 use Rattle.fact_types.specs.Adapters.{LinkedAdapter}
-use Rattle.fact_checks.specs.AdapterRules.{export_names}
+use Rattle.fact_adapter_rules.specs.AdapterRules.{export_names}
 use Rattle.fact_emit.specs.ImportSection.{is_awaited}
 use Rattle.fact_emit.proofs.ImportLists.{get-map}
 use Rattle.fact_compound.specs.AsyncParts.{callee_name, part_name}

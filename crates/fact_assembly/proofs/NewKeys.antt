@@ -7,7 +7,7 @@ use Rattle.std.proofs.lemmas.List.Elements.{Contains-append_cases, Contains-appe
 use Rattle.std.proofs.lemmas.List.FromFn.{get_or-range_with_len, length-range_with_len}
 use Rattle.std.proofs.lemmas.Option.{get_or_from_slice_get, slice_get_within}
 use Rattle.fact_machine.proofs.Tests.{get_append}
-use Rattle.fact_moves.specs.Outlining.{AreNew, AskedAnew, AskedBefore, HelperKey, NoneAsked}
+use Rattle.fact_actions.specs.Outlining.{AreNew, AskedAnew, AskedBefore, HelperKey, NoneAsked}
 use Rattle.fact_emit.specs.Asked.{AskedHelper, entry_of}
 use Rattle.fact_emit.specs.NamedFunctions.{added_once, all_added_once}
 use Rattle.fact_emit.specs.declared.helpers.Helper.{Helper}

@@ -9,7 +9,7 @@ use Rattle.fact_types.specs.Adapters.{LinkedAdapter}
 use Rattle.fact_types.specs.declared.import.Import.{Import}
 use Rattle.fact_emit.specs.ImportSection.{Mention, a_function, adapter_mentions, imports_of, is_of, with_mentions}
 use Rattle.fact_emit.proofs.Mentions.{mentions-on}
-use Rattle.fact_assembly.specs.Order.{AreParts, Definition, IsPart, Item, ModulePart, Other, functions_in, item_of, items, items_in, own_places}
+use Rattle.fact_assembly.specs.Order.{AreParts, Definition, IsModulePart, Item, ModulePart, Other, functions_in, item_of, items, items_in, own_places}
 
 -- ---- parts
 
@@ -17,12 +17,12 @@ pub flat_map-push : {X Y : Type 0} (f : X → List Y) (xs : List X) (x : X) → 
 flat_map-push f xs x = flat_map-append f xs (x ∷ []) ∙ ap (λ l. flat_map f xs ++ l) (append-nil (f x))
 
 pub parts-push : (imported : List Import) (before : List ModulePart) (adapters : List LinkedAdapter) (parts : List ModulePart) (a : LinkedAdapter) (p : ModulePart)
-    → AreParts imported before adapters parts → IsPart imported (before ++ parts) a p → AreParts imported before (adapters ++ a ∷ []) (parts ++ p ∷ [])
-parts-push imported before [] [] a p h i = (subst (λ b. IsPart imported b a p) (append-nil before) i, tt)
+    → AreParts imported before adapters parts → IsModulePart imported (before ++ parts) a p → AreParts imported before (adapters ++ a ∷ []) (parts ++ p ∷ [])
+parts-push imported before [] [] a p h i = (subst (λ b. IsModulePart imported b a p) (append-nil before) i, tt)
 parts-push imported before [] (q ∷ parts) a p h i = absurd h
 parts-push imported before (b ∷ adapters) [] a p h i = absurd h
 parts-push imported before (b ∷ adapters) (q ∷ parts) a p h i =
-    (h.0, parts-push imported (before ++ q ∷ []) adapters parts a p h.1 (subst (λ b. IsPart imported b a p) (sym (append_assoc before (q ∷ []) parts)) i))
+    (h.0, parts-push imported (before ++ q ∷ []) adapters parts a p h.1 (subst (λ b. IsModulePart imported b a p) (sym (append_assoc before (q ∷ []) parts)) i))
 
 abbrev pub defs_in : ModulePart → List Mention
 defs_in p = p.defs

@@ -13,31 +13,31 @@ use Rattle.fact_machine.specs.Typing.{is_exported, same_function}
 use Rattle.fact_machine.proofs.Tests.{get_append}
 use Rattle.fact_types.specs.Adapters.{LinkedAdapter}
 use Rattle.fact_types.specs.Tables.{Tables}
-use Rattle.fact_moves.specs.Adapters.{AdapterTunables}
-use Rattle.fact_moves.specs.Outlining.{AdapterComes, AreFollowing, AreFunctions, AreNew, HelperKey, NoAdapters, OutlinedFunction, helper_asks, helper_function, own_asks, own_function}
+use Rattle.fact_actions.specs.Adapters.{AdapterTunables}
+use Rattle.fact_actions.specs.Outlining.{AdapterComes, AreFollowing, AreFunctions, AreNew, HelperKey, NoAdapters, OutlinedFunction, helper_asks, helper_function, own_asks, own_function}
 use Rattle.fact_plan_types.proofs.HandleLaws.{there as get-within}
 use Rattle.fact_emit.specs.Asked.{AskedHelper}
 use Rattle.fact_emit.specs.ImportSection.{adapter_mentions, mentions}
 use Rattle.fact_emit.specs.Imports.{AreOnce, Extended}
-use Rattle.fact_emit.specs.Listed.{AreLinkedInTurn, ListsMentions}
+use Rattle.fact_emit.specs.Listed.{AreImportedInTurn, ListsMentions}
 use Rattle.fact_emit.specs.States.{KeepsDefined, ModuleSoFar, next_number}
 use Rattle.fact_emit.specs.declared.helpers.Helper.{Helper}
 use Rattle.fact_emit.proofs.ImportLaws.{extended_on}
-use Rattle.fact_emit.proofs.LinkedLaws.{linked_adapter}
+use Rattle.fact_emit.proofs.ImportedInTurn.{imported_adapter}
 use Rattle.fact_compound.specs.Asks.{helpers_from}
 use Rattle.fact_compound.specs.Helpers.{WroteHelper}
 use Rattle.fact_compound.specs.declared.adapters.AdapterData.{AdapterData}
 use Rattle.fact_compound.proofs.HelpersUsed.{among}
-use Rattle.fact_forms.specs.Sound.{IsSoundAdapter}
+use Rattle.fact_assembly.specs.Sound.{IsSoundAdapter}
 use Rattle.fact_assembly.specs.Adding.{Adds, AsParts, AsSync, AsTrap, CompiledAs, Given, helper_functions, numbered_for, own_functions}
 use Rattle.fact_assembly.specs.Exports.{exported_functions_of}
 use Rattle.fact_assembly.specs.Holding.{HasNoSharedMemory, HoldTypesOnce, named_from, own_names}
-use Rattle.fact_assembly.specs.Links.{links_of}
+use Rattle.fact_assembly.specs.ImportedData.{imports_of_data}
 use Rattle.fact_assembly.proofs.AddedFunctions.{AddsBehind, behind-kept, compiled-behind, helpers-behind, numbers-kept, own_callees}
 use Rattle.fact_assembly.proofs.CompiledLaws.{helpers-extended, own-count}
 use Rattle.fact_assembly.proofs.FollowingKeys.{HasAskedKeys, HasFollowing, IsKeyedState, asked-keys, behind-at, following, zip-at, zip-count, zip-more, zip-on}
 use Rattle.fact_assembly.proofs.HelperHistory.{helpers-end}
-use Rattle.fact_assembly.proofs.HelperParts.{KeepsHelpers, keeps-linked, kept_linked}
+use Rattle.fact_assembly.proofs.HelperParts.{KeepsHelpers, keeps-imported, kept_imported}
 use Rattle.fact_assembly.proofs.KeyedAsks.{helper-keys, own-keys}
 use Rattle.fact_assembly.proofs.KeyedHelpers.{IsKey, one-helper, one-key}
 use Rattle.fact_assembly.proofs.NameLaws.{get-behind}
@@ -165,17 +165,17 @@ module _ (t : Tables) (u : AdapterTunables) (given : Given) (s : ModuleSoFar) (t
 
   module _ {old new : ModuleSoFar} {before : List LinkedAdapter} {a : LinkedAdapter} {tuple : ℕ} (lists : ListsMentions old (mentions before) before) (add : Adds t u given old new a tuple) (later : Extended new s) (sound : IsSoundAdapter a) (unshared : HasNoSharedMemory a)
       (x : IsOutlinedUpto old before) where
-    in-turn : AreLinkedInTurn old add.linked (adapter_mentions a)
-    in-turn = linked_adapter old add.linked a (links_of add.«data») add.links
+    in-turn : AreImportedInTurn old add.imported (adapter_mentions a)
+    in-turn = imported_adapter old add.imported a (imports_of_data add.«data») add.is_imported
 
-    keeps : KeepsHelpers old add.linked
-    keeps = keeps-linked (adapter_mentions a) old add.linked in-turn
+    keeps : KeepsHelpers old add.imported
+    keeps = keeps-imported (adapter_mentions a) old add.imported in-turn
 
-    kept : KeepsDefined old add.linked
-    kept = kept_linked (adapter_mentions a) old add.linked in-turn
+    kept : KeepsDefined old add.imported
+    kept = kept_imported (adapter_mentions a) old add.imported in-turn
 
     abbrev start : ModuleSoFar
-    start = numbered_for a add.linked
+    start = numbered_for a add.imported
 
     abbrev own-fs : List WasmFunc
     own-fs = own_functions add.compiled
@@ -206,12 +206,12 @@ module _ (t : Tables) (u : AdapterTunables) (given : Given) (s : ModuleSoFar) (t
     asked = asked-keys IsKeyHere keys-once helpers-once add.asks x.known asked-for add.asked own.order (own.once start-state.once) start-state own.all
 
     -- the keys that its functions ask for anew wait in the places of their helpers
-    waiting : AllZip (λ p k. slice_get (x.known ++ asked.fresh) p ≡ Some k) (range_with_len (length add.linked.helpers) (length add.own.helpers - length add.linked.helpers)) asked.fresh
+    waiting : AllZip (λ p k. slice_get (x.known ++ asked.fresh) p ≡ Some k) (range_with_len (length add.imported.helpers) (length add.own.helpers - length add.imported.helpers)) asked.fresh
     waiting =
-        let first : length add.linked.helpers ≡ length x.known = zip-count (λ (e : Helper × ℕ) k. IsKeyHere e.0 k) add.linked.helpers x.known start-state.keyed in
+        let first : length add.imported.helpers ≡ length x.known = zip-count (λ (e : Helper × ℕ) k. IsKeyHere e.0 k) add.imported.helpers x.known start-state.keyed in
         let all : length add.own.helpers ≡ length (x.known ++ asked.fresh) = zip-count (λ (e : Helper × ℕ) k. IsKeyHere e.0 k) add.own.helpers (x.known ++ asked.fresh) asked.state.keyed in
-        let count : length add.own.helpers - length add.linked.helpers ≡ length asked.fresh = omega (arith, first, all, length-append x.known asked.fresh) in
-        subst (λ n. AllZip (λ p k. slice_get (x.known ++ asked.fresh) p ≡ Some k) (range_with_len (length add.linked.helpers) n) asked.fresh) (sym count)
+        let count : length add.own.helpers - length add.imported.helpers ≡ length asked.fresh = omega (arith, first, all, length-append x.known asked.fresh) in
+        subst (λ n. AllZip (λ p k. slice_get (x.known ++ asked.fresh) p ≡ Some k) (range_with_len (length add.imported.helpers) n) asked.fresh) (sym count)
         (subst (λ n. AllZip (λ p k. slice_get (x.known ++ asked.fresh) p ≡ Some k) (range_with_len n (length asked.fresh)) asked.fresh) (sym first) (behind-at x.known asked.fresh))
 
     abbrev keys-of-helper : (h : Helper) (o n : ModuleSoFar) (f : WasmFunc) (w : WroteHelper t u.debug u.concurrency given.fuel h o n f) (key : HelperKey) → IsKeyHere h key → AllZip (λ (y : AskedHelper) k. IsKeyHere y.key k) w.asks (helper_asks given.fuel key)
@@ -232,7 +232,7 @@ module _ (t : Tables) (u : AdapterTunables) (given : Given) (s : ModuleSoFar) (t
     -- ---- its functions
 
     added : AddsBehind old new (own-fs ++ written) (own_names a) (own_callees add.compiled)
-    added = helpers-behind (behind-kept kept (behind-kept (numbers-kept add.linked (length (exported_functions_of a))) (compiled-behind add.name add.compiled))) add.helpers
+    added = helpers-behind (behind-kept kept (behind-kept (numbers-kept add.imported (length (exported_functions_of a))) (compiled-behind add.name add.compiled))) add.helpers
 
     abbrev own-part : List OutlinedFunction
     own-part = map own_function (own_asks given.fuel a)
@@ -254,25 +254,25 @@ module _ (t : Tables) (u : AdapterTunables) (given : Given) (s : ModuleSoFar) (t
     abbrev more : List Helper
     more = add.asked.new_asked.more ++ add.helpers.wrote.asked.new_asked.more
 
-    new-helpers : new.helpers ≡ add.linked.helpers ++ helpers_from (next_number start) more
+    new-helpers : new.helpers ≡ add.imported.helpers ++ helpers_from (next_number start) more
     new-helpers =
         let first : List Helper = add.asked.new_asked.more in
         let second : List Helper = add.helpers.wrote.asked.new_asked.more in
         let n : ℕ = next_number start in
         ap (λ (q : ModuleSoFar). q.helpers) add.helpers.is ∙ add.helpers.wrote.asked.new_asked.helpers ∙ ap (λ es. es ++ helpers_from (next_number add.own) second) add.asked.new_asked.helpers
-        ∙ append_assoc add.linked.helpers (helpers_from n first) (helpers_from (next_number add.own) second)
-        ∙ ap (λ es. add.linked.helpers ++ es) (ap (λ m. helpers_from n first ++ helpers_from m second) add.asked.new_asked.next ∙ helpers-joined n first second)
+        ∙ append_assoc add.imported.helpers (helpers_from n first) (helpers_from (next_number add.own) second)
+        ∙ ap (λ es. add.imported.helpers ++ es) (ap (λ m. helpers_from n first ++ helpers_from m second) add.asked.new_asked.next ∙ helpers-joined n first second)
 
     new-keyed : HaveKeys IsKeyHere keys-once helpers-once new.helpers follows.all
     new-keyed = subst (λ es. HaveKeys IsKeyHere keys-once helpers-once es follows.all) (sym (ap (λ (q : ModuleSoFar). q.helpers) add.helpers.is)) follows.state.keyed
 
-    known-count : length add.linked.helpers ≡ length x.known
-    known-count = zip-count (λ (e : Helper × ℕ) k. IsKeyHere e.0 k) add.linked.helpers x.known start-state.keyed
+    known-count : length add.imported.helpers ≡ length x.known
+    known-count = zip-count (λ (e : Helper × ℕ) k. IsKeyHere e.0 k) add.imported.helpers x.known start-state.keyed
 
     fresh-count : length more ≡ length fresh
     fresh-count =
         let all : length new.helpers ≡ length follows.all = zip-count (λ (e : Helper × ℕ) k. IsKeyHere e.0 k) new.helpers follows.all new-keyed in
-        omega (arith, all, ap length new-helpers, length-append add.linked.helpers (helpers_from (next_number start) more), helpers-count (next_number start) more, ap length all-known, length-append x.known fresh, known-count)
+        omega (arith, all, ap length new-helpers, length-append add.imported.helpers (helpers_from (next_number start) more), helpers-count (next_number start) more, ap length all-known, length-append x.known fresh, known-count)
 
     new-state : IsKeyedState IsKeyHere keys-once helpers-once new follows.all
     new-state = record {
@@ -285,14 +285,14 @@ module _ (t : Tables) (u : AdapterTunables) (given : Given) (s : ModuleSoFar) (t
     new-placed =
         let Is : Helper × ℕ → HelperKey → Type 0 = λ e k. slice_get outlined e.1 ≡ Some (helper_function given.fuel k) in
         let was : AllZip Is old.helpers x.known = zip-more (λ (e : Helper × ℕ) k. slice_get x.functions e.1 ≡ Some (helper_function given.fuel k)) Is (λ e k h. get_append x.functions (functions-of given.fuel a fresh) e.1 (helper_function given.fuel k) h) old.helpers x.known x.placed in
-        let was-linked : AllZip Is add.linked.helpers x.known = subst (λ es. AllZip Is es x.known) (sym keeps.helpers) was in
+        let was-imported : AllZip Is add.imported.helpers x.known = subst (λ es. AllZip Is es x.known) (sym keeps.helpers) was in
         let moved : (x.functions ++ own-part) ++ map (helper_function given.fuel) fresh ≡ outlined = append_assoc x.functions own-part (map (helper_function given.fuel) fresh) in
         let anew : AllZip Is (helpers_from (next_number start) more) fresh =
         subst (λ fs. AllZip (λ (e : Helper × ℕ) k. slice_get fs e.1 ≡ Some (helper_function given.fuel k)) (helpers_from (next_number start) more) fresh) moved
         (placed-behind given.fuel (next_number start) (x.functions ++ own-part) more fresh (sym start-next) fresh-count) in
         subst (λ es. AllZip Is es follows.all) (sym new-helpers)
-        (subst (λ ks. AllZip Is (add.linked.helpers ++ helpers_from (next_number start) more) ks) (sym all-known)
-        (zip-on Is add.linked.helpers (helpers_from (next_number start) more) x.known fresh was-linked anew))
+        (subst (λ ks. AllZip Is (add.imported.helpers ++ helpers_from (next_number start) more) ks) (sym all-known)
+        (zip-on Is add.imported.helpers (helpers_from (next_number start) more) x.known fresh was-imported anew))
 
     -- ---- what they ask for
 
@@ -301,7 +301,7 @@ module _ (t : Tables) (u : AdapterTunables) (given : Given) (s : ModuleSoFar) (t
 
     helper-asks : (i : ℕ) (f : WasmFunc) (k : HelperKey) → slice_get written i ≡ Some f → slice_get fresh i ≡ Some k → AsksHelpers IsKeyHere new f (helper_function given.fuel k)
     helper-asks i f k e g =
-        let first : ℕ = length add.linked.helpers in
+        let first : ℕ = length add.imported.helpers in
         let key : slice_get follows.all (first + i) ≡ Some k = (λ j. slice_get (all-known j) (known-count j + i)) ∙ get-behind x.known fresh i ∙ g in
         let within = slice-within written i f e in
         let entry = get-within last.helpers (first + i) (omega (arith, within, add.helpers.wrote.count)) in
@@ -340,7 +340,7 @@ module _ (t : Tables) (u : AdapterTunables) (given : Given) (s : ModuleSoFar) (t
     counted = names-counted a ∙ sym (own-count add.compiled)
 
     new-hidden : (e : Helper × ℕ) → Contains new.helpers e → is_exported (func.Defined e.1) new.exports ≡ false
-    new-hidden e c = elim (Contains-append_cases add.linked.helpers (helpers_from (next_number start) more) e (subst (λ es. Contains es e) new-helpers c)) [
+    new-hidden e c = elim (Contains-append_cases add.imported.helpers (helpers_from (next_number start) more) e (subst (λ es. Contains es e) new-helpers c)) [
       | inl was ↦
           let before-it = subst (λ es. Contains es e) keeps.helpers was in
           let lt = x.state.below e before-it in

@@ -10,10 +10,10 @@ use Rattle.fact_wasm.specs.declared.types.FuncType.{FuncType}
 use Rattle.fact_machine.specs.Typing.{is_exported, same_function}
 use Rattle.fact_types.specs.Adapters.{LinkedAdapter}
 use Rattle.fact_types.specs.Tables.{Tables}
-use Rattle.fact_uses.specs.Bindings.{AreConsistent}
-use Rattle.fact_checks.specs.AdapterRules.{uses_of}
-use Rattle.fact_moves.specs.Adapters.{AdapterTunables}
-use Rattle.fact_moves.specs.Outlining.{HelperKey, IsHelperAt, OutlinedFunction, helper_function}
+use Rattle.fact_adapter_rules.specs.Bindings.{AreConsistent}
+use Rattle.fact_adapter_rules.specs.AdapterRules.{uses_of}
+use Rattle.fact_actions.specs.Adapters.{AdapterTunables}
+use Rattle.fact_actions.specs.Outlining.{HelperKey, IsHelperAt, OutlinedFunction, helper_function}
 use Rattle.fact_emit.specs.Asked.{AskedHelper, entry_of}
 use Rattle.fact_emit.specs.ImportSection.{mentions}
 use Rattle.fact_emit.specs.Imports.{AreOnce, Extended}
@@ -23,14 +23,14 @@ use Rattle.fact_emit.specs.declared.tunables.Tunables.{Tunables}
 use Rattle.fact_emit.specs.declared.tunables.WasmFeatures.{WasmFeatures}
 use Rattle.fact_emit.proofs.ImportLaws.{extended_none, extended_on}
 use Rattle.fact_compound.proofs.WaitingHelpers.{in_get}
-use Rattle.fact_forms.specs.Sound.{IsSoundAdapter}
+use Rattle.fact_assembly.specs.Sound.{IsSoundAdapter}
 use Rattle.fact_assembly.specs.Adding.{Given}
 use Rattle.fact_assembly.specs.Faithful.{adapter_tunables}
 use Rattle.fact_assembly.specs.Holding.{AreAdded, HasNoSharedMemory, HoldTypesOnce, Holds, NoneAdded, OneMore}
 use Rattle.fact_assembly.specs.Outlines.{CallsAsked, IsOutlined, defined_calls}
 use Rattle.fact_assembly.proofs.CompiledLaws.{added-extended}
 use Rattle.fact_assembly.proofs.KeyedHelpers.{IsKey, one-key}
-use Rattle.fact_assembly.proofs.LiftNamed.{linked-grown}
+use Rattle.fact_assembly.proofs.LiftNamed.{imported-grown}
 use Rattle.fact_assembly.proofs.OutlinedAdded.{IsOutlinedUpto, NoneCame, functions-are, outlined-more}
 use Rattle.fact_assembly.proofs.OwnAsks.{AsksHelpers, ByName, CallsNone}
 use Rattle.fact_assembly.proofs.OwnLaws.{known_of}
@@ -59,7 +59,7 @@ module _ (t : Tables) (u : AdapterTunables) (given : Given) (s : ModuleSoFar) (a
     uncalled = λ k. refl;
   }
   outlined-upto (OneMore old new before a tuple added lists adds) later inside =
-      let grown : Extended old new = extended_on (linked-grown adds (mentions before) (known_of lists)) (added-extended adds) in
+      let grown : Extended old new = extended_on (imported-grown adds (mentions before) (known_of lists)) (added-extended adds) in
       let at = in_get adapters a (inside a (Contains-push before a)) in
       outlined-more t u given s types once lists adds later (all-at IsSoundAdapter adapters sound at.0 a at.1) (all-at HasNoSharedMemory adapters unshared at.0 a at.1)
       (outlined-upto added (extended_on grown later) (λ b c. inside b (Contains-append_left before (a ∷ []) b c)))

@@ -10,10 +10,10 @@ use Rattle.fact_wasm.specs.declared.module.WasmFunc.{WasmFunc}
 use Rattle.fact_machine.specs.Trace.{Grows}
 use Rattle.fact_types.specs.Adapters.{LinkedAdapter, is_async, is_crossing}
 use Rattle.fact_types.specs.Tables.{Tables}
-use Rattle.fact_moves.specs.Adapters.{AdapterTunables, lift_signature_of, lower_signature_of}
-use Rattle.fact_moves.specs.Outlining.{HelperKey, OutlinedFunction, own_asks, own_function}
-use Rattle.fact_moves.proofs.States.{and_left, and_right}
-use Rattle.fact_pieces.specs.Code.{trap_code}
+use Rattle.fact_actions.specs.Adapters.{AdapterTunables, lift_signature_of, lower_signature_of}
+use Rattle.fact_actions.specs.Outlining.{HelperKey, OutlinedFunction, own_asks, own_function}
+use Rattle.fact_actions.proofs.States.{and_left, and_right}
+use Rattle.fact_code_laws.specs.Code.{trap_code}
 use Rattle.fact_emit.specs.Asked.{AskedHelper, entry_of}
 use Rattle.fact_emit.specs.ImportSection.{is_awaited}
 use Rattle.fact_emit.specs.NamedFunctions.{all_added_once, defined_named, defined_place}
@@ -26,7 +26,7 @@ use Rattle.fact_compound.specs.Puts.{PutsFunction}
 use Rattle.fact_compound.specs.declared.asyncs.AsyncPart.TheVariants as part
 use Rattle.fact_compound.specs.declared.entries.EntryPlaces.{EntryPlaces}
 use Rattle.fact_compound.proofs.AsksLaws.{entry_helpers, numbers_type}
-use Rattle.fact_forms.specs.Sound.{IsSoundAdapter}
+use Rattle.fact_assembly.specs.Sound.{IsSoundAdapter}
 use Rattle.fact_assembly.specs.Adding.{Adds, AsParts, AsSync, AsTrap, CompiledAs, Given, OwnKeys, numbered_for, own_functions}
 use Rattle.fact_assembly.specs.Order.{names}
 use Rattle.fact_assembly.specs.Outlines.{defined_calls, defined_calls_of}
@@ -155,7 +155,7 @@ once-put {old = old} {new} x once = once-same x.written new (ap (λ (s : ModuleS
 module _ (IsKey : Helper → HelperKey → Type 0) {t : Tables} {u : AdapterTunables} {given : Given} {old new : ModuleSoFar} {a : LinkedAdapter} {tuple : ℕ} (add : Adds t u given old new a tuple) (sound : IsSoundAdapter a)
     (have-keys : (xs : List AskedHelper) (ks : List HelperKey) → AllZip (IsKeyOfAdapter t add.«data» u.debug u.concurrency a) xs ks → AllZip (λ (x : AskedHelper) k. IsKey x.key k) xs ks) where
   abbrev ahead : ModuleSoFar
-  ahead = numbered_for a add.linked
+  ahead = numbered_for a add.imported
 
   -- The adapter's own functions ask for these helpers, which have the keys that they are to ask for, in that order, and are new in that order.
   pub record HasOwnAsks (fs : List WasmFunc) (keys : List (List HelperKey)) : Type 0 where

@@ -18,8 +18,8 @@ use Rattle.fact_types.specs.Adapters.{LinkedAdapter}
 use Rattle.fact_types.specs.Tables.{Tables}
 use Rattle.fact_types.specs.declared.import.Import.TheVariants as known
 use Rattle.fact_types.specs.declared.signature.Signature.{Signature}
-use Rattle.fact_moves.specs.Adapters.{AdapterTunables, def_of_memory, lift_signature_of, lower_signature_of}
-use Rattle.fact_moves.specs.Sides.{options_of}
+use Rattle.fact_actions.specs.Adapters.{AdapterTunables, def_of_memory, lift_signature_of, lower_signature_of}
+use Rattle.fact_actions.specs.Sides.{options_of}
 use Rattle.fact_emit.specs.declared.task_calls.StartCall.{StartCall}
 use Rattle.fact_emit.specs.Imports.{Extended}
 use Rattle.fact_emit.specs.ImportSection.{Mention, is_awaited}
@@ -275,12 +275,12 @@ module _ {t : Tables} (d : AdapterData) {start return : ℕ} {old new : ModuleSo
 -- ---- all functions of an adapter
 
 -- A module has all that the functions of an adapter ask for by its data.
-pub record IsReadyFor (t : Tables) (d : AdapterData) (a : LinkedAdapter) (linked : ModuleSoFar) : Type 0 where
+pub record IsReadyFor (t : Tables) (d : AdapterData) (a : LinkedAdapter) (imported : ModuleSoFar) : Type 0 where
   pub name : d.name ≡ a.name
   pub core_type : a.lower.core_type ≡ record { params = (lower_signature_of a).params; results = (lower_signature_of a).results }
   pub describes : DescribesEntry t d a
-  pub lift : NamesLift linked d a
-  pub callee : slice_get (functions_of linked) d.callee.number ≡ Some (known.CoreDef a.callee)
+  pub lift : NamesLift imported d a
+  pub callee : slice_get (functions_of imported) d.callee.number ≡ Some (known.CoreDef a.callee)
 
 pub ready_later : {t : Tables} {d : AdapterData} {a : LinkedAdapter} {old new : ModuleSoFar} → Extended old new → IsReadyFor t d a old → IsReadyFor t d a new
 ready_later {d = d} {a} e x = record { name = x.name; core_type = x.core_type; describes = x.describes; lift = lift-later e d a x.lift; callee = grown_get e.functions d.callee.number (known.CoreDef a.callee) x.callee }
@@ -340,45 +340,45 @@ module _ {Has : Having} {t : Tables} (d : AdapterData) {debug concurrency : Bool
         (body_more (length (functions_of c.returned)) (length (functions_of new)) n n (more_functions returned) same c.return.function.body (ranged_put c.return.puts n (omega (arith, numbered, returned.numbered)) (omega (arith, first, second, count))), (entry, tt)),
       )
 
-module _ {end : ModuleSoFar} {t : Tables} {d : AdapterData} {u : AdapterTunables} {a : LinkedAdapter} {linked new : ModuleSoFar} (c : CompiledAs end t d u a linked new) (ms : List Mention) (adapters : List LinkedAdapter) (ready : IsReadyFor t d a linked)
-    (lists : ListsMentions linked ms adapters) where
+module _ {end : ModuleSoFar} {t : Tables} {d : AdapterData} {u : AdapterTunables} {a : LinkedAdapter} {imported new : ModuleSoFar} (c : CompiledAs end t d u a imported new) (ms : List Mention) (adapters : List LinkedAdapter) (ready : IsReadyFor t d a imported)
+    (lists : ListsMentions imported ms adapters) where
   pub listed_own : ListsMentions new ms (adapters ++ a ∷ [])
   listed_own = by c
     where
-      by : CompiledAs end t d u a linked new → ListsMentions new ms (adapters ++ a ∷ [])
+      by : CompiledAs end t d u a imported new → ListsMentions new ms (adapters ++ a ∷ [])
       by (AsTrap within x) = listed_unawaited new ms adapters a (not-awaited-within a within) (listed_put (within_put x) ms adapters lists)
       by (AsSync crosses sync x) = listed_unawaited new ms adapters a (not-awaited-sync a sync) (listed_put (sync_put x) ms adapters lists)
       by (AsParts awaited x) = listed_parts d x ms adapters a awaited ready lists
 
-  pub first_own : AreFirstNamed linked new (own_functions c)
+  pub first_own : AreFirstNamed imported new (own_functions c)
   first_own = by c
     where
-      by : (c : CompiledAs end t d u a linked new) → AreFirstNamed linked new (own_functions c)
+      by : (c : CompiledAs end t d u a imported new) → AreFirstNamed imported new (own_functions c)
       by (AsTrap within x) = first_put (within_put x) ms adapters lists
       by (AsSync crosses sync x) = first_put (sync_put x) ms adapters lists
       by (AsParts awaited x) = first_parts d x ms adapters a awaited ready lists
 
   -- They ask for the helpers that are new with them, where their own numbers are taken ahead.
-  pub asked_own : linked.numbered ≡ length linked.functions + length (own_functions c) → AreFirstAsked linked new (own_functions c)
+  pub asked_own : imported.numbered ≡ length imported.functions + length (own_functions c) → AreFirstAsked imported new (own_functions c)
   asked_own = by c
     where
-      by : (c : CompiledAs end t d u a linked new) → linked.numbered ≡ length linked.functions + length (own_functions c) → AreFirstAsked linked new (own_functions c)
+      by : (c : CompiledAs end t d u a imported new) → imported.numbered ≡ length imported.functions + length (own_functions c) → AreFirstAsked imported new (own_functions c)
       by (AsTrap within x) ahead = asked_put (within_put x) (omega (arith, ahead))
       by (AsSync crosses sync x) ahead = asked_put (sync_put x) (omega (arith, ahead))
       by (AsParts awaited x) ahead = asked_parts d x ms adapters a awaited ready lists (omega (arith, ahead))
 
-  pub counts_own : linked.numbered ≡ length linked.functions + length (own_functions c) → next_number new + length linked.helpers ≡ next_number linked + length new.helpers
+  pub counts_own : imported.numbered ≡ length imported.functions + length (own_functions c) → next_number new + length imported.helpers ≡ next_number imported + length new.helpers
   counts_own = by c
     where
-      by : (c : CompiledAs end t d u a linked new) → linked.numbered ≡ length linked.functions + length (own_functions c) → next_number new + length linked.helpers ≡ next_number linked + length new.helpers
+      by : (c : CompiledAs end t d u a imported new) → imported.numbered ≡ length imported.functions + length (own_functions c) → next_number new + length imported.helpers ≡ next_number imported + length new.helpers
       by (AsTrap within x) ahead = counts_put (within_put x) (omega (arith, ahead))
       by (AsSync crosses sync x) ahead = counts_put (sync_put x) (omega (arith, ahead))
       by (AsParts awaited x) ahead = counts_parts d x ms adapters a awaited ready lists (omega (arith, ahead))
 
-  pub ranged_own : (n : ℕ) → new.numbered ≤ n → length new.functions ≤ n → new.functions ≡ linked.functions ++ own_functions c → AreBodiesRanged (length (functions_of new)) n (own_functions c)
+  pub ranged_own : (n : ℕ) → new.numbered ≤ n → length new.functions ≤ n → new.functions ≡ imported.functions ++ own_functions c → AreBodiesRanged (length (functions_of new)) n (own_functions c)
   ranged_own n numbered count = by c
     where
-      by : (c : CompiledAs end t d u a linked new) → new.functions ≡ linked.functions ++ own_functions c → AreBodiesRanged (length (functions_of new)) n (own_functions c)
+      by : (c : CompiledAs end t d u a imported new) → new.functions ≡ imported.functions ++ own_functions c → AreBodiesRanged (length (functions_of new)) n (own_functions c)
       by (AsTrap within x) functions = (ranged_put (within_put x) n numbered count, tt)
       by (AsSync crosses sync x) functions = (ranged_put (sync_put x) n numbered count, tt)
-      by (AsParts awaited x) functions = ranged_parts d x ms adapters a awaited ready lists n numbered count (omega (arith, count, ap length functions, length-append linked.functions (x.start.function ∷ x.return.function ∷ x.entry.function ∷ [])))
+      by (AsParts awaited x) functions = ranged_parts d x ms adapters a awaited ready lists n numbered count (omega (arith, count, ap length functions, length-append imported.functions (x.start.function ∷ x.return.function ∷ x.entry.function ∷ [])))

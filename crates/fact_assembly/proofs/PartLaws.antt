@@ -24,25 +24,25 @@ use Rattle.fact_types.specs.Tables.{Tables}
 use Rattle.fact_types.specs.declared.import.Import.{Import}
 use Rattle.fact_types.specs.declared.import.Import.TheVariants as known
 use Rattle.fact_plan_types.proofs.HandleLaws.{there as get-within, zip_map}
-use Rattle.fact_moves.specs.Adapters.{AdapterTunables}
+use Rattle.fact_actions.specs.Adapters.{AdapterTunables}
 use Rattle.fact_emit.specs.ImportSection.{Mention, NamesImports, a_function, adapter_mentions, imported_function, is_awaited, is_of, mentions, same_sort, sort_of, with_mention, with_mentions}
 use Rattle.fact_emit.specs.Imports.{Extended}
 use Rattle.fact_emit.specs.Known.{AreUsedAlike}
-use Rattle.fact_emit.specs.Linked.{HasTypeIfAny}
-use Rattle.fact_emit.specs.Listed.{AreLinkedInTurn, ListsMentions}
+use Rattle.fact_emit.specs.DefImports.{HasTypeIfAny}
+use Rattle.fact_emit.specs.Listed.{AreImportedInTurn, ListsMentions}
 use Rattle.fact_emit.specs.NamedFunctions.{all_added_once, defined_place}
 use Rattle.fact_emit.specs.States.{ModuleSoFar, functions_of, module_of, next_number, nothing_so_far}
 use Rattle.fact_emit.proofs.BroughtLaws.{IsEven, even_type}
 use Rattle.fact_emit.proofs.DefinedKept.{extended_defined}
 use Rattle.fact_emit.proofs.ImportLaws.{extended_on, grown_get, grows_on}
 use Rattle.fact_emit.proofs.ImportLists.{count-of}
-use Rattle.fact_emit.proofs.ListedLaws.{IsMentionStep, alike_first, alike_more, linked_step, listed_all, listed_even, listed_linked}
+use Rattle.fact_emit.proofs.ListedLaws.{IsMentionStep, alike_first, alike_more, imported_step, listed_all, listed_even, listed_imported}
 use Rattle.fact_emit.proofs.Mentions.{mentions-push}
 use Rattle.fact_emit.proofs.TaskCallsNamed.{calls-nothing}
 use Rattle.fact_compound.specs.AsyncParts.{callee_name}
 use Rattle.fact_compound.specs.Helpers.{HelpersAreThere}
 use Rattle.fact_compound.proofs.CompiledAdapters.{get_back, numbered_later}
-use Rattle.fact_forms.specs.Sound.{IsSoundAdapter}
+use Rattle.fact_assembly.specs.Sound.{IsSoundAdapter}
 use Rattle.fact_assembly.specs.Adding.{Adds, AsParts, AsSync, AsTrap, CompiledAs, Given, helper_functions, numbered_for, own_functions}
 use Rattle.fact_assembly.specs.Exports.{Callee, Exported, IsExportOf, Own, callee_of, exported_functions_of, defined_type as type_defined, type_of_function}
 use Rattle.fact_assembly.specs.Holding.{named_from, own_names}
@@ -51,8 +51,8 @@ use Rattle.fact_assembly.specs.Order.{AreParts, AreWritten, Definition, IsOrdere
 use Rattle.fact_assembly.proofs.AddedFunctions.{AddsBehind, compiled-behind, helpers-behind, own_callees}
 use Rattle.fact_assembly.proofs.CompiledLaws.{compiled-extended, describes-entry, helpers-extended, not-awaited-sync, not-awaited-within, own-count}
 use Rattle.fact_assembly.proofs.FirstAsked.{AreFirstAsked, newly-are}
-use Rattle.fact_assembly.proofs.HelperParts.{first-turns, functions-written, keeps-linked, kept_linked, listed-turns, number_of, numbers-range, written-in-turn}
-use Rattle.fact_assembly.proofs.LiftNamed.{callee-linked, linked-grown, names-lift}
+use Rattle.fact_assembly.proofs.HelperParts.{first-turns, functions-written, keeps-imported, kept_imported, listed-turns, number_of, numbers-range, written-in-turn}
+use Rattle.fact_assembly.proofs.LiftNamed.{callee-at-place, imported-grown, names-lift}
 use Rattle.fact_assembly.proofs.NewNamed.{AreFirstNamed, first-before, first-on, first-same, items_so_far, items_type, one_more}
 use Rattle.fact_assembly.proofs.Ordered.{defs_in, flat_map-push, numbers-defs, numbers-parts, numbers_of, other_number, others_in, own-push, parts-mention, parts-push}
 use Rattle.fact_assembly.proofs.WholeExports.{names-counted, zip-behind}
@@ -78,13 +78,13 @@ defines_step : (old new : ModuleSoFar) (ms : List Mention) (r : Mention) (w : Wa
 defines_step old new ms r w e (inl there) = record { defs = []; mentions_are = rw there.0 (sym (append-nil ms)); items_are = ap items_so_far there.1 ∙ sym (append-nil (items_so_far old)) }
 defines_step old new ms r w e (inr anew) = record { defs = r ∷ []; mentions_are = rw anew.0 refl; items_are = ap items_so_far anew.1 ∙ one_more old w (known.CoreDef r.def) e }
 
-defines_all : (rs : List Mention) (old new : ModuleSoFar) (ms : List Mention) (adapters : List LinkedAdapter) → AreLinkedInTurn old new rs → AreUsedAlike (ms ++ rs) → ListsMentions old ms adapters → DefinesMentions old new ms rs
+defines_all : (rs : List Mention) (old new : ModuleSoFar) (ms : List Mention) (adapters : List LinkedAdapter) → AreImportedInTurn old new rs → AreUsedAlike (ms ++ rs) → ListsMentions old ms adapters → DefinesMentions old new ms rs
 defines_all [] old new ms adapters l alike h = record { defs = []; mentions_are = sym (append-nil ms); items_are = ap items_so_far l ∙ sym (append-nil (items_so_far old)) }
 defines_all (r ∷ rs) old new ms adapters l alike h =
     let first = alike_first ms r rs alike in
     let typed = l.2.typed in
-    let one = defines_step typed l.0 ms r l.2.import (even_if_any old typed _ l.2.types (listed_even old ms adapters h)) (linked_step old l.0 ms adapters r l.1 h l.2 first) in
-    let rest = defines_all rs l.0 new (with_mention ms r) adapters l.3 (alike_more ms r rs alike) (listed_linked old l.0 ms adapters r l.1 h l.2 first) in
+    let one = defines_step typed l.0 ms r l.2.import (even_if_any old typed _ l.2.types (listed_even old ms adapters h)) (imported_step old l.0 ms adapters r l.1 h l.2 first) in
+    let rest = defines_all rs l.0 new (with_mention ms r) adapters l.3 (alike_more ms r rs alike) (listed_imported old l.0 ms adapters r l.1 h l.2 first) in
     let as_items : List Mention → List Item = map (λ (q : Mention). Definition q.def) in
     record {
       defs = one.defs ++ rest.defs;
@@ -125,31 +125,31 @@ named_places n [] = refl
 named_places n (x ∷ names) = let next : suc n ≡ n + 1 = omega arith in ap (λ ks. n ∷ ks) (named_places (suc n) names ∙ ap (λ k. range_with_len k (length names)) next)
 
 module _ (t : Tables) (u : AdapterTunables) (given : Given) (old new : ModuleSoFar) (adapters : List LinkedAdapter) (a : LinkedAdapter) (tuple : ℕ) (lists : ListsMentions old (mentions adapters) adapters) (add : Adds t u given old new a tuple)
-    (in-turn : AreLinkedInTurn old add.linked (adapter_mentions a)) (alike : AreUsedAlike (mentions adapters ++ adapter_mentions a)) (sound : IsSoundAdapter a)
+    (in-turn : AreImportedInTurn old add.imported (adapter_mentions a)) (alike : AreUsedAlike (mentions adapters ++ adapter_mentions a)) (sound : IsSoundAdapter a)
     (added : AddsBehind old new (own_functions add.compiled ++ helper_functions add) (own_names a) (own_callees add.compiled)) (helped : HelpersAreThere t u.debug u.concurrency given.fuel old) where
   all_mentions : List Mention
   all_mentions = with_mentions (mentions adapters) (adapter_mentions a)
 
-  lists_linked : ListsMentions add.linked all_mentions adapters
+  lists_imported : ListsMentions add.imported all_mentions adapters
   unfolding all_mentions
-  lists_linked = listed_all (adapter_mentions a) old add.linked (mentions adapters) adapters in-turn alike lists
+  lists_imported = listed_all (adapter_mentions a) old add.imported (mentions adapters) adapters in-turn alike lists
 
-  to_linked : Extended old add.linked
-  to_linked = linked-grown add (mentions adapters) (known_of lists)
+  to_imported : Extended old add.imported
+  to_imported = imported-grown add (mentions adapters) (known_of lists)
 
   -- its own functions are numbered ahead
   abbrev ahead : ModuleSoFar
-  ahead = numbered_for a add.linked
+  ahead = numbered_for a add.imported
 
   lists_ahead : ListsMentions ahead all_mentions adapters
   unfolding all_mentions
-  lists_ahead = listed_same {old = add.linked} refl refl refl lists_linked
+  lists_ahead = listed_same {old = add.imported} refl refl refl lists_imported
 
   -- no number was taken ahead before
   ahead_numbers : ahead.numbered ≡ length ahead.functions + length (own_functions add.compiled)
   ahead_numbers =
-      let kept = kept_linked (adapter_mentions a) old add.linked in-turn in
-      let keeps = keeps-linked (adapter_mentions a) old add.linked in-turn in
+      let kept = kept_imported (adapter_mentions a) old add.imported in-turn in
+      let keeps = keeps-imported (adapter_mentions a) old add.imported in-turn in
       omega (arith, own-count add.compiled, helped.numbered, ap length kept.functions, keeps.numbered)
 
   own_count : length add.own.functions ≡ ahead.numbered
@@ -158,17 +158,17 @@ module _ (t : Tables) (u : AdapterTunables) (given : Given) (old new : ModuleSoF
   abbrev order : List (ℕ × WasmFunc)
   order = add.helpers.wrote.order
 
-  ready : IsReadyFor t add.«data» a add.linked
+  ready : IsReadyFor t add.«data» a add.imported
   ready = record {
     name = add.name;
     core_type = sound.lower_core_type;
     describes = describes-entry add sound;
     lift = names-lift add (mentions adapters) (known_of lists);
-    callee = callee-linked add (mentions adapters) (known_of lists);
+    callee = callee-at-place add (mentions adapters) (known_of lists);
   }
 
   ready_ahead : IsReadyFor t add.«data» a ahead
-  ready_ahead = ready_later (numbered_later add.linked (length (exported_functions_of a))) ready
+  ready_ahead = ready_later (numbered_later add.imported (length (exported_functions_of a))) ready
 
   -- The imports of the module are those that the adapters mention, functions of the runtime, and the calls of async adapters.
   pub listed_adapter : ListsMentions new (mentions (adapters ++ a ∷ [])) (adapters ++ a ∷ [])
@@ -179,11 +179,11 @@ module _ (t : Tables) (u : AdapterTunables) (given : Given) (old new : ModuleSoF
       subst (λ ms. ListsMentions new ms (adapters ++ a ∷ [])) (sym (mentions-push adapters a))
       (listed_same {old = add.helpers.last} (ap (λ (s : ModuleSoFar). s.types) add.helpers.is) (ap (λ (s : ModuleSoFar). s.section) add.helpers.is) (ap (λ (s : ModuleSoFar). s.imports) add.helpers.is) last)
 
-  defines : DefinesMentions old add.linked (mentions adapters) (adapter_mentions a)
-  defines = defines_all (adapter_mentions a) old add.linked (mentions adapters) adapters in-turn alike lists
+  defines : DefinesMentions old add.imported (mentions adapters) (adapter_mentions a)
+  defines = defines_all (adapter_mentions a) old add.imported (mentions adapters) adapters in-turn alike lists
 
   -- its own functions and then the helpers, as they were written
-  first : AreFirstNamed add.linked new (own_functions add.compiled ++ functions-written order)
+  first : AreFirstNamed add.imported new (own_functions add.compiled ++ functions-written order)
   first =
       let own : ListsMentions add.own all_mentions (adapters ++ a ∷ []) = listed_own add.compiled all_mentions adapters ready_ahead lists_ahead in
       first-before {old = ahead} refl refl
@@ -206,7 +206,7 @@ module _ (t : Tables) (u : AdapterTunables) (given : Given) (old new : ModuleSoF
   -- each helper is the one of its place
   helper_ranged : (i : ℕ) (f : WasmFunc) → slice_get (helper_functions add) i ≡ Some f → AreRanged (length (functions_of new)) (length new.functions) f.body
   helper_ranged i f e =
-      let start : ℕ = length add.linked.helpers in
+      let start : ℕ = length add.imported.helpers in
       let last : ModuleSoFar = add.helpers.last in
       let within = slice_get_within (helper_functions add) i f e in
       let (k, at) = get-within last.helpers (start + i) (omega (arith, within, add.helpers.wrote.count)) in
@@ -235,10 +235,10 @@ module _ (t : Tables) (u : AdapterTunables) (given : Given) (old new : ModuleSoF
   helpers_written : AreWritten new.functions (newly_asked (length add.own.functions) (own_functions add.compiled)) (length add.own.functions + length (newly_asked (length add.own.functions) (own_functions add.compiled))) (functions-written order)
   helpers_written =
       let own : List WasmFunc = own_functions add.compiled in
-      let start : ℕ = length add.linked.helpers in
+      let start : ℕ = length add.imported.helpers in
       let base : ℕ = length add.own.functions in
       let count : ℕ = length add.own.helpers - start in
-      let grown = ap length (compiled-extended add.compiled).helpers.is ∙ length-append add.linked.helpers (compiled-extended add.compiled).helpers.more in
+      let grown = ap length (compiled-extended add.compiled).helpers.is ∙ length-append add.imported.helpers (compiled-extended add.compiled).helpers.more in
       let counts = counts_own add.compiled all_mentions adapters ready_ahead lists_ahead ahead_numbers in
       let ahead_next : next_number ahead ≡ base = omega (arith, own_count, ahead_numbers) in
       let more : next_number add.own - next_number ahead ≡ count = omega (arith, counts, grown, asked.numbers) in
@@ -253,11 +253,11 @@ module _ (t : Tables) (u : AdapterTunables) (given : Given) (old new : ModuleSoF
       (subst (λ ks. AreWritten new.functions ks (next_number add.own) (functions-written order)) waits
       (written-in-turn start base new.functions add.helpers.wrote.in_turn (omega (arith, grown)) next (in_place behind order add.helpers.wrote.placed)))
     where
-      in_place : new.functions ≡ add.own.functions ++ helper_functions add → (es : List (ℕ × WasmFunc)) → AllByRecursion (λ (e : ℕ × WasmFunc). slice_get (helper_functions add) (e.0 - length add.linked.helpers) ≡ Some e.1) es
-          → AllByRecursion (λ (e : ℕ × WasmFunc). slice_get new.functions (length add.own.functions + (e.0 - length add.linked.helpers)) ≡ Some e.1) es
+      in_place : new.functions ≡ add.own.functions ++ helper_functions add → (es : List (ℕ × WasmFunc)) → AllByRecursion (λ (e : ℕ × WasmFunc). slice_get (helper_functions add) (e.0 - length add.imported.helpers) ≡ Some e.1) es
+          → AllByRecursion (λ (e : ℕ × WasmFunc). slice_get new.functions (length add.own.functions + (e.0 - length add.imported.helpers)) ≡ Some e.1) es
       in_place behind [] h = tt
       in_place behind (e ∷ es) h =
-          (ap (λ fs. slice_get fs (length add.own.functions + (e.0 - length add.linked.helpers))) behind ∙ get_back add.own.functions (helper_functions add) (e.0 - length add.linked.helpers) e.1 h.0, in_place behind es h.1)
+          (ap (λ fs. slice_get fs (length add.own.functions + (e.0 - length add.imported.helpers))) behind ∙ get_back add.own.functions (helper_functions add) (e.0 - length add.imported.helpers) e.1 h.0, in_place behind es h.1)
 
   -- The sections of the module stand adapter by adapter.
   pub in_parts_adapter : ((more : List Import) → IsInParts old more adapters) → (more : List Import) → IsInParts new more (adapters ++ a ∷ [])
@@ -266,18 +266,18 @@ module _ (t : Tables) (u : AdapterTunables) (given : Given) (old new : ModuleSoF
       let own : List WasmFunc = own_functions add.compiled in
       let helpers : List WasmFunc = helper_functions add in
       let written : List WasmFunc = functions-written order in
-      let grown : Grows (functions_of old) (functions_of new) = grows_on to_linked.functions first.adds.grows in
+      let grown : Grows (functions_of old) (functions_of new) = grows_on to_imported.functions first.adds.grows in
       let imported : functions_of new ++ more ≡ functions_of old ++ (grown.more ++ more) = ap (λ l. l ++ more) grown.is ∙ append_assoc (functions_of old) grown.more more in
       let was = in_parts (grown.more ++ more) in
       let here = subst (λ fs. AreParts fs [] adapters was.parts) (sym imported) was.are_parts in
       let mentioned : mentions adapters ≡ flat_map defs_in was.parts = parts-mention (functions_of new ++ more) [] adapters was.parts here in
       let as_items : List Item = map (λ (r : Mention). Definition r.def) defines.defs in
-      let before : items_so_far add.linked ≡ flat_map items_in was.parts ++ as_items = defines.items_are ∙ ap (λ l. l ++ as_items) was.imports in
-      let numbers : numbers_of (items_so_far add.linked) ≡ flat_map others_in was.parts =
+      let before : items_so_far add.imported ≡ flat_map items_in was.parts ++ as_items = defines.items_are ∙ ap (λ l. l ++ as_items) was.imports in
+      let numbers : numbers_of (items_so_far add.imported) ≡ flat_map others_in was.parts =
       ap numbers_of before ∙ filter_map-append other_number (flat_map items_in was.parts) as_items ∙ (λ k. numbers-parts was.parts k ++ numbers-defs defines.defs k) ∙ append-nil (flat_map others_in was.parts) in
       let functions : new.functions ≡ flat_map functions_in was.parts ++ (own ++ helpers) = added.functions ∙ ap (λ fs. fs ++ (own ++ helpers)) was.functions in
       let next : ℕ = length (flat_map functions_in was.parts) + length own in
-      let own_last : next ≡ length add.own.functions = omega (arith, ap length was.functions, own_count, ahead_numbers, ap length (kept_linked (adapter_mentions a) old add.linked in-turn).functions) in
+      let own_last : next ≡ length add.own.functions = omega (arith, ap length was.functions, own_count, ahead_numbers, ap length (kept_imported (adapter_mentions a) old add.imported in-turn).functions) in
       let stand : length old.functions ≡ 0 + length (flat_map functions_in was.parts) = let same = ap length was.functions in omega (arith, same) in
       let named : length (own_names a) ≡ length own = names-counted a ∙ sym (own-count add.compiled) in
       let places : filter_map (λ (e : WasmExport). defined_place e.func) (named_from (length old.functions) (own_names a)) ≡ range_with_len (0 + length (flat_map functions_in was.parts)) (length own) =
@@ -308,7 +308,7 @@ module _ (t : Tables) (u : AdapterTunables) (given : Given) (old new : ModuleSoF
   pub bodies_adapter : AreBodiesRanged (length (functions_of old)) (length old.functions) old.functions → AreBodiesRanged (length (functions_of new)) (length new.functions) new.functions
   bodies_adapter h =
       let imports : length (functions_of old) ≤ length (functions_of new) =
-      (let grown = grows_on to_linked.functions first.adds.grows in omega (arith, ap length grown.is, length-append (functions_of old) grown.more)) in
+      (let grown = grows_on to_imported.functions first.adds.grows in omega (arith, ap length grown.is, length-append (functions_of old) grown.more)) in
       let functions : length old.functions ≤ length new.functions = omega (arith, ap length added.functions, length-append old.functions (own_functions add.compiled ++ helper_functions add)) in
       subst (AreBodiesRanged (length (functions_of new)) (length new.functions)) (sym added.functions)
       (all-append (λ (f : WasmFunc). AreRanged (length (functions_of new)) (length new.functions) f.body) old.functions (own_functions add.compiled ++ helper_functions add)

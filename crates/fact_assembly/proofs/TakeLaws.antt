@@ -15,18 +15,18 @@ use Rattle.fact_types.specs.Shapes.{Shape}
 use Rattle.fact_types.specs.Tables.{IsLive, IsSound as IsSoundTables, Tables, of_functions}
 use Rattle.fact_builder.specs.Builder.{Builder}
 use Rattle.fact_builder.proofs.HandleLaws.{tuple_live}
-use Rattle.fact_uses.proofs.BindingLaws.{AreConsistent-covered, Covers-nothing}
-use Rattle.fact_uses.specs.Bindings.{AreConsistent}
+use Rattle.fact_adapter_rules.proofs.BoundLaws.{AreConsistent-covered, Covers-nothing}
+use Rattle.fact_adapter_rules.specs.Bindings.{AreConsistent}
 use Rattle.fact_plan_types.specs.Faults.{Fault, bad_memory}
 use Rattle.fact_plan_types.proofs.ShapeLists.{all-more}
 use Rattle.fact_plan_types.proofs.HandleLaws.{there as get-within}
-use Rattle.fact_checks.specs.declared.adapter.Adapter.{Adapter}
-use Rattle.fact_checks.specs.declared.adapter.AdapterOptionsDfg.{AdapterOptionsDfg}
-use Rattle.fact_checks.specs.declared.sides.Candidate.{Candidate}
+use Rattle.fact_adapter_rules.specs.declared.adapter.Adapter.{Adapter}
+use Rattle.fact_adapter_rules.specs.declared.adapter.AdapterOptionsDfg.{AdapterOptionsDfg}
+use Rattle.fact_adapter_rules.specs.declared.sides.Candidate.{Candidate}
 use Rattle.fact_types.specs.Adapters.{LinkedAdapter, Side}
-use Rattle.fact_checks.specs.AdapterRules.{IsOdd, LinkedHas, uses_of}
-use Rattle.fact_checks.specs.Checked.{AreBound, Checks, IsFirstOf, IsSoundNext}
-use Rattle.fact_checks.specs.Linked.{HasSides, IsLinked, IsSideOf, NamesTypesOf}
+use Rattle.fact_adapter_rules.specs.AdapterRules.{IsOdd, LinkedHas, uses_of}
+use Rattle.fact_adapter_rules.specs.Checked.{AreBound, Checks, IsFirstOf, IsSoundNext}
+use Rattle.fact_adapter_rules.specs.Linked.{HasSides, IsLinked, IsSideOf, NamesTypesOf}
 use Rattle.fact_types.specs.declared.import.Import.{Import}
 use Rattle.fact_assembly.specs.declared.taken.TakenAdapter.{TakenAdapter}
 use Rattle.fact_emit.specs.declared.tunables.Tunables.{Tunables}
@@ -37,15 +37,15 @@ use Rattle.fact_emit.specs.Imports.{Extended}
 use Rattle.fact_emit.proofs.ImportLaws.{grown_get}
 use Rattle.fact_emit.proofs.ImportLists.{get-last}
 use Rattle.fact_emit.specs.States.{ModuleSoFar, functions_of, module_of, nothing_so_far}
-use Rattle.fact_forms.specs.Sound.{HasValidSides, IsSoundAdapter}
-use Rattle.fact_forms.proofs.Passed.{passed_are_sound}
+use Rattle.fact_assembly.specs.Sound.{HasValidSides, IsSoundAdapter}
+use Rattle.fact_assembly.proofs.Passed.{passed_are_sound}
 use Rattle.fact_compound.specs.Entries.{tuple_of_results}
 use Rattle.fact_compound.specs.Helpers.{HelpersAreThere}
 use Rattle.fact_assembly.specs.Adding.{Adds, helper_functions, own_functions}
 use Rattle.fact_assembly.specs.Exports.{exported_as}
 use Rattle.fact_assembly.specs.Faithful.{Promised, adapter_tunables}
 use Rattle.fact_assembly.specs.Holding.{HasNoSharedMemory, HoldTypesOnce, Holds}
-use Rattle.fact_assembly.specs.Links.{CanBeLinked}
+use Rattle.fact_assembly.specs.ImportedData.{CanBeImported}
 use Rattle.fact_assembly.specs.Taking.{HasFaultBehind, IsFirstBehind}
 use Rattle.fact_assembly.proofs.AlikeLaws.{alike_next}
 use Rattle.fact_assembly.proofs.Adding.{exports-more, functions-more, grown-adds, holds-more, holds-nothing}
@@ -64,7 +64,7 @@ shapes-of t sound (ty ∷ tys) live =
 pub signature-of : (t : Tables) → IsSoundTables t → (i : Id TypeFuncs) → i.number < length t.functions → (params : List Shape) × (results : List Shape) × HasSignature t i params results
 signature-of t sound i live =
     let (func, there) = get-within t.functions i.number live in
-    let linked = sound.linked of_functions i.number func live in
+    let linked = sound.held_live of_functions i.number func live in
     let is_func = get_or_from_slice_get t.functions i.number func func there in
     let (taken, taken_there) = get-within t.tuples func.params.number (subst (λ f. f.params.number < length t.tuples) is_func linked.params) in
     let (given, given_there) = get-within t.tuples func.results.number (subst (λ f. f.results.number < length t.tuples) is_func linked.results) in
@@ -190,9 +190,9 @@ module _ (old : Collected) (checks checks' : Checks) (s s' : ModuleSoFar) (candi
   consistent-here before a taken h = AreConsistent-covered _ _ (bound-behind before a taken h).uses
 
   -- what it names can be imported behind what is imported so far
-  pub linkable-here : CanBeLinked old.builder candidate s
+  pub importable-here : CanBeImported old.builder candidate s
   unfolding linked some
-  linkable-here =
+  importable-here =
       let h = (linked-of old.builder sound candidate typed).1 in
       record {
         adapter = linked;

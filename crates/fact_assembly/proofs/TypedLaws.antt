@@ -11,10 +11,10 @@ use Rattle.fact_builder.specs.Builder.{Builder}
 use Rattle.fact_plan_types.specs.Faults.{Fault, unknown_index, bad_type, too_large}
 use Rattle.fact_plan_types.specs.TypeRules.{most_entries}
 use Rattle.fact_type_rules.specs.TypeFaults.{IsBadFunction, IsLargeFunction}
-use Rattle.fact_checks.specs.declared.adapter.Adapter.{Adapter}
+use Rattle.fact_adapter_rules.specs.declared.adapter.Adapter.{Adapter}
 use Rattle.fact_types.specs.Adapters.{LinkedAdapter}
-use Rattle.fact_checks.specs.AdapterRules.{most_instance}
-use Rattle.fact_checks.specs.Linked.{HasSides, NamesTypesOf}
+use Rattle.fact_adapter_rules.specs.AdapterRules.{most_instance}
+use Rattle.fact_adapter_rules.specs.Linked.{HasSides, NamesTypesOf}
 use Rattle.fact_assembly.specs.Adapted.{IsBadFunctionType, IsLargeFunctionType, TypesHave}
 use Rattle.fact_assembly.specs.Typed.{HasSoundTypes}
 use Rattle.fact_assembly.proofs.TakeLaws.{signature-of}

@@ -8,19 +8,19 @@ use Rattle.fact_wasm.specs.Ranges.{InRange}
 use Rattle.fact_types.specs.Adapters.{LinkedAdapter, is_async, is_crossing}
 use Rattle.fact_types.specs.Tables.{Tables}
 use Rattle.fact_wasm.specs.declared.types.FuncType.{FuncType}
-use Rattle.fact_uses.specs.Bindings.{AreConsistent}
-use Rattle.fact_checks.specs.AdapterRules.{export_names, uses_of}
-use Rattle.fact_moves.specs.Adapters.{AdapterTunables}
-use Rattle.fact_moves.proofs.States.{and_left, and_right}
+use Rattle.fact_adapter_rules.specs.Bindings.{AreConsistent}
+use Rattle.fact_adapter_rules.specs.AdapterRules.{export_names, uses_of}
+use Rattle.fact_actions.specs.Adapters.{AdapterTunables}
+use Rattle.fact_actions.proofs.States.{and_left, and_right}
 use Rattle.fact_emit.specs.ImportSection.{is_awaited, mentions}
 use Rattle.fact_emit.specs.States.{ModuleSoFar, functions_of, module_of}
 use Rattle.fact_emit.proofs.ListedLaws.{listed_even}
 use Rattle.fact_compound.specs.AsyncParts.{part_name}
 use Rattle.fact_compound.specs.declared.asyncs.AsyncPart.{AsyncPart}
 use Rattle.fact_compound.specs.declared.asyncs.AsyncPart.TheVariants as part
-use Rattle.fact_forms.specs.Sound.{IsSoundAdapter}
-use Rattle.fact_promises.specs.AsyncRuns.{Transfers}
-use Rattle.fact_promises.specs.Runs.{Behaves, OnlyTraps}
+use Rattle.fact_assembly.specs.Sound.{IsSoundAdapter}
+use Rattle.fact_function_laws.specs.AsyncRuns.{Transfers}
+use Rattle.fact_function_laws.specs.Runs.{Behaves, OnlyTraps}
 use Rattle.fact_assembly.specs.Adding.{Given}
 use Rattle.fact_assembly.specs.Exports.{exported_as}
 use Rattle.fact_assembly.specs.Faithful.{Promised, adapter_tunables}

@@ -15,14 +15,14 @@ use Rattle.fact_wasm.specs.declared.module.WasmModule.{WasmModule}
 use Rattle.fact_wasm.specs.declared.types.FuncType.{FuncType}
 use Rattle.fact_machine.specs.Typing.{is_exported, same_function}
 use Rattle.fact_machine.proofs.Tests.{get_append}
-use Rattle.fact_uses.specs.Bindings.{AreConsistent}
-use Rattle.fact_checks.specs.AdapterRules.{export_names, uses_of}
+use Rattle.fact_adapter_rules.specs.Bindings.{AreConsistent}
+use Rattle.fact_adapter_rules.specs.AdapterRules.{export_names, uses_of}
 use Rattle.fact_types.specs.declared.import.Import.{Import}
 use Rattle.fact_types.specs.declared.import.Import.TheVariants as known
 use Rattle.fact_types.specs.Adapters.{LinkedAdapter}
 use Rattle.fact_types.specs.Tables.{Tables}
-use Rattle.fact_moves.specs.Adapters.{AdapterTunables, References, def_of_memory}
-use Rattle.fact_moves.specs.Sides.{options_of}
+use Rattle.fact_actions.specs.Adapters.{AdapterTunables, References, def_of_memory}
+use Rattle.fact_actions.specs.Sides.{options_of}
 use Rattle.fact_plan_types.proofs.HandleLaws.{there as get-within}
 use Rattle.fact_emit.specs.ImportSection.{adapter_mentions, imported_function, is_awaited, mentions}
 use Rattle.fact_emit.specs.Imports.{Extended}
@@ -34,7 +34,7 @@ use Rattle.fact_emit.proofs.BroughtLaws.{IsEven}
 use Rattle.fact_emit.proofs.DefinedKept.{extended_defined}
 use Rattle.fact_emit.proofs.ImportLaws.{extended_on, grown_get}
 use Rattle.fact_emit.proofs.KnownLaws.{extended_type}
-use Rattle.fact_emit.proofs.LinkedLaws.{linked_adapter}
+use Rattle.fact_emit.proofs.ImportedInTurn.{imported_adapter}
 use Rattle.fact_emit.proofs.Named.{named-lengths}
 use Rattle.fact_emit.proofs.ServingLaws.{serves_sooner}
 use Rattle.fact_compound.specs.Asks.{IsLaterModule}
@@ -46,18 +46,18 @@ use Rattle.fact_compound.specs.Syncs.{lower_type_of}
 use Rattle.fact_compound.specs.declared.adapters.AdapterData.{AdapterData}
 use Rattle.fact_compound.specs.declared.asyncs.AsyncPart.TheVariants as part
 use Rattle.fact_compound.proofs.CompiledAdapters.{numbered_later}
-use Rattle.fact_forms.specs.Sound.{IsSoundAdapter}
-use Rattle.fact_promises.specs.AsyncRuns.{HandsOver, IsCallNamed, IsCallTyped}
-use Rattle.fact_promises.proofs.EntryFunctions.{entry_functions_hand_over}
+use Rattle.fact_assembly.specs.Sound.{IsSoundAdapter}
+use Rattle.fact_function_laws.specs.AsyncRuns.{HandsOver, IsCallNamed, IsCallTyped}
+use Rattle.fact_function_laws.proofs.EntryFunctions.{entry_functions_hand_over}
 use Rattle.fact_assembly.specs.Adding.{AsParts, AsSync, AsTrap, CompiledAs, Given, numbered_for, own_functions}
 use Rattle.fact_assembly.specs.Exports.{Callee, IsExportOf, callee_of, exported_as, exported_functions_of}
 use Rattle.fact_assembly.specs.Holding.{HasAdded, Holds, count_at, counts_behind, first_count, first_function, function_count, own_names}
-use Rattle.fact_assembly.specs.Links.{links_of}
+use Rattle.fact_assembly.specs.ImportedData.{imports_of_data}
 use Rattle.fact_assembly.proofs.CompiledLaws.{added-extended, callee-extended, describes-entry, entry-extended, helpers-extended, not-awaited-sync, not-awaited-within, own-count, own_types}
 use Rattle.fact_assembly.proofs.EntryCalls.{even-returned, prepare-is, start-is}
 use Rattle.fact_assembly.proofs.HelperHistory.{helper-typed}
-use Rattle.fact_assembly.proofs.HelperParts.{kept_linked}
-use Rattle.fact_assembly.proofs.LiftNamed.{callee-linked, known-linked, lift-later, names-lift}
+use Rattle.fact_assembly.proofs.HelperParts.{kept_imported}
+use Rattle.fact_assembly.proofs.LiftNamed.{callee-at-place, known-imported, lift-later, names-lift}
 use Rattle.fact_assembly.proofs.NameLaws.{exported-at, exported-own, get-behind, numbered-at}
 use Rattle.fact_assembly.proofs.OwnLaws.{known_of}
 use Rattle.fact_assembly.proofs.PartLaws.{names_imports}
@@ -146,7 +146,7 @@ module _ (t : Tables) (u : AdapterTunables) (given : Given) (s : ModuleSoFar) (a
 
   -- the callee is imported at the number that the code names
   callee-imported : slice_get (functions_of s) number ≡ Some (known.CoreDef a.callee)
-  callee-imported = grown_get (extended_on (added-extended placed.adds) placed.later).functions number (known.CoreDef a.callee) (callee-linked placed.adds (mentions placed.before) known-before)
+  callee-imported = grown_get (extended_on (added-extended placed.adds) placed.later).functions number (known.CoreDef a.callee) (callee-at-place placed.adds (mentions placed.before) known-before)
 
   -- an imported function that is the callee is the one of that number
   callee-number : (f : FuncName) → imported_function (module_of s) s.imports f ≡ Some (known.CoreDef a.callee) → f ≡ func.Import number
@@ -181,26 +181,26 @@ module _ (t : Tables) (u : AdapterTunables) (given : Given) (s : ModuleSoFar) (a
 
   -- ---- the function that hands the call over
 
-  module _ (awaited : is_awaited a ≡ true) (c : CompiledAsync (λ M p. IsLaterModule M p placed.new) t placed.adds.«data» u.debug u.concurrency (numbered_for a placed.adds.linked) placed.adds.own)
+  module _ (awaited : is_awaited a ≡ true) (c : CompiledAsync (λ M p. IsLaterModule M p placed.new) t placed.adds.«data» u.debug u.concurrency (numbered_for a placed.adds.imported) placed.adds.own)
       (there : (i : ℕ) (f : WasmFunc) → slice_get (c.start.function ∷ c.return.function ∷ c.entry.function ∷ []) i ≡ Some f → slice_get s.functions (first + i) ≡ Some f)
       (typed : AllZip (λ (f : WasmFunc) ty. slice_get s.types f.ty ≡ Some ty) (c.start.function ∷ c.return.function ∷ c.entry.function ∷ []) (part_type part.Start a ∷ part_type part.Return a ∷ lower_type_of a ∷ [])) where
     abbrev told : AdapterData
     told = placed.adds.«data»
 
-    abbrev functions_linked : ℕ
-    functions_linked = length placed.adds.linked.functions
+    abbrev functions_imported : ℕ
+    functions_imported = length placed.adds.imported.functions
 
     abbrev references : References
-    references = handed_on told functions_linked (suc functions_linked) (tuple_of_results t told.lift.ty)
+    references = handed_on told functions_imported (suc functions_imported) (tuple_of_results t told.lift.ty)
 
-    -- linking adds no function
-    linked-count : first ≡ functions_linked
-    linked-count = placed.first_is ∙ sym (ap length (kept_linked (adapter_mentions a) placed.old placed.adds.linked (linked_adapter placed.old placed.adds.linked a (links_of told) placed.adds.links)).functions)
+    -- importing adds no function
+    imported-count : first ≡ functions_imported
+    imported-count = placed.first_is ∙ sym (ap length (kept_imported (adapter_mentions a) placed.old placed.adds.imported (imported_adapter placed.old placed.adds.imported a (imports_of_data told) placed.adds.is_imported)).functions)
 
     references-there : HasReferences (module_of s) references
     references-there = record {
-      start = own-handed-on 0 functions_linked (part_name part.Start a.name) c.start.function _ (rw awaited refl) (there 0 c.start.function refl) typed.0 (omega (arith, linked-count));
-      return = own-handed-on 1 (suc functions_linked) (part_name part.Return a.name) c.return.function _ (rw awaited refl) (there 1 c.return.function refl) typed.1.0 (omega (arith, linked-count));
+      start = own-handed-on 0 functions_imported (part_name part.Start a.name) c.start.function _ (rw awaited refl) (there 0 c.start.function refl) typed.0 (omega (arith, imported-count));
+      return = own-handed-on 1 (suc functions_imported) (part_name part.Return a.name) c.return.function _ (rw awaited refl) (there 1 c.return.function refl) typed.1.0 (omega (arith, imported-count));
       callee = callee-handed-on awaited;
     }
 
@@ -209,15 +209,15 @@ module _ (t : Tables) (u : AdapterTunables) (given : Given) (s : ModuleSoFar) (a
 
     -- what it names on the lift side stands there when it is declared
     lift-returned : NamesLift c.returned told a
-    lift-returned = lift-later (extended_on (numbered_later placed.adds.linked (length (exported_functions_of a))) (extended_on c.start.puts.imports c.return.puts.imports)) told a (names-lift placed.adds (mentions placed.before) known-before)
+    lift-returned = lift-later (extended_on (numbered_later placed.adds.imported (length (exported_functions_of a))) (extended_on c.start.puts.imports c.return.puts.imports)) told a (names-lift placed.adds (mentions placed.before) known-before)
 
     lift-declared : NamesLift c.entry.declared told a
     lift-declared = lift-later (extended_type c.entry.ty c.entry.declares) told a lift-returned
 
     even-declared : IsEven c.entry.declared
     even-declared =
-        let known = known-linked placed.adds (mentions placed.before) known-before in
-        even-returned c (named-lengths placed.adds.linked.types _ [] placed.adds.linked.section placed.adds.linked.imports known.named)
+        let known = known-imported placed.adds (mentions placed.before) known-before in
+        even-returned c (named-lengths placed.adds.imported.types _ [] placed.adds.imported.section placed.adds.imported.imports known.named)
 
     entered-later : Extended c.entered s
     entered-later = extended_on (callee-extended c) own-later
@@ -268,7 +268,7 @@ module _ (t : Tables) (u : AdapterTunables) (given : Given) (s : ModuleSoFar) (a
   own-typed : AllByRecursion (HasTypedFunction (module_of s)) (own_functions placed.adds.compiled)
   own-typed = by placed.adds.compiled placed.functions_there (types t u given s adapters tuples h sound consistent j a at)
     where
-      by : (c : CompiledAs placed.new t placed.adds.«data» u a (numbered_for a placed.adds.linked) placed.adds.own) → ((i : ℕ) (f : WasmFunc) → slice_get (own_functions c) i ≡ Some f → slice_get s.functions (first + i) ≡ Some f)
+      by : (c : CompiledAs placed.new t placed.adds.«data» u a (numbered_for a placed.adds.imported) placed.adds.own) → ((i : ℕ) (f : WasmFunc) → slice_get (own_functions c) i ≡ Some f → slice_get s.functions (first + i) ≡ Some f)
           → AllZip (λ (f : WasmFunc) ty. slice_get s.types f.ty ≡ Some ty) (own_functions c) (own_types c) → AllByRecursion (HasTypedFunction (module_of s)) (own_functions c)
       by (AsTrap within c) there typed = (record { ty = lower_type_of a; type_is = typed.0; typed = (trap_does t u given s adapters tuples h sound consistent j a at c).typed typed.0 }, tt)
       by (AsSync crosses sync c) there typed = (record { ty = lower_type_of a; type_is = typed.0; typed = (sync_does t u given s adapters tuples h sound consistent j a at sync c own-later).typed typed.0 }, tt)
@@ -336,18 +336,18 @@ module _ (t : Tables) (u : AdapterTunables) (given : Given) (s : ModuleSoFar) (a
         own-is : (i : ℕ) (x : List ℕ) (f : FuncName) → slice_get (own_names a) i ≡ Some x → exported_as x (s.exports ++ s.callees) ≡ Some f → f ≡ func.Defined (first_function h.counts adapters j + i)
         own-is i x f named found = exported-own (module_of s) s.imports s.exports s.callees h.counts adapters distinct h.exports h.callees j i a x at named f found
 
-        by : (c : CompiledAs (h.placed j a at).new t (h.placed j a at).adds.«data» u a (numbered_for a (h.placed j a at).adds.linked) (h.placed j a at).adds.own) → ((i : ℕ) (f : WasmFunc) → slice_get (own_functions c) i ≡ Some f → slice_get s.functions (first_function h.counts adapters j + i) ≡ Some f)
+        by : (c : CompiledAs (h.placed j a at).new t (h.placed j a at).adds.«data» u a (numbered_for a (h.placed j a at).adds.imported) (h.placed j a at).adds.own) → ((i : ℕ) (f : WasmFunc) → slice_get (own_functions c) i ≡ Some f → slice_get s.functions (first_function h.counts adapters j + i) ≡ Some f)
             → AllZip (λ (f : WasmFunc) ty. slice_get s.types f.ty ≡ Some ty) (own_functions c) (own_types c) → HandsOver (module_of s) s.imports a (record { start = start; return = return; callee = callee; results = tuples j }) k
         by (AsTrap within c) there typed = absurd (true≢false (sym awaited ∙ not-awaited-within a within))
         by (AsSync crosses sync c) there typed = absurd (true≢false (sym awaited ∙ not-awaited-sync a sync))
         by (AsParts awaited_too c) there typed =
-            let linked = linked-count t u given s adapters tuples h sound consistent j a at awaited c there typed in
+            let imported = imported-count t u given s adapters tuples h sound consistent j a at awaited c there typed in
             let start_is = own-is 0 (part_name part.Start a.name) start (rw awaited refl) start_as in
             let return_is = own-is 1 (part_name part.Return a.name) return (rw awaited refl) return_as in
             let own : func.Defined k ≡ func.Defined (first_function h.counts adapters j + 2) = own-is 2 a.name (func.Defined k) (rw awaited refl) own_as in
             let number : first_function h.counts adapters j + 2 ≡ k = cc in
-            let first : first_function h.counts adapters j + 0 ≡ length (h.placed j a at).adds.linked.functions = omega (arith, linked) in
-            let second : first_function h.counts adapters j + 1 ≡ suc (length (h.placed j a at).adds.linked.functions) = omega (arith, linked) in
+            let first : first_function h.counts adapters j + 0 ≡ length (h.placed j a at).adds.imported.functions = omega (arith, imported) in
+            let second : first_function h.counts adapters j + 1 ≡ suc (length (h.placed j a at).adds.imported.functions) = omega (arith, imported) in
             let starts = sym (start_is ∙ ap func.Defined first) in
             let returns = sym (return_is ∙ ap func.Defined second) in
             let calls = sym (callee-as t u given s adapters tuples h sound consistent j a at distinct awaited callee callee_as) in

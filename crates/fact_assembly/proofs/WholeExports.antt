@@ -15,14 +15,14 @@ use Rattle.fact_wasm.specs.Ranges.{AreExportsNamed, HasFunction, imported_functi
 use Rattle.fact_types.specs.Adapters.{LinkedAdapter}
 use Rattle.fact_types.specs.declared.import.Import.{Import}
 use Rattle.fact_types.specs.Tables.{Tables}
-use Rattle.fact_moves.specs.Adapters.{AdapterTunables}
+use Rattle.fact_actions.specs.Adapters.{AdapterTunables}
 use Rattle.fact_emit.specs.ImportSection.{imported_function, is_awaited}
 use Rattle.fact_emit.specs.States.{ModuleSoFar, functions_of, module_of}
 use Rattle.fact_emit.proofs.ImportLaws.{grown_get}
 use Rattle.fact_plan_types.proofs.HandleLaws.{zip_map}
 use Rattle.fact_compound.specs.AsyncParts.{callee_name, part_name, part_type}
 use Rattle.fact_compound.specs.declared.asyncs.AsyncPart.TheVariants as part
-use Rattle.fact_forms.specs.Sound.{IsSoundAdapter}
+use Rattle.fact_assembly.specs.Sound.{IsSoundAdapter}
 use Rattle.fact_assembly.specs.Adding.{AsParts, AsSync, AsTrap, CompiledAs, Given, own_functions}
 use Rattle.fact_assembly.specs.Exports.{Callee, Exported, IsExportOf, Own, callee_of, defined_type, exported, exported_as, exported_functions_of}
 use Rattle.fact_assembly.specs.Holding.{HasAdded, Holds, count_at, counts_behind, first_count, first_function, function_count, named_from, numbered, own_names}

@@ -14,13 +14,13 @@ use Rattle.fact_types.specs.Tables.{Tables}
 use Rattle.fact_types.specs.declared.import.Import.{Import}
 use Rattle.fact_entity.specs.declared.id.Id.{Id}
 use Rattle.fact_entity.specs.declared.table.Memories.{Memories}
-use Rattle.fact_uses.specs.Bindings.{AreConsistent}
+use Rattle.fact_adapter_rules.specs.Bindings.{AreConsistent}
 use Rattle.fact_plan_types.proofs.HandleLaws.{zip_map}
-use Rattle.fact_checks.specs.AdapterRules.{uses_of}
-use Rattle.fact_moves.specs.Adapters.{AdapterTunables}
-use Rattle.fact_moves.specs.Running.{ImportPlaces}
-use Rattle.fact_moves.proofs.States.{and_right}
-use Rattle.fact_carry.specs.FaithfulLaws.{IsCheckedAdapter}
+use Rattle.fact_adapter_rules.specs.AdapterRules.{uses_of}
+use Rattle.fact_actions.specs.Adapters.{AdapterTunables}
+use Rattle.fact_actions.specs.Running.{ImportPlaces}
+use Rattle.fact_actions.proofs.States.{and_right}
+use Rattle.fact_action_laws.specs.FaithfulLaws.{IsCheckedAdapter}
 use Rattle.fact_emit.specs.ImportSection.{Mention, Sort, a_function, a_global, a_memory, adapter_mentions, imports_of, is_made_once, is_of, is_awaited, custom_page_size, mentions}
 use Rattle.fact_emit.specs.Imports.{AreOnce, Extended, Serves, StandOnce}
 use Rattle.fact_emit.specs.Known.{AreKnown, AreUsedAlike}
@@ -49,20 +49,20 @@ use Rattle.fact_compound.specs.declared.adapters.AdapterOptions.{AdapterOptions}
 use Rattle.fact_compound.specs.declared.asyncs.AsyncPart.{AsyncPart}
 use Rattle.fact_compound.specs.declared.asyncs.AsyncPart.TheVariants as part
 use Rattle.fact_compound.proofs.AdapterPlaced.{links_adapter}
-use Rattle.fact_forms.specs.Sound.{IsSoundAdapter}
-use Rattle.fact_forms.proofs.Passed.{sound_are_checked}
-use Rattle.fact_forms.proofs.Telling.{known_tell_memories}
-use Rattle.fact_forms.proofs.Uses.{mentions_alike}
-use Rattle.fact_forms.proofs.Written.{sound_are_writable}
-use Rattle.fact_promises.specs.Functions.{IsAdapterFunction, IsPartFunctionOf, IsTrapFunction}
-use Rattle.fact_promises.specs.AsyncRuns.{Transfers}
-use Rattle.fact_promises.specs.Runs.{Behaves, OnlyTraps}
-use Rattle.fact_promises.proofs.Behaviour.{functions_behave}
-use Rattle.fact_promises.proofs.PartFunctions.{part_functions_transfer}
-use Rattle.fact_promises.proofs.Traps.{trap_functions_trap}
+use Rattle.fact_assembly.specs.Sound.{IsSoundAdapter}
+use Rattle.fact_assembly.proofs.Passed.{sound_are_checked}
+use Rattle.fact_assembly.proofs.Telling.{known_tell_memories}
+use Rattle.fact_assembly.proofs.Uses.{mentions_alike}
+use Rattle.fact_assembly.proofs.Written.{sound_are_writable}
+use Rattle.fact_function_laws.specs.Functions.{IsAdapterFunction, IsPartFunctionOf, IsTrapFunction}
+use Rattle.fact_function_laws.specs.AsyncRuns.{Transfers}
+use Rattle.fact_function_laws.specs.Runs.{Behaves, OnlyTraps}
+use Rattle.fact_function_laws.proofs.Behaviour.{functions_behave}
+use Rattle.fact_function_laws.proofs.PartFunctions.{part_functions_transfer}
+use Rattle.fact_function_laws.proofs.Traps.{trap_functions_trap}
 use Rattle.fact_assembly.specs.Adding.{Adds, AsParts, AsSync, AsTrap, CompiledAs, Given, HasSideData, numbered_for, own_functions}
 use Rattle.fact_assembly.specs.Holding.{HasAdded, Holds, count_at, first_function}
-use Rattle.fact_assembly.specs.Links.{links_of, page_size_log2_of, side_links_of}
+use Rattle.fact_assembly.specs.ImportedData.{imports_of_data, page_size_log2_of, side_imports_of}
 use Rattle.fact_assembly.proofs.CompiledLaws.{added-extended, callee-extended, describes, describes-lower, describes-transfers, entry-extended, has-post-return, helpers-extended, none-marked, not-awaited-sync, not-awaited-within, own_types, types-added}
 use Rattle.fact_assembly.proofs.PartLaws.{names_imports}
 use Rattle.fact_assembly.proofs.StartsOnce.{starts-once}
@@ -124,7 +124,7 @@ some_there : (o : Option (Id Memories)) (n : ℕ) → number_if_any o ≡ Some n
 some_there None n e = cc
 some_there (Some m) n e = refl
 
-options_placed : {cores : List FuncType} (M : WasmModule) (p : ImportPlaces) (t : Tables) (s : Side) (d : AdapterOptions) → HasSideData t cores s d → KnowsSide M p s (side_links_of d) → AreOptionsOf s (side_links_of d) d
+options_placed : {cores : List FuncType} (M : WasmModule) (p : ImportPlaces) (t : Tables) (s : Side) (d : AdapterOptions) → HasSideData t cores s d → KnowsSide M p s (side_imports_of d) → AreOptionsOf s (side_imports_of d) d
 options_placed M p t s d h knows = record {
   instance = h.instance;
   flags = refl;
@@ -169,13 +169,13 @@ module _ (t : Tables) (u : AdapterTunables) (given : Given) (s : ModuleSoFar) (a
   -- What an adapter names that was added to a module from which this one goes on stands in its places.
   module _ {old new : ModuleSoFar} {before : List LinkedAdapter} (lists : ListsMentions old (mentions before) before) (a : LinkedAdapter) {tuple : ℕ} (adds : Adds t u given old new a tuple) (later : Extended new s) (sound_too : IsSoundAdapter a)
       (inside : (m : Mention) → Contains (adapter_mentions a) m → Contains all_mentions m) where
-    pub knows_added : KnowsAdapter here places a (links_of adds.«data»)
-    knows_added = knows_adapter serves known_all alike old adds.linked (mentions before) a (links_of adds.«data») (record { named = lists.named; transcoders = lists.transcoders }) adds.links (extended_on (added-extended adds) later) inside
+    pub knows_added : KnowsAdapter here places a (imports_of_data adds.«data»)
+    knows_added = knows_adapter serves known_all alike old adds.imported (mentions before) a (imports_of_data adds.«data») (record { named = lists.named; transcoders = lists.transcoders }) adds.is_imported (extended_on (added-extended adds) later) inside
 
-    pub links_added : KnowsAdapterData here places adds.«data» a
-    links_added =
+    pub knows_added_data : KnowsAdapterData here places adds.«data» a
+    knows_added_data =
         let w = sound_are_writable a sound_too in
-        let data_is : IsDataOf a (links_of adds.«data») adds.«data» = record {
+        let data_is : IsDataOf a (imports_of_data adds.«data») adds.«data» = record {
           lift = options_placed here places t a.lift adds.«data».lift adds.lift knows_added.lift;
           lower = options_placed here places t a.lower adds.«data».lower adds.lower knows_added.lower;
           callee = refl;
@@ -183,7 +183,7 @@ module _ (t : Tables) (u : AdapterTunables) (given : Given) (s : ModuleSoFar) (a
           has_post_return = has-post-return adds;
           transparent = adds.transparent;
         } in
-        links_adapter here places a (links_of adds.«data») adds.«data» knows_added data_is sound_too.lift_core_type w.memories
+        links_adapter here places a (imports_of_data adds.«data») adds.«data» knows_added data_is sound_too.lift_core_type w.memories
 
   module _ (j : ℕ) (a : LinkedAdapter) (at : slice_get adapters j ≡ Some a) where
     abbrev placed : HasAdded t u given s a (first_function h.counts adapters j) (count_at h.counts j) (tuples j)
@@ -202,14 +202,14 @@ module _ (t : Tables) (u : AdapterTunables) (given : Given) (s : ModuleSoFar) (a
     helpers_later : IsLaterModule here places placed.new
     helpers_later = record { serves = serves_sooner placed.later serves; types = placed.later.types; functions = placed.functions_later }
 
-    pub knows : KnowsAdapter here places a (links_of placed.adds.«data»)
+    pub knows : KnowsAdapter here places a (imports_of_data placed.adds.«data»)
     knows = knows_added placed.lists a placed.adds placed.later is_sound (λ m c. in-flat adapter_mentions adapters j a m at c)
 
-    pub links : KnowsAdapterData here places placed.adds.«data» a
-    links = links_added placed.lists a placed.adds placed.later is_sound (λ m c. in-flat adapter_mentions adapters j a m at c)
+    pub knows_data : KnowsAdapterData here places placed.adds.«data» a
+    knows_data = knows_added_data placed.lists a placed.adds placed.later is_sound (λ m c. in-flat adapter_mentions adapters j a m at c)
 
     checked : is_crossing a ≡ true → IsCheckedAdapter places a
-    checked crosses = sound_are_checked places a is_sound crosses (known_tell_memories here s a (links_of placed.adds.«data») (listed_even s (mentions adapters) adapters h.lists) knows)
+    checked crosses = sound_are_checked places a is_sound crosses (known_tell_memories here s a (imports_of_data placed.adds.«data») (listed_even s (mentions adapters) adapters h.lists) knows)
 
     -- Its functions stand there, with their types.
     pub types : AllZip (λ (f : WasmFunc) ty. slice_get s.types f.ty ≡ Some ty) (own_functions placed.adds.compiled) (own_types placed.adds.compiled)
@@ -217,13 +217,13 @@ module _ (t : Tables) (u : AdapterTunables) (given : Given) (s : ModuleSoFar) (a
 
     -- ---- a sync one between two instances
 
-    pub sync_does : (sync : is_async a ≡ false) (c : CompiledSync (λ M p. IsLaterModule M p placed.new) t placed.adds.«data» u.debug u.concurrency u.exceptions (numbered_for a placed.adds.linked) placed.adds.own) → Extended placed.adds.own s → IsSyncFunction u a here places c.function
+    pub sync_does : (sync : is_async a ≡ false) (c : CompiledSync (λ M p. IsLaterModule M p placed.new) t placed.adds.«data» u.debug u.concurrency u.exceptions (numbered_for a placed.adds.imported) placed.adds.own) → Extended placed.adds.own s → IsSyncFunction u a here places c.function
     sync_does sync c later =
         let set_to : AreSetTo u.concurrency u.exceptions u = record { concurrency_is = refl; exceptions_are = refl } in
-        c.writes.is u a (describes placed.adds is_sound sync) set_to here places (serves_sooner later serves) helpers_later links
+        c.writes.is u a (describes placed.adds is_sound sync) set_to here places (serves_sooner later serves) helpers_later knows_data
 
     -- The adapter's function stands there, and it behaves.
-    sync_behaves : (crosses : is_crossing a ≡ true) (sync : is_async a ≡ false) (c : CompiledSync (λ M p. IsLaterModule M p placed.new) t placed.adds.«data» u.debug u.concurrency u.exceptions (numbered_for a placed.adds.linked) placed.adds.own) → Extended placed.adds.own s
+    sync_behaves : (crosses : is_crossing a ≡ true) (sync : is_async a ≡ false) (c : CompiledSync (λ M p. IsLaterModule M p placed.new) t placed.adds.«data» u.debug u.concurrency u.exceptions (numbered_for a placed.adds.imported) placed.adds.own) → Extended placed.adds.own s
         → slice_get s.functions first ≡ Some c.function → slice_get s.types c.function.ty ≡ Some (lower_type_of a) → IsAdapterFunction here s.imports u a adapters first
     sync_behaves crosses sync c later there type_is = record {
       function = c.function;
@@ -233,17 +233,17 @@ module _ (t : Tables) (u : AdapterTunables) (given : Given) (s : ModuleSoFar) (a
       core_type = is_sound.lower_core_type;
       sync_sides = let unmarked = none-marked a.lift.async_side a.lower.async_side a.lift.async_type a.lower.async_type sync in record { lift = unmarked.0; lower = unmarked.1 };
       names = names_imports s adapters h.lists;
-      places = has_places here places a (links_of placed.adds.«data») knows;
-      core_types = have_core_types here places a (links_of placed.adds.«data») knows is_sound.lift_core_type;
+      places = has_places here places a (imports_of_data placed.adds.«data») knows;
+      core_types = have_core_types here places a (imports_of_data placed.adds.«data») knows is_sound.lift_core_type;
       checked = checked crosses;
     }
 
     -- ---- one within one instance
 
-    pub trap_does : (c : CompiledSameInstance t placed.adds.«data» (numbered_for a placed.adds.linked) placed.adds.own) → IsSameInstanceFunction a here places c.function
+    pub trap_does : (c : CompiledSameInstance t placed.adds.«data» (numbered_for a placed.adds.imported) placed.adds.own) → IsSameInstanceFunction a here places c.function
     trap_does c = c.is a (describes-lower placed.adds) here places (serves_sooner own_later serves)
 
-    traps_only : (c : CompiledSameInstance t placed.adds.«data» (numbered_for a placed.adds.linked) placed.adds.own) → slice_get s.functions first ≡ Some c.function → slice_get s.types c.function.ty ≡ Some (lower_type_of a)
+    traps_only : (c : CompiledSameInstance t placed.adds.«data» (numbered_for a placed.adds.imported) placed.adds.own) → slice_get s.functions first ≡ Some c.function → slice_get s.types c.function.ty ≡ Some (lower_type_of a)
         → IsTrapFunction here s.imports a adapters first
     traps_only c there type_is = record {
       function = c.function;
@@ -257,7 +257,7 @@ module _ (t : Tables) (u : AdapterTunables) (given : Given) (s : ModuleSoFar) (a
     -- ---- an async one between two instances
 
     pub part_does : (x : AsyncPart) {old new : ModuleSoFar} (c : CompiledPart (λ M p. IsLaterModule M p placed.new) t placed.adds.«data» u.debug u.concurrency x old new) → Extended new s → IsPartFunction x u a here places c.function
-    part_does x c later = c.is u a (describes-transfers placed.adds is_sound) refl here places (serves_sooner later serves) helpers_later links
+    part_does x c later = c.is u a (describes-transfers placed.adds is_sound) refl here places (serves_sooner later serves) helpers_later knows_data
 
     part_transfers : (x : AsyncPart) {old new : ModuleSoFar} (crosses : is_crossing a ≡ true) (c : CompiledPart (λ M p. IsLaterModule M p placed.new) t placed.adds.«data» u.debug u.concurrency x old new) → Extended new s
         → (k : ℕ) → slice_get s.functions k ≡ Some c.function → slice_get s.types c.function.ty ≡ Some (part_type x a) → IsPartFunctionOf x here s.imports u a adapters k
@@ -267,8 +267,8 @@ module _ (t : Tables) (u : AdapterTunables) (given : Given) (s : ModuleSoFar) (a
       type_is = type_is;
       does = part_does x c later;
       names = names_imports s adapters h.lists;
-      places = has_places here places a (links_of placed.adds.«data») knows;
-      core_types = have_core_types here places a (links_of placed.adds.«data») knows is_sound.lift_core_type;
+      places = has_places here places a (imports_of_data placed.adds.«data») knows;
+      core_types = have_core_types here places a (imports_of_data placed.adds.«data») knows is_sound.lift_core_type;
       checked = checked crosses;
     }
 
@@ -278,7 +278,7 @@ module _ (t : Tables) (u : AdapterTunables) (given : Given) (s : ModuleSoFar) (a
     pub function_behaves : is_crossing a ≡ true → is_async a ≡ false → Behaves here s.imports u a first
     function_behaves crosses sync = by placed.adds.compiled (λ f e. subst (λ n. slice_get s.functions n ≡ Some f) (omega arith) (placed.functions_there 0 f e)) types
       where
-        by : (c : CompiledAs placed.new t placed.adds.«data» u a (numbered_for a placed.adds.linked) placed.adds.own) → ((f : WasmFunc) → slice_get (own_functions c) 0 ≡ Some f → slice_get s.functions first ≡ Some f)
+        by : (c : CompiledAs placed.new t placed.adds.«data» u a (numbered_for a placed.adds.imported) placed.adds.own) → ((f : WasmFunc) → slice_get (own_functions c) 0 ≡ Some f → slice_get s.functions first ≡ Some f)
             → AllZip (λ (f : WasmFunc) ty. slice_get s.types f.ty ≡ Some ty) (own_functions c) (own_types c) → Behaves here s.imports u a first
         by (AsTrap within c) there typed = absurd (true≢false (sym crosses ∙ within))
         by (AsSync crosses_too sync_too c) there typed = functions_behave here s.imports u a adapters first (sync_behaves crosses sync c own_later (there c.function refl) typed.0)
@@ -287,7 +287,7 @@ module _ (t : Tables) (u : AdapterTunables) (given : Given) (s : ModuleSoFar) (a
     pub function_only_traps : is_crossing a ≡ false → OnlyTraps here s.imports a first
     function_only_traps within = by placed.adds.compiled (λ f e. subst (λ n. slice_get s.functions n ≡ Some f) (omega arith) (placed.functions_there 0 f e)) types
       where
-        by : (c : CompiledAs placed.new t placed.adds.«data» u a (numbered_for a placed.adds.linked) placed.adds.own) → ((f : WasmFunc) → slice_get (own_functions c) 0 ≡ Some f → slice_get s.functions first ≡ Some f)
+        by : (c : CompiledAs placed.new t placed.adds.«data» u a (numbered_for a placed.adds.imported) placed.adds.own) → ((f : WasmFunc) → slice_get (own_functions c) 0 ≡ Some f → slice_get s.functions first ≡ Some f)
             → AllZip (λ (f : WasmFunc) ty. slice_get s.types f.ty ≡ Some ty) (own_functions c) (own_types c) → OnlyTraps here s.imports a first
         by (AsTrap within_too c) there typed = trap_functions_trap here s.imports a adapters first (traps_only c (there c.function refl) typed.0)
         by (AsSync crosses sync c) there typed = absurd (true≢false (sym crosses ∙ within))
@@ -304,7 +304,7 @@ module _ (t : Tables) (u : AdapterTunables) (given : Given) (s : ModuleSoFar) (a
         crosses : is_crossing a ≡ true
         crosses = and_right (is_async a) (is_crossing a) awaited
 
-        by : (c : CompiledAs placed.new t placed.adds.«data» u a (numbered_for a placed.adds.linked) placed.adds.own) → ((i : ℕ) (f : WasmFunc) → slice_get (own_functions c) i ≡ Some f → slice_get s.functions (first + i) ≡ Some f)
+        by : (c : CompiledAs placed.new t placed.adds.«data» u a (numbered_for a placed.adds.imported) placed.adds.own) → ((i : ℕ) (f : WasmFunc) → slice_get (own_functions c) i ≡ Some f → slice_get s.functions (first + i) ≡ Some f)
             → AllZip (λ (f : WasmFunc) ty. slice_get s.types f.ty ≡ Some ty) (own_functions c) (own_types c) → (x : AsyncPart) → Transfers x here s.imports u a (part_at x)
         by (AsTrap within c) there typed x = absurd (true≢false (sym awaited ∙ not-awaited-within a within))
         by (AsSync crosses_too sync c) there typed x = absurd (true≢false (sym awaited ∙ not-awaited-sync a sync))

@@ -22,13 +22,13 @@ use Rattle.fact_types.specs.declared.import.Import.{Import}
 use Rattle.fact_types.specs.declared.import.Import.TheVariants as known
 use Rattle.fact_types.specs.declared.outside.CoreDef.{CoreDef}
 use Rattle.fact_types.specs.declared.outside.MemoryOption.{MemoryOption}
-use Rattle.fact_checks.specs.AdapterRules.{export_names}
-use Rattle.fact_moves.specs.Adapters.{AdapterTunables}
-use Rattle.fact_moves.proofs.States.{and_left, and_right}
+use Rattle.fact_adapter_rules.specs.AdapterRules.{export_names}
+use Rattle.fact_actions.specs.Adapters.{AdapterTunables}
+use Rattle.fact_actions.proofs.States.{and_left, and_right}
 use Rattle.fact_emit.specs.ImportSection.{AreNamed, Callback, Callee as CalleeRole, Flags, IsNamed, Mention, PostReturn, Realloc, Role, StandsFor, Storage, a_function, adapter_mentions, custom_page_size, imported_function, imported_type, imports_of, memory_mention, mention, mentions, same_sort, side_mentions, sort_of}
 use Rattle.fact_emit.specs.States.{ModuleSoFar, module_of}
 use Rattle.fact_emit.proofs.Mentions.{in-mentions}
-use Rattle.fact_forms.specs.Sound.{HasUsualPages, IsSoundAdapter}
+use Rattle.fact_assembly.specs.Sound.{HasUsualPages, IsSoundAdapter}
 use Rattle.fact_assembly.specs.Adding.{Given}
 use Rattle.fact_assembly.specs.Exports.{Callee, Exported, IsExportOf, Own, defined_type, exported, type_of_function}
 use Rattle.fact_assembly.specs.Holding.{Holds}

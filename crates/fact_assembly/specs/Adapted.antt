@@ -10,9 +10,9 @@ use Rattle.fact_builder.specs.Builder.{Builder}
 use Rattle.fact_plan_types.specs.Faults.{Fault, unknown_index, bad_type, too_large, rank}
 use Rattle.fact_plan_types.specs.TypeRules.{most_entries}
 use Rattle.fact_type_rules.specs.TypeFaults.{IsBadFunction, IsLargeFunction}
-use Rattle.fact_checks.specs.declared.adapter.Adapter.{Adapter}
-use Rattle.fact_checks.specs.AdapterRules.{most_instance}
-use Rattle.fact_checks.specs.Linked.{NamesTypesOf}
+use Rattle.fact_adapter_rules.specs.declared.adapter.Adapter.{Adapter}
+use Rattle.fact_adapter_rules.specs.AdapterRules.{most_instance}
+use Rattle.fact_adapter_rules.specs.Linked.{NamesTypesOf}
 use Rattle.fact_assembly.specs.declared.dfg.ComponentDfg.{ComponentDfg}
 use Rattle.fact_assembly.specs.declared.taken.TakenAdapter.{TakenAdapter}
 use Rattle.fact_assembly.specs.Collected.{Collected, HasLinkedFault}

@@ -6,8 +6,8 @@ use Rattle.fact_wasm.specs.declared.types.FuncType.{FuncType}
 use Rattle.fact_types.specs.Adapters.{LinkedAdapter, Side, is_async, is_crossing, is_wide}
 use Rattle.fact_types.specs.Functions.{HasSignature}
 use Rattle.fact_types.specs.Tables.{Tables}
-use Rattle.fact_moves.specs.Adapters.{AdapterTunables}
-use Rattle.fact_emit.specs.AdapterLinks.{IsAdapterLinked}
+use Rattle.fact_actions.specs.Adapters.{AdapterTunables}
+use Rattle.fact_emit.specs.AdapterImports.{IsAdapterImported}
 use Rattle.fact_emit.specs.ImportSection.{is_awaited}
 use Rattle.fact_emit.specs.States.{ModuleSoFar, with_numbered}
 use Rattle.fact_emit.specs.Asked.{AskedHelper}
@@ -22,7 +22,7 @@ use Rattle.fact_compound.specs.SameInstance.{CompiledSameInstance}
 use Rattle.fact_compound.specs.declared.adapters.AdapterData.{AdapterData}
 use Rattle.fact_compound.specs.declared.adapters.AdapterOptions.{AdapterOptions}
 use Rattle.fact_assembly.specs.Exports.{exported_functions_of}
-use Rattle.fact_assembly.specs.Links.{links_of, page_size_log2_of}
+use Rattle.fact_assembly.specs.ImportedData.{imports_of_data, page_size_log2_of}
 
 -- what functions are compiled by besides the tunables of actions: the fuel of each, and the core function types that options name
 pub record Given : Type 0 where
@@ -73,14 +73,14 @@ pub record Adds (t : Tables) (u : AdapterTunables) (given : Given) (old new : Mo
   pub lift : HasSideData t given.cores a.lift «data».lift
   pub tuple_is : tuple_of_results t «data».lift.ty ≡ tuple
   pub lower : HasSideData t given.cores a.lower «data».lower
-  pub linked : ModuleSoFar
-  pub links : IsAdapterLinked old linked a (links_of «data»)
+  pub imported : ModuleSoFar
+  pub is_imported : IsAdapterImported old imported a (imports_of_data «data»)
   pub own : ModuleSoFar
-  pub compiled : CompiledAs new t «data» u a (numbered_for a linked) own
+  pub compiled : CompiledAs new t «data» u a (numbered_for a imported) own
   pub asks : List AskedHelper
-  pub asked : AsksFor t u.debug u.concurrency asks (numbered_for a linked) own
+  pub asked : AsksFor t u.debug u.concurrency asks (numbered_for a imported) own
   pub keys : OwnKeys given.fuel asks compiled
-  pub helpers : CompiledHelpers t u.debug u.concurrency given.fuel (length linked.helpers) own new
+  pub helpers : CompiledHelpers t u.debug u.concurrency given.fuel (length imported.helpers) own new
   pub there : HelpersAreThere t u.debug u.concurrency given.fuel new
 
 -- the helpers that came behind its functions

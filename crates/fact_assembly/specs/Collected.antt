@@ -6,18 +6,18 @@ use Rattle.fact_wasm.specs.declared.module.WasmModule.{WasmModule}
 use Rattle.fact_wasm.specs.Ranges.{InRange}
 use Rattle.fact_builder.specs.Builder.{Builder}
 use Rattle.fact_plan_types.specs.Faults.{Fault}
-use Rattle.fact_checks.specs.declared.sides.Candidate.{Candidate}
+use Rattle.fact_adapter_rules.specs.declared.sides.Candidate.{Candidate}
 use Rattle.fact_types.specs.Adapters.{LinkedAdapter}
-use Rattle.fact_checks.specs.AdapterRules.{LinkedHas}
-use Rattle.fact_checks.specs.Checked.{AreChecked, Checks}
-use Rattle.fact_checks.specs.Linked.{HasSides}
+use Rattle.fact_adapter_rules.specs.AdapterRules.{LinkedHas}
+use Rattle.fact_adapter_rules.specs.Checked.{AreChecked, Checks}
+use Rattle.fact_adapter_rules.specs.Linked.{HasSides}
 use Rattle.fact_types.specs.declared.import.Import.{Import}
 use Rattle.fact_emit.specs.declared.tunables.Tunables.{Tunables}
 use Rattle.fact_emit.specs.declared.tunables.WasmFeatures.{WasmFeatures}
 use Rattle.fact_assembly.specs.declared.taken.TakenAdapter.{TakenAdapter}
 use Rattle.fact_emit.specs.States.{ModuleSoFar}
 use Rattle.fact_compound.specs.Entries.{tuple_of_results}
-use Rattle.fact_forms.specs.Sound.{IsSoundAdapter}
+use Rattle.fact_assembly.specs.Sound.{IsSoundAdapter}
 use Rattle.fact_assembly.specs.Adding.{Given}
 use Rattle.fact_assembly.specs.Exports.{exported_as}
 use Rattle.fact_assembly.specs.Faithful.{Promised, adapter_tunables}

@@ -1,4 +1,5 @@
--- What a fused module promises.
+-- What a fused module promises (`Promised`): its imports, its exports and what the runs of its functions do (`Faithful`), their order, its helpers, and
+-- that it is valid. What an adapter's run makes of values is `IsFaithful` of fact_action_laws, by way of `Behaves`.
 use Rattle.std.specs.Prelude.{◌≡◌, ℕ, true, false, ◌&&◌, not, List, Some, All, IsTrue, slice_get}
 use Rattle.std.specs.List.{AllZip}
 use Rattle.fact_wasm.specs.declared.instr.FuncName.{FuncName}
@@ -7,13 +8,13 @@ use Rattle.fact_wasm.specs.declared.module.WasmModule.{WasmModule}
 use Rattle.fact_machine.specs.Typing.{typed_module}
 use Rattle.fact_types.specs.declared.import.Import.{Import}
 use Rattle.fact_types.specs.Adapters.{LinkedAdapter, is_async, is_crossing}
-use Rattle.fact_moves.specs.Adapters.{AdapterTunables}
+use Rattle.fact_actions.specs.Adapters.{AdapterTunables}
 use Rattle.fact_emit.specs.ImportSection.{NamesImports, is_awaited}
 use Rattle.fact_compound.specs.AsyncParts.{callee_name, part_name}
 use Rattle.fact_compound.specs.declared.asyncs.AsyncPart.{AsyncPart}
 use Rattle.fact_compound.specs.declared.asyncs.AsyncPart.TheVariants as part
-use Rattle.fact_promises.specs.AsyncRuns.{HandsOver, Transfers}
-use Rattle.fact_promises.specs.Runs.{Behaves, OnlyTraps}
+use Rattle.fact_function_laws.specs.AsyncRuns.{HandsOver, Transfers}
+use Rattle.fact_function_laws.specs.Runs.{Behaves, OnlyTraps}
 use Rattle.fact_assembly.specs.Exports.{IsExportOf, exported, exported_as}
 use Rattle.fact_assembly.specs.Order.{IsOrdered}
 use Rattle.fact_assembly.specs.Outlines.{IsOutlined}

@@ -14,7 +14,7 @@ use Rattle.fact_types.specs.declared.outside.MemoryOption.{MemoryOption}
 use Rattle.fact_types.specs.Adapters.{LinkedAdapter}
 use Rattle.fact_types.specs.Shapes.{Shape}
 use Rattle.fact_types.specs.Tables.{Tables, HasShape}
-use Rattle.fact_moves.specs.Adapters.{AdapterTunables}
+use Rattle.fact_actions.specs.Adapters.{AdapterTunables}
 use Rattle.fact_emit.specs.ImportSection.{is_awaited, mentions}
 use Rattle.fact_emit.specs.Listed.{ListsMentions}
 use Rattle.fact_emit.specs.Imports.{Extended}

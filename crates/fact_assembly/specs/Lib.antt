@@ -4,9 +4,12 @@ pub mod Collected
 pub mod Exports
 pub mod Faithful
 pub mod Holding
+pub mod ImportedData
+pub mod Importing
 pub mod InParts
-pub mod Links
 pub mod Order
 pub mod Outlines
+pub mod Sound
 pub mod Taking
 pub mod Typed
+pub mod Writable

@@ -65,7 +65,7 @@ abbrev pub functions_in : ModulePart → List WasmFunc
 functions_in p = p.own ++ p.helpers
 
 -- An adapter's part, behind these others, where these are all imported functions.
-pub record IsPart (imported : List Import) (before : List ModulePart) (a : LinkedAdapter) (p : ModulePart) : Type 0 where
+pub record IsModulePart (imported : List Import) (before : List ModulePart) (a : LinkedAdapter) (p : ModulePart) : Type 0 where
   pub defs : with_mentions (flat_map (λ q. q.defs) before) (adapter_mentions a) ≡ flat_map (λ q. q.defs) before ++ p.defs
   pub own : length p.own ≡ length (exported_functions_of a)
   pub next : ℕ
@@ -78,7 +78,7 @@ pub record IsPart (imported : List Import) (before : List ModulePart) (a : Linke
 -- The parts, behind these others, are those of the adapters, one by one.
 abbrev pub AreParts : List Import → List ModulePart → List LinkedAdapter → List ModulePart → Type 0
 AreParts imported before [] [] = Unit {0}
-AreParts imported before (a ∷ adapters) (p ∷ parts) = IsPart imported before a p × AreParts imported (before ++ p ∷ []) adapters parts
+AreParts imported before (a ∷ adapters) (p ∷ parts) = IsModulePart imported before a p × AreParts imported (before ++ p ∷ []) adapters parts
 AreParts imported before [] (p ∷ parts) = ⊥
 AreParts imported before (a ∷ adapters) [] = ⊥
 

@@ -8,7 +8,7 @@ use Rattle.fact_wasm.specs.declared.instr.Instr.TheOpen.{Instr-F}
 use Rattle.fact_wasm.specs.declared.module.WasmFunc.{WasmFunc}
 use Rattle.fact_wasm.specs.declared.module.WasmModule.{WasmModule}
 use Rattle.fact_types.specs.Adapters.{LinkedAdapter}
-use Rattle.fact_moves.specs.Outlining.{AreFunctions, IsHelperAt, OutlinedFunction}
+use Rattle.fact_actions.specs.Outlining.{AreFunctions, IsHelperAt, OutlinedFunction}
 
 abbrev all : List (List ℕ) → List ℕ
 all = flat_map (λ ks. ks)

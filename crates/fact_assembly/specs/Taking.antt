@@ -1,10 +1,10 @@
 -- An adapter whose types have no fault, and what it is behind the adapters that a module took.
 use Rattle.std.specs.Prelude.{◌<◌, List}
 use Rattle.fact_plan_types.specs.Faults.{Fault, rank}
-use Rattle.fact_checks.specs.declared.sides.Candidate.{Candidate}
+use Rattle.fact_adapter_rules.specs.declared.sides.Candidate.{Candidate}
 use Rattle.fact_types.specs.Adapters.{LinkedAdapter}
-use Rattle.fact_checks.specs.AdapterRules.{LinkedHas}
-use Rattle.fact_checks.specs.Linked.{IsLinked}
+use Rattle.fact_adapter_rules.specs.AdapterRules.{LinkedHas}
+use Rattle.fact_adapter_rules.specs.Linked.{IsLinked}
 use Rattle.fact_assembly.specs.Collected.{AreTaken, Collected}
 
 -- Of the adapters that it took and of this one, with all that they name looked up, something is so.

@@ -3,9 +3,9 @@
 use Rattle.std.specs.Prelude.{ℕ, ◌<◌}
 use Rattle.fact_builder.specs.Builder.{Builder}
 use Rattle.fact_plan_types.specs.Faults.{Fault, rank}
-use Rattle.fact_checks.specs.declared.adapter.Adapter.{Adapter}
+use Rattle.fact_adapter_rules.specs.declared.adapter.Adapter.{Adapter}
 use Rattle.fact_types.specs.Adapters.{LinkedAdapter}
-use Rattle.fact_checks.specs.Linked.{HasSides, NamesTypesOf}
+use Rattle.fact_adapter_rules.specs.Linked.{HasSides, NamesTypesOf}
 use Rattle.fact_assembly.specs.Adapted.{TypesHave}
 
 -- It has no fault by its types or its numbers, and all that it names can be looked up.

@@ -1,12 +1,12 @@
-//! The adapters of a component.
+//! A user's own adapters, which no plan lists.
 
 ghost use Rattle.std.specs.Prelude.{◌≡◌, ◌↔◌, ◌++◌, ◌∷◌, ◌<◌, [], Err, Some, length, slice_get, IfOk, OnErr, OnOk};
 ghost use Rattle.fact_entity.specs.declared.error.PushError.TheVariants as push_error;
-ghost use Rattle.fact_checks.specs.declared.adapter.Adapter.{Adapter};
+ghost use Rattle.fact_adapter_rules.specs.declared.adapter.Adapter.{Adapter};
 ghost use Rattle.fact_assembly.specs.Adapted.{is_marked, with_mark};
 ghost use Rattle.fact_assembly.specs.Collected.{taken_of};
 
-use fact_checks::{Adapter, Candidate};
+use fact_adapter_rules::{Adapter, Candidate};
 use fact_entity::{AdapterId, PrimaryMap, PushError};
 use fact_wasm::Seq;
 use std::alloc::Global;

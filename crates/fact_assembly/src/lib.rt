@@ -3,10 +3,12 @@
 #![tactic(auto)]
 
 mod dfg;
-mod linking;
+mod importing;
+mod laws;
 mod module;
 mod taken;
 mod typed;
 
 pub use dfg::ComponentDfg;
+pub use laws::laws_of_forms;
 pub use module::Module;

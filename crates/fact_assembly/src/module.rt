@@ -5,31 +5,30 @@ ghost use Rattle.fact_wasm.specs.Ranges.{InRange};
 ghost use Rattle.fact_binary.specs.Spelling.{Spells};
 ghost use Rattle.fact_plan_types.specs.PlanTypes.{told};
 ghost use Rattle.fact_plan_types.specs.declared.error.Place.TheVariants as place_at;
-ghost use Rattle.fact_checks.specs.Linked.{IsLinked, NamesTypesOf};
+ghost use Rattle.fact_adapter_rules.specs.Linked.{IsLinked, NamesTypesOf};
 ghost use Rattle.fact_assembly.specs.Adapted.{IsFaultlessFor, IsFirst, OfAdapter};
 ghost use Rattle.fact_assembly.specs.Collected.{AreTaken, Extends, HasTaken, KeepsSettings, KeepsPromises, given_of, no_tree, result_tuple_of, taken_of};
 ghost use Rattle.fact_types.specs.Adapters.{LinkedAdapter};
 ghost use Rattle.fact_compound.specs.Entries.{tuple_of_results};
 ghost use Rattle.fact_compound.specs.Helpers.{HelpersAreThere};
-ghost use Rattle.fact_forms.specs.Sound.{HasValidSides};
+ghost use Rattle.fact_assembly.specs.Sound.{HasValidSides};
 ghost use Rattle.fact_assembly.specs.Adding.{Adds};
 ghost use Rattle.fact_assembly.specs.Faithful.{Promised, adapter_tunables};
 ghost use Rattle.fact_emit.specs.ImportSection.{NamesImports};
 ghost use Rattle.fact_compound.specs.Settings.{OnlySectionsChanged};
-ghost use Rattle.fact_assembly.specs.Links.{CanBeLinked};
+ghost use Rattle.fact_assembly.specs.ImportedData.{CanBeImported};
 ghost use Rattle.fact_assembly.specs.Order.{IsOrdered};
 ghost use Rattle.fact_assembly.specs.Taking.{IsFirstBehind, IsSoundBehind};
 
 use crate::dfg::ComponentDfg;
-use crate::linking::link_adapter;
+use crate::importing::import_adapter;
 use crate::taken::{TakenAdapter, copy_candidate};
 use crate::typed::check_types;
+use fact_adapter_rules::{AdapterChecks, Candidate, FuseError};
 use fact_binary::encode;
 use fact_builder::ComponentTypesBuilder;
-use fact_checks::{AdapterChecks, Candidate, FuseError};
-use fact_compound::functions::compile;
-use fact_compound::state::ModuleState;
-use fact_emit::tunables::{Tunables, WasmFeatures};
+use fact_compound::{ModuleState, compile};
+use fact_emit::{Tunables, WasmFeatures};
 use fact_entity::{AdapterId, EntityRef};
 use fact_type_rules::FunctionTypes;
 use fact_types::Import;
@@ -93,15 +92,15 @@ fn is_memory(error: FuseError) -> bool
 /// Imports what an adapter names, and adds its functions.
 fn add_adapter(state: &mut ModuleState<'_>, candidate: &Candidate<'_>) -> Result<(), OutOfMemory>
     requires typed { NamesTypesOf state.old.builder.now candidate.now.adapter.now }
-    requires linkable { CanBeLinked state.old.builder.now candidate.now state.old.sections }
+    requires importable { CanBeImported state.old.builder.now candidate.now state.old.sections }
     requires linked { (a : LinkedAdapter) × IsLinked state.old.builder.now candidate.now a }
     requires helpers { HelpersAreThere state.old.builder.now.tables state.old.tunables.now.debug_adapter_modules state.old.tunables.now.concurrency_support state.old.tunables.now.fuel state.old.sections }
     ensures added { OnOk result ((a : LinkedAdapter) → IsLinked state.old.builder.now candidate.now a → Adds state.old.builder.now.tables (adapter_tunables state.old.tunables.now state.old.features) (given_of state.old.builder.now state.old.tunables.now) state.old.sections state.new.sections a (tuple_of_results state.old.builder.now.tables candidate.now.adapter.now.lift_ty)) }
     ensures keeps { OnlySectionsChanged state.old state.new }
 {
-    let linked = link_adapter(&mut state.sections, state.builder, candidate)?;
-    let compiled = compile(state, &linked);
-    drop(linked);
+    let imported = import_adapter(&mut state.sections, state.builder, candidate)?;
+    let compiled = compile(state, &imported);
+    drop(imported);
     compiled
 }
 
@@ -132,7 +131,7 @@ fn emit(
     candidate: &Candidate<'_>,
 ) -> Result<(), OutOfMemory>
     requires typed { NamesTypesOf state.old.builder.now candidate.now.adapter.now }
-    requires linkable { CanBeLinked state.old.builder.now candidate.now state.old.sections }
+    requires importable { CanBeImported state.old.builder.now candidate.now state.old.sections }
     requires linked { (a : LinkedAdapter) × IsLinked state.old.builder.now candidate.now a }
     requires helpers { HelpersAreThere state.old.builder.now.tables state.old.tunables.now.debug_adapter_modules state.old.tunables.now.concurrency_support state.old.tunables.now.fuel state.old.sections }
     ensures taken { OnOk result (taken.new.items ≡ taken.old.items ++ taken_of candidate.now ∷ []) }

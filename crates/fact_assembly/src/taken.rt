@@ -3,7 +3,7 @@
 ghost use Rattle.std.specs.Prelude.{◌≡◌, IfOk};
 ghost use Rattle.fact_assembly.specs.Collected.{taken_of};
 
-use fact_checks::{Adapter, AdapterOptionsDfg, Candidate, MemoryOption};
+use fact_adapter_rules::{Adapter, AdapterOptionsDfg, Candidate, MemoryOption};
 use fact_types::CoreDef;
 use fact_wasm::{OutOfMemory, Text};
 use std::alloc::{AllocError, Global};

@@ -1,17 +1,17 @@
-//! What the types of an adapter, and its numbers, say against it.
+//! What is wrong with an adapter's types and numbers, over a builder whose types no plan has judged.
 
 ghost use Rattle.std.specs.Prelude.{◌≡◌, ◌↔◌, ◌⊎◌, ◌<◌, ◌≤◌, IfErr, IfOk, IfSome, IsTrue, OnOk, length};
 ghost use Rattle.fact_plan_types.specs.PlanTypes.{told};
 ghost use Rattle.fact_plan_types.specs.TypeRules.{most_entries};
 ghost use Rattle.fact_plan_types.specs.declared.error.Place.TheVariants as place_at;
-ghost use Rattle.fact_checks.specs.AdapterRules.{most_instance};
+ghost use Rattle.fact_adapter_rules.specs.AdapterRules.{most_instance};
 ghost use Rattle.fact_types.specs.Adapters.{LinkedAdapter};
-ghost use Rattle.fact_checks.specs.Linked.{HasSides, NamesTypesOf};
+ghost use Rattle.fact_adapter_rules.specs.Linked.{HasSides, NamesTypesOf};
 ghost use Rattle.fact_assembly.specs.Adapted.{IsBadFunctionType, IsLargeFunctionType};
 ghost use Rattle.fact_assembly.specs.Typed.{HasSoundTypes, TypesHaveFirst};
 
+use fact_adapter_rules::{Adapter, FuseError, MOST_INSTANCE, Place};
 use fact_builder::ComponentTypesBuilder;
-use fact_checks::{Adapter, FuseError, MOST_INSTANCE, Place};
 use fact_entity::EntityRef;
 use fact_plan_types::MOST_ENTRIES;
 use fact_type_rules::FunctionTypes;

@@ -1,6 +1,9 @@
 -- What stays when one of the tables gets one more entry.
 use Rattle.std.proofs.Common.{◌≡◌, ◌<◌, ℕ, zero, suc, List, [], ◌∷◌, ◌++◌, length, Option, Some, None, refl, sym, ◌∙◌, ap, subst, arith, All}
-use Rattle.std.specs.Prelude.{slice_get, option_map, Result, Ok, Err, OnOk, OnErr}
+use Rattle.std.specs.Prelude.{slice_get, option_map, Result, Ok, Err, IfOk, IfErr, OnOk, OnErr}
+use Rattle.fact_entity.specs.declared.id.Id.{Id}
+use Rattle.fact_entity.specs.declared.table.SourceResources.{SourceResources}
+use Rattle.fact_entity.specs.declared.table.TypeResourceTables.{TypeResourceTables}
 use Rattle.std.proofs.lemmas.Option.{get_or_from_slice_get, slice_get-get_or, slice_get_within}
 use Rattle.fact_types.specs.declared.interface.InterfaceType.{InterfaceType}
 use Rattle.fact_types.specs.declared.interface.InterfaceType.TheVariants.{Record as t_record, Variant as t_variant, List as t_list, Tuple as t_tuple, Map as t_map, Flags as t_flags, Enum as t_enum, Option as t_option, Result as t_result, Own as t_own, Borrow as t_borrow, Future as t_future, Stream as t_stream, ErrorContext as t_error_context, FixedLengthList as t_fixed_length_list}
@@ -24,6 +27,8 @@ use Rattle.fact_types.specs.Ordered.{VariantType, FlagsType, EnumType}
 use Rattle.fact_types.specs.Shapes.{k_future, k_stream, no_parts, Shape}
 use Rattle.fact_types.specs.Tables.{Tables, Table, of_functions, of_records, of_variants, of_tuples, of_flags, of_enums, of_options, of_results, of_lists, of_maps, of_fixed_length_lists, of_futures, of_future_tables, of_streams, of_stream_tables, of_error_context_tables, of_resource_tables, Node, record_node, variant_node, tuple_node, flags_node, enum_node, option_node, result_node, list_node, map_node, fixed_length_list_node, future_node, stream_node, payload_in, node_of, IsLive, IsSound}
 use Rattle.fact_types.proofs.ShapeLaws.{Grows, keeps_shape}
+use Rattle.fact_builder.specs.declared.error.BuildError.{BuildError}
+use Rattle.fact_builder.specs.Known.{KnownResources, MakesTable, MayRefuseTable}
 use Rattle.fact_builder.specs.Keeps.{Keeps}
 
 -- ---- tables whose entries stay where they were
@@ -141,7 +146,7 @@ all_stay t of_error_context_tables = λ i x h. h
 all_stay t of_resource_tables = λ i x h. h
 all_stay t table = tt
 
-same_keeps : (t u : Tables) → t ≡ u → Keeps t u
+pub same_keeps : (t u : Tables) → t ≡ u → Keeps t u
 same_keeps t u e = subst (Keeps t) e (keeps t t (all_stay t))
 
 -- ---- one more entry
@@ -241,7 +246,7 @@ pub map_keeps : {A E : Type 0} (t v last : Tables) → t ≡ v → (r : TypeMap)
 map_keeps t v last w r res o e = after t v _ last w res o e (keeps t _ (stay_map t r))
 
 pub stay_future : (t : Tables) (r : TypeFuture) → IsSound t → (table : Table) → StayIn t (record t { futures = t.futures ++ r ∷ [] }) table
-stay_future t r sound of_futures = λ i e h. found_before t.futures r e.ty.number (held (λ e. e.ty.number < length t.futures) t.future_tables i e h (sound.linked of_future_tables))
+stay_future t r sound of_futures = λ i e h. found_before t.futures r e.ty.number (held (λ e. e.ty.number < length t.futures) t.future_tables i e h (sound.held_live of_future_tables))
 stay_future t r sound table = all_stay t table
 
 pub future_keeps : {A E : Type 0} (t v last : Tables) → t ≡ v → (r : TypeFuture) (res : Result A E) → IsSound t → OnOk res (last ≡ record t { futures = t.futures ++ r ∷ [] }) → OnErr res (last ≡ t) → Keeps v last
@@ -255,7 +260,7 @@ pub future_table_keeps : {A E : Type 0} (t v last : Tables) → t ≡ v → (r :
 future_table_keeps t v last w r res o e = after t v _ last w res o e (keeps t _ (stay_future_table t r))
 
 pub stay_stream : (t : Tables) (r : TypeStream) → IsSound t → (table : Table) → StayIn t (record t { streams = t.streams ++ r ∷ [] }) table
-stay_stream t r sound of_streams = λ i e h. found_before t.streams r e.ty.number (held (λ e. e.ty.number < length t.streams) t.stream_tables i e h (sound.linked of_stream_tables))
+stay_stream t r sound of_streams = λ i e h. found_before t.streams r e.ty.number (held (λ e. e.ty.number < length t.streams) t.stream_tables i e h (sound.held_live of_stream_tables))
 stay_stream t r sound table = all_stay t table
 
 pub stream_keeps : {A E : Type 0} (t v last : Tables) → t ≡ v → (r : TypeStream) (res : Result A E) → IsSound t → OnOk res (last ≡ record t { streams = t.streams ++ r ∷ [] }) → OnErr res (last ≡ t) → Keeps v last
@@ -281,3 +286,8 @@ stay_resource_table t r table = all_stay t table
 
 pub resource_table_keeps : {A E : Type 0} (t v last : Tables) → t ≡ v → (r : TypeResourceTable) (res : Result A E) → OnOk res (last ≡ record t { resource_tables = t.resource_tables ++ r ∷ [] }) → OnErr res (last ≡ t) → Keeps v last
 resource_table_keeps t v last w r res o e = after t v _ last w res o e (keeps t _ (stay_resource_table t r))
+
+-- the same where the table is made for a resource
+pub made_table_keeps : (a b : KnownResources) (t v last : Tables) → t ≡ v → (id : Id SourceResources) (res : Result (Id TypeResourceTables) BuildError) → IfOk res (MakesTable a t id b last) → IfErr res (λ e. (b ≡ a) × (last ≡ t) × MayRefuseTable a t id e) → Keeps v last
+made_table_keeps a b t v last w id (Ok i) made refused = resource_table_keeps {E = BuildError} t v last w made.table (Ok i) made.added tt
+made_table_keeps a b t v last w id (Err e) made (back, same, why) = subst (λ (z : Tables). Keeps z last) w (same_keeps t last (sym same))

@@ -6,7 +6,7 @@ use Rattle.fact_types.specs.declared.interface.InterfaceType.TheVariants.{Record
 use Rattle.fact_types.specs.Externs.{ModuleType, ComponentType, InstanceType}
 use Rattle.fact_types.specs.Functions.{HaveShapes}
 use Rattle.fact_types.specs.Shapes.{Shape}
-use Rattle.fact_types.specs.Tables.{Tables, Node, node_of, IsLive}
+use Rattle.fact_types.specs.Tables.{Tables, node_of, IsLive}
 use Rattle.fact_types.proofs.ShapeLaws.{Grows, keeps_shape}
 use Rattle.fact_builder.specs.Keeps.{Keeps}
 use Rattle.fact_builder.specs.Information.{AllKept}

@@ -7,7 +7,15 @@ pub mod IndexLaws
 pub mod InformationLaws
 pub mod ItemLaws
 pub mod KeptLaws
+pub mod MadeLaws
+pub mod MakingLaws
+mod Mapping
 pub mod MemberLaws
 pub mod PlainLaws
 pub mod PointerLaws
+pub mod RegisterLaws
+pub mod ResourceLaws
 pub mod SplitLaws
+pub mod TableLaws
+pub mod Telling
+pub mod WalkLaws

@@ -1,6 +1,9 @@
 -- What is kept of types, when one of the tables whose entries are no types of values gets one more.
 use Rattle.std.proofs.Common.{◌≡◌, List, [], ◌∷◌, ◌++◌, Option, Some, None, refl, sym, ap, subst}
-use Rattle.std.specs.Prelude.{option_map, slice_get, Result, Ok, Err, OnOk, OnErr}
+use Rattle.std.specs.Prelude.{option_map, slice_get, Result, Ok, Err, IfOk, IfErr, OnOk, OnErr}
+use Rattle.fact_entity.specs.declared.id.Id.{Id}
+use Rattle.fact_entity.specs.declared.table.SourceResources.{SourceResources}
+use Rattle.fact_entity.specs.declared.table.TypeResourceTables.{TypeResourceTables}
 use Rattle.fact_types.specs.declared.interface.InterfaceType.{InterfaceType}
 use Rattle.fact_types.specs.declared.interface.InterfaceType.TheVariants.{Record as t_record, Future as t_future, Stream as t_stream}
 use Rattle.fact_types.specs.declared.kinds.TypeFunc.{TypeFunc}
@@ -11,6 +14,8 @@ use Rattle.fact_types.specs.declared.kinds.TypeResourceTable.{TypeResourceTable}
 use Rattle.fact_types.specs.Layout.{scalar_layout}
 use Rattle.fact_types.specs.Shapes.{k_future, k_stream, no_parts}
 use Rattle.fact_types.specs.Tables.{Tables, Node, node_of, future_node, stream_node, payload_in, of_futures, of_streams, IsSound}
+use Rattle.fact_builder.specs.declared.error.BuildError.{BuildError}
+use Rattle.fact_builder.specs.Known.{KnownResources, MakesTable, MayRefuseTable}
 use Rattle.fact_builder.specs.Information.{AllKept}
 use Rattle.fact_builder.proofs.GrowthLaws.{stay_future, stay_stream}
 use Rattle.fact_builder.proofs.KeptLaws.{Kept, same_entries}
@@ -62,3 +67,8 @@ nodes_resource_table t xs ty = refl
 pub pushed_resource_table : {A E : Type 0} (t last : Tables) (kept : Kept) (r : TypeResourceTable) (res : Result A E) → AllKept t kept → OnOk res (last ≡ record t { resource_tables = t.resource_tables ++ r ∷ [] }) → OnErr res (last ≡ t) → AllKept last kept
 pushed_resource_table t last kept r (Ok x) a o e = subst (λ z. AllKept z kept) (sym o) (same_entries t _ kept (nodes_resource_table t (t.resource_tables ++ r ∷ [])) a)
 pushed_resource_table t last kept r (Err x) a o e = subst (λ z. AllKept z kept) (sym e) a
+
+-- the same where the table is made for a resource
+pub made_resource_table : (a b : KnownResources) (t last : Tables) (kept : Kept) (id : Id SourceResources) (res : Result (Id TypeResourceTables) BuildError) → AllKept t kept → IfOk res (MakesTable a t id b last) → IfErr res (λ e. (b ≡ a) × (last ≡ t) × MayRefuseTable a t id e) → AllKept last kept
+made_resource_table a b t last kept id (Ok i) all made refused = subst (λ z. AllKept z kept) (sym made.added) (same_entries t _ kept (nodes_resource_table t (t.resource_tables ++ made.table ∷ [])) all)
+made_resource_table a b t last kept id (Err e) all made (back, same, why) = subst (λ z. AllKept z kept) (sym same) all

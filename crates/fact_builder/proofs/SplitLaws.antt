@@ -186,7 +186,7 @@ splits_future_table t r key e (t_future i) n h = elim (end_splits (future_node t
 splits_future_table t r key e ty n h = inl (h, live_kept t ty n h)
 
 future_table_stands : (t : Tables) → IsSound t → (r : TypeFutureTable) → Stands t (future_node t.futures (length t.future_tables) r)
-future_table_stands t s r = record { live = λ i d l. only_member t _ (payload_live t (λ f. f.payload) t.futures r.ty.number (s.linked of_futures)) i d l; laid = refl; parts = refl }
+future_table_stands t s r = record { live = λ i d l. only_member t _ (payload_live t (λ f. f.payload) t.futures r.ty.number (s.held_live of_futures)) i d l; laid = refl; parts = refl }
 
 pub pushed_future_table : {A E : Type 0} (t v : Tables) (kept news : Kept) (r : TypeFutureTable) (key : Id TypeFutureTables) (information : TypeInformation) (res : Result A E) (last : Tables) → AllKept t kept → IsSound t → t ≡ v → key.number ≡ length v.future_tables → Updated kept news (t_future key) (deeper information) → information ≡ made_of (future_node t.futures (length t.future_tables) r).kind (known_members kept (future_node t.futures (length t.future_tables) r)) → OnOk res (last ≡ record t { future_tables = t.future_tables ++ r ∷ [] }) → OnErr res (last ≡ t) → AllKept last news
 pushed_future_table t v kept news r key information (Ok x) last a s e k u told o f = subst (λ z. AllKept z news) (sym o) (one_more t kept news (t_future key) (deeper information) a s (beyond _ _ (k ∙ ap (λ z. length z.future_tables) (sym e))) refl u _ (future_node t.futures (length t.future_tables) r) (future_table_stands t s r) (splits_future_table t r key (k ∙ ap (λ z. length z.future_tables) (sym e))) (ap deeper told))
@@ -200,7 +200,7 @@ splits_stream_table t r key e (t_stream i) n h = elim (end_splits (stream_node t
 splits_stream_table t r key e ty n h = inl (h, live_kept t ty n h)
 
 stream_table_stands : (t : Tables) → IsSound t → (r : TypeStreamTable) → Stands t (stream_node t.streams (length t.stream_tables) r)
-stream_table_stands t s r = record { live = λ i d l. only_member t _ (payload_live t (λ f. f.payload) t.streams r.ty.number (s.linked of_streams)) i d l; laid = refl; parts = refl }
+stream_table_stands t s r = record { live = λ i d l. only_member t _ (payload_live t (λ f. f.payload) t.streams r.ty.number (s.held_live of_streams)) i d l; laid = refl; parts = refl }
 
 pub pushed_stream_table : {A E : Type 0} (t v : Tables) (kept news : Kept) (r : TypeStreamTable) (key : Id TypeStreamTables) (information : TypeInformation) (res : Result A E) (last : Tables) → AllKept t kept → IsSound t → t ≡ v → key.number ≡ length v.stream_tables → Updated kept news (t_stream key) (deeper information) → information ≡ made_of (stream_node t.streams (length t.stream_tables) r).kind (known_members kept (stream_node t.streams (length t.stream_tables) r)) → OnOk res (last ≡ record t { stream_tables = t.stream_tables ++ r ∷ [] }) → OnErr res (last ≡ t) → AllKept last news
 pushed_stream_table t v kept news r key information (Ok x) last a s e k u told o f = subst (λ z. AllKept z news) (sym o) (one_more t kept news (t_stream key) (deeper information) a s (beyond _ _ (k ∙ ap (λ z. length z.stream_tables) (sym e))) refl u _ (stream_node t.streams (length t.stream_tables) r) (stream_table_stands t s r) (splits_stream_table t r key (k ∙ ap (λ z. length z.stream_tables) (sym e))) (ap deeper told))

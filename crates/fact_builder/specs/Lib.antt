@@ -1,8 +1,14 @@
+pub mod Beside
 pub mod Builder
+pub mod Errors
 pub mod ExactEntries
 pub mod Information
 pub mod Joins
 pub mod Keeps
 pub mod Kinds
+pub mod Known
 pub mod Lending
+pub mod Makes
 pub mod Pointers
+pub mod Registering
+pub mod Walk

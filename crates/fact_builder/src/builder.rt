@@ -4,8 +4,9 @@ ghost use Rattle.std.specs.Prelude.{◌≡◌, ◌↔◌, ◌++◌, ◌∷◌, [
 ghost use Rattle.std.specs.Borrow.{sem};
 ghost use Rattle.fact_builder.specs.Builder.{no_types};
 ghost use Rattle.fact_builder.specs.Keeps.{Keeps};
-ghost use Rattle.fact_builder.specs.Lending.{LendsModuleTypes};
+ghost use Rattle.fact_builder.specs.Lending.{LendsModuleTypes, LendsResources};
 
+use crate::ResourcesBuilder;
 use crate::known_types::KnownTypes;
 use fact_entity::{EntityRef, Interner, PushError};
 use fact_types::{
@@ -20,8 +21,9 @@ use fact_types::{
 use std::alloc::Global;
 use std::marker::Model;
 
-/// Tables of types with one entry of each type, and core function types. Contracts see it as the number of the source that
-/// types come from, the tables and the list of the core function types. At all times equal types have one index.
+/// Tables of types with one entry of each type, core function types, and what is known of the resources of the source whose
+/// types are converted. Contracts see it as the number of that source, the tables, the list of the core function types, the
+/// resources, and how many abstract ones have numbers. At all times equal types have one index.
 pub struct ComponentTypesBuilder {
     pub(crate) source: u64,
     pub(crate) types: KnownTypes,
@@ -46,6 +48,8 @@ pub struct ComponentTypesBuilder {
         TypeErrorContextTable,
     >,
     pub(crate) resource_table_count: usize,
+    pub(crate) resources: ResourcesBuilder,
+    pub(crate) abstracts: u32,
 }
 
 impl Model for ComponentTypesBuilder {
@@ -54,7 +58,7 @@ impl Model for ComponentTypesBuilder {
 
     ghost Value = { Builder };
 
-    ghost view = { λ b. record { source = b.source; tables = b.types; module_types = b.module_types } };
+    ghost view = { λ b. record { source = b.source; tables = b.types; module_types = b.module_types; resources = b.resources; abstracts = b.abstracts } };
 
     // the entries that are found by their value are those of the tables, and the resource tables are counted
     ghost invariant = { λ b. (record b.types { functions = b.functions; records = b.records; flags = b.flags; tuples = b.tuples; fixed_length_lists = b.fixed_length_lists; variants = b.variants; enums = b.enums; options = b.options; results = b.results; lists = b.lists; maps = b.maps; futures = b.futures; future_tables = b.future_tables; streams = b.streams; stream_tables = b.stream_tables; error_context_tables = b.error_context_tables } ≡ b.types) × (b.resource_table_count ≡ length b.types.resource_tables) };
@@ -85,7 +89,10 @@ impl Drop for ComponentTypesBuilder {
             stream_tables,
             error_context_tables,
             resource_table_count: _,
+            resources,
+            abstracts: _,
         } = self;
+        drop(resources);
         drop(error_context_tables);
         drop(stream_tables);
         drop(streams);
@@ -108,7 +115,7 @@ impl Drop for ComponentTypesBuilder {
 }
 
 impl ComponentTypesBuilder {
-    /// A builder without types, for those of the source of a number. It takes no memory.
+    /// A builder without types and resources, for those of the source of a number. It takes no memory.
     pub fn new(alloc: Global, source: u64) -> ComponentTypesBuilder
         ensures { result ≡ no_types source }
     {
@@ -133,6 +140,8 @@ impl ComponentTypesBuilder {
             stream_tables: Interner::new(alloc),
             error_context_tables: Interner::new(alloc),
             resource_table_count: 0,
+            resources: ResourcesBuilder::new(alloc),
+            abstracts: 0,
         }
     }
 
@@ -141,6 +150,26 @@ impl ComponentTypesBuilder {
         ensures { result ≡ self.now.source }
     {
         self.source
+    }
+
+    /// The allocator.
+    pub fn allocator(&self) -> Global {
+        self.types.allocator()
+    }
+
+    /// What is known of the resources.
+    pub fn resources(&self) -> &ResourcesBuilder
+        ensures { result.now ≡ self.now.resources }
+    {
+        &self.resources
+    }
+
+    /// What is known of the resources, to set an instance or to register some.
+    pub fn resources_mut(&mut self) -> &mut ResourcesBuilder
+        ensures* writes_back { sem 𝓛 (LendsResources self.entry result) }
+        ensures value { result.now ≡ self.old.resources }
+    {
+        &mut self.resources
     }
 
     /// The tables so far.
@@ -235,7 +264,10 @@ impl ComponentTypesBuilder {
             stream_tables,
             error_context_tables,
             resource_table_count: _,
+            resources,
+            abstracts: _,
         } = self;
+        drop(resources);
         drop(error_context_tables);
         drop(stream_tables);
         drop(streams);

@@ -1,9 +1,10 @@
 //! The types that stand in their tables once, and tables of the handles of resources: what is known of an entry is kept with
 //! it, where it has members.
 
-ghost use Rattle.std.specs.Prelude.{◌≡◌, ◌↔◌, ◌<◌, ◌++◌, ◌∷◌, [], length, refl, IfOk, OnOk, OnErr, Err};
+ghost use Rattle.std.specs.Prelude.{◌≡◌, ◌↔◌, ◌<◌, ◌++◌, ◌∷◌, [], length, refl, IfOk, IfErr, OnOk, OnErr, None, Err};
 ghost use Rattle.fact_types.specs.Exact.{exact_variant, exact_flags, exact_enum};
 ghost use Rattle.fact_types.specs.Tables.{Stands, record_node, flags_node, tuple_node, fixed_length_list_node, variant_node, enum_node, option_node, result_node, list_node, map_node, IsLiveMember, IsLiveFunc};
+ghost use Rattle.fact_builder.specs.Known.{MakesTable, MayRefuseTable, kept_table};
 ghost use Rattle.fact_builder.specs.ExactEntries.{exact_func, exact_record, exact_tuple, exact_fixed_length_list, exact_option_type, exact_result, exact_list_type, exact_map, exact_future, exact_future_table, exact_stream, exact_stream_table, exact_error_context_table};
 ghost use Rattle.fact_builder.specs.Keeps.{Keeps};
 
@@ -11,7 +12,8 @@ use crate::entry::Entry;
 use crate::information::TypeInformation;
 use crate::known::{keep, known, product_of_fields, product_of_types, sum_of_cases, with_payload};
 use crate::known_types::KnownTypes;
-use fact_entity::{OutOfMemory, PushError};
+use crate::{BuildError, ResourcesBuilder};
+use fact_entity::{OutOfMemory, PushError, ResourceId};
 use fact_types::{
     InterfaceType, TypeComponentLocalErrorContextTableIndex, TypeEnum, TypeEnumIndex,
     TypeErrorContextTable, TypeFixedLengthList, TypeFixedLengthListIndex, TypeFlags,
@@ -537,5 +539,20 @@ impl KnownTypes {
         ensures too_large { result ≡ Err PushError.TooLarge ↔ (length self.old.resource_tables ≡ 4294967295) }
     {
         self.types.push_resource_table(ty)
+    }
+
+    /// Makes the table of the handles of a resource that has none, behind the others, and keeps it among what is known of
+    /// resources.
+    pub(crate) fn make_resource_table(
+        &mut self,
+        resources: &mut ResourcesBuilder,
+        id: ResourceId,
+    ) -> Result<TypeResourceTableIndex, BuildError>
+        requires { kept_table resources.old id ≡ None }
+        ensures made { IfOk result (MakesTable resources.old self.old id resources.new self.new) }
+        ensures refused { IfErr result (λ e. (resources.new ≡ resources.old) × (self.new ≡ self.old) × MayRefuseTable resources.old self.old id e) }
+        ensures keeps { Keeps self.old self.new }
+    {
+        resources.make_table(id, &mut self.types)
     }
 }

@@ -4,7 +4,7 @@ ghost use Rattle.std.specs.Prelude.{◌≡◌, ◌<◌, List, [], ◌∷◌, ◌
 ghost use Rattle.fact_types.specs.Flat.{value_type};
 ghost use Rattle.fact_types.specs.Functions.{HaveShapes, HasSignature};
 ghost use Rattle.fact_types.specs.Shapes.{Shape};
-ghost use Rattle.fact_types.specs.Signatures.{width, address as address_of, flat_values, flat_params as flat_params_of, lower_signature as lower_signature_of, lift_signature as lift_signature_of, async_lower, async_start_signature as async_start_signature_of, async_return_signature as async_return_signature_of, lower_limit as lower_limit_of, lift_results_limit as lift_results_limit_of};
+ghost use Rattle.fact_types.specs.Signatures.{width, address as address_of, flat_values, flat_params as flat_params_of, lower_signature as lower_signature_of, lift_signature as lift_signature_of, async_lower, async_start_signature as async_start_signature_of, async_return_signature as async_return_signature_of};
 ghost use Rattle.fact_types.specs.FlatShapes.{flat_types as flat_types_of};
 ghost use Rattle.fact_types.specs.Tables.{IsLive, HasShape};
 ghost use Rattle.fact_builder.specs.Pointers.{pointer_where_any, with_results};
@@ -12,7 +12,7 @@ ghost use Rattle.fact_builder.specs.Pointers.{pointer_where_any, with_results};
 use crate::builder::ComponentTypesBuilder;
 use fact_types::{
     FlatType, InterfaceType, MAX_FLAT_ASYNC_PARAMS, MAX_FLAT_PARAMS, MAX_FLAT_RESULTS, OutOfMemory,
-    SideSig, Signature, TypeFuncIndex,
+    SideSig, Signature, TypeFuncIndex, lift_results_limit, lower_limit,
 };
 use fact_wasm::{Seq, ValType};
 
@@ -21,28 +21,6 @@ fn address(memory64: bool) -> ValType
     ensures { result ≡ address_of memory64 }
 {
     if memory64 { ValType::I64 } else { ValType::I32 }
-}
-
-/// How many flat parameters a side that lowers takes.
-fn lower_limit(async_: bool) -> usize
-    ensures { result ≡ lower_limit_of async_ }
-{
-    if async_ {
-        MAX_FLAT_ASYNC_PARAMS
-    } else {
-        MAX_FLAT_PARAMS
-    }
-}
-
-/// How many flat results a side that lifts gives: an async one hands them on as parameters.
-fn lift_results_limit(async_: bool) -> usize
-    ensures { result ≡ lift_results_limit_of async_ }
-{
-    if async_ {
-        MAX_FLAT_PARAMS
-    } else {
-        MAX_FLAT_RESULTS
-    }
 }
 
 /// Appends the value types of flat types.

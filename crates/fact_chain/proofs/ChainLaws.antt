@@ -13,7 +13,7 @@ use Rattle.fact_host.specs.Contract.{HasNoCause, IsCause, IsOutcomeOf, IsReached
 use Rattle.fact_host.specs.Describes.{HasCallShapes}
 use Rattle.fact_host.specs.Rules.{CallShapes}
 use Rattle.fact_chain.specs.declared.passing.Passing.{Passing}
-use Rattle.fact_chain.specs.Between.{CanBeCalled, HasPassed, IsNumberBy, passed_results}
+use Rattle.fact_chain.specs.Between.{CanBeCalled, HasPassedOn, IsNumberBy, passed_results}
 use Rattle.fact_chain.specs.Chained.{IsChainCause, IsChained, IsInner}
 use Rattle.fact_chain.specs.Passing.{IsPassing, IsPassingTo, StaysPassing}
 use Rattle.fact_chain.proofs.UnansweredLaws.{not_given}
@@ -21,11 +21,11 @@ use Rattle.fact_chain.proofs.UnansweredLaws.{not_given}
 -- ---- a callee between
 
 -- what it keeps is what came of that call
-pub passed_to : (m : WasmModule) (t : Tables) (second : HostCall) (results : List Value) (p : Passing) → IsPassingTo m t second results p → IsPassing p → HasPassed m t second results p.given p.outcome p.last
+pub passed_to : (m : WasmModule) (t : Tables) (second : HostCall) (results : List Value) (p : Passing) → IsPassingTo m t second results p → IsPassing p → HasPassedOn m t second results p.given p.outcome p.last
 passed_to m t second results p to h =
-    subst (λ x. HasPassed x t second results p.given p.outcome p.last) to.code
-    (subst (λ x. HasPassed p.module.now x second results p.given p.outcome p.last) to.types
-    (subst (λ x. HasPassed p.module.now p.types.now x results p.given p.outcome p.last) to.second_is (subst (λ x. HasPassed p.module.now p.types.now p.second.now x p.given p.outcome p.last) to.results_are h)))
+    subst (λ x. HasPassedOn x t second results p.given p.outcome p.last) to.code
+    (subst (λ x. HasPassedOn p.module.now x second results p.given p.outcome p.last) to.types
+    (subst (λ x. HasPassedOn p.module.now p.types.now x results p.given p.outcome p.last) to.second_is (subst (λ x. HasPassedOn p.module.now p.types.now p.second.now x p.given p.outcome p.last) to.results_are h)))
 
 -- it is as it is
 pub stays_itself : (p : Passing) → IsPassing p → StaysPassing p p
@@ -50,7 +50,7 @@ got_something (Some values) last is zero = (values, refl)
 
 -- where a callee between answered no error, it was given what the first call reached, and made the second one with that
 inner_by : (m : WasmModule) (t : Tables) (second : HostCall) (results : List Value) (given : Option (List Value)) (inner : Option HostOutcome) (last : ℕ) (params : Option (List Value))
-    → HasPassed m t second results given inner last → last ≡ 0 → (given ≡ None) ⊎ (given ≡ params) → (passed_results inner ≡ None → params ≡ None) → IsInner m t second results params inner × (given ≡ params)
+    → HasPassedOn m t second results given inner last → last ≡ 0 → (given ≡ None) ⊎ (given ≡ params) → (passed_results inner ≡ None → params ≡ None) → IsInner m t second results params inner × (given ≡ params)
 inner_by m t second results None None last params h zero reached silent = (subst (λ z. IsInner m t second results z None) (sym (silent refl)) tt, sym (silent refl))
 inner_by m t second results None (Some o) last params h zero reached silent = absurd h
 inner_by m t second results (Some vs) None last params h zero reached silent = absurd (error_not_zero h.0 (sym h.1 ∙ zero))

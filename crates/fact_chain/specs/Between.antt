@@ -21,7 +21,7 @@ pub record CanBeCalled (m : WasmModule) (t : Tables) (c : HostCall) : Type 0 whe
   pub live : AreLive t c
 
 -- The callee of the first call has the function type with which the second one is called.
-pub record AreLinked (first second : HostCall) : Type 0 where
+pub record DoFit (first second : HostCall) : Type 0 where
   pub params : first.lift.params ≡ second.lower.params
   pub results : first.lift.results ≡ second.lower.results
 
@@ -54,8 +54,8 @@ IsNumberBy (Some values) last = last ≡ 0
 
 -- What a callee between was given last, the outcome of its call with that, and the number of the error that it answered: it was not called
 -- yet, or lacked memory; its call ended with an error; or it has an outcome.
-abbrev pub HasPassed : WasmModule → Tables → (second : HostCall) → (results : List Value) → (given : Option (List Value)) → (inner : Option HostOutcome) → (last : ℕ) → Type 0
-HasPassed m t second results None None last = (last ≡ 0) ⊎ (last ≡ number_of_error OutOfMemory)
-HasPassed m t second results None (Some o) last = ⊥
-HasPassed m t second results (Some params) None last = (error : HostError) × (last ≡ number_of_error error) × IsPassedError t second params results error
-HasPassed m t second results (Some params) (Some o) last = IsPassedOn m t second params results o × IsNumberBy o.results last
+abbrev pub HasPassedOn : WasmModule → Tables → (second : HostCall) → (results : List Value) → (given : Option (List Value)) → (inner : Option HostOutcome) → (last : ℕ) → Type 0
+HasPassedOn m t second results None None last = (last ≡ 0) ⊎ (last ≡ number_of_error OutOfMemory)
+HasPassedOn m t second results None (Some o) last = ⊥
+HasPassedOn m t second results (Some params) None last = (error : HostError) × (last ≡ number_of_error error) × IsPassedError t second params results error
+HasPassedOn m t second results (Some params) (Some o) last = IsPassedOn m t second params results o × IsNumberBy o.results last

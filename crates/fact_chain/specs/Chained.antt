@@ -11,7 +11,7 @@ use Rattle.fact_host.specs.Contract.{HasNoCause, IsCause, IsOutcomeOf, IsReached
 use Rattle.fact_host.specs.Describes.{HasCallShapes}
 use Rattle.fact_host.specs.Rules.{CallShapes}
 use Rattle.fact_chain.specs.declared.chaining.Chained.{Chained}
-use Rattle.fact_chain.specs.Between.{HasPassed, IsPassedOn, passed_results}
+use Rattle.fact_chain.specs.Between.{HasPassedOn, IsPassedOn, passed_results}
 
 -- The second call was made exactly where the callee of the first one was given values, with these, and its caller got something.
 abbrev pub IsInner : WasmModule → Tables → (second : HostCall) → (results : List Value) → (params : Option (List Value)) → (inner : Option HostOutcome) → Type 0
@@ -32,6 +32,6 @@ pub record IsChainCause (m : WasmModule) (t : Tables) (first second : HostCall) 
   pub given : Option (List Value)
   pub inner : Option HostOutcome
   pub last : ℕ
-  pub passed : HasPassed m t second results given inner last
+  pub passed : HasPassedOn m t second results given inner last
   pub reached : (s : CallShapes) → HasCallShapes t first s → IsReachedBy m t first s args given error
   pub cause : (s : CallShapes) → HasCallShapes t first s → IsCause s args last (passed_results inner) error

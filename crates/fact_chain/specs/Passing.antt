@@ -10,7 +10,7 @@ use Rattle.fact_host.specs.declared.callee.HostError.TheVariants.{NoResults}
 use Rattle.fact_host.specs.Callees.{IsGiven, number_of_error}
 use Rattle.fact_chain.specs.declared.passing.Passed.{Passed}
 use Rattle.fact_chain.specs.declared.passing.Passing.{Passing}
-use Rattle.fact_chain.specs.Between.{CanBeCalled, HasPassed, passed_results}
+use Rattle.fact_chain.specs.Between.{CanBeCalled, HasPassedOn, passed_results}
 
 -- ---- what it tells
 
@@ -31,7 +31,7 @@ IsReady p = CanBeCalled p.module.now p.types.now p.second.now
 
 -- what it keeps is what came of its last call
 abbrev pub IsPassing : Passing → Type 0
-IsPassing p = HasPassed p.module.now p.types.now p.second.now p.results p.given p.outcome p.last
+IsPassing p = HasPassedOn p.module.now p.types.now p.second.now p.results p.given p.outcome p.last
 
 -- It makes this call, whose own callee answers these results.
 pub record IsPassingTo (m : WasmModule) (t : Tables) (second : HostCall) (results : List Value) (p : Passing) : Type 0 where
@@ -63,6 +63,6 @@ IsAnswerBy results (Err error) = results ≡ None
 
 -- What came of a call with these parameters.
 pub record IsPassed (m : WasmModule) (t : Tables) (second : HostCall) (params results : List Value) (p : Passed) : Type 0 where
-  pub holds : HasPassed m t second results p.given p.outcome (number_of_answer p.answer)
+  pub holds : HasPassedOn m t second results p.given p.outcome (number_of_answer p.answer)
   pub given_is : IsGiven p.given params
   pub answer_is : IsAnswerBy (passed_results p.outcome) p.answer

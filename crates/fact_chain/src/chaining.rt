@@ -1,7 +1,7 @@
 //! A call through two adapters.
 
 ghost use Rattle.std.specs.Prelude.{IfErr, IfOk};
-ghost use Rattle.fact_chain.specs.Between.{AreLinked, CanBeCalled};
+ghost use Rattle.fact_chain.specs.Between.{DoFit, CanBeCalled};
 ghost use Rattle.fact_chain.specs.Chained.{IsChainCause, IsChained};
 
 use crate::passing::{Passing, copied};
@@ -34,9 +34,9 @@ fn chain_to(
     ensures cause { IfErr result (IsChainCause «module».now types.now first.now second.now args.now results) }
 {
     let mut passing = Passing::new(alloc, types, module, second, results);
-    let made = call(alloc, types, module, first, args, &mut passing);
+    let outcome = call(alloc, types, module, first, args, &mut passing);
     let inner = passing.into_outcome();
-    match made {
+    match outcome {
         Ok(outer) => Ok(Chained { outer, inner }),
         Err(error) => {
             drop(inner);
@@ -59,7 +59,7 @@ pub fn chain(
 ) -> Result<Chained, HostError>
     requires first { CanBeCalled «module».now types.now first.now }
     requires second { CanBeCalled «module».now types.now second.now }
-    requires linked { AreLinked first.now second.now }
+    requires fit { DoFit first.now second.now }
     ensures chained { IfOk result (IsChained «module».now types.now first.now second.now args.now results.now) }
     ensures cause { IfErr result (IsChainCause «module».now types.now first.now second.now args.now results.now) }
 {

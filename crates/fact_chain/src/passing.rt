@@ -5,7 +5,6 @@ ghost use Rattle.fact_types.specs.Tables.{Tables as the_tables};
 ghost use Rattle.fact_values.specs.declared.value.Value.{Value as a_value};
 ghost use Rattle.fact_wasm.specs.declared.module.WasmModule.{WasmModule as a_module};
 ghost use Rattle.fact_host.specs.declared.calling.HostCall.{HostCall as a_call};
-ghost use Rattle.fact_host.specs.Callees.{number_of_error};
 ghost use Rattle.fact_host.specs.Contract.{IsFresh};
 ghost use Rattle.fact_chain.specs.Between.{CanBeCalled, IsPassedError, IsPassedOn};
 ghost use Rattle.fact_chain.specs.Passing.{IsPassed, IsPassing, IsPassingTo, IsReady, StaysPassing, answer_by, last_answer, last_error, last_given, number_of_answer};
@@ -41,9 +40,9 @@ fn call_scripted(
     ensures error { IfErr result (IsPassedError types.now second.now params.now results) }
 {
     let mut callee = Scripted::new(results);
-    let made = call(alloc, types, module, second, params, &mut callee);
+    let answer = call(alloc, types, module, second, params, &mut callee);
     drop(callee);
-    made
+    answer
 }
 
 /// Calls an adapter with these parameters, and a callee that answers copies of these results.
@@ -126,8 +125,8 @@ fn second_call_with(
     requires { CanBeCalled «module».now types.now second.now }
     ensures { IsPassed «module».now types.now second.now given results.now result }
 {
-    let made = pass_on(alloc, types, module, second, given.as_slice(), results);
-    match made {
+    let passed = pass_on(alloc, types, module, second, given.as_slice(), results);
+    match passed {
         Ok(outcome) => kept_of(alloc, given, outcome),
         Err(error) => Passed {
             given: Some(given),
@@ -159,25 +158,13 @@ fn second_call(
     }
 }
 
-/// The number of an error, which is never 0.
-fn number_of(error: HostError) -> u32
-    ensures { result ≡ number_of_error error }
-{
-    match error {
-        HostError::OutOfMemory => 1,
-        HostError::Unsuited => 2,
-        HostError::OverLimit => 3,
-        HostError::NoResults => 4,
-    }
-}
-
 /// The number of the error that is answered, 0 where there is none.
 fn number_told(answer: &Result<Seq<Value>, HostError>) -> u32
     ensures { result ≡ number_of_answer answer.now }
 {
     match answer {
         Ok(_) => 0,
-        Err(error) => number_of(*error),
+        Err(error) => error.number(),
     }
 }
 
@@ -243,7 +230,7 @@ impl Callee for Passing<'_> {
     ghost stays = { λ first last. StaysPassing first last };
 
     fn called(&mut self, params: &[Value]) -> Result<Seq<Value>, HostError> {
-        let made = second_call(
+        let passed = second_call(
             self.alloc,
             self.types,
             self.module,
@@ -255,7 +242,7 @@ impl Callee for Passing<'_> {
             given,
             outcome,
             answer,
-        } = made;
+        } = passed;
         self.given = given;
         self.outcome = outcome;
         self.last = number_told(&answer);

@@ -1,4 +1,4 @@
-//! A checker of adapter modules.
+//! A checker of adapter modules: [`check`] says of bytes whether they spell one, by its imports and by the types of its code, or why not.
 #![tactic(auto)]
 
 mod checking;

@@ -25,7 +25,7 @@ use Rattle.std.specs.Prelude.{Bool, true, false, ◌&&◌, codes, if◌then◌el
 use Rattle.fact_types.proofs.ShapeLaws.{none_some}
 use Rattle.fact_command.specs.declared.command.CommandOptions.{CommandOptions}
 use Rattle.fact_generate.specs.Generated.{most_generated}
-use Rattle.fact_command.specs.Command.{HasOneMode, are_several, are_taken, bare_command, command, flag, fuel_or_default, generated_in, in_one_mode, is_from_words, is_number, is_plain_number, is_used, least_fuel, most_fuel, number_in, option, options_in, reading, source_of}
+use Rattle.fact_command.specs.Command.{HasOneMode, are_several, are_taken, bare_command, command, flag, fuel_or_default, generated_in, in_one_mode, is_from_words, is_decimal, is_plain_number, is_used, least_fuel, most_fuel, decimal_in, option, options_in, reading, source_of}
 
 source-rows : (f : Found) (id : List ℕ) → option_and_then (λ (a : MatchedArg). a.source) (matched_of f id) ≡ source_of id (rows_of f)
 source-rows f id = go (find (λ (e : Entry). bytes_eq e.0.now id) f.entries.items) ∙ ap (option_and_then (λ (r : Row). r.source)) (sym (find_row f.entries.items id))
@@ -74,7 +74,7 @@ pub parsed : {E : Type 0} (text : List ℕ) (r : Result ℕ E) → is_plain_numb
 parsed text r h p = parse_digits numerals 32 text r p (digits-of text h).0
 
 -- a number that is too large for its type is past each bound
-pub too-large : (least most : ℕ) (text : List ℕ) → most < 2 ^ 32 → is_plain_number text ≡ true → ((0 < length text) × (digits_value 10 text < 2 ^ 32) → ⊥) → None ≡ number_in least most text
+pub too-large : (least most : ℕ) (text : List ℕ) → most < 2 ^ 32 → is_plain_number text ≡ true → ((0 < length text) × (digits_value 10 text < 2 ^ 32) → ⊥) → None ≡ decimal_in least most text
 too-large least most text small h large =
     let past : most < digits_value 10 text = elim (cases_lt (digits_value 10 text) (2 ^ 32)) [
       | inl low ↦ absurd (large ((digits-of text h).1, low))
@@ -112,16 +112,16 @@ call-behind f o e = e ∙ first_value-rows f (codes "call")
 abbrev IsWithinBounds : CommandOptions → Type 0
 IsWithinBounds o = (1 ≤ o.fuel) × IfSome o.generate (λ n. n ≤ most_generated) × HasOneMode o
 
-number-within : (least most : ℕ) (text : List ℕ) → IfSome (number_in least most text) (λ n. (least ≤ n) × (n ≤ most))
-number-within least most text = go (is_number least most text) refl
+number-within : (least most : ℕ) (text : List ℕ) → IfSome (decimal_in least most text) (λ n. (least ≤ n) × (n ≤ most))
+number-within least most text = go (is_decimal least most text) refl
   where
-    go : (b : Bool) → is_number least most text ≡ b → IfSome (if b then Some (digits_value 10 text) else None) (λ n. (least ≤ n) × (n ≤ most))
+    go : (b : Bool) → is_decimal least most text ≡ b → IfSome (if b then Some (digits_value 10 text) else None) (λ n. (least ≤ n) × (n ≤ most))
     go true e = let bounds = and_parts _ _ (and_parts _ _ e).1 in (leb-true least (digits_value 10 text) bounds.0, leb-true (digits_value 10 text) most bounds.1)
     go false e = tt
 
 fuel-behind : (o : Option (List ℕ)) → IfSome (fuel_or_default o) (λ n. 1 ≤ n)
 fuel-behind None = omega arith
-fuel-behind (Some text) = go (number_in least_fuel most_fuel text) (number-within least_fuel most_fuel text)
+fuel-behind (Some text) = go (decimal_in least_fuel most_fuel text) (number-within least_fuel most_fuel text)
   where
     go : (o : Option ℕ) → IfSome o (λ n. (least_fuel ≤ n) × (n ≤ most_fuel)) → IfSome o (λ n. 1 ≤ n)
     go None h = tt
@@ -129,7 +129,7 @@ fuel-behind (Some text) = go (number_in least_fuel most_fuel text) (number-withi
 
 number-behind : (o : Option (List ℕ)) → IfSome (generated_in o) (λ g. IfSome g (λ n. n ≤ most_generated))
 number-behind None = tt
-number-behind (Some text) = go (number_in 0 most_generated text) (number-within 0 most_generated text)
+number-behind (Some text) = go (decimal_in 0 most_generated text) (number-within 0 most_generated text)
   where
     go : (o : Option ℕ) → IfSome o (λ n. (0 ≤ n) × (n ≤ most_generated)) → IfSome (option_map Some o) (λ g. IfSome g (λ n. n ≤ most_generated))
     go None h = tt

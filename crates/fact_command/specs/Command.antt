@@ -59,21 +59,21 @@ is_plain_number [] = false
 is_plain_number (d ∷ []) = is_ascii_digit d
 is_plain_number (d ∷ e ∷ ds) = not (d == 48) && list_all is_ascii_digit (d ∷ e ∷ ds)
 
-abbrev pub is_number : (least most : ℕ) → List ℕ → Bool
-is_number least most text = is_plain_number text && (nat_le least (digits_value 10 text) && nat_le (digits_value 10 text) most)
+abbrev pub is_decimal : (least most : ℕ) → List ℕ → Bool
+is_decimal least most text = is_plain_number text && (nat_le least (digits_value 10 text) && nat_le (digits_value 10 text) most)
 
 -- the number that a text is, where it is within bounds
-abbrev pub number_in : (least most : ℕ) → List ℕ → Option ℕ
-number_in least most text = if is_number least most text then Some (digits_value 10 text) else None
+abbrev pub decimal_in : (least most : ℕ) → List ℕ → Option ℕ
+decimal_in least most text = if is_decimal least most text then Some (digits_value 10 text) else None
 
 abbrev pub fuel_or_default : Option (List ℕ) → Option ℕ
 fuel_or_default None = Some default_fuel
-fuel_or_default (Some text) = number_in least_fuel most_fuel text
+fuel_or_default (Some text) = decimal_in least_fuel most_fuel text
 
 -- how many adapters are generated, where any number of them is asked for
 abbrev pub generated_in : Option (List ℕ) → Option (Option ℕ)
 generated_in None = Some None
-generated_in (Some text) = option_map Some (number_in 0 most_generated text)
+generated_in (Some text) = option_map Some (decimal_in 0 most_generated text)
 
 -- ---- the reading
 

@@ -5,11 +5,9 @@ use Rattle.std.specs.Fmt.{decimal}
 use Rattle.hex.specs.Hex.{encode_lower}
 use Rattle.fact_types.specs.declared.outside.CoreDef.{CoreDef}
 use Rattle.fact_types.specs.declared.outside.CoreDef.TheVariants as def
-use Rattle.fact_types.specs.declared.outside.UnsafeIntrinsic.{UnsafeIntrinsic}
-use Rattle.fact_types.specs.declared.outside.UnsafeIntrinsic.TheVariants as slot
 use Rattle.fact_types.specs.declared.import.Import.{Import}
 use Rattle.fact_types.specs.declared.import.Import.TheVariants as known
-use Rattle.fact_emit.specs.Runtime.{trap_number}
+use Rattle.fact_emit.specs.Runtime.{slot_name, trap_number}
 use Rattle.fact_emit.specs.TranscoderNames.{transcode_name}
 
 -- a core definition: an export by its instance and its name in lower-case hex
@@ -30,12 +28,6 @@ width_text wide = if wide then codes "64" else codes "32"
 abbrev pub memory_text : Bool → CoreDef → List ℕ
 memory_text wide d = width_text wide ++ (codes " " ++ def_text d)
 
-abbrev pub intrinsic_text : UnsafeIntrinsic → List ℕ
-intrinsic_text slot.ContextGetI32_0 = codes "get0"
-intrinsic_text slot.ContextGetI32_1 = codes "get1"
-intrinsic_text slot.ContextSetI32_0 = codes "set0"
-intrinsic_text slot.ContextSetI32_1 = codes "set1"
-
 -- an import, by what it stands for
 abbrev pub import_text : Import → List ℕ
 import_text (known.CoreDef d) = codes "core-def " ++ def_text d
@@ -51,7 +43,7 @@ import_text known.ErrorContextTransfer = codes "error-context-transfer"
 import_text (known.Trap t) = codes "trap " ++ decimal (trap_number t)
 import_text known.EnterSyncCall = codes "enter-sync-call"
 import_text known.ExitSyncCall = codes "exit-sync-call"
-import_text (known.UnsafeIntrinsic i) = codes "unsafe-intrinsic " ++ intrinsic_text i
+import_text (known.UnsafeIntrinsic i) = codes "unsafe-intrinsic " ++ slot_name i
 
 abbrev pub import_line : Import → List ℕ
 import_line i = import_text i ++ 10 ∷ []

@@ -9,7 +9,7 @@ ghost use Rattle.clap.specs.Simple.{app_of, with_rule};
 ghost use Rattle.clap.specs.Walk.{first_of, rows_of, rule_of};
 ghost use Rattle.clap.specs.Matches.{found_of};
 ghost use Rattle.fact_generate.specs.Generated.{most_generated};
-ghost use Rattle.fact_command.specs.Command.{HasOneMode, are_several, bare_command, command, flag, fuel_or_default, generated_in, in_one_mode, is_from_words, is_plain_number, is_used, number_in, option, options_in, reading};
+ghost use Rattle.fact_command.specs.Command.{HasOneMode, are_several, bare_command, command, flag, fuel_or_default, generated_in, in_one_mode, is_from_words, is_plain_number, is_used, decimal_in, option, options_in, reading};
 
 use clap::error::ErrorKind;
 use clap::parser::ValueSource;
@@ -107,7 +107,7 @@ fn is_plain_number(text: &[u8]) -> bool
 
 /// The number that a text is, where it is in its form and within bounds.
 fn number_in(text: &str, least: u32, most: u32) -> Option<u32>
-    ensures { result ≡ number_in least most text.now }
+    ensures { result ≡ decimal_in least most text.now }
 {
     if !is_plain_number(text.as_bytes()) {
         return None;

@@ -1,13 +1,12 @@
 //! The printed lines of what a module imports.
 
 ghost use Rattle.std.specs.Prelude.{◌≡◌, ◌++◌, IfOk, codes, string_bytes};
-ghost use Rattle.fact_command.specs.ImportLines.{def_text, import_lines, import_text, intrinsic_text, memory_text, optional_text, width_text};
-ghost use Rattle.fact_emit.specs.Runtime.{trap_number};
+ghost use Rattle.fact_command.specs.ImportLines.{def_text, import_lines, import_text, memory_text, optional_text, width_text};
 ghost use Rattle.fact_emit.specs.TranscoderNames.{transcode_name as transcode_name_of};
 
-use fact_emit::transcoders::transcode_name;
+use fact_emit::{slot_name, transcode_name, trap_number};
 use fact_entity::EntityRef;
-use fact_types::{CoreDef, Import, Transcode, Trap, UnsafeIntrinsic};
+use fact_types::{CoreDef, Import, Transcode};
 use fact_wasm::OutOfMemory;
 use std::alloc::Global;
 
@@ -47,37 +46,6 @@ fn width(wide: bool) -> &'static str
     if wide { "64" } else { "32" }
 }
 
-fn intrinsic(intrinsic: UnsafeIntrinsic) -> &'static str
-    ensures { result.now ≡ intrinsic_text intrinsic }
-{
-    match intrinsic {
-        UnsafeIntrinsic::ContextGetI32_0 => "get0",
-        UnsafeIntrinsic::ContextGetI32_1 => "get1",
-        UnsafeIntrinsic::ContextSetI32_0 => "set0",
-        UnsafeIntrinsic::ContextSetI32_1 => "set1",
-    }
-}
-
-fn trap_number(trap: Trap) -> u8
-    ensures { result ≡ trap_number trap }
-{
-    match trap {
-        Trap::CannotLeaveComponent => 0,
-        Trap::CannotEnterComponent => 1,
-        Trap::MemoryOutOfBounds => 2,
-        Trap::StringOutOfBounds => 3,
-        Trap::ListOutOfBounds => 4,
-        Trap::UnalignedPointer => 5,
-        Trap::InvalidChar => 6,
-        Trap::InvalidDiscriminant => 7,
-        Trap::UncaughtException => 8,
-        Trap::DebugAssertPointerAligned => 9,
-        Trap::DebugAssertUpperBitsUnset => 10,
-        Trap::DebugAssertStringEncodingFinished => 11,
-        Trap::DebugAssertEqualCodeUnits => 12,
-    }
-}
-
 /// A memory, behind the width of its pointers.
 fn memory_text(alloc: Global, wide: bool, def: &CoreDef) -> Result<String, OutOfMemory>
     ensures { IfOk result (λ text. string_bytes text ≡ memory_text wide def.now) }
@@ -94,9 +62,22 @@ fn transcode_text(alloc: Global, op: Transcode, from: &str, to: &str) -> Result<
     format!(in alloc; "transcode {op} {from} {to}")
 }
 
-fn start_call_text(alloc: Global, callback: &str, post_return: &str) -> Result<String, OutOfMemory>
-    ensures { IfOk result (λ text. string_bytes text ≡ codes "start-call " ++ (callback.now ++ (codes " " ++ post_return.now))) }
+fn prepare_call_text(alloc: Global, memory: &Option<CoreDef>) -> Result<String, OutOfMemory>
+    ensures { IfOk result (λ text. string_bytes text ≡ codes "prepare-call " ++ optional_text memory.now) }
 {
+    let memory = optional_text(alloc, memory)?;
+    format!(in alloc; "prepare-call {memory}")
+}
+
+fn start_call_text(
+    alloc: Global,
+    callback: &Option<CoreDef>,
+    post_return: &Option<CoreDef>,
+) -> Result<String, OutOfMemory>
+    ensures { IfOk result (λ text. string_bytes text ≡ codes "start-call " ++ (optional_text callback.now ++ (codes " " ++ optional_text post_return.now))) }
+{
+    let callback = optional_text(alloc, callback)?;
+    let post_return = optional_text(alloc, post_return)?;
     format!(in alloc; "start-call {callback} {post_return}")
 }
 
@@ -122,18 +103,11 @@ fn import_text(alloc: Global, import: &Import) -> Result<String, OutOfMemory>
         }
         Import::ResourceTransferOwn => String::from_str(alloc, "resource-transfer-own"),
         Import::ResourceTransferBorrow => String::from_str(alloc, "resource-transfer-borrow"),
-        Import::PrepareCall { memory } => {
-            let memory = optional_text(alloc, memory)?;
-            format!(in alloc; "prepare-call {memory}")
-        }
+        Import::PrepareCall { memory } => prepare_call_text(alloc, memory),
         Import::StartCall {
             callback,
             post_return,
-        } => {
-            let callback = optional_text(alloc, callback)?;
-            let post_return = optional_text(alloc, post_return)?;
-            start_call_text(alloc, &callback, &post_return)
-        }
+        } => start_call_text(alloc, callback, post_return),
         Import::FutureTransfer => String::from_str(alloc, "future-transfer"),
         Import::StreamTransfer => String::from_str(alloc, "stream-transfer"),
         Import::ErrorContextTransfer => String::from_str(alloc, "error-context-transfer"),
@@ -144,7 +118,7 @@ fn import_text(alloc: Global, import: &Import) -> Result<String, OutOfMemory>
         Import::EnterSyncCall => String::from_str(alloc, "enter-sync-call"),
         Import::ExitSyncCall => String::from_str(alloc, "exit-sync-call"),
         Import::UnsafeIntrinsic(slot) => {
-            let slot = intrinsic(*slot);
+            let slot = slot_name(*slot);
             format!(in alloc; "unsafe-intrinsic {slot}")
         }
     }

@@ -9,21 +9,21 @@ use Rattle.fact_wasm.specs.declared.types.ValType.{ValType}
 use Rattle.fact_types.specs.Adapters.{Side, LinkedAdapter, is_wide}
 use Rattle.fact_types.specs.Signatures.{address, flat_values, lift_results_limit, lower_limit}
 use Rattle.fact_machine.specs.Typing.{address_type}
-use Rattle.fact_moves.specs.Sides.{options_of}
+use Rattle.fact_actions.specs.Sides.{options_of}
 use Rattle.fact_types.specs.declared.import.Import.TheVariants as import
 use Rattle.fact_types.specs.ImportTypes.{post_return_type}
 use Rattle.fact_types.specs.declared.outside.CoreDef.{CoreDef}
 use Rattle.fact_types.proofs.ShapeLaws.{same_some}
-use Rattle.fact_moves.specs.Adapters.{flat_results, lift_signature_of}
-use Rattle.fact_moves.specs.Running.{ImportPlaces}
-use Rattle.fact_pieces.specs.Knows.{KnowsFlags, KnowsFunction, KnowsMemory}
+use Rattle.fact_actions.specs.Adapters.{flat_results, lift_signature_of}
+use Rattle.fact_actions.specs.Running.{ImportPlaces}
+use Rattle.fact_code_laws.specs.Knows.{KnowsFlags, KnowsFunction, KnowsMemory}
 use Rattle.fact_emit.specs.Areas.{IsLinearMemoryOf}
 use Rattle.fact_emit.specs.Requests.{IsReallocOf}
-use Rattle.fact_emit.specs.AdapterLinks.{AdapterLinks, SideLinks}
+use Rattle.fact_emit.specs.AdapterImports.{AdapterImports, SideImports}
 use Rattle.fact_emit.specs.ImportSection.{custom_page_size}
 use Rattle.fact_emit.specs.KnownAdapters.{KnowsAdapter, KnowsFunctionAt, KnowsSide}
 use Rattle.fact_emit.specs.Options.{number_if_any}
-use Rattle.fact_emit.proofs.LinkLaws.{linear_memory_of}
+use Rattle.fact_emit.proofs.KnownImports.{linear_memory_of}
 use Rattle.fact_compound.specs.Described.{HasNewTupleMemory, HasTupleMemory, KnowsAdapterData, KnowsPostReturn, KnowsSideData, linear_of}
 use Rattle.fact_compound.specs.Placed.{AreOptionsOf, HasMemoriesFor, HasMemoryOption, HasReallocOption, IsDataOf}
 use Rattle.fact_compound.specs.declared.adapters.AdapterOptions.{AdapterOptions}
@@ -45,7 +45,7 @@ knows_post M p None (Some f) place e at same knows = absurd (let no : false ≡ 
 knows_post M p (Some n) None place e at same knows = absurd (let no : true ≡ false = e in cc)
 
 module _ (M : WasmModule) (p : ImportPlaces) where
-  module _ (s : Side) (at : SideLinks) (o : AdapterOptions) (knows : KnowsSide M p s at) (options : AreOptionsOf s at o) where
+  module _ (s : Side) (at : SideImports) (o : AdapterOptions) (knows : KnowsSide M p s at) (options : AreOptionsOf s at o) where
     -- the memory of a side that has one
     side_memory : HasMemoryOption s → IsLinearMemoryOf M p (options_of s) (linear_of o)
     side_memory (m, is) =
@@ -73,7 +73,7 @@ module _ (M : WasmModule) (p : ImportPlaces) where
     links_side = record { flags = subst (λ n. KnowsFlags M p s.instance n) (sym options.flags) knows.flags }
 
   -- The callee's core type is that of the lift side's signature.
-  pub links_adapter : (a : LinkedAdapter) (at : AdapterLinks) (d : AdapterData) → KnowsAdapter M p a at → IsDataOf a at d
+  pub links_adapter : (a : LinkedAdapter) (at : AdapterImports) (d : AdapterData) → KnowsAdapter M p a at → IsDataOf a at d
       → a.lift.core_type ≡ record { params = (lift_signature_of a).params; results = (lift_signature_of a).results } → HasMemoriesFor a → KnowsAdapterData M p d a
   links_adapter a at d knows is signature needs =
       let lift_memory = side_memory a.lift at.lift d.lift knows.lift is.lift in

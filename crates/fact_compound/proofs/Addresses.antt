@@ -8,10 +8,10 @@ use Rattle.fact_machine.specs.declared.types.CoreValue.TheVariants.{I32, I64, F3
 use Rattle.fact_machine.specs.Typed.{is_value}
 use Rattle.fact_machine.specs.Typing.{address_bits, address_type, address_operand}
 use Rattle.fact_values.specs.Lift.{bits_of}
-use Rattle.fact_moves.specs.Adapters.{last_bits}
-use Rattle.fact_moves.specs.Sides.{first_bits}
-use Rattle.fact_pieces.specs.Does.{Locals}
-use Rattle.fact_pieces.specs.Places.{Slot, AreHeld, AreLocals, AreUsed}
+use Rattle.fact_actions.specs.Adapters.{last_bits}
+use Rattle.fact_actions.specs.Sides.{first_bits}
+use Rattle.fact_code_laws.specs.Does.{Locals}
+use Rattle.fact_code_laws.specs.Places.{Slot, AreHeld, AreLocals, AreUsed}
 use Rattle.fact_compound.specs.Passing.{last_local}
 use Rattle.fact_compound.proofs.ResultMoves.{Pointed}
 use Rattle.fact_compound.proofs.SyncSteps.{slot_types}

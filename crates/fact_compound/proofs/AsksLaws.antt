@@ -199,7 +199,7 @@ brought_new {old} {new} {code} asks b calls =
       ];
     }
 
-pub emits_new : {a b : Writer} {P : Piece} → Emits a b P → AreNewAsked [] a.imports b.imports
+pub emits_new : {a b : Writer} {P : Piece} → Emits a b P → AreNewAsked [] a.sections b.sections
 emits_new x = brought_new [] x.grew.brought x.grew.calls
 
 -- ---- what is asked for is asked for later
@@ -253,9 +253,9 @@ asked_here t sides below s (a ∷ asks) h =
     let x : IsAsked t sides below s a = h.0 in
     (record { tables = x.tables; debug_is = x.debug; concurrency_is = x.concurrency; there = x.there; writable = record { from_live = x.from_live; to_live = x.to_live; imported = record { realloc = x.imported.realloc; from_memory = x.imported.from_memory; to_memory = x.imported.to_memory; from_wide = x.imported.from_wide; to_wide = x.imported.to_wide } } }, asked_here t sides below s asks h.1)
 
-pub asks_of_moves : {t : Tables} {sides : Sides} {below : ℕ} {asks : List AskedHelper} {old new : Writer} → AreAsked t sides below new.imports asks → GrewAsking asks old new
-    → AsksFor t sides.debug sides.concurrency asks old.imports new.imports
-asks_of_moves {t} {sides} {below} {asks} {new = new} h grew = record { asked = asked_here t sides below new.imports asks h.each; new_asked = brought_new asks grew.brought grew.calls }
+pub asks_of_moves : {t : Tables} {sides : Sides} {below : ℕ} {asks : List AskedHelper} {old new : Writer} → AreAsked t sides below new.sections asks → GrewAsking asks old new
+    → AsksFor t sides.debug sides.concurrency asks old.sections new.sections
+asks_of_moves {t} {sides} {below} {asks} {new = new} h grew = record { asked = asked_here t sides below new.sections asks h.each; new_asked = brought_new asks grew.brought grew.calls }
 
 -- ---- the function that hands a call on
 

@@ -11,19 +11,19 @@ use Rattle.fact_types.specs.Tables.{Tables}
 use Rattle.fact_machine.specs.Machine.{have_types}
 use Rattle.fact_machine.specs.declared.types.CoreValue.{CoreValue}
 use Rattle.fact_machine.specs.declared.types.CoreValue.TheVariants.{I32}
-use Rattle.fact_moves.specs.Actions.{Action, Give, ◌>>=◌}
-use Rattle.fact_moves.specs.Adapters.{AdapterTunables, async_return, async_start, cleared, flat_results, get_flags, last_bits, lift_signature_of, move_params, move_results}
-use Rattle.fact_moves.specs.Running.{ImportPlaces}
-use Rattle.fact_pieces.specs.Does.{Locals, Onward, held_types, Does}
-use Rattle.fact_pieces.specs.Knows.{KnowsFlags}
-use Rattle.fact_pieces.specs.PieceLaws.{HaveResultTypes}
-use Rattle.fact_pieces.specs.Places.{Slot, AreHeld, AreLocals, AreUsed, KeepsLocals, IsNone}
-use Rattle.fact_pieces.specs.Typed.{OnStack, IsTyped}
-use Rattle.fact_pieces.proofs.Blocks.{alone, same_run, weaker}
-use Rattle.fact_pieces.proofs.Primitives as primitive
-use Rattle.fact_pieces.proofs.Rules.{within, in_turn, local_set, done}
-use Rattle.fact_pieces.proofs.TypedRows.{takes_global_get, takes_local_set}
-use Rattle.fact_pieces.proofs.TypingLaws.{typed_then, typed_next}
+use Rattle.fact_actions.specs.Actions.{Action, Give, ◌>>=◌}
+use Rattle.fact_actions.specs.Adapters.{AdapterTunables, async_return, async_start, cleared, flat_results, get_flags, last_bits, lift_signature_of, move_params, move_results}
+use Rattle.fact_actions.specs.Running.{ImportPlaces}
+use Rattle.fact_code_laws.specs.Does.{Locals, Onward, held_types, Does}
+use Rattle.fact_code_laws.specs.Knows.{KnowsFlags}
+use Rattle.fact_code_laws.specs.PieceLaws.{HaveResultTypes}
+use Rattle.fact_code_laws.specs.Places.{Slot, AreHeld, AreLocals, AreUsed, KeepsLocals, IsNone}
+use Rattle.fact_code_laws.specs.Typed.{OnStack, IsTyped}
+use Rattle.fact_code_laws.proofs.Blocks.{alone, same_run, weaker}
+use Rattle.fact_code_laws.proofs.Primitives as primitive
+use Rattle.fact_code_laws.proofs.Rules.{within, in_turn, local_set, done}
+use Rattle.fact_code_laws.proofs.TypedRows.{takes_global_get, takes_local_set}
+use Rattle.fact_code_laws.proofs.TypingLaws.{typed_then, typed_next}
 use Rattle.fact_emit.specs.Asked.{AskedHelper}
 use Rattle.fact_emit.specs.Emits.{Grew, EmitsAsking}
 use Rattle.fact_emit.specs.Pieces.{Is, Piece}

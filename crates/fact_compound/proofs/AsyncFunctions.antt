@@ -21,13 +21,13 @@ use Rattle.fact_types.specs.Signatures.{address, async_return_signature, async_s
 use Rattle.fact_types.specs.Tables.{Tables}
 use Rattle.fact_types.specs.declared.signature.SideSig.{SideSig}
 use Rattle.fact_types.specs.declared.signature.Signature.{Signature}
-use Rattle.fact_moves.specs.Adapters.{AdapterTunables, flat_results, lift_signature_of, lowered_flats}
-use Rattle.fact_moves.specs.Running.{ImportPlaces}
-use Rattle.fact_pieces.specs.Does.{Onward, Does, held_types}
-use Rattle.fact_pieces.specs.PieceLaws.{HaveResultTypes}
-use Rattle.fact_pieces.specs.Places.{AreHeld, AreLocals, AreUsed}
-use Rattle.fact_pieces.specs.Typed.{OnStack, IsTyped}
-use Rattle.fact_pieces.proofs.TypedShapes.{typed_body}
+use Rattle.fact_actions.specs.Adapters.{AdapterTunables, flat_results, lift_signature_of, lowered_flats}
+use Rattle.fact_actions.specs.Running.{ImportPlaces}
+use Rattle.fact_code_laws.specs.Does.{Onward, Does, held_types}
+use Rattle.fact_code_laws.specs.PieceLaws.{HaveResultTypes}
+use Rattle.fact_code_laws.specs.Places.{AreHeld, AreLocals, AreUsed}
+use Rattle.fact_code_laws.specs.Typed.{OnStack, IsTyped}
+use Rattle.fact_code_laws.proofs.TypedShapes.{typed_body}
 use Rattle.fact_emit.specs.Brought.{Brought}
 use Rattle.fact_emit.specs.Asked.{HasHelper, HasHelpers}
 use Rattle.fact_emit.specs.Emits.{Later}
@@ -208,7 +208,7 @@ module _ {t : Tables} {d : AdapterData} {debug concurrency : Bool} (x : AsyncPar
               distinct = all_distinct;
             }
 
-    body_does : (M : WasmModule) (p : ImportPlaces) → Serves M p f.imports → HasHelpers M p y.asks → KnowsAdapterData M p d a → DoesPartBody x u a M p (types_of_locals f) f.code.items
+    body_does : (M : WasmModule) (p : ImportPlaces) → Serves M p f.sections → HasHelpers M p y.asks → KnowsAdapterData M p d a → DoesPartBody x u a M p (types_of_locals f) f.code.items
     body_does M p serves has links =
         let g = y.emits u a h on in
         let later : Later f M p (types_of_locals f) = record { serves = serves; begin = grows_none refl } in
@@ -227,9 +227,9 @@ module _ {t : Tables} {d : AdapterData} {debug concurrency : Bool} (x : AsyncPar
       let body : f.code.items ≡ g.added = g.code ∙ ap (λ k. k ++ g.added) (added.code ∙ no_code) in
       let first : Grows s.params types = record { more = val.I32 ∷ s.results; is = refl } in
       record {
-        imports = subst (λ s. Extended s f.imports) added.imports g.imports;
+        imports = subst (λ s. Extended s f.sections) added.imports g.imports;
         once = λ o. g.once (subst AreOnce (sym added.imports) o);
-        brought = brought_between added.imports refl (subst (Brought e.imports f.imports) (sym body) g.brought);
+        brought = brought_between added.imports refl (subst (Brought e.sections f.sections) (sym body) g.brought);
         params = grows_on first (subst (λ ts. Grows ts (types_of_locals f)) types_are g.locals);
         numbers = λ n. g.numbers (subst (λ ts. AreNumberTypes ts) (sym types_are) (numbers_append s.params (val.I32 ∷ s.results) (numbers_front s.params s.results n) (numbers_append (val.I32 ∷ []) s.results refl (numbers_behind s.params s.results n))));
         asks = y.asks;
@@ -241,7 +241,7 @@ module _ {t : Tables} {d : AdapterData} {debug concurrency : Bool} (x : AsyncPar
 
 -- ---- the function
 
-module _ {t : Tables} {d : AdapterData} {debug concurrency : Bool} {x : AsyncPart} {s : Signature} {ty : ℕ} {fuel : ℕ} {before_fuel : Fuel} (full : IsFullFuel before_fuel) (same_fuel : before_fuel.initial ≡ fuel) {a0 c : Writer} (w : WroteBodyOfPart t d debug concurrency x s before_fuel a0 c) {old new : ModuleSoFar} (before : a0.imports ≡ old) (after : new ≡ c.imports) (f : WasmFunc)
+module _ {t : Tables} {d : AdapterData} {debug concurrency : Bool} {x : AsyncPart} {s : Signature} {ty : ℕ} {fuel : ℕ} {before_fuel : Fuel} (full : IsFullFuel before_fuel) (same_fuel : before_fuel.initial ≡ fuel) {a0 c : Writer} (w : WroteBodyOfPart t d debug concurrency x s before_fuel a0 c) {old new : ModuleSoFar} (before : a0.sections ≡ old) (after : new ≡ c.sections) (f : WasmFunc)
     (ty_is : f.ty ≡ ty) (body_is : f.body ≡ c.code.items) (locals_are : local_types f.locals ≡ map (λ (l : Local). l.ty) (drop (length s.params) c.locals.items)) where
   declared : local_types f.locals ≡ w.params.more
   declared = locals_are ∙ drop_mapped (λ (l : Local). l.ty) (length s.params) c.locals.items ∙ ap (drop (length s.params)) w.params.is ∙ drop_long s.params w.params.more
@@ -278,7 +278,7 @@ module _ {t : Tables} {d : AdapterData} {debug concurrency : Bool} {x : AsyncPar
   pub wrote_part : WrotePart t d debug concurrency fuel x s ty old new f
   wrote_part = record {
     ty = ty_is;
-    imports = subst (λ s. Extended s new) before (subst (λ s. Extended a0.imports s) (sym after) w.imports);
+    imports = subst (λ s. Extended s new) before (subst (λ s. Extended a0.sections s) (sym after) w.imports);
     once = λ o. subst AreOnce (sym after) (w.once (subst AreOnce (sym before) o));
     brought = subst (Brought old new) (sym body_is) (brought_between before (sym after) w.brought);
     asks = w.asks;

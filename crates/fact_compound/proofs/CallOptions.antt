@@ -8,7 +8,7 @@ use Rattle.fact_types.specs.Handles.{has_borrow, have_borrow}
 use Rattle.fact_types.specs.Shapes.{Shape}
 use Rattle.fact_types.specs.Tables.{Tables}
 use Rattle.fact_types.specs.Tuples.{members_from, tuple_of}
-use Rattle.fact_moves.specs.Adapters.{AdapterTunables}
+use Rattle.fact_actions.specs.Adapters.{AdapterTunables}
 use Rattle.fact_compound.specs.Described.{DescribesAdapter}
 use Rattle.fact_compound.specs.Events.{AreCallOptions, AreSetTo, AsksCalls}
 use Rattle.fact_compound.specs.declared.adapters.AdapterData.{AdapterData}

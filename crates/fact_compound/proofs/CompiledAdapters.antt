@@ -6,7 +6,7 @@ use Rattle.fact_wasm.specs.declared.module.WasmFunc.{WasmFunc}
 use Rattle.fact_wasm.specs.declared.module.WasmModule.{WasmModule}
 use Rattle.fact_machine.proofs.Tests.{get_append}
 use Rattle.fact_types.specs.Tables.{Tables}
-use Rattle.fact_moves.specs.Running.{ImportPlaces}
+use Rattle.fact_actions.specs.Running.{ImportPlaces}
 use Rattle.fact_emit.specs.Asked.{AskedHelper, HasHelpers}
 use Rattle.fact_emit.specs.Imports.{Extended}
 use Rattle.fact_emit.specs.States.{ModuleSoFar, next_number, with_numbered}

@@ -26,8 +26,8 @@ use Rattle.fact_types.proofs.AlignLaws.{aligned_bounds, inside_tagged}
 use Rattle.fact_types.proofs.FieldLaws.{greatest_align_pos}
 use Rattle.fact_types.proofs.PlaceLaws.{align_pos, ends_within}
 use Rattle.fact_types.proofs.ValidLaws.{valid_counted}
-use Rattle.fact_moves.specs.Adapters.{results_number}
-use Rattle.fact_moves.specs.Sides.{options_of, width_of_side}
+use Rattle.fact_actions.specs.Adapters.{results_number}
+use Rattle.fact_actions.specs.Sides.{options_of, width_of_side}
 use Rattle.fact_compound.specs.Passing.{tuple_size}
 use Rattle.fact_compound.proofs.Flats.{by_each, each_are, upto_some, values_of}
 

@@ -14,8 +14,8 @@ use Rattle.fact_types.specs.Valid.{IsValid}
 use Rattle.fact_types.specs.declared.flats.FlatType.{FlatType}
 use Rattle.fact_types.specs.declared.interface.InterfaceType.{InterfaceType}
 use Rattle.fact_machine.specs.Numerics.{truth}
-use Rattle.fact_moves.specs.Adapters.{encoding_number, results_number}
-use Rattle.fact_moves.specs.Sides.{options_of, width_of_side}
+use Rattle.fact_actions.specs.Adapters.{encoding_number, results_number}
+use Rattle.fact_actions.specs.Sides.{options_of, width_of_side}
 use Rattle.fact_compound.specs.Described.{DescribesEntry, DescribesSide, is_marked_type}
 use Rattle.fact_compound.specs.Entries.{call_facts, tuple_of_results, whether_any}
 use Rattle.fact_compound.specs.Passing.{tuple_size}

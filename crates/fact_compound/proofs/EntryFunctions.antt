@@ -29,16 +29,16 @@ use Rattle.fact_types.specs.declared.import.Import.TheVariants as known
 use Rattle.fact_types.specs.declared.outside.CoreDef.{CoreDef}
 use Rattle.fact_types.specs.declared.signature.SideSig.{SideSig}
 use Rattle.fact_types.specs.declared.signature.Signature.{Signature}
-use Rattle.fact_moves.specs.Actions.{◌>>=◌}
-use Rattle.fact_moves.specs.Adapters.{async_call, def_of_memory, lift_signature_of, lower_signature_of, make_call, prepare_args, start_args}
-use Rattle.fact_moves.specs.Running.{ImportPlaces}
-use Rattle.fact_moves.specs.Sides.{options_of}
-use Rattle.fact_pieces.specs.Does.{Onward, Does}
-use Rattle.fact_pieces.specs.Knows.{KnowsFunction}
-use Rattle.fact_pieces.specs.PieceLaws.{HaveResultTypes}
-use Rattle.fact_pieces.specs.Places.{AreLocals}
-use Rattle.fact_pieces.specs.Typed.{OnStack, IsTyped}
-use Rattle.fact_pieces.proofs.TypedShapes.{typed_body}
+use Rattle.fact_actions.specs.Actions.{◌>>=◌}
+use Rattle.fact_actions.specs.Adapters.{async_call, def_of_memory, lift_signature_of, lower_signature_of, make_call, prepare_args, start_args}
+use Rattle.fact_actions.specs.Running.{ImportPlaces}
+use Rattle.fact_actions.specs.Sides.{options_of}
+use Rattle.fact_code_laws.specs.Does.{Onward, Does}
+use Rattle.fact_code_laws.specs.Knows.{KnowsFunction}
+use Rattle.fact_code_laws.specs.PieceLaws.{HaveResultTypes}
+use Rattle.fact_code_laws.specs.Places.{AreLocals}
+use Rattle.fact_code_laws.specs.Typed.{OnStack, IsTyped}
+use Rattle.fact_code_laws.proofs.TypedShapes.{typed_body}
 use Rattle.fact_emit.specs.Imports.{AreOnce, Extended, Serves}
 use Rattle.fact_emit.specs.PlacesOf.{with_place}
 use Rattle.fact_emit.specs.States.{HasType, KeepsDefined, ModuleSoFar, export_as, functions_of, globals_of, memories_of, with_import}

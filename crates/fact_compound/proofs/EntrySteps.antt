@@ -19,19 +19,19 @@ use Rattle.fact_machine.specs.declared.types.CoreValue.TheVariants.{Func, I32}
 use Rattle.fact_machine.proofs.RowLaws.{leaves_i32_const, leaves_ref_defined, leaves_ref_import}
 use Rattle.fact_machine.proofs.Tests.{both, first_of, second_of}
 use Rattle.fact_types.specs.declared.import.Import.{Import}
-use Rattle.fact_moves.specs.Actions.{Action, ◌>>=◌}
-use Rattle.fact_moves.specs.Adapters.{make_call}
-use Rattle.fact_moves.specs.Running.{ImportPlaces}
-use Rattle.fact_pieces.specs.Does.{Locals, Onward, Does, PushesValue}
-use Rattle.fact_pieces.specs.Knows.{KnowsFunction}
-use Rattle.fact_pieces.specs.Places.{AreHeld, AreLocals}
-use Rattle.fact_pieces.specs.Typed.{OnStack, IsTyped}
-use Rattle.fact_pieces.proofs.Numbers.{value_type}
-use Rattle.fact_pieces.proofs.Primitives.{ask}
-use Rattle.fact_pieces.proofs.Rules.{done, pushing, within}
-use Rattle.fact_pieces.proofs.Slots.{ask_none}
-use Rattle.fact_pieces.proofs.TypedRows.{takes_import, takes_plain}
-use Rattle.fact_pieces.proofs.TypingLaws.{Takes, by_row, typed_done, typed_next, typed_one, typed_then}
+use Rattle.fact_actions.specs.Actions.{Action, ◌>>=◌}
+use Rattle.fact_actions.specs.Adapters.{make_call}
+use Rattle.fact_actions.specs.Running.{ImportPlaces}
+use Rattle.fact_code_laws.specs.Does.{Locals, Onward, Does, PushesValue}
+use Rattle.fact_code_laws.specs.Knows.{KnowsFunction}
+use Rattle.fact_code_laws.specs.Places.{AreHeld, AreLocals}
+use Rattle.fact_code_laws.specs.Typed.{OnStack, IsTyped}
+use Rattle.fact_code_laws.proofs.Numbers.{value_type}
+use Rattle.fact_code_laws.proofs.Primitives.{ask}
+use Rattle.fact_code_laws.proofs.Rules.{done, pushing, within}
+use Rattle.fact_code_laws.proofs.Slots.{ask_none}
+use Rattle.fact_code_laws.proofs.TypedRows.{takes_import, takes_plain}
+use Rattle.fact_code_laws.proofs.TypingLaws.{Takes, by_row, typed_done, typed_next, typed_one, typed_then}
 use Rattle.fact_emit.specs.TaskTypes.{prepare_call_type, prepare_fixed_types, start_call_type}
 use Rattle.fact_steps.specs.Code.{pushed_code}
 use Rattle.fact_compound.specs.Entries.{IsHandedOn, arguments_code, constants_code, entry_code}

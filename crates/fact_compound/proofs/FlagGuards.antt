@@ -16,29 +16,29 @@ use Rattle.fact_machine.proofs.Laws.{leaves_then, leaves_early, leaves_steps}
 use Rattle.fact_wasm.specs.declared.types.ValType.TheVariants as val
 use Rattle.fact_machine.proofs.RowLaws.{leaves_br_if_taken}
 use Rattle.fact_machine.proofs.Structure.{enters_empty, leaves_block}
-use Rattle.fact_moves.specs.Actions.{Action, trap, unless}
-use Rattle.fact_moves.specs.Running.{ImportPlaces, Ended, Gave, Halted, Strayed, run}
-use Rattle.fact_pieces.specs.Code.{trap_code}
-use Rattle.fact_pieces.specs.Does.{Locals, Way, Outward, held_types, EndsOn, Does}
-use Rattle.fact_pieces.specs.Knows.{KnowsFunction, KnowsFlags}
-use Rattle.fact_pieces.proofs.Primitives.{calls_trap}
-use Rattle.fact_pieces.proofs.Rules.{IsSet}
+use Rattle.fact_actions.specs.Actions.{Action, trap, unless}
+use Rattle.fact_actions.specs.Running.{ImportPlaces, Ended, Gave, Halted, Strayed, run}
+use Rattle.fact_code_laws.specs.Code.{trap_code}
+use Rattle.fact_code_laws.specs.Does.{Locals, Way, Outward, held_types, EndsOn, Does}
+use Rattle.fact_code_laws.specs.Knows.{KnowsFunction, KnowsFlags}
+use Rattle.fact_code_laws.proofs.Primitives.{calls_trap}
+use Rattle.fact_code_laws.proofs.Rules.{IsSet}
 use Rattle.fact_machine.proofs.RowLaws.{leaves_global_get, leaves_local_tee, leaves_br_if_zero}
 use Rattle.std.specs.Prelude.{option_and_then}
 use Rattle.fact_wasm.specs.declared.instr.Instr.TheOpen as op
 use Rattle.fact_machine.specs.Typing.{Known, change}
 use Rattle.fact_machine.proofs.TypingRows.{changed}
-use Rattle.fact_pieces.specs.Typed.{OnStack}
-use Rattle.fact_pieces.proofs.TypingLaws.{Takes, by_row}
-use Rattle.fact_pieces.specs.Does.{EndsOn}
+use Rattle.fact_code_laws.specs.Typed.{OnStack}
+use Rattle.fact_code_laws.proofs.TypingLaws.{Takes, by_row}
+use Rattle.fact_code_laws.specs.Does.{EndsOn}
 use Rattle.fact_steps.specs.Code.{may_leave_code}
-use Rattle.fact_pieces.proofs.Blocks.{ends_target}
-use Rattle.fact_pieces.proofs.Rules.{ends_after, early_stop, strays_early, follows, is_set}
-use Rattle.fact_pieces.proofs.Runs.{no_heavier}
-use Rattle.fact_pieces.proofs.Worlds.{typed_flags}
+use Rattle.fact_code_laws.proofs.Blocks.{ends_target}
+use Rattle.fact_code_laws.proofs.Rules.{ends_after, early_stop, strays_early, follows, is_set}
+use Rattle.fact_code_laws.proofs.Runs.{no_heavier}
+use Rattle.fact_code_laws.proofs.Worlds.{typed_flags}
 use Rattle.fact_machine.specs.Machine.{i32_of}
-use Rattle.fact_moves.specs.Actions.{GetFlags, trap}
-use Rattle.fact_moves.specs.Running.{Ended, Gave, Halted, Strayed, run, is_state, or_strayed}
+use Rattle.fact_actions.specs.Actions.{GetFlags, trap}
+use Rattle.fact_actions.specs.Running.{Ended, Gave, Halted, Strayed, run, is_state, or_strayed}
 
 -- code that never gives anything, whatever stands behind it and below
 never_gives : {A : Type 0} {M : WasmModule} {p : ImportPlaces} {way way' : Way} {extra extra' spare spare' : ℕ} {w : World} {vs : List CoreValue} {ls : Locals} {c : List Instr} {below below' : List CoreValue} {out out' : A → List CoreValue} {Holds : A → Locals → Type 0}

@@ -14,8 +14,8 @@ use Rattle.fact_types.proofs.CountLaws.{count_is_length}
 use Rattle.fact_types.specs.Shapes.{Shape, layout_of}
 use Rattle.fact_types.specs.Signatures.{width, flat_values, lift_results_limit, lower_limit}
 use Rattle.fact_types.specs.Tuples.{members_from, tuple_members, tuple_of}
-use Rattle.fact_moves.specs.Adapters.{lowered_flats}
-use Rattle.fact_pieces.specs.Places.{Slot}
+use Rattle.fact_actions.specs.Adapters.{lowered_flats}
+use Rattle.fact_code_laws.specs.Places.{Slot}
 use Rattle.fact_emit.specs.Fitting.{IsSlotFor, AreRoom}
 
 pub upto_some : {X : Type 0} (n : ℕ) (xs : List X) → length xs ≤ n → upto n xs ≡ Some xs

@@ -5,9 +5,9 @@ use Rattle.fact_types.specs.Fields.{Field, field_of}
 use Rattle.fact_types.specs.FlatShapes.{flat, flat_members, AreCounted}
 use Rattle.fact_types.specs.Shapes.{Members, no_members, bare, typed, next_of}
 use Rattle.fact_machine.specs.declared.types.CoreValue.{CoreValue}
-use Rattle.fact_moves.specs.Actions.{Give, ◌>>=◌}
-use Rattle.fact_moves.specs.Moves.{flat_length, part, spot, past, with_field, move, move_fields}
-use Rattle.fact_moves.specs.Sides.{Transfer, Values, Target, width_of_side}
+use Rattle.fact_actions.specs.Actions.{Give, ◌>>=◌}
+use Rattle.fact_actions.specs.Moves.{flat_length, part, spot, past, with_field, move, move_fields}
+use Rattle.fact_actions.specs.Sides.{Transfer, Values, Target, width_of_side}
 use Rattle.fact_kinds.proofs.Found.{IsAmong, among}
 
 take_front : {X : Type 0} (n : ℕ) (xs more : List X) → n ≤ length xs → take n (xs ++ more) ≡ take n xs

@@ -13,7 +13,7 @@ use Rattle.fact_types.specs.Functions.{HaveShapes, HasSignature}
 use Rattle.fact_types.specs.Shapes.{Shape}
 use Rattle.fact_types.specs.Tables.{Tables, Node, tuple_node, placed, HasShape, HasMembers, IsLive}
 use Rattle.fact_types.specs.Tuples.{members_from, tuple_of}
-use Rattle.fact_moves.specs.Adapters.{lowered_flats}
+use Rattle.fact_actions.specs.Adapters.{lowered_flats}
 
 have_members : (t : Tables) (n : ℕ) (xs : List InterfaceType) (ss : List Shape) → HaveShapes t xs ss → HasMembers t (placed n xs) (members_from n ss)
 have_members t n [] [] h = tt

@@ -15,16 +15,16 @@ use Rattle.fact_types.specs.Shapes.{Shape}
 use Rattle.fact_types.specs.Signatures.{width}
 use Rattle.fact_types.specs.Tables.{Tables}
 use Rattle.fact_types.specs.declared.signature.Signature.{Signature}
-use Rattle.fact_moves.specs.Alike.{source_as_i64}
-use Rattle.fact_moves.specs.Moves.{move}
-use Rattle.fact_moves.specs.Running.{ImportPlaces}
-use Rattle.fact_moves.specs.Sides.{LiftLowerOptions, width_of_side}
-use Rattle.fact_pieces.specs.Does.{Does, Onward}
-use Rattle.fact_pieces.specs.Helpers.{AreGiven, AreResultSlots, flat_target, given_out, result_code, get_code}
-use Rattle.fact_pieces.specs.Places.{From, InLocals, InMemory, To, ToLocals, ToMemory, Moves, AreLocals, Rooms, Slot, transfer}
-use Rattle.fact_pieces.specs.Typed.{OnStack, IsTyped}
-use Rattle.fact_pieces.proofs.HelperMoves.{helper_bodies_move}
-use Rattle.fact_pieces.proofs.TypingLaws.{typed_then}
+use Rattle.fact_actions.specs.Alike.{source_as_i64}
+use Rattle.fact_actions.specs.Moves.{move}
+use Rattle.fact_actions.specs.Running.{ImportPlaces}
+use Rattle.fact_actions.specs.Sides.{LiftLowerOptions, width_of_side}
+use Rattle.fact_code_laws.specs.Does.{Does, Onward}
+use Rattle.fact_code_laws.specs.Helpers.{AreGiven, AreResultSlots, flat_target, given_out, result_code, get_code}
+use Rattle.fact_code_laws.specs.Places.{From, InLocals, InMemory, To, ToLocals, ToMemory, Moves, AreLocals, Rooms, Slot, transfer}
+use Rattle.fact_code_laws.specs.Typed.{OnStack, IsTyped}
+use Rattle.fact_code_laws.proofs.HelperMoves.{helper_bodies_move}
+use Rattle.fact_code_laws.proofs.TypingLaws.{typed_then}
 use Rattle.fact_emit.specs.Asked.{AskedHelper, HasHelpers, IsFoundAt, IsPutAt, flats_given, sides_of_helper}
 use Rattle.fact_emit.specs.Brought.{Brought}
 use Rattle.fact_emit.specs.Emits.{EmitsAsking, Grew, GrewAsking, Later}
@@ -146,7 +146,7 @@ module _ {t : Tables} {debug concurrency : Bool} (k : Helper) {s : Signature} {b
   taken_at : (i : ℕ) → i < length types → taken_in c i ≡ true
   taken_at i lt = ap (λ ls. is_local_in_use (slice_get ls i)) added_locals ∙ ap is_local_in_use (get_map used_local_of types i (get_or types i val.I32) (slice_get-get_or types i val.I32 lt))
 
-  module _ (number : ℕ) {M : WasmModule} {p : ImportPlaces} (serves : Serves M p f.imports) (has : HasHelpers M p y.asks) {x u : Shape} {src : From} {dst : To} {from to : LiftLowerOptions}
+  module _ (number : ℕ) {M : WasmModule} {p : ImportPlaces} (serves : Serves M p f.sections) (has : HasHelpers M p y.asks) {x u : Shape} {src : From} {dst : To} {from to : LiftLowerOptions}
       (uses : UsesHelper M p (asked_as t debug concurrency (k, number)) x u src dst from to) (params_is : s.params ≡ helper_params k x) (results_is : s.results ≡ helper_results k u) where
     abbrev a : AskedHelper
     a = asked_as t debug concurrency (k, number)
@@ -272,14 +272,14 @@ module _ {t : Tables} {debug concurrency : Bool} (k : Helper) {s : Signature} {b
       let body : f.code.items ≡ whole.added = whole.code ∙ ap (λ l. l ++ whole.added) (added.code ∙ no_code) in
       let first : Grows s.params types = record { more = s.results; is = refl } in
       record {
-        imports = subst (λ q. Extended q f.imports) added.imports whole.imports;
+        imports = subst (λ q. Extended q f.sections) added.imports whole.imports;
         once = λ o. whole.once (subst AreOnce (sym added.imports) o);
-        brought = brought_between added.imports refl (subst (Brought c.imports f.imports) (sym body) whole.brought);
+        brought = brought_between added.imports refl (subst (Brought c.sections f.sections) (sym body) whole.brought);
         params = grows_on first (subst (λ ts. Grows ts (types_of_locals f)) types_are whole.locals);
         numbers = λ n. whole.numbers (subst (λ ts. AreNumberTypes ts) (sym types_are) n);
         asks = y.asks;
         asked = asks_same added.imports refl (asks_kept pushed.imports (asks_of_moves y.asked y.grew) (new_none z.imports));
-        lower = all_lower t (sides_between k debug concurrency) k e.imports y.asks y.asked.each;
+        lower = all_lower t (sides_between k debug concurrency) k e.sections y.asks y.asked.each;
         named = ap defined_named body ∙ whole.calls ∙ ap (map (λ (a : AskedHelper). a.number)) (append-nil y.asks);
         keys = λ full. record {
           along = λ r x u hx hu cx cu can from to.

@@ -22,15 +22,15 @@ use Rattle.fact_types.specs.Signatures.{flat_or, flat_values, width}
 use Rattle.fact_types.specs.Tables.{HasShape, Tables}
 use Rattle.fact_types.specs.declared.interface.InterfaceType.{InterfaceType}
 use Rattle.fact_types.specs.declared.signature.Signature.{Signature}
-use Rattle.fact_moves.specs.Moves.{move}
-use Rattle.fact_moves.specs.Running.{ImportPlaces}
-use Rattle.fact_moves.specs.Sides.{LiftLowerOptions, width_of_side}
-use Rattle.fact_moves.specs.Alike.{source_as_i64}
-use Rattle.fact_pieces.specs.Does.{Does, Onward, held_types}
-use Rattle.fact_pieces.specs.Helpers.{AreGiven, AreValues, IsHelper, args_of_source, args_of_target, flat_target, given_out, params_of_source, params_of_target, results_of_target}
-use Rattle.fact_pieces.specs.Places.{From, InLocals, InMemory, To, ToLocals, ToMemory, Rooms, Slot, transfer}
-use Rattle.fact_pieces.specs.Typed.{OnStack, IsTyped}
-use Rattle.fact_pieces.proofs.TypedShapes.{typed_body}
+use Rattle.fact_actions.specs.Moves.{move}
+use Rattle.fact_actions.specs.Running.{ImportPlaces}
+use Rattle.fact_actions.specs.Sides.{LiftLowerOptions, width_of_side}
+use Rattle.fact_actions.specs.Alike.{source_as_i64}
+use Rattle.fact_code_laws.specs.Does.{Does, Onward, held_types}
+use Rattle.fact_code_laws.specs.Helpers.{AreGiven, AreValues, IsHelper, args_of_source, args_of_target, flat_target, given_out, params_of_source, params_of_target, results_of_target}
+use Rattle.fact_code_laws.specs.Places.{From, InLocals, InMemory, To, ToLocals, ToMemory, Rooms, Slot, transfer}
+use Rattle.fact_code_laws.specs.Typed.{OnStack, IsTyped}
+use Rattle.fact_code_laws.proofs.TypedShapes.{typed_body}
 use Rattle.fact_emit.specs.Asked.{AskedHelper, HasHelpers, flats_given, sides_of_helper}
 use Rattle.fact_emit.specs.Brought.{Brought}
 use Rattle.fact_emit.specs.Fitting.{CanRead, bytes_of_shape}
@@ -149,7 +149,7 @@ params_numbers l k m n x u = numbers_append (params_at l m x ++ target_params k 
 
 module _ {t : Tables} {debug concurrency : Bool} {k : Helper} {s : Signature} {ty : ℕ} {fuel : ℕ} {before_fuel : Fuel} (full : IsFullFuel before_fuel) (same_fuel : before_fuel.initial ≡ fuel) {a0 c : Writer} (sig : IsHelperSignature t k s) (w : WroteHelperBody t debug concurrency k s before_fuel a0 c) {q0 q1 new : ModuleSoFar}
     (place : slice_get q1.types ty ≡ Some (signature s.params s.results)) (declares : HasType q0 q1 (signature s.params s.results)) (keeps : Extended q0 q1) (once : AreOnce q0 → AreOnce q1)
-    (before : a0.imports ≡ q1) (after : new ≡ c.imports) (f : WasmFunc) (ty_is : f.ty ≡ ty) (body_is : f.body ≡ c.code.items) (locals_are : local_types f.locals ≡ map (λ (l : Local). l.ty) (drop (length s.params) c.locals.items)) where
+    (before : a0.sections ≡ q1) (after : new ≡ c.sections) (f : WasmFunc) (ty_is : f.ty ≡ ty) (body_is : f.body ≡ c.code.items) (locals_are : local_types f.locals ≡ map (λ (l : Local). l.ty) (drop (length s.params) c.locals.items)) where
   declared : local_types f.locals ≡ w.params.more
   declared = locals_are ∙ drop_mapped (λ (l : Local). l.ty) (length s.params) c.locals.items ∙ ap (drop (length s.params)) w.params.is ∙ drop_long s.params w.params.more
 
@@ -157,7 +157,7 @@ module _ {t : Tables} {debug concurrency : Bool} {k : Helper} {s : Signature} {t
   all_types = w.params.is ∙ ap (λ ts. s.params ++ ts) (sym declared)
 
   grown : Extended q1 new
-  grown = subst (λ q. Extended q new) before (subst (λ q. Extended a0.imports q) (sym after) w.imports)
+  grown = subst (λ q. Extended q new) before (subst (λ q. Extended a0.sections q) (sym after) w.imports)
 
   module _ (number : ℕ) {M : WasmModule} {p : ImportPlaces} (serves : Serves M p new) (types : Grows new.types M.types) (there : slice_get M.funcs number ≡ Some f) (has : HasHelpers M p w.asks)
       {x u : Shape} {src : From} {dst : To} {from to : LiftLowerOptions} (uses : UsesHelper M p (asked_as t debug concurrency (k, number)) x u src dst from to) where

@@ -16,12 +16,12 @@ use Rattle.fact_types.specs.Shapes.{Shape}
 use Rattle.fact_types.specs.Signatures.{width}
 use Rattle.fact_machine.specs.Typing.{address_bits, address_operand, address_type}
 use Rattle.fact_machine.specs.declared.types.CoreValue.{CoreValue}
-use Rattle.fact_moves.specs.Alike.{source_as_i64}
-use Rattle.fact_moves.specs.Running.{ImportPlaces}
-use Rattle.fact_moves.specs.Sides.{LiftLowerOptions, Source, Values, AtAddress, Target, Slots, Into, width_of_side}
-use Rattle.fact_pieces.specs.Does.{Locals, held_types}
-use Rattle.fact_pieces.specs.Helpers.{IsSourceOf, IsTargetOf, SourceHasRoom, TargetHasRoom, args_of_source, args_of_target, flat_target}
-use Rattle.fact_pieces.specs.Places.{Slot, From, InLocals, InMemory, To, ToLocals, ToMemory, AreFree, AreHeld, AreLocals, AreUsed, FromRoom, FromUsed, MayGo, SideMemory, StandsAt, ToRoom, ToUsed}
+use Rattle.fact_actions.specs.Alike.{source_as_i64}
+use Rattle.fact_actions.specs.Running.{ImportPlaces}
+use Rattle.fact_actions.specs.Sides.{LiftLowerOptions, Source, Values, AtAddress, Target, Slots, Into, width_of_side}
+use Rattle.fact_code_laws.specs.Does.{Locals, held_types}
+use Rattle.fact_code_laws.specs.Helpers.{IsSourceOf, IsTargetOf, SourceHasRoom, TargetHasRoom, args_of_source, args_of_target, flat_target}
+use Rattle.fact_code_laws.specs.Places.{Slot, From, InLocals, InMemory, To, ToLocals, ToMemory, AreFree, AreHeld, AreLocals, AreUsed, FromRoom, FromUsed, MayGo, SideMemory, StandsAt, ToRoom, ToUsed}
 use Rattle.fact_emit.specs.Asked.{flats_given}
 use Rattle.fact_emit.specs.Fitting.{AreRoom, CanRead, CanWrite, FromWithin, IsSlotFor, ToWithin}
 use Rattle.fact_emit.specs.Places.{HasDistinctSlots, TargetTaken}

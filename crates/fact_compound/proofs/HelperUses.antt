@@ -19,11 +19,11 @@ use Rattle.fact_types.specs.Shapes.{Shape}
 use Rattle.fact_types.specs.Signatures.{flat_values, lift_results_limit, lower_limit, width}
 use Rattle.fact_types.specs.Tables.{HasShape, Tables}
 use Rattle.fact_types.specs.Tuples.{tuple_members}
-use Rattle.fact_moves.specs.Adapters.{AdapterTunables, flat_results}
-use Rattle.fact_moves.specs.Outlining.{HelperKey, Memory, Route, RouteEnd, Stack, ValuePlace, helper_asks, params_route, place_if_flat, results_route, translates_params, translates_results}
-use Rattle.fact_moves.specs.Running.{ImportPlaces}
-use Rattle.fact_moves.specs.Sides.{LiftLowerOptions, options_of, width_of_side}
-use Rattle.fact_pieces.specs.Places.{AreLocals, From, InLocals, InMemory, Rooms, SideMemory, To, ToLocals, ToMemory}
+use Rattle.fact_actions.specs.Adapters.{AdapterTunables, flat_results}
+use Rattle.fact_actions.specs.Outlining.{HelperKey, Memory, Route, RouteEnd, Stack, ValuePlace, helper_asks, params_route, place_if_flat, results_route, translates_params, translates_results}
+use Rattle.fact_actions.specs.Running.{ImportPlaces}
+use Rattle.fact_actions.specs.Sides.{LiftLowerOptions, options_of, width_of_side}
+use Rattle.fact_code_laws.specs.Places.{AreLocals, From, InLocals, InMemory, Rooms, SideMemory, To, ToLocals, ToMemory}
 use Rattle.fact_emit.specs.Areas.{IsLinearMemoryOf}
 use Rattle.fact_emit.specs.Asked.{AskedHelper, IsFoundAt, IsPutAt, flats_given}
 use Rattle.fact_emit.specs.Fitting.{AreRoom, CanRead, CanWrite, FromWithin, ToWithin, bytes_of_shape}

@@ -5,7 +5,7 @@ use Rattle.std.proofs.lemmas.List.Elements.{Contains-append_cases, Contains-push
 use Rattle.fact_wasm.specs.declared.module.WasmModule.{WasmModule}
 use Rattle.fact_wasm.specs.declared.module.WasmFunc.{WasmFunc}
 use Rattle.fact_types.specs.Tables.{Tables}
-use Rattle.fact_moves.specs.Running.{ImportPlaces}
+use Rattle.fact_actions.specs.Running.{ImportPlaces}
 use Rattle.fact_emit.specs.Asked.{AskedHelper, entry_of}
 use Rattle.fact_emit.specs.States.{ModuleSoFar, next_number}
 use Rattle.fact_emit.specs.declared.helpers.Helper.{Helper}

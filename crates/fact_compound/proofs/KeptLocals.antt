@@ -3,7 +3,7 @@ use Rattle.std.proofs.Common.{◌≡◌, ℕ, Bool, true, false, ◌||◌, List,
 use Rattle.std.specs.Prelude.{nat_eq}
 use Rattle.std.proofs.lemmas.Bool.{eqb-true, eqb-false, eq-eqb, ne_eqb}
 use Rattle.fact_wasm.specs.declared.types.ValType.{ValType}
-use Rattle.fact_pieces.specs.Places.{Slot, AreLocals, AreUsed, IsNone}
+use Rattle.fact_code_laws.specs.Places.{Slot, AreLocals, AreUsed, IsNone}
 use Rattle.fact_emit.specs.Places.{AreDistinctSlots}
 use Rattle.fact_compound.proofs.SyncSteps.{among, AreUnused}
 

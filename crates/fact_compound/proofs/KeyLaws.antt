@@ -15,9 +15,9 @@ use Rattle.fact_types.specs.Tables.{Tables}
 use Rattle.fact_types.specs.Tuples.{members_from, tuple_members, tuple_of}
 use Rattle.fact_types.specs.declared.interface.InterfaceType.{InterfaceType}
 use Rattle.fact_types.specs.declared.interface.InterfaceType.TheVariants as ty
-use Rattle.fact_moves.specs.Adapters.{AdapterTunables, lowered_flats}
-use Rattle.fact_moves.specs.Outlining.{HelperKey, Route, Translated, asked_before, cost, helper_asks, params_route, place_if_flat, results_route, translates, translates_fields, translates_if, translates_none, translates_params, translates_results}
-use Rattle.fact_pieces.specs.Places.{From, Slot, To}
+use Rattle.fact_actions.specs.Adapters.{AdapterTunables, lowered_flats}
+use Rattle.fact_actions.specs.Outlining.{HelperKey, Route, Translated, asked_before, cost, helper_asks, params_route, place_if_flat, results_route, translates, translates_fields, translates_if, translates_none, translates_params, translates_results}
+use Rattle.fact_code_laws.specs.Places.{From, Slot, To}
 use Rattle.fact_emit.specs.Asked.{AskedHelper}
 use Rattle.fact_emit.specs.declared.helpers.HelperLocation.{HelperLocation}
 use Rattle.fact_emit.specs.declared.helpers.HelperLocation.TheVariants as location

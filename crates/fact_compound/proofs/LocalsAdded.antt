@@ -5,7 +5,7 @@ use Rattle.fact_wasm.specs.declared.types.ValType.{ValType}
 use Rattle.fact_wasm.specs.declared.types.ValType.TheVariants as val
 use Rattle.fact_types.specs.Tables.{Tables}
 use Rattle.fact_types.specs.declared.signature.Signature.{Signature}
-use Rattle.fact_pieces.specs.Places.{Slot}
+use Rattle.fact_code_laws.specs.Places.{Slot}
 use Rattle.fact_emit.specs.Places.{slots_of_locals}
 use Rattle.fact_emit.specs.Writers.{used_local_of, AddedLocal}
 use Rattle.fact_emit.specs.declared.places.TypedLocal.{TypedLocal}

@@ -19,20 +19,20 @@ use Rattle.fact_machine.specs.declared.types.CoreValue.{CoreValue}
 use Rattle.fact_machine.specs.declared.types.CoreValue.TheVariants.{I32}
 use Rattle.fact_machine.specs.Typed.{is_value}
 use Rattle.fact_machine.specs.Typing.{address_bits, address_operand}
-use Rattle.fact_moves.specs.Actions as action
-use Rattle.fact_moves.specs.Actions.{Action, Ask, Give, ◌>>=◌, ◌>>◌}
-use Rattle.fact_moves.specs.Adapters.{AdapterTunables, params_transfer, into_params, check_tuple, move_params}
-use Rattle.fact_moves.specs.Moves.{entry_extent, move_fields}
-use Rattle.fact_moves.specs.Running.{ImportPlaces}
-use Rattle.fact_moves.specs.Sides.{LiftLowerOptions, Source, Target, Values, Slots, AtAddress, Into, options_of, first_bits, address_value, check_region, get_slots, reallocate, set_slots, type_of_addresses}
-use Rattle.fact_pieces.specs.Does.{Locals, Onward, held_types, Does}
-use Rattle.fact_pieces.specs.Typed.{OnStack, IsTyped}
-use Rattle.fact_pieces.specs.Places.{Slot, AreHeld, AreLocals, AreUsed, FromUsed, ToUsed, KeepsLocals, Stood, MayGo, transfer, InRooms, Rooms, Setting}
-use Rattle.fact_pieces.proofs.Blocks.{mapped, weaker}
-use Rattle.fact_pieces.proofs.Keeping.{keeps_all, keeps_then, held_kept}
-use Rattle.fact_pieces.proofs.Rules.{within, in_turn, done}
-use Rattle.fact_pieces.proofs.TypingLaws.{typed_done, typed_then}
-use Rattle.fact_pieces.proofs.UsedLocals.{with_local, local_here, local_more}
+use Rattle.fact_actions.specs.Actions as action
+use Rattle.fact_actions.specs.Actions.{Action, Ask, Give, ◌>>=◌, ◌>>◌}
+use Rattle.fact_actions.specs.Adapters.{AdapterTunables, params_transfer, into_params, check_tuple, move_params}
+use Rattle.fact_actions.specs.Moves.{entry_extent, move_fields}
+use Rattle.fact_actions.specs.Running.{ImportPlaces}
+use Rattle.fact_actions.specs.Sides.{LiftLowerOptions, Source, Target, Values, Slots, AtAddress, Into, options_of, first_bits, address_value, check_region, get_slots, reallocate, set_slots, type_of_addresses}
+use Rattle.fact_code_laws.specs.Does.{Locals, Onward, held_types, Does}
+use Rattle.fact_code_laws.specs.Typed.{OnStack, IsTyped}
+use Rattle.fact_code_laws.specs.Places.{Slot, AreHeld, AreLocals, AreUsed, FromUsed, ToUsed, KeepsLocals, Stood, MayGo, transfer, InRooms, Rooms, Setting}
+use Rattle.fact_code_laws.proofs.Blocks.{mapped, weaker}
+use Rattle.fact_code_laws.proofs.Keeping.{keeps_all, keeps_then, held_kept}
+use Rattle.fact_code_laws.proofs.Rules.{within, in_turn, done}
+use Rattle.fact_code_laws.proofs.TypingLaws.{typed_done, typed_then}
+use Rattle.fact_code_laws.proofs.UsedLocals.{with_local, local_here, local_more}
 use Rattle.fact_emit.specs.Areas.{IsLinearMemoryOf}
 use Rattle.fact_emit.specs.Fitting.{FitsShapes}
 use Rattle.fact_emit.specs.NewAreas.{HoldsArea}

@@ -14,13 +14,13 @@ use Rattle.fact_types.specs.Tuples.{tuple_members}
 use Rattle.fact_machine.specs.Typed.{are_values}
 use Rattle.fact_machine.specs.declared.types.CoreValue.{CoreValue}
 use Rattle.fact_machine.proofs.Tests.{both}
-use Rattle.fact_moves.specs.Actions.{Action}
-use Rattle.fact_moves.specs.Adapters.{AdapterTunables, move_params}
-use Rattle.fact_moves.specs.Running.{ImportPlaces}
-use Rattle.fact_pieces.specs.Does.{Locals, Onward, Does}
-use Rattle.fact_pieces.specs.Places.{Slot, AreHeld, KeepsLocals}
-use Rattle.fact_pieces.proofs.Keeping.{keeps_all}
-use Rattle.fact_pieces.proofs.Rules.{done, visit}
+use Rattle.fact_actions.specs.Actions.{Action}
+use Rattle.fact_actions.specs.Adapters.{AdapterTunables, move_params}
+use Rattle.fact_actions.specs.Running.{ImportPlaces}
+use Rattle.fact_code_laws.specs.Does.{Locals, Onward, Does}
+use Rattle.fact_code_laws.specs.Places.{Slot, AreHeld, KeepsLocals}
+use Rattle.fact_code_laws.proofs.Keeping.{keeps_all}
+use Rattle.fact_code_laws.proofs.Rules.{done, visit}
 use Rattle.fact_steps.specs.PassedOn.{ArePassedOn, is_passed_on}
 use Rattle.fact_compound.specs.PassedOn.{visits, core_type_of}
 use Rattle.fact_compound.proofs.Flats.{are_flat, flat_values_some}

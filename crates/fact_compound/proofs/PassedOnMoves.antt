@@ -22,10 +22,10 @@ use Rattle.fact_machine.specs.declared.types.CoreValue.{CoreValue}
 use Rattle.fact_machine.specs.declared.types.CoreValue.TheVariants as value
 use Rattle.fact_machine.specs.Typed.{is_value, are_values}
 use Rattle.fact_machine.proofs.Tests.{first_of, second_of, both}
-use Rattle.fact_moves.specs.Actions.{Action, Give, Visit, ◌>>=◌}
-use Rattle.fact_moves.specs.Adapters.{AdapterTunables, params_transfer, move_params}
-use Rattle.fact_moves.specs.Moves.{aligned_source, aligned_target, part, spot, past, with_field, move, move_fields}
-use Rattle.fact_moves.specs.Sides.{LiftLowerOptions, Transfer, Values, Slots, low_half, width_of_side}
+use Rattle.fact_actions.specs.Actions.{Action, Give, Visit, ◌>>=◌}
+use Rattle.fact_actions.specs.Adapters.{AdapterTunables, params_transfer, move_params}
+use Rattle.fact_actions.specs.Moves.{aligned_source, aligned_target, part, spot, past, with_field, move, move_fields}
+use Rattle.fact_actions.specs.Sides.{LiftLowerOptions, Transfer, Values, Slots, low_half, width_of_side}
 use Rattle.fact_kinds.proofs.SourceMembers.{same_place, other_place}
 use Rattle.fact_steps.specs.PassedOn.{ArePassedOn, is_passed_on}
 use Rattle.fact_compound.specs.PassedOn.{core_type_of, visits}

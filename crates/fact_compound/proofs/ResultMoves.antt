@@ -13,18 +13,18 @@ use Rattle.fact_types.specs.Tuples.{tuple_members, tuple_of}
 use Rattle.fact_types.specs.declared.outside.Trap.TheVariants.{MemoryOutOfBounds}
 use Rattle.fact_machine.specs.declared.types.CoreValue.{CoreValue}
 use Rattle.fact_machine.specs.Typing.{address_bits, address_type, address_operand}
-use Rattle.fact_moves.specs.Actions.{Action, Give, ◌>>=◌}
-use Rattle.fact_moves.specs.Adapters.{AdapterTunables, results_transfer, check_tuple, from_values, into_results, flat_results, move_results}
-use Rattle.fact_moves.specs.Moves.{move_fields}
-use Rattle.fact_moves.specs.Running.{ImportPlaces}
-use Rattle.fact_moves.specs.Sides.{LiftLowerOptions, Source, Values, Slots, AtAddress, Into, Target, options_of, first_bits, check_region}
-use Rattle.fact_pieces.specs.Does.{Locals, Onward, held_types, Does}
-use Rattle.fact_pieces.specs.Places.{Slot, AreHeld, AreLocals, AreUsed, KeepsLocals, InRooms, Rooms, Setting, transfer, is_on, StandsAt, MayGo, Stood}
-use Rattle.fact_pieces.proofs.Keeping.{keeps_all, keeps_then, held_kept}
-use Rattle.fact_pieces.specs.Typed.{OnStack, IsTyped}
-use Rattle.fact_pieces.proofs.TypingLaws.{typed_done, typed_then}
-use Rattle.fact_pieces.proofs.Blocks.{weaker}
-use Rattle.fact_pieces.proofs.Rules.{within, in_turn, done}
+use Rattle.fact_actions.specs.Actions.{Action, Give, ◌>>=◌}
+use Rattle.fact_actions.specs.Adapters.{AdapterTunables, results_transfer, check_tuple, from_values, into_results, flat_results, move_results}
+use Rattle.fact_actions.specs.Moves.{move_fields}
+use Rattle.fact_actions.specs.Running.{ImportPlaces}
+use Rattle.fact_actions.specs.Sides.{LiftLowerOptions, Source, Values, Slots, AtAddress, Into, Target, options_of, first_bits, check_region}
+use Rattle.fact_code_laws.specs.Does.{Locals, Onward, held_types, Does}
+use Rattle.fact_code_laws.specs.Places.{Slot, AreHeld, AreLocals, AreUsed, KeepsLocals, InRooms, Rooms, Setting, transfer, is_on, StandsAt, MayGo, Stood}
+use Rattle.fact_code_laws.proofs.Keeping.{keeps_all, keeps_then, held_kept}
+use Rattle.fact_code_laws.specs.Typed.{OnStack, IsTyped}
+use Rattle.fact_code_laws.proofs.TypingLaws.{typed_done, typed_then}
+use Rattle.fact_code_laws.proofs.Blocks.{weaker}
+use Rattle.fact_code_laws.proofs.Rules.{within, in_turn, done}
 use Rattle.fact_emit.specs.Areas.{IsLinearMemoryOf}
 use Rattle.fact_emit.specs.Fitting.{CanRead, CanWrite, MovesTuple, FitsShapes, AddressFits}
 use Rattle.fact_emit.specs.Places.{checks_at, setting_of, Using}

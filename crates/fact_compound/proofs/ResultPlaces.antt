@@ -13,12 +13,12 @@ use Rattle.fact_types.specs.Tables.{Tables}
 use Rattle.fact_types.specs.Tuples.{tuple_members}
 use Rattle.fact_machine.specs.Typing.{address_type}
 use Rattle.fact_machine.specs.declared.types.CoreValue.{CoreValue}
-use Rattle.fact_moves.specs.Adapters.{AdapterTunables, results_transfer, flat_results, lowered_flats, last_bits, move_results}
-use Rattle.fact_moves.specs.Running.{ImportPlaces}
-use Rattle.fact_moves.specs.Sides.{AtAddress, options_of, first_bits}
-use Rattle.fact_pieces.specs.Does.{Locals, Onward, held_types, Does}
-use Rattle.fact_pieces.specs.Places.{Slot, FromUsed, ToUsed, AreHeld, AreLocals, AreUsed, KeepsLocals}
-use Rattle.fact_pieces.specs.Typed.{OnStack, IsTyped}
+use Rattle.fact_actions.specs.Adapters.{AdapterTunables, results_transfer, flat_results, lowered_flats, last_bits, move_results}
+use Rattle.fact_actions.specs.Running.{ImportPlaces}
+use Rattle.fact_actions.specs.Sides.{AtAddress, options_of, first_bits}
+use Rattle.fact_code_laws.specs.Does.{Locals, Onward, held_types, Does}
+use Rattle.fact_code_laws.specs.Places.{Slot, FromUsed, ToUsed, AreHeld, AreLocals, AreUsed, KeepsLocals}
+use Rattle.fact_code_laws.specs.Typed.{OnStack, IsTyped}
 use Rattle.fact_emit.specs.Places.{AreDistinctSlots, TargetTaken, HasDistinctSlots, Using}
 use Rattle.fact_compound.specs.Described.{DescribesTransfers, KnowsAdapterData, HasTupleMemory, linear_of}
 use Rattle.fact_compound.specs.Passed.{MovesResults}

@@ -21,15 +21,15 @@ use Rattle.fact_types.specs.declared.signature.Signature.{Signature}
 use Rattle.fact_machine.specs.Exits.{entry_locals}
 use Rattle.fact_machine.specs.Typing.{Operands, Open, declares_numbers, ends, is_empty, is_typed_body, is_typed_function, local_types, pop_all}
 use Rattle.fact_machine.proofs.Tests.{both}
-use Rattle.fact_moves.specs.Adapters.{lower_signature_of, same_instance}
-use Rattle.fact_moves.specs.Running.{ImportPlaces}
-use Rattle.fact_pieces.specs.Code.{trap_code}
-use Rattle.fact_pieces.specs.Does.{Onward, Does}
-use Rattle.fact_pieces.specs.Knows.{KnowsFunction}
-use Rattle.fact_pieces.specs.PieceLaws.{HaveResultTypes}
-use Rattle.fact_pieces.specs.Typed.{Never, IsTyped}
-use Rattle.fact_pieces.proofs.Primitives.{calls_trap}
-use Rattle.fact_pieces.proofs.TypedShapes.{typed_trap}
+use Rattle.fact_actions.specs.Adapters.{lower_signature_of, same_instance}
+use Rattle.fact_actions.specs.Running.{ImportPlaces}
+use Rattle.fact_code_laws.specs.Code.{trap_code}
+use Rattle.fact_code_laws.specs.Does.{Onward, Does}
+use Rattle.fact_code_laws.specs.Knows.{KnowsFunction}
+use Rattle.fact_code_laws.specs.PieceLaws.{HaveResultTypes}
+use Rattle.fact_code_laws.specs.Typed.{Never, IsTyped}
+use Rattle.fact_code_laws.proofs.Primitives.{calls_trap}
+use Rattle.fact_code_laws.proofs.TypedShapes.{typed_trap}
 use Rattle.fact_emit.specs.Imports.{AreOnce, Extended, HasImport}
 use Rattle.fact_emit.specs.NamedFunctions.{imported_named}
 use Rattle.fact_emit.specs.States.{HasType, IsTrapImported, KeepsDefined, ModuleSoFar, export_as, functions_of, globals_of, memories_of}

@@ -4,8 +4,8 @@ use Rattle.fact_wasm.specs.declared.types.ValType.{ValType}
 use Rattle.fact_types.specs.declared.flats.FlatType.{FlatType}
 use Rattle.fact_types.specs.Flat.{value_type}
 use Rattle.fact_machine.specs.declared.types.CoreValue.{CoreValue}
-use Rattle.fact_pieces.specs.Does.{Locals, held_types}
-use Rattle.fact_pieces.specs.Places.{Slot, AreHeld, AreFree, AreLocals, KeepsLocals}
+use Rattle.fact_code_laws.specs.Does.{Locals, held_types}
+use Rattle.fact_code_laws.specs.Places.{Slot, AreHeld, AreFree, AreLocals, KeepsLocals}
 use Rattle.fact_emit.specs.Fitting.{SlotsFit}
 use Rattle.fact_compound.proofs.Flats.{slots_room}
 use Rattle.fact_compound.proofs.SyncSteps.{slot_types, AreUnused}

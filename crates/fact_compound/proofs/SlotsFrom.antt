@@ -12,9 +12,9 @@ use Rattle.fact_machine.specs.Typing.{local_types}
 use Rattle.fact_machine.proofs.Tests.{first_of, second_of, get_append}
 use Rattle.fact_machine.specs.declared.types.CoreValue.{CoreValue}
 use Rattle.fact_machine.specs.declared.types.CoreValue.TheVariants as value
-use Rattle.fact_pieces.specs.Does.{Locals, held_type, held_types}
-use Rattle.fact_pieces.specs.Places.{Slot, AreHeld, AreLocals, AreUsed, IsNone}
-use Rattle.fact_pieces.proofs.Numbers.{value_type}
+use Rattle.fact_code_laws.specs.Does.{Locals, held_type, held_types}
+use Rattle.fact_code_laws.specs.Places.{Slot, AreHeld, AreLocals, AreUsed, IsNone}
+use Rattle.fact_code_laws.proofs.Numbers.{value_type}
 use Rattle.fact_emit.specs.Places.{AreDistinctSlots}
 use Rattle.fact_emit.specs.Writers.{used_local_of}
 use Rattle.fact_emit.specs.declared.writer.Local.{Local}

@@ -15,18 +15,18 @@ use Rattle.fact_machine.specs.declared.types.CoreValue.TheVariants.{I32}
 use Rattle.fact_machine.specs.Typed.{is_value}
 use Rattle.fact_machine.specs.World.{World}
 use Rattle.fact_machine.proofs.RowLaws.{leaves_i32_const}
-use Rattle.fact_moves.specs.Actions.{Action, Visit, MemoryLength, ◌>>=◌, unless}
-use Rattle.fact_moves.specs.Actions as action
-use Rattle.fact_moves.specs.Adapters.{cleared}
-use Rattle.fact_moves.specs.Running.{ImportPlaces, Ended, Gave, Halted, Strayed, heavier, run}
-use Rattle.fact_moves.specs.Sides.{LiftLowerOptions, check_region, with_memory}
-use Rattle.fact_pieces.specs.Does.{Locals, Way, Onward, held_types, EndsOn, Does}
-use Rattle.fact_pieces.specs.Knows.{KnowsFlags}
-use Rattle.fact_pieces.specs.Places.{Slot, AreHeld, KeepsLocals, IsNone}
-use Rattle.fact_pieces.proofs.Keeping.{keeps_all, keeps_then}
-use Rattle.fact_pieces.proofs.Numbers.{value_type, set_keeps}
-use Rattle.fact_pieces.proofs.Primitives.{set_flags}
-use Rattle.fact_pieces.proofs.Rules.{within, in_turn, pushing, local_get, local_set, done, IsSet}
+use Rattle.fact_actions.specs.Actions.{Action, Visit, MemoryLength, ◌>>=◌, unless}
+use Rattle.fact_actions.specs.Actions as action
+use Rattle.fact_actions.specs.Adapters.{cleared}
+use Rattle.fact_actions.specs.Running.{ImportPlaces, Ended, Gave, Halted, Strayed, heavier, run}
+use Rattle.fact_actions.specs.Sides.{LiftLowerOptions, check_region, with_memory}
+use Rattle.fact_code_laws.specs.Does.{Locals, Way, Onward, held_types, EndsOn, Does}
+use Rattle.fact_code_laws.specs.Knows.{KnowsFlags}
+use Rattle.fact_code_laws.specs.Places.{Slot, AreHeld, KeepsLocals, IsNone}
+use Rattle.fact_code_laws.proofs.Keeping.{keeps_all, keeps_then}
+use Rattle.fact_code_laws.proofs.Numbers.{value_type, set_keeps}
+use Rattle.fact_code_laws.proofs.Primitives.{set_flags}
+use Rattle.fact_code_laws.proofs.Rules.{within, in_turn, pushing, local_get, local_set, done, IsSet}
 use Rattle.fact_steps.specs.Code.{popped_code, pushed_code}
 use Rattle.fact_compound.specs.Code.{cleared_code}
 

@@ -15,15 +15,15 @@ use Rattle.fact_types.specs.declared.import.Import.TheVariants as import
 use Rattle.fact_types.specs.declared.outside.CoreDef.{CoreDef}
 use Rattle.fact_machine.specs.Machine.{have_types}
 use Rattle.fact_machine.specs.declared.types.CoreValue.{CoreValue}
-use Rattle.fact_moves.specs.Plain.{ended_sync}
-use Rattle.fact_moves.specs.Adapters.{AdapterTunables, lowered_flats, lower_signature_of, lift_signature_of, move_params}
-use Rattle.fact_moves.specs.Running.{ImportPlaces}
-use Rattle.fact_pieces.specs.Does.{Locals, Onward, held_types, EndsSo, Does}
-use Rattle.fact_pieces.specs.Knows.{KnowsFunction}
-use Rattle.fact_pieces.specs.Typed.{OnStack, IsTyped}
-use Rattle.fact_pieces.specs.Places.{Slot, AreHeld, AreLocals, AreUsed, KeepsLocals}
-use Rattle.fact_pieces.proofs.ContextSteps.{MayHoldSlotsIf, AreSlotsKeptIf}
-use Rattle.fact_pieces.proofs.Rules.{within}
+use Rattle.fact_actions.specs.Plain.{ended_sync}
+use Rattle.fact_actions.specs.Adapters.{AdapterTunables, lowered_flats, lower_signature_of, lift_signature_of, move_params}
+use Rattle.fact_actions.specs.Running.{ImportPlaces}
+use Rattle.fact_code_laws.specs.Does.{Locals, Onward, held_types, EndsSo, Does}
+use Rattle.fact_code_laws.specs.Knows.{KnowsFunction}
+use Rattle.fact_code_laws.specs.Typed.{OnStack, IsTyped}
+use Rattle.fact_code_laws.specs.Places.{Slot, AreHeld, AreLocals, AreUsed, KeepsLocals}
+use Rattle.fact_code_laws.proofs.ContextSteps.{MayHoldSlotsIf, AreSlotsKeptIf}
+use Rattle.fact_code_laws.proofs.Rules.{within}
 use Rattle.fact_emit.specs.Options.{number_if_any}
 use Rattle.fact_emit.specs.Places.{AreDistinctSlots}
 use Rattle.fact_emit.specs.RuntimeCalls.{slots_of}
@@ -45,7 +45,7 @@ use Rattle.fact_compound.specs.declared.syncs.CallOptions.{CallOptions}
 use Rattle.fact_compound.proofs.Flats.{AreFlat, are_flat}
 use Rattle.fact_compound.proofs.KeptLocals.{equal_back, among_front, among_self, among_used, used_front, used_behind, used_by, locals_front, locals_behind, distinct_front, distinct_behind, unused_behind, unused_front, unused_rest, unused_both, used_both, none_of}
 use Rattle.fact_compound.specs.Passed.{ParamsCode}
-use Rattle.fact_pieces.proofs.TypingLaws.{typed_done}
+use Rattle.fact_code_laws.proofs.TypingLaws.{typed_done}
 use Rattle.fact_compound.proofs.PassedOnCode.{same_flats, passed_flat, passes_on}
 use Rattle.fact_compound.proofs.ParamMoves.{ParamLocals, params_moved, params_typed}
 use Rattle.fact_compound.proofs.ResultPlaces.{ResultPlaces, results_do, results_code_typed}

@@ -19,25 +19,25 @@ use Rattle.fact_machine.specs.declared.types.CoreValue.TheVariants.{I32}
 use Rattle.fact_machine.specs.Machine.{have_types}
 use Rattle.fact_machine.specs.Typed.{is_value, are_values}
 use Rattle.fact_machine.proofs.Tests.{first_of, second_of, both}
-use Rattle.fact_moves.specs.Actions.{Action, Give, SetFlags, ◌>>=◌, unless}
-use Rattle.fact_moves.proofs.Binds.{binds_associate}
-use Rattle.fact_moves.specs.Adapters.{AdapterTunables, Slotted, cleared, enters, enter_call, exit_call, finish_call, get_flags, make_call, none, read_slots, write_slots, when_due, sync, move_params, move_results, last_bits, lift_signature_of}
-use Rattle.fact_moves.specs.Plain.{ended_sync, guarded_if}
-use Rattle.fact_moves.specs.Running.{ImportPlaces, Ended, Gave, Halted, Strayed, run}
-use Rattle.fact_pieces.specs.Context.{ContextSlots, read_slots_code, restore_code, CanReadSlotsIf, CanWriteSlotsIf}
-use Rattle.fact_pieces.specs.Does.{Locals, Onward, held_types, EndsOn, EndsSo, Does}
-use Rattle.fact_pieces.specs.Knows.{KnowsFunction, KnowsFlags}
-use Rattle.fact_pieces.specs.Places.{Slot, AreHeld, KeepsLocals, AreLocals, AreUsed, IsNone}
-use Rattle.fact_pieces.proofs.Blocks.{alone, same_run}
-use Rattle.fact_pieces.proofs.ContextSteps.{AreSlotsHeldIf, MayHoldSlotsIf, AreSlotsKeptIf, slots_kept, reads_slots, writes_slots}
-use Rattle.fact_pieces.proofs.Functions.{bars_then}
-use Rattle.fact_pieces.proofs.Keeping.{held_kept}
-use Rattle.fact_pieces.proofs.Numbers.{value_type}
-use Rattle.fact_pieces.proofs.Primitives as primitive
-use Rattle.fact_pieces.proofs.Primitives.{set_flags, ask}
+use Rattle.fact_actions.specs.Actions.{Action, Give, SetFlags, ◌>>=◌, unless}
+use Rattle.fact_actions.proofs.Binds.{binds_associate}
+use Rattle.fact_actions.specs.Adapters.{AdapterTunables, Slotted, cleared, enters, enter_call, exit_call, finish_call, get_flags, make_call, none, read_slots, write_slots, when_due, sync, move_params, move_results, last_bits, lift_signature_of}
+use Rattle.fact_actions.specs.Plain.{ended_sync, guarded_if}
+use Rattle.fact_actions.specs.Running.{ImportPlaces, Ended, Gave, Halted, Strayed, run}
+use Rattle.fact_code_laws.specs.Context.{ContextSlots, read_slots_code, restore_code, CanReadSlotsIf, CanWriteSlotsIf}
+use Rattle.fact_code_laws.specs.Does.{Locals, Onward, held_types, EndsOn, EndsSo, Does}
+use Rattle.fact_code_laws.specs.Knows.{KnowsFunction, KnowsFlags}
+use Rattle.fact_code_laws.specs.Places.{Slot, AreHeld, KeepsLocals, AreLocals, AreUsed, IsNone}
+use Rattle.fact_code_laws.proofs.Blocks.{alone, same_run}
+use Rattle.fact_code_laws.proofs.ContextSteps.{AreSlotsHeldIf, MayHoldSlotsIf, AreSlotsKeptIf, slots_kept, reads_slots, writes_slots}
+use Rattle.fact_code_laws.proofs.Functions.{bars_then}
+use Rattle.fact_code_laws.proofs.Keeping.{held_kept}
+use Rattle.fact_code_laws.proofs.Numbers.{value_type}
+use Rattle.fact_code_laws.proofs.Primitives as primitive
+use Rattle.fact_code_laws.proofs.Primitives.{set_flags, ask}
 use Rattle.fact_machine.proofs.RowLaws.{leaves_i32_const}
-use Rattle.fact_pieces.proofs.Rules.{within, ends_within, in_turn, local_get, local_set, pushing, done}
-use Rattle.fact_pieces.proofs.Slots.{ask_none}
+use Rattle.fact_code_laws.proofs.Rules.{within, ends_within, in_turn, local_get, local_set, pushing, done}
+use Rattle.fact_code_laws.proofs.Slots.{ask_none}
 use Rattle.fact_emit.specs.Places.{AreDistinctSlots}
 use Rattle.fact_steps.specs.Code.{call_code, enter_code, exit_code, finish_code, may_leave_code, popped_code, pushed_code, started_code}
 use Rattle.fact_compound.specs.Code.{SyncParts, call_steps_code, return_steps_code, with_barrier, cleared_code, steps_code, sync_code}

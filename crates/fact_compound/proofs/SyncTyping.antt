@@ -10,16 +10,16 @@ use Rattle.fact_wasm.specs.declared.instr.Instr.TheOpen as op
 use Rattle.fact_wasm.specs.declared.module.WasmModule.{WasmModule}
 use Rattle.fact_types.specs.Adapters.{LinkedAdapter}
 use Rattle.fact_types.specs.declared.outside.CoreDef.{CoreDef}
-use Rattle.fact_moves.specs.Adapters.{AdapterTunables, lift_signature_of}
-use Rattle.fact_moves.specs.Running.{ImportPlaces}
-use Rattle.fact_pieces.specs.Context.{restore_code}
-use Rattle.fact_pieces.specs.Knows.{KnowsFlags}
-use Rattle.fact_pieces.specs.Places.{Slot, AreLocals}
-use Rattle.fact_pieces.specs.Typed.{OnStack, IsTyped}
-use Rattle.fact_pieces.proofs.TypedRows.{takes_plain, takes_local_get, takes_local_set, takes_global_get, takes_global_set, takes_import}
-use Rattle.fact_pieces.proofs.TypedShapes.{takes_guard, typed_barrier}
-use Rattle.fact_pieces.proofs.ContextSteps.{typed_reads, typed_writes}
-use Rattle.fact_pieces.proofs.TypingLaws.{typed_done, typed_then, typed_next, typed_one}
+use Rattle.fact_actions.specs.Adapters.{AdapterTunables, lift_signature_of}
+use Rattle.fact_actions.specs.Running.{ImportPlaces}
+use Rattle.fact_code_laws.specs.Context.{restore_code}
+use Rattle.fact_code_laws.specs.Knows.{KnowsFlags}
+use Rattle.fact_code_laws.specs.Places.{Slot, AreLocals}
+use Rattle.fact_code_laws.specs.Typed.{OnStack, IsTyped}
+use Rattle.fact_code_laws.proofs.TypedRows.{takes_plain, takes_local_get, takes_local_set, takes_global_get, takes_global_set, takes_import}
+use Rattle.fact_code_laws.proofs.TypedShapes.{takes_guard, typed_barrier}
+use Rattle.fact_code_laws.proofs.ContextSteps.{typed_reads, typed_writes}
+use Rattle.fact_code_laws.proofs.TypingLaws.{typed_done, typed_then, typed_next, typed_one}
 use Rattle.fact_steps.specs.Code.{call_code, enter_code, exit_code, finish_code, popped_code, pushed_code}
 use Rattle.fact_compound.specs.Code.{SyncParts, with_barrier, cleared_code, steps_code, sync_code}
 use Rattle.fact_compound.proofs.FlagGuards.{takes_local_tee}

@@ -10,8 +10,8 @@ use Rattle.fact_types.specs.Functions.{HasSignature}
 use Rattle.fact_types.specs.Shapes.{Shape}
 use Rattle.fact_types.specs.Tables.{Tables}
 use Rattle.fact_types.specs.declared.import.Import.TheVariants as import
-use Rattle.fact_moves.specs.Running.{ImportPlaces}
-use Rattle.fact_pieces.specs.Context.{read_slots_code}
+use Rattle.fact_actions.specs.Running.{ImportPlaces}
+use Rattle.fact_code_laws.specs.Context.{read_slots_code}
 use Rattle.fact_emit.specs.Barriers.{WroteBarrier}
 use Rattle.fact_emit.specs.Asked.{AskedHelper}
 use Rattle.fact_emit.specs.Emits.{Grew, Emits, EmitsAsking, GrewAsking}
@@ -22,7 +22,7 @@ use Rattle.fact_emit.specs.Options.{number_if_any}
 use Rattle.fact_emit.specs.Pieces.{Is}
 use Rattle.fact_emit.specs.States.{ModuleSoFar, functions_of}
 use Rattle.fact_emit.proofs.ImportLaws.{extended_none, extended_on}
-use Rattle.fact_emit.specs.Writers.{Began, Ended, Wrote, is_local_in_use, taken_in}
+use Rattle.fact_emit.specs.Writers.{Began, EndedBody, Wrote, is_local_in_use, taken_in}
 use Rattle.fact_emit.specs.declared.context.ContextLocals.{ContextLocals}
 use Rattle.fact_emit.specs.declared.imported.RuntimeFunction.TheVariants as runtime
 use Rattle.fact_emit.specs.declared.writer.Writer.{Writer}
@@ -41,6 +41,7 @@ use Rattle.fact_compound.specs.Passing.{tuple_size}
 use Rattle.fact_compound.specs.Written.{IsReturnCode, IsStepsCode, IsSyncCode, KnowsUncaught, SyncPlaces, WrittenBarred, WrittenCall, WrittenReturn, WrittenSteps}
 use Rattle.fact_compound.specs.declared.adapters.AdapterData.{AdapterData}
 use Rattle.fact_compound.specs.declared.syncs.CallOptions.{CallOptions}
+use Rattle.fact_compound.proofs.OptionsImported.{post_there}
 use Rattle.fact_compound.proofs.AsksLaws.{asks_before, asks_behind, asks_kept, asks_on, asks_same, emits_new, runtime_new}
 
 -- ---- up to the call
@@ -60,15 +61,15 @@ record EnterOn (d : AdapterData) (debug : Bool) (o : CallOptions) (l : SyncPlace
   enters : KnowsRuntimeIf o.told M p runtime.EnterSyncCall
   moves_params : ParamsCode l.passed d debug o.concurrency l.params l.core taken ps qs M p locals params
 
-pub written_call : {t : Tables} (d : AdapterData) (debug : Bool) (o : CallOptions) (l : SyncPlaces) {before after : Fuel} {a b c e f g : Writer} → d.callee.number < length (functions_of a.imports)
+pub written_call : {t : Tables} (d : AdapterData) (debug : Bool) (o : CallOptions) (l : SyncPlaces) {before after : Fuel} {a b c e f g : Writer} → d.callee.number < length (functions_of a.sections)
     → Emits a b (ChecksMayLeave d.lower.flags.number l.saved) → Emits b c (EntersCall o.told d.lift.instance.number) → Wrote c e (started_code d.lift.flags.number l.lift_saved)
     → PassedParams t d debug o.concurrency l.passed l.params l.core before after e f → Wrote f g (callee_code d l) → WrittenCall t d debug o l before after a g
 written_call {t} d debug o l {before} {after} {a} {b} {c} {e} {f} {g} callee x1 x2 x3 x4 x5 =
     let front = emits_wrote (started_ranged d.lift.flags.number l.lift_saved) x3 in
     let grew_e : Grew a e = grew_on x1.grew (grew_on x2.grew front.grew) in
     let grew_f : GrewAsking x4.asks a f = grew_on grew_e x4.grew in
-    let imports : ℕ = length (functions_of f.imports) in
-    let there : d.callee.number < imports = omega (arith, callee, ap length grew_f.imports.functions.is, length-append (functions_of a.imports) grew_f.imports.functions.more) in
+    let imports : ℕ = length (functions_of f.sections) in
+    let there : d.callee.number < imports = omega (arith, callee, ap length grew_f.imports.functions.is, length-append (functions_of a.sections) grew_f.imports.functions.more) in
     let call = emits_before (call_ranged imports d.lift.flags.number l.lift_saved d.callee.number l.core l.given there) x5 in
     let taken_e : taken_in e ≡ taken_in a = λ n. λ i. (grew_e.still i) n in
     record {
@@ -147,17 +148,10 @@ written_return {t} d debug o l {before} {after} {a} {b} {c} {e} {f} {g} x1 x2 x3
           (λ M p locals code more y z. record { results = code; is = ap (λ c. code ++ c) z.is; finishes = z.can; moves_results = y }) results x5)));
     }
 
--- a function that was imported before is imported still
-some_there : (o : Option (Id Funcs)) (a b : ModuleSoFar) → Extended a b → IfSome o (λ (f : Id Funcs). f.number < length (functions_of a)) → IfSome o (λ (f : Id Funcs). f.number < length (functions_of b))
-some_there None a b x h = tt
-some_there (Some f) a b x h = omega (arith, h, ap length x.functions.is, length-append (functions_of a) x.functions.more)
-
-pub return_there : {t : Tables} {d : AdapterData} {debug : Bool} {o : CallOptions} {l : SyncPlaces} {before after : Fuel} {a b : Writer} (post : Option (Id Funcs)) → WrittenCall t d debug o l before after a b → IfSome post (λ (f : Id Funcs). f.number < length (functions_of a.imports)) → IfSome post (λ (f : Id Funcs). f.number < length (functions_of b.imports))
-return_there {a = a} {b} post x h = some_there post a.imports b.imports x.grew.imports h
-
+-- a post-return that was imported before is imported still
 pub finish_there : {context told : Bool} {c0 : ContextLocals} {a b c e g : Writer} {xs : List Instr} {asks : List AskedHelper} (post : Option (Id Funcs)) → Emits a b (ReadsSlots context c0) → Emits b c (ExitsCall told) → Wrote c e xs → GrewAsking asks e g
-    → IfSome post (λ (f : Id Funcs). f.number < length (functions_of a.imports)) → IfSome post (λ (f : Id Funcs). f.number < length (functions_of g.imports))
-finish_there {a = a} {g = g} post x y z r h = some_there post a.imports g.imports (extended_on x.grew.imports (extended_on y.grew.imports (extended_on (extended_none z.imports) r.imports))) h
+    → IfSome post (λ (f : Id Funcs). f.number < length (functions_of a.sections)) → IfSome post (λ (f : Id Funcs). f.number < length (functions_of g.sections))
+finish_there {a = a} {g = g} post x y z r h = post_there post a.sections g.sections (extended_on x.grew.imports (extended_on y.grew.imports (extended_on (extended_none z.imports) r.imports))) h
 
 -- ---- all steps, and a barrier around them
 
@@ -176,7 +170,7 @@ written_steps {d = d} {debug} {o} {l} {between = between} {a = a} {b} {c} x y =
           emits_then (λ M p locals code more v w. record { call = code; return = more; is = refl; calls = v; returns = w }) (x.emits ps rs qs ss hl hf can) returns;
     }
 
-pub written_barred : {t : Tables} {d : AdapterData} {debug : Bool} {o : CallOptions} {l : SyncPlaces} {before after : Fuel} {a b c e f : Writer} {out body : List Instr} → Began a b out → WrittenSteps t d debug o l before after b c → Ended c e out body → WroteBarrier e f body → WrittenBarred t d debug o l before after a f
+pub written_barred : {t : Tables} {d : AdapterData} {debug : Bool} {o : CallOptions} {l : SyncPlaces} {before after : Fuel} {a b c e f : Writer} {out body : List Instr} → Began a b out → WrittenSteps t d debug o l before after b c → EndedBody c e out body → WroteBarrier e f body → WrittenBarred t d debug o l before after a f
 written_barred {d = d} {debug} {o} {l} {a = a} {b} {c} {e} {f} began x ended barrier =
     let taken_b : taken_in b ≡ taken_in a = ap (λ ls. λ i. is_local_in_use (slice_get ls.items i)) began.locals in
     record {
@@ -197,7 +191,7 @@ pub record WrittenSync (t : Tables) (d : AdapterData) (debug : Bool) (o : CallOp
   pub asks : List AskedHelper
   pub translated : TranslatesSync t d debug o.concurrency l.passed before after asks
   pub grew : GrewAsking asks old new
-  pub asked : AsksFor t debug o.concurrency asks old.imports new.imports
+  pub asked : AsksFor t debug o.concurrency asks old.sections new.sections
   pub lift_size : (qs ss : List Shape) → HasSignature t d.lift.ty qs ss → tuple_size (linear_of d.lift).memory64 ss ≤ 4294967295
   pub lower_size : (ps rs : List Shape) → HasSignature t d.lower.ty ps rs → tuple_size (linear_of d.lower).memory64 rs ≤ 4294967295
   pub emits : (ps rs qs ss : List Shape) → HasSignature t d.lower.ty ps rs → HasSignature t d.lift.ty qs ss → CanMoveTuple ps qs → CanMoveTuple ss rs → EmitsAsking asks old new (IsSyncCode d debug o l (taken_in old) ps rs qs ss)

@@ -5,9 +5,9 @@ use Rattle.fact_wasm.specs.declared.types.ValType.{ValType}
 use Rattle.fact_machine.specs.Typing.{address_bits, address_operand}
 use Rattle.fact_types.specs.Shapes.{Shape}
 use Rattle.std.specs.Prelude.{slice_get}
-use Rattle.fact_pieces.specs.Does.{Locals}
-use Rattle.fact_pieces.specs.Places.{Slot, Rooms, FromRoom, ToRoom}
-use Rattle.fact_pieces.proofs.Keeping.{room_at}
+use Rattle.fact_code_laws.specs.Does.{Locals}
+use Rattle.fact_code_laws.specs.Places.{Slot, Rooms, FromRoom, ToRoom}
+use Rattle.fact_code_laws.proofs.Keeping.{room_at}
 use Rattle.fact_emit.specs.Fitting.{FromWithin, ToWithin}
 use Rattle.fact_emit.specs.declared.places.LinearMemory.{LinearMemory}
 use Rattle.fact_compound.specs.Passing.{last_local, tuple_from, tuple_to, tuple_size}

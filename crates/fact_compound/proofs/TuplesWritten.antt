@@ -12,8 +12,8 @@ use Rattle.fact_types.specs.Tables.{Tables, HasShape}
 use Rattle.fact_types.specs.Tuples.{tuple_members, tuple_of}
 use Rattle.fact_types.specs.declared.abi.CanonicalAbiInfo.{CanonicalAbiInfo}
 use Rattle.fact_types.specs.declared.interface.InterfaceType.TheVariants as ty
-use Rattle.fact_moves.specs.Adapters.{lowered_flats}
-use Rattle.fact_pieces.specs.Places.{Slot, From, To}
+use Rattle.fact_actions.specs.Adapters.{lowered_flats}
+use Rattle.fact_code_laws.specs.Places.{Slot, From, To}
 use Rattle.fact_emit.specs.Areas.{ChecksArea}
 use Rattle.fact_wasm.specs.declared.instr.Instr.{Instr}
 use Rattle.fact_emit.specs.Emits.{Emits, EmitsAsking}

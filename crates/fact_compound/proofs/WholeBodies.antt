@@ -9,10 +9,10 @@ use Rattle.fact_types.specs.Signatures.{address, flat_values, flat_params, unles
 use Rattle.fact_types.specs.Tables.{Tables}
 use Rattle.fact_types.specs.declared.signature.Signature.{Signature}
 use Rattle.fact_machine.specs.Trace.{Grows}
-use Rattle.fact_moves.specs.Adapters.{AdapterTunables, lower_signature_of, lift_signature_of}
-use Rattle.fact_moves.specs.Running.{ImportPlaces}
-use Rattle.fact_pieces.specs.Places.{Slot, AreHeld, AreLocals, AreUsed}
-use Rattle.fact_pieces.specs.Typed.{OnStack, IsTyped}
+use Rattle.fact_actions.specs.Adapters.{AdapterTunables, lower_signature_of, lift_signature_of}
+use Rattle.fact_actions.specs.Running.{ImportPlaces}
+use Rattle.fact_code_laws.specs.Places.{Slot, AreHeld, AreLocals, AreUsed}
+use Rattle.fact_code_laws.specs.Typed.{OnStack, IsTyped}
 use Rattle.fact_emit.specs.Brought.{Brought}
 use Rattle.fact_emit.specs.Asked.{HasHelpers}
 use Rattle.fact_emit.specs.Emits.{Later}
@@ -135,7 +135,7 @@ module _ {t : Tables} {d : AdapterData} {debug : Bool} {o : CallOptions} (passed
       distinct = all_distinct;
     }
 
-    body_does : (M : WasmModule) (p : ImportPlaces) → Serves M p c.imports → HasHelpers M p y.put.asks → KnowsAdapterData M p d a → DoesBody u a M p (types_of_locals c) c.code.items
+    body_does : (M : WasmModule) (p : ImportPlaces) → Serves M p c.sections → HasHelpers M p y.put.asks → KnowsAdapterData M p d a → DoesBody u a M p (types_of_locals c) c.code.items
     body_does M p serves has links =
         let e = y.put.emits u a h asks in
         let later : Later c M p (types_of_locals c) = record { serves = serves; begin = grows_none refl } in
@@ -155,9 +155,9 @@ module _ {t : Tables} {d : AdapterData} {debug : Bool} {o : CallOptions} (passed
       let first : Grows lower.params (lower.params ++ val.I32 ∷ val.I32 ∷ []) = record { more = val.I32 ∷ val.I32 ∷ []; is = refl } in
       let second : Grows (lower.params ++ val.I32 ∷ val.I32 ∷ []) types = record { more = unless_passed passed lift.params ++ (lift.results ++ (context_types o.context ++ (lower.results ++ context_types o.context))); is = refl } in
       record {
-        imports = subst (λ s. Extended s c.imports) x.added.imports y.put.grew.imports;
+        imports = subst (λ s. Extended s c.sections) x.added.imports y.put.grew.imports;
         once = λ o. y.put.grew.once (subst AreOnce (sym x.added.imports) o);
-        brought = brought_between x.added.imports refl (subst (Brought b.imports c.imports) (sym body) y.put.grew.brought);
+        brought = brought_between x.added.imports refl (subst (Brought b.sections c.sections) (sym body) y.put.grew.brought);
         params = grows_on first (grows_on second (subst (λ ts. Grows ts (types_of_locals c)) types_are y.put.grew.locals));
         numbers = λ n. y.put.grew.numbers (subst (λ ts. AreNumberTypes ts) (sym types_are) (numbers_context passed o.context lower lift n));
         asks = y.put.asks;

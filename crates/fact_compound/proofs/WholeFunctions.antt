@@ -29,11 +29,11 @@ use Rattle.fact_machine.specs.Exits.{entry_locals}
 use Rattle.fact_machine.specs.Machine.{locals_of}
 use Rattle.fact_machine.specs.Typing.{is_number, local_types}
 use Rattle.fact_machine.proofs.Tests.{both}
-use Rattle.fact_moves.specs.Adapters.{AdapterTunables, lower_signature_of, lift_signature_of}
-use Rattle.fact_moves.specs.Running.{ImportPlaces}
-use Rattle.fact_pieces.specs.Does.{held_types}
-use Rattle.fact_pieces.specs.Typed.{OperandsBehind, OnStack, IsTyped}
-use Rattle.fact_pieces.proofs.TypedShapes.{typed_body}
+use Rattle.fact_actions.specs.Adapters.{AdapterTunables, lower_signature_of, lift_signature_of}
+use Rattle.fact_actions.specs.Running.{ImportPlaces}
+use Rattle.fact_code_laws.specs.Does.{held_types}
+use Rattle.fact_code_laws.specs.Typed.{OperandsBehind, OnStack, IsTyped}
+use Rattle.fact_code_laws.proofs.TypedShapes.{typed_body}
 use Rattle.fact_emit.specs.Asked.{HasHelpers}
 use Rattle.fact_emit.specs.Brought.{Brought}
 use Rattle.fact_emit.specs.Imports.{Extended, HasImport, StandOnce, AreOnce, Serves}
@@ -122,7 +122,7 @@ drop_long (x ∷ xs) ys = drop_long xs ys
 pub typed_within : {M : WasmModule} {locals : List ValType} {labels : List (List ValType)} {code : List Instr} {outs : OperandsBehind} → IsTyped M locals [] code [] outs → IsTyped M locals labels code [] outs
 typed_within {labels = labels} x = record { by = λ outer below. x.by (labels ++ outer) below }
 
-module _ {t : Tables} {d : AdapterData} {debug : Bool} {o : CallOptions} {lower lift : Signature} {ty : ℕ} {fuel : ℕ} {before_fuel : Fuel} (full : IsFullFuel before_fuel) (same_fuel : before_fuel.initial ≡ fuel) {a0 c : Writer} (w : WroteBody t d debug o lower lift before_fuel a0 c) {old new : ModuleSoFar} (before : a0.imports ≡ old) (after : new ≡ c.imports) (f : WasmFunc)
+module _ {t : Tables} {d : AdapterData} {debug : Bool} {o : CallOptions} {lower lift : Signature} {ty : ℕ} {fuel : ℕ} {before_fuel : Fuel} (full : IsFullFuel before_fuel) (same_fuel : before_fuel.initial ≡ fuel) {a0 c : Writer} (w : WroteBody t d debug o lower lift before_fuel a0 c) {old new : ModuleSoFar} (before : a0.sections ≡ old) (after : new ≡ c.sections) (f : WasmFunc)
     (ty_is : f.ty ≡ ty) (body_is : f.body ≡ c.code.items) (locals_are : local_types f.locals ≡ map (λ (l : Local). l.ty) (drop (length lower.params) c.locals.items)) where
   declared : local_types f.locals ≡ w.params.more
   declared = locals_are ∙ drop_mapped (λ (l : Local). l.ty) (length lower.params) c.locals.items ∙ ap (drop (length lower.params)) w.params.is ∙ drop_long lower.params w.params.more
@@ -162,7 +162,7 @@ module _ {t : Tables} {d : AdapterData} {debug : Bool} {o : CallOptions} {lower 
   pub wrote_function : WroteFunction t d debug o fuel lower lift ty old new f
   wrote_function = record {
     ty = ty_is;
-    imports = subst (λ s. Extended s new) before (subst (λ s. Extended a0.imports s) (sym after) w.imports);
+    imports = subst (λ s. Extended s new) before (subst (λ s. Extended a0.sections s) (sym after) w.imports);
     once = λ o. subst AreOnce (sym after) (w.once (subst AreOnce (sym before) o));
     brought = subst (Brought old new) (sym body_is) (brought_between before (sym after) w.brought);
     asks = w.asks;

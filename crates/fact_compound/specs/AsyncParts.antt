@@ -5,9 +5,9 @@ use Rattle.fact_wasm.specs.declared.types.FuncType.{FuncType}
 use Rattle.fact_types.specs.Adapters.{LinkedAdapter, is_wide}
 use Rattle.fact_types.specs.Signatures.{lower_results}
 use Rattle.fact_machine.specs.declared.types.CoreValue.{CoreValue}
-use Rattle.fact_moves.specs.Actions.{Action}
-use Rattle.fact_moves.specs.Adapters.{AdapterTunables, async_return, async_start, lift_signature_of, return_params, start_params}
-use Rattle.fact_pieces.specs.Places.{Slot}
+use Rattle.fact_actions.specs.Actions.{Action}
+use Rattle.fact_actions.specs.Adapters.{AdapterTunables, async_return, async_start, lift_signature_of, return_params, start_params}
+use Rattle.fact_code_laws.specs.Places.{Slot}
 use Rattle.fact_emit.specs.Places.{slots_of_locals}
 use Rattle.fact_compound.specs.declared.asyncs.AsyncPart.{AsyncPart}
 use Rattle.fact_compound.specs.declared.asyncs.AsyncPart.TheVariants as part

@@ -20,12 +20,12 @@ use Rattle.fact_types.specs.Signatures.{async_return_signature, async_start_sign
 use Rattle.fact_types.specs.Tables.{Tables}
 use Rattle.fact_types.specs.Tuples.{tuple_members}
 use Rattle.fact_types.specs.declared.signature.Signature.{Signature}
-use Rattle.fact_moves.specs.Adapters.{AdapterTunables, lowered_flats, start_params}
-use Rattle.fact_moves.specs.Running.{ImportPlaces}
-use Rattle.fact_pieces.specs.Does.{Locals, Onward, Does, held_types}
-use Rattle.fact_pieces.specs.PieceLaws.{HaveResultTypes}
-use Rattle.fact_pieces.specs.Places.{AreHeld, AreLocals, AreUsed, Slot}
-use Rattle.fact_pieces.specs.Typed.{OnStack, IsTyped}
+use Rattle.fact_actions.specs.Adapters.{AdapterTunables, lowered_flats, start_params}
+use Rattle.fact_actions.specs.Running.{ImportPlaces}
+use Rattle.fact_code_laws.specs.Does.{Locals, Onward, Does, held_types}
+use Rattle.fact_code_laws.specs.PieceLaws.{HaveResultTypes}
+use Rattle.fact_code_laws.specs.Places.{AreHeld, AreLocals, AreUsed, Slot}
+use Rattle.fact_code_laws.specs.Typed.{OnStack, IsTyped}
 use Rattle.fact_emit.specs.Brought.{Brought}
 use Rattle.fact_emit.specs.Asked.{AskedHelper, HasHelpers}
 use Rattle.fact_emit.specs.Emits.{EmitsAsking, GrewAsking}
@@ -103,7 +103,7 @@ pub record EmitsPart (t : Tables) (d : AdapterData) (debug concurrency : Bool) (
   pub asks : List AskedHelper
   pub translated : TranslatesPart x t d debug concurrency before after asks
   pub grew : GrewAsking asks old new
-  pub asked : AsksFor t debug concurrency asks old.imports new.imports
+  pub asked : AsksFor t debug concurrency asks old.sections new.sections
   pub emits : (u : AdapterTunables) (a : LinkedAdapter) → DescribesTransfers t d debug u a → u.concurrency ≡ concurrency → EmitsAsking asks old new (DoesPart x u a d l (taken_in old))
 
 -- ---- the function as it is written
@@ -123,17 +123,17 @@ pub record DoesPartBody (x : AsyncPart) (u : AdapterTunables) (a : LinkedAdapter
 
 -- The body of a function was written, with its locals, by its core signature.
 pub record WroteBodyOfPart (t : Tables) (d : AdapterData) (debug concurrency : Bool) (x : AsyncPart) (s : Signature) (before : Fuel) (old new : Writer) : Type 0 where
-  pub imports : Extended old.imports new.imports
-  pub once : AreOnce old.imports → AreOnce new.imports
-  pub brought : Brought old.imports new.imports new.code.items
+  pub imports : Extended old.sections new.sections
+  pub once : AreOnce old.sections → AreOnce new.sections
+  pub brought : Brought old.sections new.sections new.code.items
   pub params : Grows s.params (types_of_locals new)
   pub numbers : AreNumberTypes (s.params ++ s.results) → AreNumberTypes (types_of_locals new)
   pub asks : List AskedHelper
-  pub asked : AsksFor t debug concurrency asks old.imports new.imports
+  pub asked : AsksFor t debug concurrency asks old.sections new.sections
   pub named : defined_named new.code.items ≡ map (λ (a : AskedHelper). a.number) asks
   pub keys : IsFullFuel before → (u : AdapterTunables) (a : LinkedAdapter) → DescribesTransfers t d debug u a → AllZip (IsKeyOfAdapter t d debug concurrency a) asks (part_asks x before.initial a)
   pub is : (u : AdapterTunables) (a : LinkedAdapter) → DescribesTransfers t d debug u a → u.concurrency ≡ concurrency → signature s.params s.results ≡ part_type x a
-      → (M : WasmModule) (p : ImportPlaces) → Serves M p new.imports → HasHelpers M p asks → KnowsAdapterData M p d a → DoesPartBody x u a M p (types_of_locals new) new.code.items
+      → (M : WasmModule) (p : ImportPlaces) → Serves M p new.sections → HasHelpers M p asks → KnowsAdapterData M p d a → DoesPartBody x u a M p (types_of_locals new) new.code.items
 
 -- A function of this type was written.
 pub record WrotePart (t : Tables) (d : AdapterData) (debug concurrency : Bool) (fuel : ℕ) (x : AsyncPart) (s : Signature) (type_at : ℕ) (old new : ModuleSoFar) (f : WasmFunc) : Type 0 where

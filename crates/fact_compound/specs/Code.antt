@@ -3,9 +3,9 @@ use Rattle.std.specs.Prelude.{ℕ, Bool, List, ◌∷◌, ◌++◌, map, Option,
 use Rattle.fact_wasm.specs.declared.instr.Instr.{Instr}
 use Rattle.fact_wasm.specs.declared.types.ValType.{ValType}
 use Rattle.fact_wasm.specs.declared.instr.Instr.TheVariants as I
-use Rattle.fact_pieces.specs.Code.{barrier_code}
-use Rattle.fact_pieces.specs.Context.{ContextSlots, read_slots_code}
-use Rattle.fact_pieces.specs.Places.{Slot}
+use Rattle.fact_code_laws.specs.Code.{barrier_code}
+use Rattle.fact_code_laws.specs.Context.{ContextSlots, read_slots_code}
+use Rattle.fact_code_laws.specs.Places.{Slot}
 use Rattle.fact_steps.specs.Code.{back_code, call_code, enter_code, exit_code, finish_code, may_leave_code, pushed_code, started_code}
 
 -- the types of slots

@@ -1,5 +1,5 @@
 -- What the data that a sync adapter's code is written by say of the adapter, and what that code asks of a module.
-use Rattle.std.specs.Prelude.{◌≡◌, Bool, true, false, ◌||◌, List, [], Option, Some, None, is_some, slice_get}
+use Rattle.std.specs.Prelude.{◌≡◌, ◌<◌, IfSome, length, Bool, true, false, ◌||◌, List, [], Option, Some, None, is_some, slice_get}
 use Rattle.std.specs.List.{AllByRecursion}
 use Rattle.fact_wasm.specs.declared.module.WasmModule.{WasmModule}
 use Rattle.fact_wasm.specs.declared.types.ValType.{ValType}
@@ -18,17 +18,17 @@ use Rattle.fact_types.specs.Valid.{IsValid}
 use Rattle.fact_types.specs.declared.signature.SideSig.{SideSig}
 use Rattle.fact_types.specs.declared.import.Import.TheVariants as import
 use Rattle.fact_types.specs.declared.outside.CoreDef.{CoreDef}
-use Rattle.fact_moves.specs.Adapters.{AdapterTunables, flat_results, lift_signature_of}
-use Rattle.fact_moves.specs.Running.{ImportPlaces}
-use Rattle.fact_moves.specs.Sides.{LiftLowerOptions, options_of}
-use Rattle.fact_pieces.specs.Knows.{KnowsFunction, KnowsFlags}
+use Rattle.fact_actions.specs.Adapters.{AdapterTunables, flat_results, lift_signature_of}
+use Rattle.fact_actions.specs.Running.{ImportPlaces}
+use Rattle.fact_actions.specs.Sides.{LiftLowerOptions, options_of}
+use Rattle.fact_code_laws.specs.Knows.{KnowsFunction, KnowsFlags}
 use Rattle.fact_emit.specs.Areas.{IsLinearMemoryOf}
 use Rattle.fact_emit.specs.Movable.{CanMoveFields}
 use Rattle.fact_emit.specs.Options.{linear_of_options}
 use Rattle.fact_emit.specs.declared.places.LinearMemory.{LinearMemory}
 use Rattle.fact_emit.specs.Requests.{IsReallocImported, IsReallocOf, ServesLists}
 use Rattle.fact_emit.specs.StringPieces.{IsMemoryImported, IsMemoryWide}
-use Rattle.fact_emit.specs.States.{ModuleSoFar}
+use Rattle.fact_emit.specs.States.{ModuleSoFar, functions_of}
 use Rattle.fact_compound.specs.declared.adapters.AdapterOptions.{AdapterOptions}
 use Rattle.fact_compound.specs.declared.adapters.AdapterData.{AdapterData}
 
@@ -50,6 +50,15 @@ pub record AreOptionsImported (d : AdapterData) (s : ModuleSoFar) : Type 0 where
   pub lift_memory : IsMemoryImported (linear_of d.lift) s
   pub lower_memory : IsMemoryImported (linear_of d.lower) s
   pub wide : AreOptionsWide d s
+
+-- What an adapter's data name is there: both function types are live, and the callee, the post-return where there is one, and the
+-- reallocs and memories of both sides are imported.
+pub record CanBeCompiled (t : Tables) (d : AdapterData) (s : ModuleSoFar) : Type 0 where
+  pub lower_live : d.lower.ty.number < length t.functions
+  pub lift_live : d.lift.ty.number < length t.functions
+  pub callee : d.callee.number < length (functions_of s)
+  pub options_imported : AreOptionsImported d s
+  pub post_return : IfSome d.lift.post_return (λ (f : Id Funcs). f.number < length (functions_of s))
 
 -- ---- sides
 

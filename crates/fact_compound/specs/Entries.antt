@@ -18,11 +18,11 @@ use Rattle.fact_types.specs.Adapters.{LinkedAdapter}
 use Rattle.fact_types.specs.Tables.{Tables}
 use Rattle.fact_types.specs.declared.import.Import.TheVariants as known
 use Rattle.fact_types.specs.declared.signature.Signature.{Signature}
-use Rattle.fact_moves.specs.Adapters.{References, async_call, def_of_memory, encoding_number, lift_signature_of, lower_signature_of, results_number}
-use Rattle.fact_moves.specs.Running.{ImportPlaces}
-use Rattle.fact_moves.specs.Sides.{options_of}
-use Rattle.fact_pieces.specs.Does.{Onward, Does}
-use Rattle.fact_pieces.specs.PieceLaws.{HaveResultTypes}
+use Rattle.fact_actions.specs.Adapters.{References, async_call, def_of_memory, encoding_number, lift_signature_of, lower_signature_of, results_number}
+use Rattle.fact_actions.specs.Running.{ImportPlaces}
+use Rattle.fact_actions.specs.Sides.{options_of}
+use Rattle.fact_code_laws.specs.Does.{Onward, Does}
+use Rattle.fact_code_laws.specs.PieceLaws.{HaveResultTypes}
 use Rattle.fact_emit.specs.Imports.{AreOnce, Extended, Serves}
 use Rattle.fact_emit.specs.PlacesOf.{with_place}
 use Rattle.fact_emit.specs.States.{HasType, ModuleSoFar, with_exported}

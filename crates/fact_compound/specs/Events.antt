@@ -7,7 +7,7 @@ use Rattle.fact_types.specs.Functions.{HasSignature}
 use Rattle.fact_types.specs.Handles.{has_borrow}
 use Rattle.fact_types.specs.Shapes.{Shape}
 use Rattle.fact_types.specs.Tables.{Tables}
-use Rattle.fact_moves.specs.Adapters.{AdapterTunables, enters}
+use Rattle.fact_actions.specs.Adapters.{AdapterTunables, enters}
 use Rattle.fact_compound.specs.declared.adapters.AdapterData.{AdapterData}
 use Rattle.fact_compound.specs.declared.syncs.CallOptions.{CallOptions}
 

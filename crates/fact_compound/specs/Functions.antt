@@ -10,8 +10,8 @@ use Rattle.fact_wasm.specs.declared.types.ValType.{ValType}
 use Rattle.fact_wasm.specs.declared.types.ValType.TheVariants as val
 use Rattle.fact_machine.specs.Trace.{Grows}
 use Rattle.fact_machine.specs.declared.types.CoreValue.{CoreValue}
-use Rattle.fact_moves.specs.Adapters.{AdapterTunables, lower_signature_of, lift_signature_of}
-use Rattle.fact_moves.specs.Running.{ImportPlaces}
+use Rattle.fact_actions.specs.Adapters.{AdapterTunables, lower_signature_of, lift_signature_of}
+use Rattle.fact_actions.specs.Running.{ImportPlaces}
 use Rattle.fact_types.specs.Adapters.{LinkedAdapter}
 use Rattle.fact_types.specs.FlatShapes.{AreCounted}
 use Rattle.fact_types.specs.Functions.{HasSignature}
@@ -20,9 +20,9 @@ use Rattle.fact_types.specs.Signatures.{flat_values}
 use Rattle.fact_types.specs.Tables.{Tables}
 use Rattle.fact_types.specs.Tuples.{tuple_members}
 use Rattle.fact_types.specs.declared.signature.Signature.{Signature}
-use Rattle.fact_pieces.specs.Does.{Locals, held_types}
-use Rattle.fact_pieces.specs.Places.{Slot, AreHeld}
-use Rattle.fact_pieces.specs.Typed.{OnStack, IsTyped}
+use Rattle.fact_code_laws.specs.Does.{Locals, held_types}
+use Rattle.fact_code_laws.specs.Places.{Slot, AreHeld}
+use Rattle.fact_code_laws.specs.Typed.{OnStack, IsTyped}
 use Rattle.fact_emit.specs.Asked.{AskedHelper, HasHelpers}
 use Rattle.fact_emit.specs.Brought.{Brought}
 use Rattle.fact_emit.specs.Imports.{Extended, AreOnce, Serves}
@@ -55,7 +55,7 @@ slots_from n (t ∷ ts) = (n, t) ∷ slots_from (suc n) ts
 -- Locals of these types were put behind the others, and are in use.
 pub record AddedLocals (old new : Writer) (types : List ValType) (slots : List Slot) : Type 0 where
   pub code : new.code.items ≡ old.code.items
-  pub imports : new.imports ≡ old.imports
+  pub imports : new.sections ≡ old.sections
   pub locals : new.locals.items ≡ old.locals.items ++ map used_local_of types
   pub slots_are : slots ≡ slots_from (length old.locals.items) types
 
@@ -130,17 +130,17 @@ pub record DoesBody (u : AdapterTunables) (a : LinkedAdapter) (M : WasmModule) (
 -- The body of a function was written, with its locals, by the core signatures of the two sides: it is that of every adapter that
 -- the data describe and that has these signatures and asks for these calls.
 pub record WroteBody (t : Tables) (d : AdapterData) (debug : Bool) (o : CallOptions) (lower lift : Signature) (before : Fuel) (old new : Writer) : Type 0 where
-  pub imports : Extended old.imports new.imports
-  pub once : AreOnce old.imports → AreOnce new.imports
-  pub brought : Brought old.imports new.imports new.code.items
+  pub imports : Extended old.sections new.sections
+  pub once : AreOnce old.sections → AreOnce new.sections
+  pub brought : Brought old.sections new.sections new.code.items
   pub params : Grows lower.params (types_of_locals new)
   pub numbers : AreNumberTypes (sync_types false false lower lift) → AreNumberTypes (types_of_locals new)
   pub asks : List AskedHelper
-  pub asked : AsksFor t debug o.concurrency asks old.imports new.imports
+  pub asked : AsksFor t debug o.concurrency asks old.sections new.sections
   pub named : defined_named new.code.items ≡ map (λ (x : AskedHelper). x.number) asks
   pub keys : IsFullFuel before → (u : AdapterTunables) (a : LinkedAdapter) → DescribesAdapter t d debug u a → AllZip (IsKeyOfAdapter t d debug o.concurrency a) asks (sync_asks before.initial a)
   pub is : (u : AdapterTunables) (a : LinkedAdapter) → DescribesAdapter t d debug u a → AreCallOptions o u a → lower ≡ lower_signature_of a → lift ≡ lift_signature_of a
-      → (M : WasmModule) (p : ImportPlaces) → Serves M p new.imports → HasHelpers M p asks → KnowsAdapterData M p d a → DoesBody u a M p (types_of_locals new) new.code.items
+      → (M : WasmModule) (p : ImportPlaces) → Serves M p new.sections → HasHelpers M p asks → KnowsAdapterData M p d a → DoesBody u a M p (types_of_locals new) new.code.items
 
 -- ---- the function
 

@@ -14,15 +14,15 @@ use Rattle.fact_types.specs.Shapes.{Shape}
 use Rattle.fact_types.specs.Signatures.{width}
 use Rattle.fact_types.specs.Tables.{Tables, HasShape}
 use Rattle.fact_types.specs.declared.signature.Signature.{Signature}
-use Rattle.fact_moves.specs.Alike.{source_as_i64}
-use Rattle.fact_moves.specs.Moves.{move}
-use Rattle.fact_moves.specs.Outlining.{Route, helper_asks}
-use Rattle.fact_moves.specs.Running.{ImportPlaces}
-use Rattle.fact_moves.specs.Sides.{LiftLowerOptions, Source, Target, width_of_side}
-use Rattle.fact_pieces.specs.Does.{Locals, Onward, Does, held_types}
-use Rattle.fact_pieces.specs.Helpers.{AreGiven, IsSourceOf, IsTargetOf, SourceHasRoom, TargetHasRoom, args_of_source, args_of_target, flat_target, given_out}
-use Rattle.fact_pieces.specs.Places.{From, To, Rooms, AreHeld, transfer}
-use Rattle.fact_pieces.specs.Typed.{OnStack, IsTyped}
+use Rattle.fact_actions.specs.Alike.{source_as_i64}
+use Rattle.fact_actions.specs.Moves.{move}
+use Rattle.fact_actions.specs.Outlining.{Route, helper_asks}
+use Rattle.fact_actions.specs.Running.{ImportPlaces}
+use Rattle.fact_actions.specs.Sides.{LiftLowerOptions, Source, Target, width_of_side}
+use Rattle.fact_code_laws.specs.Does.{Locals, Onward, Does, held_types}
+use Rattle.fact_code_laws.specs.Helpers.{AreGiven, IsSourceOf, IsTargetOf, SourceHasRoom, TargetHasRoom, args_of_source, args_of_target, flat_target, given_out}
+use Rattle.fact_code_laws.specs.Places.{From, To, Rooms, AreHeld, transfer}
+use Rattle.fact_code_laws.specs.Typed.{OnStack, IsTyped}
 use Rattle.fact_emit.specs.Asked.{AskedHelper, HasHelper, HasHelpers, IsFoundAt, IsPutAt, flats_given, sides_of_helper}
 use Rattle.fact_emit.specs.Brought.{Brought}
 use Rattle.fact_emit.specs.Fitting.{FitsShapes, bytes_of_shape}
@@ -117,19 +117,19 @@ pub record AsksAsHelper (t : Tables) (debug concurrency : Bool) (fuel : ℕ) (k 
 
 -- The body of a helper was written, with its locals, by its core signature.
 pub record WroteHelperBody (t : Tables) (debug concurrency : Bool) (k : Helper) (s : Signature) (before : Fuel) (old new : Writer) : Type 0 where
-  pub imports : Extended old.imports new.imports
-  pub once : AreOnce old.imports → AreOnce new.imports
-  pub brought : Brought old.imports new.imports new.code.items
+  pub imports : Extended old.sections new.sections
+  pub once : AreOnce old.sections → AreOnce new.sections
+  pub brought : Brought old.sections new.sections new.code.items
   pub params : Grows s.params (types_of_locals new)
   pub numbers : AreNumberTypes (s.params ++ s.results) → AreNumberTypes (types_of_locals new)
   pub asks : List AskedHelper
-  pub asked : AsksFor t debug concurrency asks old.imports new.imports
+  pub asked : AsksFor t debug concurrency asks old.sections new.sections
   pub lower : AreLower t k asks
   pub named : defined_named new.code.items ≡ map (λ (a : AskedHelper). a.number) asks
   pub keys : IsFullFuel before → AsksAsHelper t debug concurrency before.initial k asks
   pub from_small : AreSmall t k.src.ty k.src.opts.linear.memory64
   pub to_small : AreSmall t k.dst.ty k.dst.opts.linear.memory64
-  pub is : (number : ℕ) (M : WasmModule) (p : ImportPlaces) → Serves M p new.imports → HasHelpers M p asks → (x u : Shape) (src : From) (dst : To) (from to : LiftLowerOptions)
+  pub is : (number : ℕ) (M : WasmModule) (p : ImportPlaces) → Serves M p new.sections → HasHelpers M p asks → (x u : Shape) (src : From) (dst : To) (from to : LiftLowerOptions)
       → UsesHelper M p (asked_as t debug concurrency (k, number)) x u src dst from to → s.params ≡ helper_params k x → s.results ≡ helper_results k u
       → DoesHelper (asked_as t debug concurrency (k, number)) x u src dst from to M p (types_of_locals new) new.code.items
 

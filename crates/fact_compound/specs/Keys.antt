@@ -4,8 +4,8 @@ use Rattle.std.specs.List.{AllZip, Contains}
 use Rattle.fact_wasm.specs.declared.module.WasmFunc.{WasmFunc}
 use Rattle.fact_types.specs.Adapters.{LinkedAdapter}
 use Rattle.fact_types.specs.Tables.{Tables}
-use Rattle.fact_moves.specs.Adapters.{AdapterTunables}
-use Rattle.fact_moves.specs.Outlining.{HelperKey, asks_of, params_route, results_route, translates_params, translates_results, translates_then}
+use Rattle.fact_actions.specs.Adapters.{AdapterTunables}
+use Rattle.fact_actions.specs.Outlining.{HelperKey, asks_of, params_route, results_route, translates_params, translates_results, translates_then}
 use Rattle.fact_emit.specs.Asked.{AskedHelper}
 use Rattle.fact_emit.specs.NamedFunctions.{defined_named}
 use Rattle.fact_kinds.specs.Translations.{IsKeyOf}

@@ -11,9 +11,9 @@ use Rattle.fact_types.specs.Signatures.{flat_values, lift_results_limit, lower_l
 use Rattle.fact_types.specs.Tables.{Tables, HasShape}
 use Rattle.fact_types.specs.Tuples.{tuple_of}
 use Rattle.fact_types.specs.declared.interface.InterfaceType.TheVariants as ty
-use Rattle.fact_moves.specs.Adapters.{lowered_flats}
-use Rattle.fact_moves.specs.Running.{ImportPlaces}
-use Rattle.fact_pieces.specs.Places.{Slot}
+use Rattle.fact_actions.specs.Adapters.{lowered_flats}
+use Rattle.fact_actions.specs.Running.{ImportPlaces}
+use Rattle.fact_code_laws.specs.Places.{Slot}
 use Rattle.fact_emit.specs.Asked.{AskedHelper}
 use Rattle.fact_emit.specs.Emits.{Grew, Emits, EmitsAsking, GrewAsking}
 use Rattle.fact_emit.specs.Fitting.{MovesTuple}
@@ -66,7 +66,7 @@ pub record MovedParams (t : Tables) (d : AdapterData) (debug concurrency : Bool)
   pub asks : List AskedHelper
   pub translated : TranslatesParams t d debug concurrency before after asks
   pub grew : GrewAsking asks old new
-  pub asked : AsksFor t debug concurrency asks old.imports new.imports
+  pub asked : AsksFor t debug concurrency asks old.sections new.sections
   pub emits : (ps rs qs ss : List Shape) → HasSignature t d.lower.ty ps rs → HasSignature t d.lift.ty qs ss → CanMoveTuple ps qs → EmitsAsking asks old new (MovesParams d debug concurrency params core (taken_in old) ps qs)
 
 -- the move of parameters, or no code where they are handed on as they are
@@ -80,20 +80,20 @@ pub record PassedParams (t : Tables) (d : AdapterData) (debug concurrency passed
   pub translated : passed ≡ false → TranslatesParams t d debug concurrency before after asks
   pub none : passed ≡ true → (asks ≡ []) × (after ≡ before)
   pub grew : GrewAsking asks old new
-  pub asked : AsksFor t debug concurrency asks old.imports new.imports
+  pub asked : AsksFor t debug concurrency asks old.sections new.sections
   pub emits : (ps rs qs ss : List Shape) → HasSignature t d.lower.ty ps rs → HasSignature t d.lift.ty qs ss → CanMoveTuple ps qs → EmitsAsking asks old new (ParamsCode passed d debug concurrency params core (taken_in old) ps qs)
 
 -- The area of a tuple is checked, where its values are not flat. It has at most 4,294,967,295 bytes.
 pub record CheckedTuple (t : Tables) (tuple : Id TypeTuples) (m : LinearMemory) (flat : Bool) (address : ℕ) (old new : Writer) : Type 0 where
   pub grew : Grew old new
-  pub none_asked : AreNewAsked [] old.imports new.imports
+  pub none_asked : AreNewAsked [] old.sections new.sections
   pub size : (ss : List Shape) → HasShape t (ty.Tuple tuple) (tuple_of ss) → tuple_size m.memory64 ss ≤ 4294967295
   pub emits : (ss : List Shape) → HasShape t (ty.Tuple tuple) (tuple_of ss) → Emits old new (ChecksTuple m (taken_in old) flat address (tuple_size m.memory64 ss) (tuple_align m.memory64 ss))
 
 -- A new area is asked for, where they are not.
 pub record AskedTuple (t : Tables) (tuple : Id TypeTuples) (concurrency : Bool) (m : LinearMemory) (flat : Bool) (address : ℕ) (old new : Writer) : Type 0 where
   pub grew : Grew old new
-  pub none_asked : AreNewAsked [] old.imports new.imports
+  pub none_asked : AreNewAsked [] old.sections new.sections
   pub size : (ss : List Shape) → HasShape t (ty.Tuple tuple) (tuple_of ss) → tuple_size m.memory64 ss ≤ 4294967295
   pub emits : (ss : List Shape) → HasShape t (ty.Tuple tuple) (tuple_of ss) → Emits old new (AsksTuple concurrency m (taken_in old) flat address (tuple_size m.memory64 ss) (tuple_align m.memory64 ss))
 
@@ -114,7 +114,7 @@ pub record MovedResults (t : Tables) (d : AdapterData) (debug concurrency : Bool
   pub grew : GrewAsking asks old new
   pub lift_size : (qs ss : List Shape) → HasSignature t d.lift.ty qs ss → tuple_size (linear_of d.lift).memory64 ss ≤ 4294967295
   pub lower_size : (ps rs : List Shape) → HasSignature t d.lower.ty ps rs → tuple_size (linear_of d.lower).memory64 rs ≤ 4294967295
-  pub asked : AsksFor t debug concurrency asks old.imports new.imports
+  pub asked : AsksFor t debug concurrency asks old.sections new.sections
   pub emits : (ps rs qs ss : List Shape) → HasSignature t d.lower.ty ps rs → HasSignature t d.lift.ty qs ss → CanMoveTuple ss rs → EmitsAsking asks old new (MovesResults d debug concurrency given results args (taken_in old) ss rs)
 
 -- ---- the functions of async adapters that move values

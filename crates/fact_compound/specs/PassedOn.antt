@@ -4,7 +4,7 @@ use Rattle.fact_wasm.specs.declared.types.ValType.{ValType}
 use Rattle.fact_wasm.specs.declared.types.ValType.TheVariants as val
 use Rattle.fact_types.specs.declared.interface.InterfaceType.{InterfaceType}
 use Rattle.fact_types.specs.declared.interface.InterfaceType.TheVariants as ty
-use Rattle.fact_moves.specs.Actions.{Action, Visit}
+use Rattle.fact_actions.specs.Actions.{Action, Visit}
 
 -- the core types of the numbers of 32 and of 64 bits
 abbrev pub core_type_of : InterfaceType → ValType

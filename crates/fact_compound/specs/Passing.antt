@@ -8,8 +8,8 @@ use Rattle.fact_types.specs.Layout.{extent}
 use Rattle.fact_types.specs.Shapes.{Shape, layout_of}
 use Rattle.fact_types.specs.Signatures.{width}
 use Rattle.fact_types.specs.Tuples.{tuple_of}
-use Rattle.fact_moves.specs.Running.{ImportPlaces}
-use Rattle.fact_pieces.specs.Places.{Slot, From, InLocals, InMemory, To, ToLocals, ToMemory}
+use Rattle.fact_actions.specs.Running.{ImportPlaces}
+use Rattle.fact_code_laws.specs.Places.{Slot, From, InLocals, InMemory, To, ToLocals, ToMemory}
 use Rattle.fact_emit.specs.Areas.{ChecksArea}
 use Rattle.fact_emit.specs.NewAreas.{AsksArea}
 use Rattle.fact_emit.specs.declared.places.LinearMemory.{LinearMemory}

@@ -6,8 +6,8 @@ use Rattle.fact_types.specs.Signatures.{flat_values, lift_results_limit, lower_l
 use Rattle.fact_types.specs.Tuples.{tuple_members}
 use Rattle.fact_types.specs.declared.outside.CoreDef.{CoreDef}
 use Rattle.fact_types.specs.declared.outside.MemoryOption.{MemoryOption}
-use Rattle.fact_moves.specs.Adapters.{flat_results}
-use Rattle.fact_emit.specs.AdapterLinks.{AdapterLinks, SideLinks}
+use Rattle.fact_actions.specs.Adapters.{flat_results}
+use Rattle.fact_emit.specs.AdapterImports.{AdapterImports, SideImports}
 use Rattle.fact_emit.specs.ImportSection.{custom_page_size}
 use Rattle.fact_emit.specs.Options.{number_if_any}
 use Rattle.fact_compound.specs.Described.{linear_of}
@@ -16,7 +16,7 @@ use Rattle.fact_compound.specs.declared.adapters.AdapterData.{AdapterData}
 
 -- The options of a side: its instance, the places of its flags, of its memory and of its realloc, the width of its addresses, the
 -- memory's page size, and the encoding of its strings.
-pub record AreOptionsOf (s : Side) (at : SideLinks) (o : AdapterOptions) : Type 0 where
+pub record AreOptionsOf (s : Side) (at : SideImports) (o : AdapterOptions) : Type 0 where
   pub instance : o.instance.number ≡ s.instance
   pub flags : o.flags.number ≡ at.flags
   pub wide : is_wide s.memory ≡ o.options.linear.memory64
@@ -44,7 +44,7 @@ pub record HasMemoriesFor (a : LinkedAdapter) : Type 0 where
   pub results_lists : have_pointer_pair (tuple_members a.lift.results) ≡ true → HasMemoryOption a.lift × HasMemoryOption a.lower × HasReallocOption a.lower
 
 -- those of both sides, the callee and the post-return, and the adapter's mark
-pub record IsDataOf (a : LinkedAdapter) (at : AdapterLinks) (d : AdapterData) : Type 0 where
+pub record IsDataOf (a : LinkedAdapter) (at : AdapterImports) (d : AdapterData) : Type 0 where
   pub lift : AreOptionsOf a.lift at.lift d.lift
   pub lower : AreOptionsOf a.lower at.lower d.lower
   pub callee : d.callee.number ≡ at.callee

@@ -12,11 +12,11 @@ use Rattle.fact_machine.specs.Exits.{entry_locals}
 use Rattle.fact_machine.specs.Typed.{are_values}
 use Rattle.fact_machine.specs.Typing.{is_typed_function}
 use Rattle.fact_machine.specs.declared.types.CoreValue.{CoreValue}
-use Rattle.fact_moves.specs.Adapters.{lower_signature_of, same_instance}
-use Rattle.fact_moves.specs.Running.{ImportPlaces}
-use Rattle.fact_pieces.specs.Code.{trap_code}
-use Rattle.fact_pieces.specs.Does.{Onward, Does}
-use Rattle.fact_pieces.specs.PieceLaws.{HaveResultTypes}
+use Rattle.fact_actions.specs.Adapters.{lower_signature_of, same_instance}
+use Rattle.fact_actions.specs.Running.{ImportPlaces}
+use Rattle.fact_code_laws.specs.Code.{trap_code}
+use Rattle.fact_code_laws.specs.Does.{Onward, Does}
+use Rattle.fact_code_laws.specs.PieceLaws.{HaveResultTypes}
 use Rattle.fact_emit.specs.Brought.{Brought}
 use Rattle.fact_compound.specs.Asks.{AreNewAsked}
 use Rattle.fact_emit.specs.Imports.{AreOnce, Extended, Serves}

@@ -1,4 +1,4 @@
--- What is said of the function of a sync adapter.
+-- What is said of the function of a sync adapter: its body does the adapter's action (`IsSyncFunction`), so that each law of the action is one of its runs.
 use Rattle.std.specs.Prelude.{◌≡◌, ℕ, Bool, true, List, [], reverse, Some, slice_get}
 use Rattle.fact_wasm.specs.declared.module.WasmFunc.{WasmFunc}
 use Rattle.fact_wasm.specs.declared.module.WasmModule.{WasmModule}
@@ -10,13 +10,13 @@ use Rattle.fact_machine.specs.Typed.{are_values}
 use Rattle.fact_machine.specs.Typing.{is_typed_function}
 use Rattle.fact_machine.specs.declared.types.CoreValue.{CoreValue}
 use Rattle.fact_machine.specs.World.{World}
-use Rattle.fact_moves.specs.Adapters.{AdapterTunables, lower_signature_of}
-use Rattle.fact_moves.specs.Plain.{ended_sync}
-use Rattle.fact_moves.specs.Running.{ImportPlaces}
-use Rattle.fact_pieces.specs.Typed.{OnStack, IsTyped}
-use Rattle.fact_pieces.specs.Does.{Locals, Onward, held_types, EndsSo}
-use Rattle.fact_pieces.specs.Places.{AreHeld}
-use Rattle.fact_pieces.specs.PieceLaws.{HaveResultTypes}
+use Rattle.fact_actions.specs.Adapters.{AdapterTunables, lower_signature_of}
+use Rattle.fact_actions.specs.Plain.{ended_sync}
+use Rattle.fact_actions.specs.Running.{ImportPlaces}
+use Rattle.fact_code_laws.specs.Typed.{OnStack, IsTyped}
+use Rattle.fact_code_laws.specs.Does.{Locals, Onward, held_types, EndsSo}
+use Rattle.fact_code_laws.specs.Places.{AreHeld}
+use Rattle.fact_code_laws.specs.PieceLaws.{HaveResultTypes}
 use Rattle.fact_wasm.specs.declared.instr.Instr.{Instr}
 use Rattle.fact_wasm.specs.declared.types.ValType.{ValType}
 use Rattle.fact_emit.specs.Asked.{AskedHelper}
@@ -68,5 +68,5 @@ pub record EmitsSync (t : Tables) (d : AdapterData) (debug : Bool) (o : CallOpti
   pub asks : List AskedHelper
   pub translated : TranslatesSync t d debug o.concurrency l.passed before after asks
   pub grew : GrewAsking asks old new
-  pub asked : AsksFor t debug o.concurrency asks old.imports new.imports
+  pub asked : AsksFor t debug o.concurrency asks old.sections new.sections
   pub emits : (u : AdapterTunables) (a : LinkedAdapter) → DescribesAdapter t d debug u a → AreCallOptions o u a → EmitsAsking asks old new (DoesSync u a d o l (taken_in old))

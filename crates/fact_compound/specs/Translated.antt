@@ -3,7 +3,7 @@ use Rattle.std.specs.Prelude.{◌≡◌, ◌≤◌, Bool, true, false, List}
 use Rattle.fact_types.specs.Shapes.{Shape}
 use Rattle.fact_types.specs.Tables.{Tables}
 use Rattle.fact_types.specs.Tuples.{tuple_members}
-use Rattle.fact_moves.specs.Outlining.{Memory, Route, Stack, ValuePlace, translates_fields}
+use Rattle.fact_actions.specs.Outlining.{Memory, Route, Stack, ValuePlace, translates_fields}
 use Rattle.fact_emit.specs.Asked.{AskedHelper}
 use Rattle.fact_emit.specs.declared.places.Sides.{Sides}
 use Rattle.fact_kinds.specs.Translations.{AreTranslated, IsFuel}

@@ -6,17 +6,17 @@ use Rattle.fact_wasm.specs.declared.types.ValType.{ValType}
 use Rattle.fact_wasm.specs.declared.types.ValType.TheVariants as val
 use Rattle.fact_types.specs.Adapters.{LinkedAdapter, is_wide}
 use Rattle.fact_types.specs.Signatures.{flat_params, lower_pointer}
-use Rattle.fact_moves.specs.Adapters.{lower_signature_of, lift_signature_of}
+use Rattle.fact_actions.specs.Adapters.{lower_signature_of, lift_signature_of}
 use Rattle.fact_emit.specs.Places.{AreDistinctSlots}
 use Rattle.fact_types.specs.Functions.{HasSignature}
 use Rattle.fact_types.specs.Shapes.{Shape}
 use Rattle.fact_types.specs.Tables.{Tables}
 use Rattle.fact_types.specs.declared.import.Import.TheVariants as import
 use Rattle.fact_types.specs.declared.outside.Trap.TheVariants.{CannotLeaveComponent, UncaughtException}
-use Rattle.fact_moves.specs.Running.{ImportPlaces}
-use Rattle.fact_pieces.specs.Knows.{KnowsFunction}
-use Rattle.fact_pieces.specs.Context.{CanReadSlotsIf}
-use Rattle.fact_pieces.specs.Places.{Slot, AreLocals, AreUsed}
+use Rattle.fact_actions.specs.Running.{ImportPlaces}
+use Rattle.fact_code_laws.specs.Knows.{KnowsFunction}
+use Rattle.fact_code_laws.specs.Context.{CanReadSlotsIf}
+use Rattle.fact_code_laws.specs.Places.{Slot, AreLocals, AreUsed}
 use Rattle.fact_emit.specs.Barriers.{Barred}
 use Rattle.fact_emit.specs.Asked.{AskedHelper}
 use Rattle.fact_emit.specs.Emits.{EmitsAsking, GrewAsking}
@@ -138,7 +138,7 @@ pub record WrittenCall (t : Tables) (d : AdapterData) (debug : Bool) (o : CallOp
   pub translated : l.passed ≡ false → TranslatesParams t d debug o.concurrency before after asks
   pub none : l.passed ≡ true → (asks ≡ []) × (after ≡ before)
   pub grew : GrewAsking asks old new
-  pub asked : AsksFor t debug o.concurrency asks old.imports new.imports
+  pub asked : AsksFor t debug o.concurrency asks old.sections new.sections
   pub emits : (ps rs qs ss : List Shape) → HasSignature t d.lower.ty ps rs → HasSignature t d.lift.ty qs ss → CanMoveTuple ps qs → EmitsAsking asks old new (IsCallCode d debug o l (taken_in old) ps qs)
 
 pub record WrittenReturn (t : Tables) (d : AdapterData) (debug : Bool) (o : CallOptions) (l : SyncPlaces) (before after : Fuel) (old new : Writer) : Type 0 where
@@ -147,7 +147,7 @@ pub record WrittenReturn (t : Tables) (d : AdapterData) (debug : Bool) (o : Call
   pub grew : GrewAsking asks old new
   pub lift_size : (qs ss : List Shape) → HasSignature t d.lift.ty qs ss → tuple_size (linear_of d.lift).memory64 ss ≤ 4294967295
   pub lower_size : (ps rs : List Shape) → HasSignature t d.lower.ty ps rs → tuple_size (linear_of d.lower).memory64 rs ≤ 4294967295
-  pub asked : AsksFor t debug o.concurrency asks old.imports new.imports
+  pub asked : AsksFor t debug o.concurrency asks old.sections new.sections
   pub emits : (ps rs qs ss : List Shape) → HasSignature t d.lower.ty ps rs → HasSignature t d.lift.ty qs ss → CanMoveTuple ss rs → EmitsAsking asks old new (IsReturnCode d debug o l (taken_in old) rs ss)
 
 -- of these steps with something around them
@@ -157,7 +157,7 @@ pub record WrittenAs (Around : Piece → Piece) (t : Tables) (d : AdapterData) (
   pub grew : GrewAsking asks old new
   pub lift_size : (qs ss : List Shape) → HasSignature t d.lift.ty qs ss → tuple_size (linear_of d.lift).memory64 ss ≤ 4294967295
   pub lower_size : (ps rs : List Shape) → HasSignature t d.lower.ty ps rs → tuple_size (linear_of d.lower).memory64 rs ≤ 4294967295
-  pub asked : AsksFor t debug o.concurrency asks old.imports new.imports
+  pub asked : AsksFor t debug o.concurrency asks old.sections new.sections
   pub emits : (ps rs qs ss : List Shape) → HasSignature t d.lower.ty ps rs → HasSignature t d.lift.ty qs ss → CanMoveTuple ps qs → CanMoveTuple ss rs → EmitsAsking asks old new (Around (IsStepsCode d debug o l (taken_in old) ps rs qs ss))
 
 abbrev pub WrittenSteps : Tables → AdapterData → (debug : Bool) → CallOptions → SyncPlaces → (before after : Fuel) → (old new : Writer) → Type 0

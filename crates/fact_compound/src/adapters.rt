@@ -1,11 +1,11 @@
-//! What an adapter's code is written by.
+//! The data that an adapter's code is written by: [`AdapterData`], whose core items are places of imports.
 
 ghost use Rattle.std.specs.Prelude.{◌≡◌};
 ghost use Rattle.fact_compound.specs.Passed.{params_sides as sides_of_params, results_sides as sides_of_results};
 ghost use Rattle.fact_compound.specs.Described.{linear_of as linear_of_side, side_sig as sig_of_side};
 
-pub use fact_emit::options::{LinearMemoryOptions, Options};
-use fact_emit::places::{LinearMemory, Sides};
+pub use fact_emit::{LinearMemoryOptions, Options};
+use fact_emit::{LinearMemory, Sides};
 use fact_entity::{FuncIndex, GlobalIndex, RuntimeComponentInstanceIndex, TypeFuncIndex};
 use fact_types::SideSig;
 use fact_wasm::Text;

@@ -14,11 +14,9 @@ use crate::entries::compile_entry;
 use crate::functions::{add_locals, function_of, params_of};
 use crate::tuples::{are_flat_results, move_params, move_results, tuples_of};
 use fact_builder::ComponentTypesBuilder;
-use fact_emit::places::TypedLocal;
-use fact_emit::state::ModuleSections;
-use fact_emit::writer::Writer;
-use fact_kinds::fuel::Fuel;
-use fact_steps::steps::{hold_flags, push_locals, restore_flags};
+use fact_emit::{ModuleSections, TypedLocal, Writer};
+use fact_kinds::Fuel;
+use fact_steps::{hold_flags, push_locals, restore_flags};
 use fact_types::{ComponentTypes, Signature};
 use fact_wasm::{FuncName, OutOfMemory, ValType, WasmFunc};
 use std::alloc::Global;
@@ -114,7 +112,7 @@ fn move_part(
 ) -> Result<(), OutOfMemory>
     requires lower_live { adapter.now.lower.ty.number < length types.now.functions }
     requires lift_live { adapter.now.lift.ty.number < length types.now.functions }
-    requires options_imported { AreOptionsImported adapter.now w.old.imports }
+    requires options_imported { AreOptionsImported adapter.now w.old.sections }
     requires tables { builder.now.tables ≡ types.now }
     ensures { OnOk result (MovedPart types.now adapter.now debug concurrency part (part_locals locals.entry) fuel.old fuel.new w.old w.new) }
 {
@@ -164,7 +162,7 @@ fn put_part(
 ) -> Result<(), OutOfMemory>
     requires lower_live { adapter.now.lower.ty.number < length types.now.functions }
     requires lift_live { adapter.now.lift.ty.number < length types.now.functions }
-    requires options_imported { AreOptionsImported adapter.now w.old.imports }
+    requires options_imported { AreOptionsImported adapter.now w.old.sections }
     requires tables { builder.now.tables ≡ types.now }
     ensures { OnOk result (EmitsPart types.now adapter.now debug concurrency part (part_locals locals.entry) fuel.old fuel.new w.old w.new) }
 {
@@ -200,7 +198,7 @@ fn write_part_body(
 ) -> Result<(), OutOfMemory>
     requires lower_live { adapter.now.lower.ty.number < length types.now.functions }
     requires lift_live { adapter.now.lift.ty.number < length types.now.functions }
-    requires options_imported { AreOptionsImported adapter.now w.old.imports }
+    requires options_imported { AreOptionsImported adapter.now w.old.sections }
     requires no_code { w.old.code.items ≡ [] }
     requires no_locals { w.old.locals.items ≡ [] }
     requires tables { builder.now.tables ≡ types.now }
@@ -253,7 +251,7 @@ fn write_part(
     let alloc = sections.alloc();
     let mut w = Writer::over(alloc, mem::replace(sections, ModuleSections::new(alloc)));
     let mut fuel = Fuel::full(fuel);
-    let said = write_part_body(
+    let written = write_part_body(
         types,
         builder,
         &mut w,
@@ -264,9 +262,9 @@ fn write_part(
         part,
         signature,
     );
-    let (imports, code, locals) = w.into_parts();
-    drop(mem::replace(sections, imports));
-    match said {
+    let (new_sections, code, locals) = w.into_parts();
+    drop(mem::replace(sections, new_sections));
+    match written {
         Ok(()) => {
             let function = function_of(alloc, code, locals, signature.params.len(), ty)?;
             Ok(function)

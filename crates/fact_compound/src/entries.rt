@@ -8,7 +8,7 @@ ghost use Rattle.fact_types.specs.Functions.{HasSignature};
 ghost use Rattle.fact_types.specs.Shapes.{Shape};
 ghost use Rattle.fact_types.specs.Valid.{IsValid};
 ghost use Rattle.fact_machine.specs.Numerics.{truth};
-ghost use Rattle.fact_moves.specs.Adapters.{encoding_number as encoding_number_of, results_number as results_number_of};
+ghost use Rattle.fact_actions.specs.Adapters.{encoding_number as encoding_number_of, results_number as results_number_of};
 ghost use Rattle.fact_compound.specs.Described.{DescribesEntry, DescribesSide, is_marked_type};
 ghost use Rattle.fact_compound.specs.Entries.{CompiledEntry, ImportsCalls, WroteEntry, arguments_code, call_facts as call_facts_of, callee_facts as callee_facts_of, constants_code, entry_code, tuple_of_results, whether_any as whether_any_of};
 ghost use Rattle.fact_compound.specs.Passing.{tuple_size};
@@ -16,8 +16,7 @@ ghost use Rattle.fact_compound.specs.Passing.{tuple_size};
 use crate::adapters::{AdapterData, AdapterOptions};
 use crate::tuples::tuples_of;
 use fact_builder::ComponentTypesBuilder;
-use fact_emit::state::ModuleSections;
-use fact_emit::task_calls::StartCall;
+use fact_emit::{ModuleSections, StartCall};
 use fact_entity::{EntityRef, TypeFuncIndex};
 use fact_types::{ComponentTypes, InterfaceType, Signature, StringEncoding};
 use fact_wasm::{FuncName, Instr, OutOfMemory, Seq, ValType, WasmFunc};
@@ -251,10 +250,10 @@ fn write_entry(
 {
     let alloc = sections.alloc();
     let places = import_calls(sections, adapter, lower, start, return_)?;
-    let told = call_facts(alloc, types, adapter)?;
+    let facts = call_facts(alloc, types, adapter)?;
     let started = callee_facts(alloc, adapter, lift)?;
     let params = count_of(lower.params.as_slice())?;
-    let body = entry_body(alloc, places, told.as_slice(), params, started.as_slice())?;
+    let body = entry_body(alloc, places, facts.as_slice(), params, started.as_slice())?;
     let locals = Seq::new(alloc);
     Ok(WasmFunc { ty, locals, body })
 }

@@ -1,14 +1,12 @@
-//! Whole functions of adapters.
+//! The functions of adapters, put into a module ([`compile`]); those of sync adapters are here, with their locals, and others beside.
 
-ghost use Rattle.std.specs.Prelude.{IfOk, IfSome, OnOk, ◌≡◌, ◌-◌, ◌<◌, ◌++◌, ◌&&◌, ◌||◌, ◌∷◌, [], false, drop, length, map, take};
+ghost use Rattle.std.specs.Prelude.{IfOk, OnOk, ◌≡◌, ◌-◌, ◌<◌, ◌++◌, ◌&&◌, ◌||◌, ◌∷◌, [], false, drop, length, map, take};
 ghost use Rattle.fact_machine.specs.Typing.{local_types};
 ghost use Rattle.fact_emit.specs.Places.{slots_of_locals};
 ghost use Rattle.fact_compound.specs.Settings.{OnlySectionsChanged};
-ghost use Rattle.fact_emit.specs.States.{functions_of};
 ghost use Rattle.fact_emit.specs.declared.writer.Local as local_is;
-ghost use Rattle.fact_entity.specs.declared.id.Id as id;
 ghost use Rattle.fact_compound.specs.Compiled.{Compiled, CompiledOwn};
-ghost use Rattle.fact_compound.specs.Described.{AreOptionsImported, is_async_data, is_marked_type};
+ghost use Rattle.fact_compound.specs.Described.{CanBeCompiled, is_async_data, is_marked_type};
 ghost use Rattle.fact_compound.specs.Events.{AsksCalls};
 ghost use Rattle.fact_compound.specs.Helpers.{HelpersAreThere};
 ghost use Rattle.fact_compound.specs.Functions.{AddedContext, AddedLocals, AddedSyncLocals, core_slots, unless_passed, PutBody, WroteBody, WroteFunction, AskingSync, params_among};
@@ -21,12 +19,9 @@ use crate::state::ModuleState;
 use crate::syncs::{CallOptions, SyncLocals, put_sync};
 use crate::tuples::{are_flat_results, tuples_of};
 use fact_builder::ComponentTypesBuilder;
-use fact_emit::context::ContextLocals;
-use fact_emit::places::TypedLocal;
-use fact_emit::state::ModuleSections;
-use fact_emit::writer::{Local, Writer};
-use fact_kinds::fuel::Fuel;
-use fact_steps::passing::are_passed_on;
+use fact_emit::{ContextLocals, Local, ModuleSections, TypedLocal, Writer};
+use fact_kinds::Fuel;
+use fact_steps::are_passed_on;
 use fact_types::{ComponentTypes, InterfaceType, SideSig, Signature, TypeFuncIndex};
 use fact_wasm::{FuncName, Instr, OutOfMemory, Seq, ValType, WasmFunc};
 use std::alloc::Global;
@@ -143,11 +138,7 @@ fn put_body(
     passed: bool,
     locals: &AdapterLocals,
 ) -> Result<(), OutOfMemory>
-    requires lower_live { adapter.now.lower.ty.number < length types.now.functions }
-    requires lift_live { adapter.now.lift.ty.number < length types.now.functions }
-    requires callee { adapter.now.callee.number < length (functions_of w.old.imports) }
-    requires options_imported { AreOptionsImported adapter.now w.old.imports }
-    requires post_return { IfSome adapter.now.lift.post_return (λ (f : id.Id _). f.number < length (functions_of w.old.imports)) }
+    requires can { CanBeCompiled types.now adapter.now w.old.sections }
     requires tables { builder.now.tables ≡ types.now }
     ensures { OnOk result (PutBody types.now adapter.now debug options passed locals.now fuel.old fuel.new w.old w.new) }
 {
@@ -182,11 +173,7 @@ fn write_body(
     lower: &Signature,
     lift: &Signature,
 ) -> Result<(), OutOfMemory>
-    requires lower_live { adapter.now.lower.ty.number < length types.now.functions }
-    requires lift_live { adapter.now.lift.ty.number < length types.now.functions }
-    requires callee { adapter.now.callee.number < length (functions_of w.old.imports) }
-    requires options_imported { AreOptionsImported adapter.now w.old.imports }
-    requires post_return { IfSome adapter.now.lift.post_return (λ (f : id.Id _). f.number < length (functions_of w.old.imports)) }
+    requires can { CanBeCompiled types.now adapter.now w.old.sections }
     requires no_code { w.old.code.items ≡ [] }
     requires no_locals { w.old.locals.items ≡ [] }
     requires tables { builder.now.tables ≡ types.now }
@@ -275,23 +262,20 @@ fn write_function(
     ty: u32,
     fuel: u32,
 ) -> Result<WasmFunc, OutOfMemory>
-    requires lower_live { adapter.now.lower.ty.number < length types.now.functions }
-    requires lift_live { adapter.now.lift.ty.number < length types.now.functions }
-    requires callee { adapter.now.callee.number < length (functions_of sections.old) }
-    requires options_imported { AreOptionsImported adapter.now sections.old }
-    requires post_return { IfSome adapter.now.lift.post_return (λ (f : id.Id _). f.number < length (functions_of sections.old)) }
+    requires can { CanBeCompiled types.now adapter.now sections.old }
     requires tables { builder.now.tables ≡ types.now }
     ensures { IfOk result (λ f. WroteFunction types.now adapter.now debug options fuel lower.now lift.now ty sections.old sections.new f) }
 {
     let alloc = sections.alloc();
+    // The writer owns the module while it writes, and gives it back.
     let mut w = Writer::over(alloc, mem::replace(sections, ModuleSections::new(alloc)));
     let mut fuel = Fuel::full(fuel);
-    let said = write_body(
+    let written = write_body(
         types, builder, &mut w, &mut fuel, adapter, debug, options, lower, lift,
     );
-    let (imports, code, locals) = w.into_parts();
-    drop(mem::replace(sections, imports));
-    match said {
+    let (new_sections, code, locals) = w.into_parts();
+    drop(mem::replace(sections, new_sections));
+    match written {
         Ok(()) => {
             let function = function_of(alloc, code, locals, lower.params.len(), ty)?;
             Ok(function)
@@ -318,7 +302,7 @@ fn sync_side(side: &AdapterOptions) -> SideSig
     }
 }
 
-/// Whether both hold.
+/// Whether both hold. A call of its own, since what is known of a value that `&&` gives is told by branches.
 fn both(first: bool, second: bool) -> bool
     ensures { result ≡ (first && second) }
 {
@@ -365,11 +349,7 @@ fn compile_sync(
     exceptions: bool,
     fuel: u32,
 ) -> Result<(), OutOfMemory>
-    requires lower_live { adapter.now.lower.ty.number < length types.now.tables.functions }
-    requires lift_live { adapter.now.lift.ty.number < length types.now.tables.functions }
-    requires callee { adapter.now.callee.number < length (functions_of sections.old) }
-    requires options_imported { AreOptionsImported adapter.now sections.old }
-    requires post_return { IfSome adapter.now.lift.post_return (λ (f : id.Id _). f.number < length (functions_of sections.old)) }
+    requires can { CanBeCompiled types.now.tables adapter.now sections.old }
     requires ahead { length sections.old.functions < sections.old.numbered }
     ensures { OnOk result (AskingSync types.now.tables adapter.now debug concurrency exceptions fuel sections.old sections.new) }
 {
@@ -401,21 +381,14 @@ fn is_async(types: &ComponentTypes, adapter: &AdapterData) -> bool
     requires lift_live { adapter.now.lift.ty.number < length types.now.functions }
     ensures { result ≡ is_async_data types.now adapter.now }
 {
-    let sides = either(adapter.lift.options.async_, adapter.lower.options.async_);
-    let marks = either(
-        is_marked(types, adapter.lift.ty),
-        is_marked(types, adapter.lower.ty),
-    );
-    either(sides, marks)
+    let sides = adapter.lift.options.async_ || adapter.lower.options.async_;
+    let marks = is_marked(types, adapter.lift.ty) || is_marked(types, adapter.lower.ty);
+    sides || marks
 }
 
 /// Compiles an adapter's own functions, which are numbered before they are written.
 fn compile_own(state: &mut ModuleState<'_>, adapter: &AdapterData) -> Result<(), OutOfMemory>
-    requires lower_live { adapter.now.lower.ty.number < length state.old.builder.now.tables.functions }
-    requires lift_live { adapter.now.lift.ty.number < length state.old.builder.now.tables.functions }
-    requires callee { adapter.now.callee.number < length (functions_of state.old.sections) }
-    requires options_imported { AreOptionsImported adapter.now state.old.sections }
-    requires post_return { IfSome adapter.now.lift.post_return (λ (f : id.Id _). f.number < length (functions_of state.old.sections)) }
+    requires can { CanBeCompiled state.old.builder.now.tables adapter.now state.old.sections }
     ensures own { OnOk result (CompiledOwn state.old.builder.now.tables adapter.now state.old.tunables.now.debug_adapter_modules state.old.tunables.now.concurrency_support state.old.features.exceptions state.old.tunables.now.fuel state.old.sections state.new.sections) }
     ensures keeps { OnlySectionsChanged state.old state.new }
 {
@@ -456,11 +429,7 @@ fn compile_own(state: &mut ModuleState<'_>, adapter: &AdapterData) -> Result<(),
 /// types are live, and the data's numbers are those of imports of the module. After a want of memory the module may have types, imports
 /// and functions that nothing uses, a function without its export, and helpers without functions.
 pub fn compile(state: &mut ModuleState<'_>, adapter: &AdapterData) -> Result<(), OutOfMemory>
-    requires lower_live { adapter.now.lower.ty.number < length state.old.builder.now.tables.functions }
-    requires lift_live { adapter.now.lift.ty.number < length state.old.builder.now.tables.functions }
-    requires callee { adapter.now.callee.number < length (functions_of state.old.sections) }
-    requires options_imported { AreOptionsImported adapter.now state.old.sections }
-    requires post_return { IfSome adapter.now.lift.post_return (λ (f : id.Id _). f.number < length (functions_of state.old.sections)) }
+    requires can { CanBeCompiled state.old.builder.now.tables adapter.now state.old.sections }
     requires helpers { HelpersAreThere state.old.builder.now.tables state.old.tunables.now.debug_adapter_modules state.old.tunables.now.concurrency_support state.old.tunables.now.fuel state.old.sections }
     ensures compiled { OnOk result (Compiled state.old.builder.now.tables adapter.now state.old.tunables.now.debug_adapter_modules state.old.tunables.now.concurrency_support state.old.features.exceptions state.old.tunables.now.fuel state.old.sections state.new.sections) }
     ensures keeps { OnlySectionsChanged state.old state.new }

@@ -11,15 +11,10 @@ ghost use Rattle.fact_compound.specs.Helpers.{AreWritable, CompiledHelpers, IsHe
 use crate::functions::{add_locals, function_of, params_of};
 use crate::tuples::{tuple_source, tuple_target};
 use fact_builder::ComponentTypesBuilder;
-use fact_emit::helpers::{Helper, HelperLocation, HelperType};
-use fact_emit::places::Sides;
-use fact_emit::state::ModuleSections;
-use fact_emit::writer::Writer;
-use fact_kinds::fuel::Fuel;
-use fact_kinds::helpers::{flat_types, helper_params};
-use fact_kinds::lists::address_type;
-use fact_steps::steps::push_locals;
-use fact_translate::products::translate_in_place;
+use fact_emit::{Helper, HelperLocation, HelperType, ModuleSections, Sides, Writer};
+use fact_kinds::{Fuel, address_type, flat_types, helper_params};
+use fact_steps::push_locals;
+use fact_translate::translate_in_place;
 use fact_types::{ComponentTypes, Signature};
 use fact_wasm::{OutOfMemory, Seq, ValType, WasmFunc};
 use std::alloc::{AllocError, Global};
@@ -91,7 +86,7 @@ fn write_helper_body(
 ) -> Result<(), OutOfMemory>
     requires from_live { IsLive types.now helper.now.src.ty }
     requires to_live { IsLive types.now helper.now.dst.ty }
-    requires imported { AreSidesImported (sides_between helper.now debug concurrency) w.old.imports }
+    requires imported { AreSidesImported (sides_between helper.now debug concurrency) w.old.sections }
     requires tables { builder.now.tables ≡ types.now }
     requires no_code { w.old.code.items ≡ [] }
     requires no_locals { w.old.locals.items ≡ [] }
@@ -140,7 +135,7 @@ fn write_helper(
     let ty = sections.function(signature.params.as_slice(), signature.results.as_slice())?;
     let mut w = Writer::over(alloc, mem::replace(sections, ModuleSections::new(alloc)));
     let mut fuel = Fuel::full(fuel);
-    let said = write_helper_body(
+    let body_written = write_helper_body(
         types,
         builder,
         &mut w,
@@ -150,9 +145,9 @@ fn write_helper(
         concurrency,
         &signature,
     );
-    let (imports, code, locals) = w.into_parts();
-    drop(mem::replace(sections, imports));
-    match said {
+    let (new_sections, code, locals) = w.into_parts();
+    drop(mem::replace(sections, new_sections));
+    match body_written {
         Ok(()) => {
             let function = function_of(alloc, code, locals, signature.params.len(), ty)?;
             Ok(function)
@@ -280,7 +275,7 @@ pub fn compile_helpers(
     ensures { OnOk result (CompiledHelpers types.now.tables debug concurrency fuel first sections.old sections.new) }
 {
     let mut written = Seq::new(sections.alloc());
-    let said = write_waiting(
+    let all_written = write_waiting(
         types,
         sections,
         first,
@@ -289,7 +284,7 @@ pub fn compile_helpers(
         fuel,
         &mut written,
     );
-    match said {
+    match all_written {
         Ok(()) => {
             define_all(sections, written)?;
             Ok(())

@@ -1,13 +1,17 @@
-//! The code of whole adapters, of the parts that `fact_emit` writes. What each function ensures is what the code does that it has
-//! written.
+//! Whole functions of adapters: [`compile`] puts those of an adapter into a module. Their code is of the moves of `fact_translate` and the steps of
+//! `fact_steps`. What each function ensures is what the code does that it has written.
 #![tactic(auto)]
 
-pub mod adapters;
-pub mod asyncs;
-pub mod entries;
-pub mod functions;
-pub mod helpers;
-pub mod same_instance;
-pub mod state;
-pub mod syncs;
-pub mod tuples;
+mod adapters;
+mod asyncs;
+mod entries;
+mod functions;
+mod helpers;
+mod same_instance;
+mod state;
+mod syncs;
+mod tuples;
+
+pub use adapters::{AdapterData, AdapterOptions, LinearMemoryOptions, Options};
+pub use functions::compile;
+pub use state::ModuleState;

@@ -1,12 +1,12 @@
 //! Adapters within one instance, which may not be entered from itself: each call is a trap.
 
 ghost use Rattle.std.specs.Prelude.{◌≡◌, ◌<◌, [], IfOk, OnOk, length};
-ghost use Rattle.fact_pieces.specs.Code.{trap_code};
+ghost use Rattle.fact_code_laws.specs.Code.{trap_code};
 ghost use Rattle.fact_compound.specs.SameInstance.{CompiledSameInstance, TrapFunction};
 
 use crate::adapters::AdapterData;
 use fact_builder::ComponentTypesBuilder;
-use fact_emit::state::ModuleSections;
+use fact_emit::ModuleSections;
 use fact_types::Trap;
 use fact_wasm::{FuncName, Instr, OutOfMemory, Seq, WasmFunc};
 use std::alloc::Global;

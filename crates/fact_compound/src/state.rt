@@ -8,8 +8,7 @@ ghost use Rattle.fact_emit.specs.States.{HasNoOtherType, HasType, IsImported, Is
 ghost use Rattle.fact_compound.specs.Settings.{OnlySectionsChanged};
 
 use fact_builder::ComponentTypesBuilder;
-use fact_emit::state::ModuleSections;
-use fact_emit::tunables::{Tunables, WasmFeatures};
+use fact_emit::{ModuleSections, Tunables, WasmFeatures};
 use fact_types::{CoreDef, Import};
 use fact_wasm::{CoreTypes, ImportType, OutOfMemory, Seq, ValType, WasmFunc, WasmImport};
 use std::alloc::Global;

@@ -1,29 +1,24 @@
-//! The code of sync adapters between two instances.
+//! The code of sync adapters between two instances: their steps in order, over given locals.
 
-ghost use Rattle.std.specs.Prelude.{OnOk, IfSome, ◌≡◌, ◌<◌, length};
-ghost use Rattle.fact_entity.specs.declared.id.Id as id;
-ghost use Rattle.fact_emit.specs.States.{functions_of};
-ghost use Rattle.fact_compound.specs.Described.{AreOptionsImported};
+ghost use Rattle.std.specs.Prelude.{OnOk, ◌≡◌};
+ghost use Rattle.fact_compound.specs.Described.{CanBeCompiled};
 ghost use Rattle.fact_compound.specs.Syncs.{EmitsSync};
 ghost use Rattle.fact_compound.specs.Written.{WrittenBarred, WrittenCall, WrittenReturn, WrittenSteps, sync_places};
 
 use crate::adapters::AdapterData;
 use crate::tuples::{move_results, pass_params};
 use fact_builder::ComponentTypesBuilder;
-use fact_emit::barriers::put_barrier;
-use fact_emit::context::{ContextLocals, read_context};
-use fact_emit::places::TypedLocal;
-use fact_emit::writer::Writer;
-use fact_kinds::fuel::Fuel;
-use fact_steps::steps::{
+use fact_emit::{ContextLocals, TypedLocal, Writer, put_barrier, read_context};
+use fact_kinds::Fuel;
+use fact_steps::{
     call_callee, check_may_leave, clear_flags, enter_call, exit_call, hold_flags, push_locals,
     restore_and_finish,
 };
 use fact_types::ComponentTypes;
 use fact_wasm::OutOfMemory;
 
-/// What a sync adapter asks of the runtime: whether the slots of the context are saved around calls of realloc, whether the runtime is
-/// told of the call, whether the slots are looked at around the post-return, and whether what is thrown becomes a trap.
+/// What a sync adapter asks of the runtime: whether the slots of the context are saved around calls of realloc (`concurrency`), the
+/// runtime is told of the call, the slots are looked at around the post-return (`context`), and what is thrown becomes a trap (`barrier`).
 #[derive(Clone, Copy)]
 pub struct CallOptions {
     pub concurrency: bool,
@@ -33,9 +28,9 @@ pub struct CallOptions {
 }
 
 /// The locals of a sync adapter: those of all arguments, of which the parameters are the first; those of the saved flags of the
-/// lower and of the lift side; and those of the callee's parameters, of its results, and of the adapter's results. Where the
-/// parameters are handed on as they are, `passed`, the callee's are the adapter's own. Where the slots of the context are looked at,
-/// there are locals for what the callee left in them, and for the adapter's own.
+/// lower and of the lift side; and those of the callee's parameters (`core`), of its results (`given`), and of the adapter's results.
+/// Where the parameters are handed on as they are, `passed`, the callee's are the adapter's own. Where the slots of the context are
+/// looked at, there are locals for what the callee left in them, and for the adapter's own.
 #[derive(Clone, Copy)]
 pub struct SyncLocals<'a> {
     pub passed: bool,
@@ -61,10 +56,7 @@ fn put_call(
     options: CallOptions,
     locals: SyncLocals<'_>,
 ) -> Result<(), OutOfMemory>
-    requires lower_live { adapter.now.lower.ty.number < length types.now.functions }
-    requires lift_live { adapter.now.lift.ty.number < length types.now.functions }
-    requires callee { adapter.now.callee.number < length (functions_of w.old.imports) }
-    requires options_imported { AreOptionsImported adapter.now w.old.imports }
+    requires can { CanBeCompiled types.now adapter.now w.old.sections }
     requires tables { builder.now.tables ≡ types.now }
     ensures { OnOk result (WrittenCall types.now adapter.now debug options (sync_places locals.entry) fuel.old fuel.new w.old w.new) }
 {
@@ -105,10 +97,7 @@ fn put_return(
     options: CallOptions,
     locals: SyncLocals<'_>,
 ) -> Result<(), OutOfMemory>
-    requires lower_live { adapter.now.lower.ty.number < length types.now.functions }
-    requires lift_live { adapter.now.lift.ty.number < length types.now.functions }
-    requires options_imported { AreOptionsImported adapter.now w.old.imports }
-    requires post_return { IfSome adapter.now.lift.post_return (λ (f : id.Id _). f.number < length (functions_of w.old.imports)) }
+    requires can { CanBeCompiled types.now adapter.now w.old.sections }
     requires tables { builder.now.tables ≡ types.now }
     ensures { OnOk result (WrittenReturn types.now adapter.now debug options (sync_places locals.entry) fuel.old fuel.new w.old w.new) }
 {
@@ -154,11 +143,7 @@ fn put_steps(
     options: CallOptions,
     locals: SyncLocals<'_>,
 ) -> Result<(), OutOfMemory>
-    requires lower_live { adapter.now.lower.ty.number < length types.now.functions }
-    requires lift_live { adapter.now.lift.ty.number < length types.now.functions }
-    requires callee { adapter.now.callee.number < length (functions_of w.old.imports) }
-    requires options_imported { AreOptionsImported adapter.now w.old.imports }
-    requires post_return { IfSome adapter.now.lift.post_return (λ (f : id.Id _). f.number < length (functions_of w.old.imports)) }
+    requires can { CanBeCompiled types.now adapter.now w.old.sections }
     requires tables { builder.now.tables ≡ types.now }
     ensures { OnOk result (WrittenSteps types.now adapter.now debug options (sync_places locals.entry) fuel.old fuel.new w.old w.new) }
 {
@@ -178,18 +163,14 @@ fn put_barred(
     options: CallOptions,
     locals: SyncLocals<'_>,
 ) -> Result<(), OutOfMemory>
-    requires lower_live { adapter.now.lower.ty.number < length types.now.functions }
-    requires lift_live { adapter.now.lift.ty.number < length types.now.functions }
-    requires callee { adapter.now.callee.number < length (functions_of w.old.imports) }
-    requires options_imported { AreOptionsImported adapter.now w.old.imports }
-    requires post_return { IfSome adapter.now.lift.post_return (λ (f : id.Id _). f.number < length (functions_of w.old.imports)) }
+    requires can { CanBeCompiled types.now adapter.now w.old.sections }
     requires tables { builder.now.tables ≡ types.now }
     ensures { OnOk result (WrittenBarred types.now adapter.now debug options (sync_places locals.entry) fuel.old fuel.new w.old w.new) }
 {
     let before = w.begin();
-    let said = put_steps(types, builder, w, fuel, adapter, debug, options, locals);
+    let steps_written = put_steps(types, builder, w, fuel, adapter, debug, options, locals);
     let body = w.end(before);
-    match said {
+    match steps_written {
         Ok(()) => put_barrier(w, body)?,
         Err(error) => {
             drop(body);
@@ -210,11 +191,7 @@ pub fn put_sync(
     options: CallOptions,
     locals: SyncLocals<'_>,
 ) -> Result<(), OutOfMemory>
-    requires lower_live { adapter.now.lower.ty.number < length types.now.functions }
-    requires lift_live { adapter.now.lift.ty.number < length types.now.functions }
-    requires callee { adapter.now.callee.number < length (functions_of w.old.imports) }
-    requires options_imported { AreOptionsImported adapter.now w.old.imports }
-    requires post_return { IfSome adapter.now.lift.post_return (λ (f : id.Id _). f.number < length (functions_of w.old.imports)) }
+    requires can { CanBeCompiled types.now adapter.now w.old.sections }
     requires tables { builder.now.tables ≡ types.now }
     ensures { OnOk result (EmitsSync types.now adapter.now debug options (sync_places locals.entry) fuel.old fuel.new w.old w.new) }
 {

@@ -1,4 +1,4 @@
-//! The tuples of parameters and of results, from one side to the other.
+//! The moves of parameters and of results, as tuples, from one side to the other: in core values, or through an area of memory.
 
 ghost use Rattle.std.specs.Prelude.{OnOk, ◌≡◌, ◌<◌, ◌≤◌, Bool, List, is_some, length};
 ghost use Rattle.fact_types.specs.FlatShapes.{AreCounted};
@@ -8,7 +8,7 @@ ghost use Rattle.fact_types.specs.Signatures.{flat_values, lift_results_limit as
 ghost use Rattle.fact_types.specs.Tables.{IsLive, HasShape};
 ghost use Rattle.fact_types.specs.Tuples.{tuple_of, tuple_members};
 ghost use Rattle.fact_types.specs.declared.interface.InterfaceType.TheVariants as ty;
-ghost use Rattle.fact_moves.specs.Adapters.{lowered_flats};
+ghost use Rattle.fact_actions.specs.Adapters.{lowered_flats};
 ghost use Rattle.fact_emit.specs.Places.{slots_of_locals, from_of, to_of};
 ghost use Rattle.fact_emit.specs.declared.places.LinearMemory as linear;
 ghost use Rattle.fact_emit.specs.Requests.{IsReallocImported};
@@ -18,14 +18,16 @@ ghost use Rattle.fact_compound.specs.Passed.{MovedParams, PassedParams, AskedTup
 
 use crate::adapters::AdapterData;
 use fact_builder::ComponentTypesBuilder;
-use fact_emit::places::{Address, LinearMemory, SourcePlace, TargetPlace, TypedLocal};
-use fact_emit::pointers::check_area;
-use fact_emit::requests::ask_area;
-use fact_emit::writer::Writer;
+use fact_emit::{
+    Address, LinearMemory, SourcePlace, TargetPlace, TypedLocal, Writer, ask_area, check_area,
+};
 use fact_entity::{TypeFuncIndex, TypeTupleIndex};
-use fact_kinds::fuel::Fuel;
-use fact_translate::products::move_tuple;
-use fact_types::{ComponentTypes, InterfaceType};
+use fact_kinds::Fuel;
+use fact_translate::move_tuple;
+use fact_types::{
+    ComponentTypes, InterfaceType, MAX_FLAT_PARAMS, MAX_FLAT_RESULTS, lift_results_limit,
+    lower_limit,
+};
 use fact_wasm::OutOfMemory;
 
 /// The tuples of the parameters and of the results of a live function.
@@ -45,31 +47,15 @@ pub(crate) fn tuples_of(
 }
 
 /// Whether the values of a live tuple are flat: there are at most so many core values of them, of at most 16.
-pub(crate) fn are_flat_values(types: &ComponentTypes, tuple: TypeTupleIndex, limit: u8) -> bool
+pub(crate) fn are_flat_values(types: &ComponentTypes, tuple: TypeTupleIndex, limit: usize) -> bool
     requires live { IsLive types.now (ty.Tuple tuple) }
     requires small { limit ≤ 16 }
     ensures { (memory64 : Bool) (ss : List Shape) → HasShape types.now (ty.Tuple tuple) (tuple_of ss) → AreCounted (tuple_members ss) → result ≡ is_some (flat_values memory64 limit ss) }
 {
     match types.canonical_abi(&InterfaceType::Tuple(tuple)).flat_count {
-        Some(count) => count <= limit,
+        Some(count) => count as usize <= limit,
         None => false,
     }
-}
-
-/// How many core values the parameters of a side that lowers may be.
-fn lower_limit(async_: bool) -> u8
-    ensures limit { result ≡ lower_limit_of async_ }
-    ensures small { result ≤ 16 }
-{
-    if async_ { 4 } else { 16 }
-}
-
-/// How many core values the results of a side that lifts may be: an async one hands them on as parameters.
-fn lift_results_limit(async_: bool) -> u8
-    ensures limit { result ≡ lift_results_limit_of async_ }
-    ensures small { result ≤ 16 }
-{
-    if async_ { 16 } else { 1 }
 }
 
 /// Whether the parameters of a live tuple are flat where a side takes them that lowers.
@@ -97,7 +83,7 @@ pub(crate) fn are_flat_results(types: &ComponentTypes, tuple: TypeTupleIndex, as
         types.reveal();
         types[tuple].types.as_slice().is_empty()
     } else {
-        are_flat_values(types, tuple, 1)
+        are_flat_values(types, tuple, MAX_FLAT_RESULTS)
     }
 }
 
@@ -128,7 +114,7 @@ pub fn move_params(
 ) -> Result<(), OutOfMemory>
     requires lower_live { adapter.now.lower.ty.number < length types.now.functions }
     requires lift_live { adapter.now.lift.ty.number < length types.now.functions }
-    requires sides { AreSidesImported (sides_of_params adapter.now debug concurrency) w.old.imports }
+    requires sides { AreSidesImported (sides_of_params adapter.now debug concurrency) w.old.sections }
     requires tables { builder.now.tables ≡ types.now }
     ensures { OnOk result (MovedParams types.now adapter.now debug concurrency (slots_of_locals params.now) (slots_of_locals core.now) fuel.old fuel.new w.old w.new) }
 {
@@ -136,7 +122,7 @@ pub fn move_params(
     let (from, _) = tuples_of(types, adapter.lower.ty);
     let (to, _) = tuples_of(types, adapter.lift.ty);
     let given_flat = are_flat_params(types, from, adapter.lower.options.async_);
-    let flat = are_flat_values(types, to, 16);
+    let flat = are_flat_values(types, to, MAX_FLAT_PARAMS);
     let source = tuple_source(given_flat, params);
     let target = tuple_target(flat, core, core);
     check_tuple_area(types, w, sides.from, from, given_flat, last_of(params))?;
@@ -160,7 +146,7 @@ pub fn pass_params(
 ) -> Result<(), OutOfMemory>
     requires lower_live { adapter.now.lower.ty.number < length types.now.functions }
     requires lift_live { adapter.now.lift.ty.number < length types.now.functions }
-    requires sides { AreSidesImported (sides_of_params adapter.now debug concurrency) w.old.imports }
+    requires sides { AreSidesImported (sides_of_params adapter.now debug concurrency) w.old.sections }
     requires tables { builder.now.tables ≡ types.now }
     ensures { OnOk result (PassedParams types.now adapter.now debug concurrency passed (slots_of_locals params.now) (slots_of_locals core.now) fuel.old fuel.new w.old w.new) }
 {
@@ -214,7 +200,7 @@ fn ask_tuple_area(
     address: u32,
 ) -> Result<(), OutOfMemory>
     requires live { IsLive types.now (ty.Tuple tuple) }
-    requires realloc { IsReallocImported linear w.old.imports }
+    requires realloc { IsReallocImported linear w.old.sections }
     ensures { OnOk result (AskedTuple types.now tuple concurrency linear flat address w.old w.new) }
 {
     let abi = types.canonical_abi(&InterfaceType::Tuple(tuple));
@@ -275,7 +261,7 @@ pub fn move_results(
 ) -> Result<(), OutOfMemory>
     requires lower_live { adapter.now.lower.ty.number < length types.now.functions }
     requires lift_live { adapter.now.lift.ty.number < length types.now.functions }
-    requires sides { AreSidesImported (sides_of_results adapter.now debug concurrency) w.old.imports }
+    requires sides { AreSidesImported (sides_of_results adapter.now debug concurrency) w.old.sections }
     requires tables { builder.now.tables ≡ types.now }
     ensures { OnOk result (MovedResults types.now adapter.now debug concurrency (slots_of_locals given.now) (slots_of_locals results.now) (slots_of_locals args.now) fuel.old fuel.new w.old w.new) }
 {

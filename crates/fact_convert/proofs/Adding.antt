@@ -1,6 +1,5 @@
--- A converter grows by what is added to its builder.
-use Rattle.std.proofs.Common.{◌≡◌, ◌≤◌, ◌<◌, ℕ, zero, suc, List, [], ◌∷◌, ◌++◌, length, Option, Some, None, refl, sym, ◌∙◌, ap, subst, arith, inl, inr, All}
-use Rattle.std.specs.Prelude.{slice_get}
+-- A builder grows by what is added to its tables.
+use Rattle.std.proofs.Common.{◌≡◌, ◌≤◌, ◌<◌, ℕ, zero, suc, List, [], ◌∷◌, ◌++◌, length, Option, Some, None, refl, sym, ◌∙◌, ap, subst, arith, inl, inr}
 use Rattle.std.proofs.lemmas.Option.{slice_get_within, slice_get-get_or}
 use Rattle.fact_wasm.specs.declared.types.FuncType.{FuncType}
 use Rattle.fact_types.specs.declared.kinds.TypeErrorContextTable.{TypeErrorContextTable}
@@ -15,12 +14,11 @@ use Rattle.fact_types.specs.Shapes.{Kind, k_record, k_variant, k_list, k_tuple, 
 use Rattle.fact_types.specs.Tables.{Tables}
 use Rattle.fact_builder.specs.Builder.{Builder}
 use Rattle.fact_builder.specs.Keeps.{Keeps}
-use Rattle.fact_making.specs.Makes.{with_table_of}
-use Rattle.fact_resources.specs.declared.registration.Registration.{Registration}
-use Rattle.fact_resources.specs.Known.{KnownResources, kept_table, registration, AreKeptLive}
-use Rattle.fact_convert.specs.Conversion.{KeepsEntries, OnlyAdds, ConverterGrows}
-use Rattle.fact_convert.specs.Converters.{Converter, tables_of, with_tables}
-use Rattle.fact_convert.specs.Interning.{HasEntry, CanGrow, Interns}
+use Rattle.fact_builder.specs.Makes.{with_table_of}
+use Rattle.fact_builder.specs.Known.{KnownResources, kept_table, registration, AreKeptLive}
+use Rattle.fact_convert.specs.Conversion.{KeepsEntries, OnlyAdds, BuilderGrows}
+use Rattle.fact_convert.specs.BuilderTables.{tables_of}
+use Rattle.fact_convert.specs.Interning.{Interns}
 
 -- ---- entries keep their places
 
@@ -48,7 +46,7 @@ no_shorter (x ∷ xs) ys k i l = slice_get_within ys i _ (k i _ (slice_get-get_o
 pub kept_still : (r : KnownResources) (t u : Tables) → KeepsEntries t.resource_tables u.resource_tables → AreKeptLive r t → AreKeptLive r u
 kept_still r t u k a i d l = no_shorter t.resource_tables u.resource_tables k _ (a i d l)
 
--- ---- a converter with the same resources grows by what its builder gains
+-- ---- a builder with the same resources grows by the entries that it gains
 
 le_refl : (n : ℕ) → n ≤ n
 le_refl n = omega arith
@@ -62,23 +60,25 @@ pub record Gains (old new : Builder) : Type 0 where
   pub types : Keeps old.tables new.tables
   pub tables : OnlyAdds old.tables new.tables
   pub core : KeepsEntries old.module_types new.module_types
+  pub resources : new.resources ≡ old.resources
+  pub abstracts : new.abstracts ≡ old.abstracts
 
-pub gains_grow : (a : Converter) (b : Builder) → Gains a.builder b → ConverterGrows a (record a { builder = b })
+pub gains_grow : (a b : Builder) → Gains a b → BuilderGrows a b
 gains_grow a b g = record {
   source = g.source;
   types = g.types;
   tables = g.tables;
   core = g.core;
-  registered = λ r k h. h;
-  numbered = λ r k h q. absurd (none_some k _ h q);
-  kept = λ r t h. h;
-  taken = λ r t h q. absurd (none_some t _ h q);
-  instance = refl;
-  counted = le_refl _;
+  registered = λ r k h. ap (λ (u : KnownResources). registration u r) g.resources ∙ h;
+  numbered = λ r k h q. absurd (none_some k _ h (ap (λ (u : KnownResources). registration u r) (sym g.resources) ∙ q));
+  kept = λ r t h. ap (λ (u : KnownResources). kept_table u r) g.resources ∙ h;
+  taken = λ r t h q. absurd (none_some t _ h (ap (λ (u : KnownResources). kept_table u r) (sym g.resources) ∙ q));
+  instance = ap (λ (u : KnownResources). u.instance) g.resources;
+  counted = subst (λ n. a.abstracts ≤ n) (sym g.abstracts) (le_refl a.abstracts);
 }
 
-pub gains_kept : (a : Converter) (b : Builder) → Gains a.builder b → AreKeptLive a.resources (tables_of a) → AreKeptLive a.resources b.tables
-gains_kept a b g k = kept_still a.resources (tables_of a) b.tables g.tables.resource_tables k
+pub gains_kept : (a b : Builder) → Gains a b → AreKeptLive a.resources (tables_of a) → AreKeptLive b.resources (tables_of b)
+gains_kept a b g k = subst (λ (u : KnownResources). AreKeptLive u b.tables) (sym g.resources) (kept_still a.resources a.tables b.tables g.tables.resource_tables k)
 
 -- ---- tables whose entries are no types that are made of members
 
@@ -91,7 +91,7 @@ adds : (t : Tables) (ms : List ModuleType) (cs : List ComponentType) (is : List 
 adds t ms cs is fs us uts ss sts es rs k0 k1 k2 k3 k4 k5 k6 k7 k8 k9 = record { modules = k0; components = k1; component_instances = k2; functions = k3; futures = k4; future_tables = k5; streams = k6; stream_tables = k7; error_context_tables = k8; resource_tables = k9; module_types = refl }
 
 gains_tables : (a : Builder) (u : Tables) → Keeps a.tables u → OnlyAdds a.tables u → Gains a (record a { tables = u })
-gains_tables a u k o = record { source = refl; types = k; tables = o; core = all_keep a.module_types }
+gains_tables a u k o = record { source = refl; types = k; tables = o; core = all_keep a.module_types; resources = refl; abstracts = refl }
 
 pub gains_module : (a : Builder) (e : ModuleType) → Keeps a.tables (record a.tables { modules = a.tables.modules ++ e ∷ [] }) → Gains a (record a { tables = record a.tables { modules = a.tables.modules ++ e ∷ [] } })
 gains_module a e k =
@@ -151,6 +151,8 @@ gains_core a e xs n =
       types = types_same t;
       tables = adds t t.modules t.components t.component_instances t.functions t.futures t.future_tables t.streams t.stream_tables t.error_context_tables t.resource_tables (all_keep _) (all_keep _) (all_keep _) (all_keep _) (all_keep _) (all_keep _) (all_keep _) (all_keep _) (all_keep _) (all_keep _);
       core = interning_keeps a.module_types xs e n;
+      resources = refl;
+      abstracts = refl;
     }
 
 -- ---- a type that is made of members is put into the table of its kind alone
@@ -160,9 +162,11 @@ pub record Plain : Type 0 where
   pub source : ℕ
   pub tables : Tables
   pub core : List FuncType
+  pub resources : KnownResources
+  pub abstracts : ℕ
 
 abbrev pub plain_of : Builder → Plain
-plain_of b = record { source = b.source; tables = record b.tables { records = []; variants = []; lists = []; tuples = []; maps = []; flags = []; enums = []; options = []; results = []; fixed_length_lists = [] }; core = b.module_types }
+plain_of b = record { source = b.source; tables = record b.tables { records = []; variants = []; lists = []; tuples = []; maps = []; flags = []; enums = []; options = []; results = []; fixed_length_lists = [] }; core = b.module_types; resources = b.resources; abstracts = b.abstracts }
 
 pub same_plain : (k : Kind) (old new : Builder) → new ≡ with_table_of k old new → plain_of new ≡ plain_of old
 same_plain k_record old new r = ap plain_of r
@@ -177,6 +181,10 @@ same_plain k_result old new r = ap plain_of r
 same_plain (k_fixed size) old new r = ap plain_of r
 same_plain (k_future table instance) old new r = ap plain_of r
 same_plain (k_stream table instance) old new r = ap plain_of r
+
+-- the tables alone are changed
+pub only_tables : (k : Kind) (old new : Builder) → new ≡ with_table_of k old new → new ≡ record old { tables = new.tables }
+only_tables k old new r = λ i. let p = same_plain k old new r i in record { source = p.source; tables = new.tables; module_types = p.core; resources = p.resources; abstracts = p.abstracts }
 
 pub gains_made : (k : Kind) (old new : Builder) → new ≡ with_table_of k old new → Keeps old.tables new.tables → Gains old new
 gains_made k old new r keeps =
@@ -197,4 +205,6 @@ gains_made k old new r keeps =
         module_types = ap (λ (p : Plain). p.tables.module_types) e;
       };
       core = same_keep _ _ (ap (λ (p : Plain). p.core) e);
+      resources = ap (λ (p : Plain). p.resources) e;
+      abstracts = ap (λ (p : Plain). p.abstracts) e;
     }

@@ -1,5 +1,5 @@
 -- The definitions at small sources.
-use Rattle.std.proofs.Common.{◌≡◌, ℕ, [], ◌∷◌, None, Some, refl}
+use Rattle.std.proofs.Common.{◌≡◌, ℕ, [], ◌∷◌, None, refl}
 use Rattle.std.specs.Prelude.{codes}
 use Rattle.fact_entity.specs.declared.id.Id.{Id}
 use Rattle.fact_entity.specs.declared.table.SourceResources.{SourceResources}
@@ -10,12 +10,13 @@ use Rattle.fact_source.specs.declared.defined.ComponentValType.{ComponentValType
 use Rattle.fact_source.specs.declared.items.ComponentEntityType.TheVariants as entity
 use Rattle.fact_source.specs.declared.items.SourceInstance.{SourceInstance}
 use Rattle.fact_source.specs.SourceTables.{SourceTables, no_entries}
-use Rattle.fact_resources.specs.declared.error.BuildError.TheVariants.{UnsupportedTypeExport, ValuesNotSupported, UnknownResource, NoInstance}
-use Rattle.fact_resources.specs.Known.{no_resources, registration}
-use Rattle.fact_resources.specs.Walk.{resources_of}
-use Rattle.fact_convert.specs.Converters.{Converter, no_conversions}
+use Rattle.fact_builder.specs.declared.error.BuildError.TheVariants.{UnsupportedTypeExport, ValuesNotSupported, UnknownResource, NoInstance}
+use Rattle.fact_builder.specs.Known.{no_resources, registration}
+use Rattle.fact_builder.specs.Walk.{resources_of}
+use Rattle.fact_builder.specs.Builder.{no_types, Builder}
 use Rattle.fact_convert.specs.Merging.{merged}
-use Rattle.fact_convert.specs.Performing.{RegistersNext, Fails}
+use Rattle.fact_builder.specs.Registering.{RegistersNext}
+use Rattle.fact_convert.specs.Performing.{Fails}
 use Rattle.fact_convert.specs.Tasks.{registers, takes_table, makes_error_context, refuses, appends_instance, tasks_of}
 
 -- a name keeps its first place and takes its last value
@@ -49,12 +50,12 @@ exports_value : (s : SourceTables) (v : ComponentValType) → tasks_of s (entity
 exports_value s v = refl
 
 -- the first resource without a registration gets the number 1
-numbers_from_one : (r : Id SourceResources) (new : Converter) → RegistersNext (no_conversions 0) r (registration no_resources r) new → new.abstracts ≡ 1
+numbers_from_one : (r : Id SourceResources) (new : Builder) → RegistersNext (no_types 0) r (registration no_resources r) new → new.abstracts ≡ 1
 numbers_from_one r new (i, n, l, h) = λ k. (h k).abstracts
 
 -- a resource that is neither kept nor registered is unknown, and error contexts need an instance
-unknown : (s : SourceTables) (r : Id SourceResources) → Fails s (no_conversions 0) (takes_table r) UnknownResource
+unknown : (s : SourceTables) (r : Id SourceResources) → Fails s (no_types 0) (takes_table r) UnknownResource
 unknown s r = (refl, refl)
 
-needs_instance : (s : SourceTables) → Fails s (no_conversions 0) makes_error_context NoInstance
+needs_instance : (s : SourceTables) → Fails s (no_types 0) makes_error_context NoInstance
 needs_instance s = refl

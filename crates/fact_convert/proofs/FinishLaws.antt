@@ -1,5 +1,5 @@
 -- The end of a builder: the exports of a component, each with the type of its item.
-use Rattle.std.proofs.Common.{◌≡◌, ◌<◌, ◌≤◌, ◌+◌, ◌↔◌, ℕ, zero, suc, inl, inr, List, [], ◌∷◌, ◌++◌, length, take, get_or, map, Some, All, refl, sym, ◌∙◌, ap, subst}
+use Rattle.std.proofs.Common.{◌≡◌, ◌<◌, ◌≤◌, ◌+◌, ◌↔◌, ℕ, inl, inr, List, [], ◌∷◌, ◌++◌, length, take, get_or, map, Some, All, refl, sym, ◌∙◌, ap, subst}
 use Rattle.std.specs.Prelude.{nat_eq, slice_get, Result, Ok, Err}
 use Rattle.std.proofs.lemmas.Option.{get_or_from_slice_get, slice_get_within}
 use Rattle.std.specs.List.{AllZip}
@@ -17,16 +17,16 @@ use Rattle.fact_types.specs.declared.interface.TypeDef.{TypeDef}
 use Rattle.fact_types.specs.Externs.{ComponentType}
 use Rattle.fact_types.specs.Tables.{Tables, IsLiveDef, AreLiveExterns}
 use Rattle.fact_builder.specs.Builder.{Builder}
-use Rattle.fact_resources.specs.declared.error.BuildError.{BuildError}
-use Rattle.fact_resources.specs.declared.error.BuildError.TheVariants.{OutOfMemory}
-use Rattle.fact_resources.specs.Errors.{build_error}
+use Rattle.fact_builder.specs.declared.error.BuildError.{BuildError}
+use Rattle.fact_builder.specs.declared.error.BuildError.TheVariants.{OutOfMemory}
+use Rattle.fact_builder.specs.Errors.{build_error}
 use Rattle.fact_convert.specs.declared.component.Component.{Component}
 use Rattle.fact_convert.specs.declared.component.Export.{Export}
-use Rattle.fact_convert.specs.Finished.{type_of_item, IsExternOf, IsComponentTypeOf, FinishesWith}
+use Rattle.fact_convert.specs.Finished.{type_of_export, IsExternOf, IsComponentTypeOf, FinishesWith}
 use Rattle.fact_convert.specs.Interning.{CanGrow}
 use Rattle.fact_convert.specs.Merging.{merged}
-use Rattle.fact_convert.specs.Steps.{AreKeyed}
-use Rattle.fact_convert.proofs.Merged.{Each, each_merged, each_all, all_each, zip_right, both_put, one_more_merged, zip_so}
+use Rattle.fact_convert.specs.Progress.{AreKeyed}
+use Rattle.fact_convert.proofs.Merged.{each_merged, each_all, all_each, zip_right, both_put, one_more_merged, zip_so}
 
 abbrev pub ExportEntry : Type 0
 ExportEntry = List ℕ × Id Exports × ComponentExternData
@@ -36,7 +36,7 @@ index_there c xs e i x l is a = subst (λ (y : ExportEntry). y.1.number < length
 
 -- what an export and its type have in common, beside the name
 abbrev IsValueOf : List Export → Id Exports × ComponentExternData → ComponentExtern → Type 0
-IsValueOf items v y = (y.extern_data ≡ v.1) × ((e : Export) × (slice_get items v.0.number ≡ Some e) × (y.ty ≡ type_of_item e))
+IsValueOf items v y = (y.extern_data ≡ v.1) × ((e : Export) × (slice_get items v.0.number ≡ Some e) × (y.ty ≡ type_of_export e))
 
 to_keyed : (items : List Export) (xs : List (List ℕ × (Id Exports × ComponentExternData))) (ys : List (List ℕ × ComponentExtern)) → AllZip (IsExternOf items) xs ys → AreKeyed (IsValueOf items) xs ys
 to_keyed items xs ys a = zip_so _ _ xs ys (λ x y h. (h.name, (h.told, h.ty))) a
@@ -51,7 +51,7 @@ next_keyed xs i x l is =
     ∙ one_more_merged (pointwise nat_eq) (map (λ (x : ExportEntry). (x.0, (x.1, x.2))) (take i xs)) (x.0, (x.1, x.2))
 
 pub one_more_export : (items : List Export) (xs : List ExportEntry) (i : ℕ) (x : ExportEntry) (ty : TypeDef) (e : Export) (told : ComponentExternData) (old new : List (List ℕ × ComponentExtern)) → i < length xs → x ≡ get_or xs i x
-    → AllZip (IsExternOf items) (merged (map (λ x. (x.0, (x.1, x.2))) (take i xs))) old → ty ≡ type_of_item e → slice_get items x.1.number ≡ Some e → told ≡ x.2 → new ≡ insert_entry (pointwise nat_eq) old x.0 (record { extern_data = told; ty = ty })
+    → AllZip (IsExternOf items) (merged (map (λ x. (x.0, (x.1, x.2))) (take i xs))) old → ty ≡ type_of_export e → slice_get items x.1.number ≡ Some e → told ≡ x.2 → new ≡ insert_entry (pointwise nat_eq) old x.0 (record { extern_data = told; ty = ty })
     → AllZip (IsExternOf items) (merged (map (λ x. (x.0, (x.1, x.2))) (take (i + 1) xs))) new
 one_more_export items xs i x ty e told old new l is a is_type there same put =
     subst (λ es. AllZip (IsExternOf items) es new) (sym (next_keyed xs i x l is))
@@ -69,10 +69,10 @@ merged_each P xs a = each_all P (merged xs) (each_merged (pointwise nat_eq) P []
 pub imports_live : (t : Tables) (xs made : List (List ℕ × ComponentExtern)) → made ≡ merged xs → AreLiveExterns t xs → AreLiveExterns t made
 imports_live t xs made e a = subst (AreLiveExterns t) (sym e) (merged_each (λ (y : ComponentExtern). IsLiveDef t y.ty) xs a)
 
-export_live : (t : Tables) (items : List Export) → All (λ x. IsLiveDef t (type_of_item x)) items → (v : Id Exports × ComponentExternData) (y : ComponentExtern) → IsValueOf items v y → IsLiveDef t y.ty
-export_live t items a v y (told, (e, there, is)) = subst (IsLiveDef t) (sym is) (subst (λ (x : Export). IsLiveDef t (type_of_item x)) (get_or_from_slice_get items v.0.number e e there) (a v.0.number e (slice_get_within items v.0.number e there)))
+export_live : (t : Tables) (items : List Export) → All (λ x. IsLiveDef t (type_of_export x)) items → (v : Id Exports × ComponentExternData) (y : ComponentExtern) → IsValueOf items v y → IsLiveDef t y.ty
+export_live t items a v y (told, (e, there, is)) = subst (IsLiveDef t) (sym is) (subst (λ (x : Export). IsLiveDef t (type_of_export x)) (get_or_from_slice_get items v.0.number e e there) (a v.0.number e (slice_get_within items v.0.number e there)))
 
-pub exports_live : (t : Tables) (items : List Export) (xs : List (List ℕ × (Id Exports × ComponentExternData))) → All (λ x. IsLiveDef t (type_of_item x)) items → (made : List (List ℕ × ComponentExtern)) → AllZip (IsExternOf items) xs made → AreLiveExterns t made
+pub exports_live : (t : Tables) (items : List Export) (xs : List (List ℕ × (Id Exports × ComponentExternData))) → All (λ x. IsLiveDef t (type_of_export x)) items → (made : List (List ℕ × ComponentExtern)) → AllZip (IsExternOf items) xs made → AreLiveExterns t made
 exports_live t items xs a made z = zip_right (IsExternOf items) (λ y. IsLiveDef t y.1.ty) (λ x y h. export_live t items a x.1 y.1 (h.told, h.ty)) xs made z
 
 -- ---- the type of the whole component stands behind the last one, or the builder is as it was

@@ -1,19 +1,19 @@
--- A converter grows into itself, and by one growth after another.
-use Rattle.std.proofs.Common.{◌≡◌, ◌≤◌, ◌<◌, ℕ, List, Option, Some, None, refl, sym, ◌∙◌, ap, subst, arith}
-use Rattle.std.specs.Prelude.{slice_get, Result, Ok, Err}
+-- A builder grows into itself, and by one growth after another.
+use Rattle.std.proofs.Common.{◌≡◌, ◌≤◌, ◌<◌, ℕ, List, Option, Some, None, refl, sym, ◌∙◌, subst, arith}
+use Rattle.std.specs.Prelude.{slice_get, Ok}
 use Rattle.fact_entity.specs.declared.id.Id.{Id}
 use Rattle.fact_entity.specs.declared.table.AbstractResources.{AbstractResources}
 use Rattle.fact_entity.specs.declared.table.RuntimeComponentInstances.{RuntimeComponentInstances}
-use Rattle.fact_entity.specs.declared.table.SourceResources.{SourceResources}
 use Rattle.fact_entity.specs.declared.table.TypeResourceTables.{TypeResourceTables}
 use Rattle.fact_types.specs.declared.kinds.TypeResourceTable.{TypeResourceTable}
 use Rattle.fact_types.specs.Tables.{Tables}
 use Rattle.fact_builder.specs.Keeps.{Keeps}
-use Rattle.fact_resources.specs.declared.registration.Registration.{Registration}
-use Rattle.fact_resources.specs.declared.registration.Registration.TheVariants as is
-use Rattle.fact_resources.specs.Known.{kept_table, registration, new_table_of}
-use Rattle.fact_convert.specs.Conversion.{OnlyAdds, ConverterGrows}
-use Rattle.fact_convert.specs.Converters.{Converter, tables_of}
+use Rattle.fact_builder.specs.declared.registration.Registration.{Registration}
+use Rattle.fact_builder.specs.declared.registration.Registration.TheVariants as is
+use Rattle.fact_builder.specs.Known.{kept_table, registration, new_table_of}
+use Rattle.fact_convert.specs.Conversion.{OnlyAdds, BuilderGrows}
+use Rattle.fact_convert.specs.BuilderTables.{tables_of}
+use Rattle.fact_builder.specs.Builder.{Builder}
 
 le_refl : (n : ℕ) → n ≤ n
 le_refl n = omega arith
@@ -88,7 +88,7 @@ asked_still : (j k : Option Registration) (n : Option (Id RuntimeComponentInstan
 asked_still None k n e s h = cc
 asked_still (Some x) k n e s h = subst (λ o. new_table_of o n ≡ Ok e) (sym (s x refl)) h
 
-pub grows_none : (a : Converter) → ConverterGrows a a
+pub grows_none : (a : Builder) → BuilderGrows a a
 grows_none a = record {
   source = refl;
   types = types_same _;
@@ -110,7 +110,7 @@ taken_at j k m n ts us (Some u) t e s h later before same =
     let (x, asked, at) = before u refl in
     (x, asked_still j k n x s asked, h t.number x (subst (λ (w : Id TypeResourceTables). slice_get ts w.number ≡ Some x) (sym (same u refl)) at))
 
-pub grows_on : (a b c : Converter) → ConverterGrows a b → ConverterGrows b c → ConverterGrows a c
+pub grows_on : (a b c : Builder) → BuilderGrows a b → BuilderGrows b c → BuilderGrows a c
 grows_on a b c g h = record {
   source = h.source ∙ g.source;
   types = types_on _ _ _ g.types h.types;

@@ -1,10 +1,9 @@
 -- What a call that looks for an entry, and adds it where it is not there, comes to.
-use Rattle.std.proofs.Common.{◌≡◌, ◌≢◌, ◌<◌, ◌≤◌, ◌↔◌, ◌||◌, ◌+◌, lt-ltb, ℕ, zero, suc, Bool, true, false, List, [], ◌∷◌, ◌++◌, length, Option, Some, None, refl, sym, ◌∙◌, ap, subst, arith, inl, inr, true≢false}
-use Rattle.std.specs.Prelude.{slice_get, position, cond, not, if◌then◌else◌, Result, Ok, Err}
+use Rattle.std.proofs.Common.{◌≡◌, ◌<◌, ◌↔◌, ◌||◌, ◌+◌, lt-ltb, ℕ, zero, suc, Bool, true, false, List, [], ◌∷◌, ◌++◌, length, Option, Some, None, refl, sym, ◌∙◌, ap, subst, arith, inl, inr, true≢false}
+use Rattle.std.specs.Prelude.{slice_get, position, cond, not, if◌then◌else◌, Ok, Err}
 use Rattle.std.specs.List.{list_any, position_or_len}
 use Rattle.std.proofs.lemmas.List.Quantifiers.{position-Some}
 use Rattle.std.proofs.lemmas.Option.{slice_get-get_or}
-use Rattle.fact_entity.specs.declared.error.PushError.{PushError}
 use Rattle.fact_entity.specs.declared.error.PushError.TheVariants.{TooLarge}
 use Rattle.fact_entity.specs.Places.{IsInterned}
 use Rattle.fact_convert.specs.Interning.{HasEntry, CanGrow, Interns, LacksRoom}

@@ -13,7 +13,6 @@ mod Growing
 mod GrowthLaws
 mod HandleLaws
 mod InternLaws
-mod ItemLaws
 mod Listing
 mod LiveLaws
 mod Looping
@@ -27,5 +26,4 @@ mod ResourceLaws
 mod Shaping
 mod Sizes
 mod TableLaws
-mod Telling
 mod Within

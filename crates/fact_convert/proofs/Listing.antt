@@ -13,12 +13,13 @@ use Rattle.fact_source.specs.SourceTables.{SourceTables}
 use Rattle.fact_types.specs.declared.interface.InterfaceType.{InterfaceType}
 use Rattle.fact_types.specs.declared.kinds.RecordField.{RecordField}
 use Rattle.fact_types.specs.Tables.{IsLive}
-use Rattle.fact_resources.specs.Known.{AreKeptLive}
-use Rattle.fact_convert.specs.Conversion.{ConverterGrows}
+use Rattle.fact_builder.specs.Known.{AreKeptLive}
+use Rattle.fact_convert.specs.Conversion.{BuilderGrows}
 use Rattle.fact_convert.specs.Converted.{IsTypeFrom}
-use Rattle.fact_convert.specs.Converters.{Converter, tables_of}
+use Rattle.fact_convert.specs.BuilderTables.{tables_of}
+use Rattle.fact_builder.specs.Builder.{Builder}
 use Rattle.fact_convert.specs.Merging.{merged}
-use Rattle.fact_convert.specs.Steps.{fields_with, cases_with, taken_payload, left_behind}
+use Rattle.fact_convert.specs.Progress.{fields_with, cases_with, taken_payload, left_behind}
 use Rattle.fact_convert.proofs.Growing.{types_stay}
 use Rattle.fact_convert.proofs.LiveLaws.{type_live}
 use Rattle.fact_convert.proofs.Merged.{one_more_merged}
@@ -30,11 +31,11 @@ zip_more R (w ∷ xs) [] x y h k = absurd h
 zip_more R (w ∷ xs) (z ∷ ys) x y (h, l) k = (h, zip_more R xs ys x y l k)
 
 -- one more type was converted: those before it are still from the source
-pub one_more_type : (s : SourceTables) (a b : Converter) → ConverterGrows a b → (vs : List ComponentValType) (ts : List InterfaceType) (v : ComponentValType) (t : InterfaceType) → AllZip (IsTypeFrom s a) vs ts → IsTypeFrom s b v t → AllZip (IsTypeFrom s b) (vs ++ v ∷ []) (ts ++ t ∷ [])
+pub one_more_type : (s : SourceTables) (a b : Builder) → BuilderGrows a b → (vs : List ComponentValType) (ts : List InterfaceType) (v : ComponentValType) (t : InterfaceType) → AllZip (IsTypeFrom s a) vs ts → IsTypeFrom s b v t → AllZip (IsTypeFrom s b) (vs ++ v ∷ []) (ts ++ t ∷ [])
 one_more_type s a b g vs ts v t h k = zip_more (IsTypeFrom s b) vs ts v t (types_stay s a b g vs ts h) k
 
 -- types that are from the source are live
-pub types_live : (s : SourceTables) (c : Converter) → AreKeptLive c.resources (tables_of c) → (vs : List ComponentValType) (ts : List InterfaceType) → AllZip (IsTypeFrom s c) vs ts → All (IsLive (tables_of c)) ts
+pub types_live : (s : SourceTables) (c : Builder) → AreKeptLive c.resources (tables_of c) → (vs : List ComponentValType) (ts : List InterfaceType) → AllZip (IsTypeFrom s c) vs ts → All (IsLive (tables_of c)) ts
 types_live s c k [] [] a i d l = absurd (omega (arith, l))
 types_live s c k [] (t ∷ ts) a i d l = absurd a
 types_live s c k (v ∷ vs) [] a i d l = absurd a

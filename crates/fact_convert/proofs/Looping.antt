@@ -1,15 +1,15 @@
 -- Items of a list are converted one after another.
-use Rattle.std.proofs.Common.{◌≡◌, ◌<◌, ◌≤◌, ◌+◌, ℕ, List, [], ◌∷◌, ◌++◌, length, take, drop, get_or, refl, sym, ◌∙◌, ap, subst, append-nil, append_assoc}
-use Rattle.std.specs.Prelude.{flat_map, Result, Ok, Err}
+use Rattle.std.proofs.Common.{◌≡◌, ◌<◌, ◌≤◌, ◌+◌, ℕ, List, [], ◌∷◌, ◌++◌, length, take, drop, get_or, sym, ◌∙◌, ap, subst, append-nil}
+use Rattle.std.specs.Prelude.{flat_map, Ok, Err}
 use Rattle.std.proofs.lemmas.List.{take_more, take_all, drop_more, take-append-drop}
 use Rattle.std.proofs.lemmas.Grind.{flat_map-append}
 use Rattle.fact_source.specs.SourceTables.{SourceTables}
-use Rattle.fact_resources.specs.declared.error.BuildError.{BuildError}
-use Rattle.fact_resources.specs.declared.error.BuildError.TheVariants.{OutOfMemory}
-use Rattle.fact_convert.specs.Conversion.{ConverterGrows}
-use Rattle.fact_convert.specs.Converters.{Converter}
+use Rattle.fact_builder.specs.declared.error.BuildError.{BuildError}
+use Rattle.fact_builder.specs.declared.error.BuildError.TheVariants.{OutOfMemory}
+use Rattle.fact_convert.specs.Conversion.{BuilderGrows}
+use Rattle.fact_builder.specs.Builder.{Builder}
 use Rattle.fact_convert.specs.Performing.{PerformsAll}
-use Rattle.fact_convert.specs.Steps.{Comes}
+use Rattle.fact_convert.specs.Progress.{Comes}
 use Rattle.fact_convert.specs.Tasks.{Task}
 use Rattle.fact_convert.proofs.Coming.{comes_then, comes_not, comes_as, comes_with, comes_short}
 
@@ -23,22 +23,22 @@ joined_at : {X : Type 0} (f : X → List Task) (xs : List X) (i : ℕ) (d : X) �
 joined_at f xs i d l = ap (flat_map f) (split_at xs i d l) ∙ flat_map-append f (take i xs) (get_or xs i d ∷ drop (i + 1) xs)
 
 -- one more item was converted; its tasks were done behind those of the items before it
-pub one_more_done : {X Y Z : Type 0} (s : SourceTables) (a b c : Converter) (tasks : X → List Task) (xs : List X) (i : ℕ) (x : X) (F : List X → Converter → Y → Type 0) (G : Converter → Z → Type 0) (y next : Y) (z : Z)
+pub one_more_done : {X Y Z : Type 0} (s : SourceTables) (a b c : Builder) (tasks : X → List Task) (xs : List X) (i : ℕ) (x : X) (F : List X → Builder → Y → Type 0) (G : Builder → Z → Type 0) (y next : Y) (z : Z)
     → i < length xs → x ≡ get_or xs i x → Comes s a (flat_map tasks (take i xs)) (F (take i xs)) b (Ok y) → Comes s b (tasks x) G c (Ok z)
-    → (PerformsAll s a (flat_map tasks (take i xs) ++ tasks x) c → ConverterGrows b c → F (take i xs) b y → G c z → F (take i xs ++ x ∷ []) c next) → Comes s a (flat_map tasks (take (i + 1) xs)) (F (take (i + 1) xs)) c (Ok next)
+    → (PerformsAll s a (flat_map tasks (take i xs) ++ tasks x) c → BuilderGrows b c → F (take i xs) b y → G c z → F (take i xs ++ x ∷ []) c next) → Comes s a (flat_map tasks (take (i + 1) xs)) (F (take (i + 1) xs)) c (Ok next)
 one_more_done s a b c tasks xs i x F G y next z l is p q f =
     let there : take (i + 1) xs ≡ take i xs ++ x ∷ [] = take_more xs i x l ∙ ap (λ w. take i xs ++ w ∷ []) (sym is) in
     let both = comes_then s a b c (flat_map tasks (take i xs)) (tasks x) (F (take i xs)) G y (Ok z) p q in
     let told = comes_with s a c (flat_map tasks (take i xs) ++ tasks x) G (F (take i xs ++ x ∷ [])) z next (f both.converts.0 q.grows p.converts.1) both in
     subst (λ ws. Comes s a (flat_map tasks ws) (F ws) c (Ok next)) (sym there) (comes_as s a c _ _ _ _ (sym (one_joined tasks (take i xs) x)) told)
 
-pub one_more_came : {X Y Z : Type 0} (s : SourceTables) (a b c : Converter) (tasks : X → List Task) (xs : List X) (i : ℕ) (x : X) (F : List X → Converter → Y → Type 0) (G : Converter → Z → Type 0) (y next : Y) (z : Z)
+pub one_more_came : {X Y Z : Type 0} (s : SourceTables) (a b c : Builder) (tasks : X → List Task) (xs : List X) (i : ℕ) (x : X) (F : List X → Builder → Y → Type 0) (G : Builder → Z → Type 0) (y next : Y) (z : Z)
     → i < length xs → x ≡ get_or xs i x → Comes s a (flat_map tasks (take i xs)) (F (take i xs)) b (Ok y) → Comes s b (tasks x) G c (Ok z)
-    → (ConverterGrows b c → F (take i xs) b y → G c z → F (take i xs ++ x ∷ []) c next) → Comes s a (flat_map tasks (take (i + 1) xs)) (F (take (i + 1) xs)) c (Ok next)
+    → (BuilderGrows b c → F (take i xs) b y → G c z → F (take i xs ++ x ∷ []) c next) → Comes s a (flat_map tasks (take (i + 1) xs)) (F (take (i + 1) xs)) c (Ok next)
 one_more_came s a b c tasks xs i x F G y next z l is p q f = one_more_done s a b c tasks xs i x F G y next z l is p q (λ done. f)
 
 -- one was not, and that ends all
-pub one_failed : {X Y Z W : Type 0} (s : SourceTables) (a b c : Converter) (tasks : X → List Task) (xs : List X) (i : ℕ) (x : X) (F : Converter → Y → Type 0) (G : Converter → Z → Type 0) (H : Converter → W → Type 0) (y : Y) (e : BuildError)
+pub one_failed : {X Y Z W : Type 0} (s : SourceTables) (a b c : Builder) (tasks : X → List Task) (xs : List X) (i : ℕ) (x : X) (F : Builder → Y → Type 0) (G : Builder → Z → Type 0) (H : Builder → W → Type 0) (y : Y) (e : BuildError)
     → i < length xs → x ≡ get_or xs i x → Comes s a (flat_map tasks (take i xs)) F b (Ok y) → Comes s b (tasks x) G c (Err e) → Comes s a (flat_map tasks xs) H c (Err e)
 one_failed s a b c tasks xs i x F G H y e l is p q =
     let rest = flat_map tasks (drop (i + 1) xs) in
@@ -46,11 +46,11 @@ one_failed s a b c tasks xs i x F G H y e l is p q =
     comes_as s a c _ _ H (Err e) (sym (joined_at tasks xs i x l ∙ ap (λ (w : _). flat_map tasks (take i xs) ++ (tasks w ++ rest)) (sym is))) both
 
 -- one was converted, and there was no memory to keep it
-pub one_lost : {X Y Z W : Type 0} (s : SourceTables) (a b c : Converter) (tasks : X → List Task) (xs : List X) (i : ℕ) (x : X) (F : Converter → Y → Type 0) (G : Converter → Z → Type 0) (H : Converter → W → Type 0) (y : Y) (z : Z)
+pub one_lost : {X Y Z W : Type 0} (s : SourceTables) (a b c : Builder) (tasks : X → List Task) (xs : List X) (i : ℕ) (x : X) (F : Builder → Y → Type 0) (G : Builder → Z → Type 0) (H : Builder → W → Type 0) (y : Y) (z : Z)
     → i < length xs → x ≡ get_or xs i x → Comes s a (flat_map tasks (take i xs)) F b (Ok y) → Comes s b (tasks x) G c (Ok z) → Comes s a (flat_map tasks xs) H c (Err OutOfMemory)
 one_lost s a b c tasks xs i x F G H y z l is p q =
     one_failed s a b c tasks xs i x F G H y OutOfMemory l is p (comes_as s b c _ _ G (Err OutOfMemory) (append-nil (tasks x)) (comes_short s b c (tasks x) [] G G z q))
 
 -- all were
-pub all_came : {X Y : Type 0} (s : SourceTables) (a b : Converter) (tasks : X → List Task) (xs : List X) (i : ℕ) (F : List X → Converter → Y → Type 0) (y : Y) → length xs ≤ i → Comes s a (flat_map tasks (take i xs)) (F (take i xs)) b (Ok y) → Comes s a (flat_map tasks xs) (F xs) b (Ok y)
+pub all_came : {X Y : Type 0} (s : SourceTables) (a b : Builder) (tasks : X → List Task) (xs : List X) (i : ℕ) (F : List X → Builder → Y → Type 0) (y : Y) → length xs ≤ i → Comes s a (flat_map tasks (take i xs)) (F (take i xs)) b (Ok y) → Comes s a (flat_map tasks xs) (F xs) b (Ok y)
 all_came s a b tasks xs i F y l p = subst (λ ws. Comes s a (flat_map tasks ws) (F ws) b (Ok y)) (take_all i xs l) p

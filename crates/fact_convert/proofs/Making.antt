@@ -1,5 +1,5 @@
 -- A type was made of members that were converted before, or could not be.
-use Rattle.std.proofs.Common.{◌≡◌, ◌<◌, ℕ, zero, suc, All, arith, List, [], ◌∷◌, length, map, Option, Some, None, refl, sym, ◌∙◌, ap, subst, get_or}
+use Rattle.std.proofs.Common.{◌≡◌, ℕ, zero, suc, All, arith, List, [], ◌∷◌, length, map, Option, Some, None, refl, sym, ◌∙◌, ap, subst, get_or}
 use Rattle.std.specs.Prelude.{Result, Ok, Err, flat_map, option_to_list, nat_eq}
 use Rattle.std.specs.List.{AllZip}
 use Rattle.std.specs.Cmp.Lexicographic.{pointwise}
@@ -15,45 +15,43 @@ use Rattle.fact_types.specs.declared.kinds.RecordField.{RecordField}
 use Rattle.fact_types.specs.Shapes.{Kind, k_tuple, s_node}
 use Rattle.fact_types.specs.Tables.{Tables, placed, IsLive, IsLiveMember}
 use Rattle.fact_builder.specs.Builder.{Builder}
-use Rattle.fact_making.specs.Makes.{Makes}
-use Rattle.fact_resources.specs.declared.error.BuildError.{BuildError}
-use Rattle.fact_resources.specs.declared.error.BuildError.TheVariants.{TooLarge}
-use Rattle.fact_resources.specs.Errors.{build_error}
-use Rattle.fact_convert.specs.Conversion.{ConverterGrows}
+use Rattle.fact_builder.specs.Makes.{Makes}
+use Rattle.fact_builder.specs.declared.error.BuildError.{BuildError}
+use Rattle.fact_builder.specs.declared.error.BuildError.TheVariants.{TooLarge}
+use Rattle.fact_builder.specs.Errors.{build_error}
+use Rattle.fact_convert.specs.Conversion.{BuilderGrows}
 use Rattle.fact_convert.specs.Converted.{IsTypeFrom, IsTupleFrom}
-use Rattle.fact_convert.specs.Converters.{Converter, tables_of}
 use Rattle.fact_convert.specs.Merging.{merged, merged_names}
 use Rattle.fact_convert.specs.Performing.{Performs, Fails, MakesFrom, CannotBeMadeFrom, MakesType, LacksRoomForType, AreMembersFrom, IsMemberFrom}
 use Rattle.fact_convert.specs.SourceShapes.{SourceNode, of_kind, source_node, placed_values}
-use Rattle.fact_convert.specs.Steps.{Comes, IsMadeFrom, answer_of, fields_with, cases_with, taken_payload, left_behind}
+use Rattle.fact_convert.specs.Progress.{Comes, IsMadeFrom, answer_of, fields_with, cases_with}
 use Rattle.fact_convert.specs.Tasks.{Task, makes_type, makes_tuple}
-use Rattle.fact_convert.proofs.Adding.{gains_made, gains_grow, gains_kept}
+use Rattle.fact_convert.proofs.Adding.{gains_made, gains_grow, gains_kept, only_tables}
 use Rattle.fact_convert.proofs.Coming.{comes_by, comes_refused, comes_with, comes_failed}
 use Rattle.fact_convert.proofs.Growing.{members_stay}
-use Rattle.fact_convert.proofs.Opening.{comes_from, comes_told}
+use Rattle.fact_convert.proofs.Opening.{comes_told}
 use Rattle.fact_convert.proofs.Merged.{Each, each_merged, each_all, both_merged}
 use Rattle.fact_convert.proofs.Shaping.{members_shaped}
 
 -- ---- by a task that makes a type of a kind with members from these
 
-made_by : (s : SourceTables) (a : Converter) (b : Builder) (m : Task) (k : Kind) (xs : List (List ℕ × Option ComponentValType)) (ms : List (List ℕ × Option InterfaceType)) (res : Result InterfaceType PushError) (F : Converter → InterfaceType → Type 0)
-    → ((c : Converter) → MakesFrom s a k xs c → Performs s a m c) → (CannotBeMadeFrom s a k xs → Fails s a m TooLarge) → ((c : Converter) → ConverterGrows a c → (n : MakesFrom s a k xs c) → F c n.ty)
-    → AreMembersFrom s a xs ms → Makes a.builder b k ms res → Comes s a (m ∷ []) F (record a { builder = b }) (answer_of res)
+made_by : (s : SourceTables) (a : Builder) (b : Builder) (m : Task) (k : Kind) (xs : List (List ℕ × Option ComponentValType)) (ms : List (List ℕ × Option InterfaceType)) (res : Result InterfaceType PushError) (F : Builder → InterfaceType → Type 0)
+    → ((c : Builder) → MakesFrom s a k xs c → Performs s a m c) → (CannotBeMadeFrom s a k xs → Fails s a m TooLarge) → ((c : Builder) → BuilderGrows a c → (n : MakesFrom s a k xs c) → F c n.ty)
+    → AreMembersFrom s a xs ms → Makes a b k ms res → Comes s a (m ∷ []) F b (answer_of res)
 made_by s a b m k xs ms (Ok t) F performs cannot from are makes =
-    let c = record a { builder = b } in
-    let made : MakesFrom s a k xs c = record { members = ms; from = are; ty = t; makes = makes; rest = refl } in
-    let g = gains_made k a.builder b makes.rest makes.keeps in
-    comes_by s a c m F t (performs c made) (gains_grow a b g) (gains_kept a b g) (from c (gains_grow a b g) made)
+    let made : MakesFrom s a k xs b = record { members = ms; from = are; ty = t; makes = makes; rest = only_tables k a b makes.rest } in
+    let g = gains_made k a b makes.rest makes.keeps in
+    comes_by s a b m F t (performs b made) (gains_grow a b g) (gains_kept a b g) (from b (gains_grow a b g) made)
 made_by s a b m k xs ms (Err e) F performs cannot from are makes =
-    subst (λ z. Comes s a (m ∷ []) F (record a { builder = z }) (answer_of (Err e))) (sym makes.refused)
+    subst (λ z. Comes s a (m ∷ []) F z (answer_of (Err e))) (sym makes.refused)
     (comes_refused s a m [] F e (λ q. cannot (record { members = ms; from = are; cannot = makes.too_large (ap Err q) })))
 
 node_with : Kind → List (List ℕ × Option ComponentValType) → SourceNode
 node_with k xs = record { kind = of_kind k; members = xs }
 
 -- a defined type that is no handle
-pub made_entry : (s : SourceTables) (a : Converter) (b : Builder) (d : ComponentDefinedType) (k : Kind) (xs : List (List ℕ × Option ComponentValType)) (ms : List (List ℕ × Option InterfaceType)) (res : Result InterfaceType PushError)
-    → source_node d ≡ Some (record { kind = of_kind k; members = xs }) → AreMembersFrom s a xs ms → Makes a.builder b k ms res → Comes s a (makes_type d ∷ []) (λ c t. IsMadeFrom s c d t) (record a { builder = b }) (answer_of res)
+pub made_entry : (s : SourceTables) (a : Builder) (b : Builder) (d : ComponentDefinedType) (k : Kind) (xs : List (List ℕ × Option ComponentValType)) (ms : List (List ℕ × Option InterfaceType)) (res : Result InterfaceType PushError)
+    → source_node d ≡ Some (record { kind = of_kind k; members = xs }) → AreMembersFrom s a xs ms → Makes a b k ms res → Comes s a (makes_type d ∷ []) (λ c t. IsMadeFrom s c d t) b (answer_of res)
 made_entry s a b d k xs ms res e are makes =
     made_by s a b (makes_type d) k xs ms res (λ c t. IsMadeFrom s c d t)
     (λ c n. subst (λ o. MakesType s a o c) (sym e) n)
@@ -62,60 +60,54 @@ made_entry s a b d k xs ms res e are makes =
     are makes
 
 -- the same where a function answers it
-pub made_answer : (s : SourceTables) (a z : Converter) → a ≡ z → (b : Builder) (d : ComponentDefinedType) (k : Kind) (xs : List (List ℕ × Option ComponentValType)) (ms : List (List ℕ × Option InterfaceType)) (res : Result InterfaceType PushError) (r : Result InterfaceType BuildError)
-    → r ≡ answer_of res → source_node d ≡ Some (record { kind = of_kind k; members = xs }) → AreMembersFrom s z xs ms → Makes a.builder b k ms res → Comes s z (makes_type d ∷ []) (λ c t. IsMadeFrom s c d t) (record a { builder = b }) r
-made_answer s a z same b d k xs ms res r told e are makes =
-    comes_from s a z _ _ _ _ same (comes_told s a _ _ _ _ _ told (made_entry s a b d k xs ms res e (subst (λ y. AreMembersFrom s y xs ms) (sym same) are) makes))
+pub made_answer : (s : SourceTables) (a b : Builder) (d : ComponentDefinedType) (k : Kind) (xs : List (List ℕ × Option ComponentValType)) (ms : List (List ℕ × Option InterfaceType)) (res : Result InterfaceType PushError) (r : Result InterfaceType BuildError)
+    → r ≡ answer_of res → source_node d ≡ Some (record { kind = of_kind k; members = xs }) → AreMembersFrom s a xs ms → Makes a b k ms res → Comes s a (makes_type d ∷ []) (λ c t. IsMadeFrom s c d t) b r
+made_answer s a b d k xs ms res r told e are makes = comes_told s a _ _ _ _ _ told (made_entry s a b d k xs ms res e are makes)
 
 -- the tuple of parameters or results
-pub made_tuple : (s : SourceTables) (a : Converter) (b : Builder) (vs : List ComponentValType) (ms : List (List ℕ × Option InterfaceType)) (res : Result InterfaceType PushError)
-    → AreMembersFrom s a (placed_values 0 vs) ms → Makes a.builder b k_tuple ms res → Comes s a (makes_tuple vs ∷ []) (λ c t. IsTupleFrom s c vs t) (record a { builder = b }) (answer_of res)
+made_tuple : (s : SourceTables) (a : Builder) (b : Builder) (vs : List ComponentValType) (ms : List (List ℕ × Option InterfaceType)) (res : Result InterfaceType PushError)
+    → AreMembersFrom s a (placed_values 0 vs) ms → Makes a b k_tuple ms res → Comes s a (makes_tuple vs ∷ []) (λ c t. IsTupleFrom s c vs t) b (answer_of res)
 made_tuple s a b vs ms res are makes =
     made_by s a b (makes_tuple vs) k_tuple (placed_values 0 vs) ms res (λ c t. IsTupleFrom s c vs t)
     (λ c n. n) (λ n. n)
     (λ c g n. let (sh, h, q) = members_shaped s a (placed_values 0 vs) n.members n.from in (sh, n.makes.shaped sh h, members_stay s a c g (placed_values 0 vs) sh q))
     are makes
 
-pub tuple_answer : (s : SourceTables) (a z : Converter) → a ≡ z → (b : Builder) (vs : List ComponentValType) (ms : List (List ℕ × Option InterfaceType)) (res : Result InterfaceType PushError)
-    → AreMembersFrom s z (placed_values 0 vs) ms → Makes a.builder b k_tuple ms res → Comes s z (makes_tuple vs ∷ []) (λ c t. IsTupleFrom s c vs t) (record a { builder = b }) (answer_of res)
-tuple_answer s a z same b vs ms res are makes =
-    comes_from s a z _ _ _ _ same (made_tuple s a b vs ms res (subst (λ y. AreMembersFrom s y (placed_values 0 vs) ms) (sym same) are) makes)
-
 -- its index, or why there is none
-pub tuple_at : (s : SourceTables) (a z : Converter) → a ≡ z → (b : Builder) (vs : List ComponentValType) (ms : List (List ℕ × Option InterfaceType)) (t : InterfaceType) (i : Id TypeTuples)
-    → t ≡ plain.Tuple i → AreMembersFrom s z (placed_values 0 vs) ms → Makes a.builder b k_tuple ms (Ok t) → Comes s z (makes_tuple vs ∷ []) (λ c i. IsTupleFrom s c vs (plain.Tuple i)) (record a { builder = b }) (Ok i)
-tuple_at s a z same b vs ms t i is are makes =
-    comes_with s z (record a { builder = b }) (makes_tuple vs ∷ []) (λ c t. IsTupleFrom s c vs t) (λ c i. IsTupleFrom s c vs (plain.Tuple i)) t i
-    (λ h. subst (λ u. IsTupleFrom s (record a { builder = b }) vs u) is h) (tuple_answer s a z same b vs ms (Ok t) are makes)
+pub tuple_at : (s : SourceTables) (a b : Builder) (vs : List ComponentValType) (ms : List (List ℕ × Option InterfaceType)) (t : InterfaceType) (i : Id TypeTuples)
+    → t ≡ plain.Tuple i → AreMembersFrom s a (placed_values 0 vs) ms → Makes a b k_tuple ms (Ok t) → Comes s a (makes_tuple vs ∷ []) (λ c i. IsTupleFrom s c vs (plain.Tuple i)) b (Ok i)
+tuple_at s a b vs ms t i is are makes =
+    comes_with s a b (makes_tuple vs ∷ []) (λ c t. IsTupleFrom s c vs t) (λ c i. IsTupleFrom s c vs (plain.Tuple i)) t i
+    (λ h. subst (λ u. IsTupleFrom s b vs u) is h) (made_tuple s a b vs ms (Ok t) are makes)
 
-pub tuple_refused : {Y : Type 0} (s : SourceTables) (a z : Converter) → a ≡ z → (b : Builder) (vs : List ComponentValType) (ms : List (List ℕ × Option InterfaceType)) (x : PushError) (F : Converter → Y → Type 0)
-    → AreMembersFrom s z (placed_values 0 vs) ms → Makes a.builder b k_tuple ms (Err x) → Comes s z (makes_tuple vs ∷ []) F (record a { builder = b }) (Err (build_error x))
-tuple_refused s a z same b vs ms x F are makes = comes_failed s z (record a { builder = b }) (makes_tuple vs ∷ []) (λ c t. IsTupleFrom s c vs t) F (build_error x) (tuple_answer s a z same b vs ms (Err x) are makes)
+pub tuple_refused : {Y : Type 0} (s : SourceTables) (a b : Builder) (vs : List ComponentValType) (ms : List (List ℕ × Option InterfaceType)) (x : PushError) (F : Builder → Y → Type 0)
+    → AreMembersFrom s a (placed_values 0 vs) ms → Makes a b k_tuple ms (Err x) → Comes s a (makes_tuple vs ∷ []) F b (Err (build_error x))
+tuple_refused s a b vs ms x F are makes = comes_failed s a b (makes_tuple vs ∷ []) (λ c t. IsTupleFrom s c vs t) F (build_error x) (made_tuple s a b vs ms (Err x) are makes)
 
 -- ---- members of each kind
 
-pub placed_from : (s : SourceTables) (c : Converter) (n : ℕ) (vs : List ComponentValType) (ts : List InterfaceType) → AllZip (IsTypeFrom s c) vs ts → AreMembersFrom s c (placed_values n vs) (placed n ts)
+pub placed_from : (s : SourceTables) (c : Builder) (n : ℕ) (vs : List ComponentValType) (ts : List InterfaceType) → AllZip (IsTypeFrom s c) vs ts → AreMembersFrom s c (placed_values n vs) (placed n ts)
 placed_from s c n [] [] a = tt
 placed_from s c n [] (t ∷ ts) a = absurd a
 placed_from s c n (v ∷ vs) [] a = absurd a
 placed_from s c n (v ∷ vs) (t ∷ ts) (h, a) = ((refl, h), placed_from s c (suc n) vs ts a)
 
-pub fields_from : (s : SourceTables) (c : Converter) (fields : List (List ℕ × ComponentValType)) (ts : List InterfaceType) → AllZip (IsTypeFrom s c) (map (λ f. f.1) fields) ts → AreMembersFrom s c (map (λ f. (f.0, Some f.1)) fields) (map (λ (f : RecordField). (f.name, Some f.ty)) (fields_with fields ts))
+pub fields_from : (s : SourceTables) (c : Builder) (fields : List (List ℕ × ComponentValType)) (ts : List InterfaceType) → AllZip (IsTypeFrom s c) (map (λ f. f.1) fields) ts → AreMembersFrom s c (map (λ f. (f.0, Some f.1)) fields) (map (λ (f : RecordField). (f.name, Some f.ty)) (fields_with fields ts))
 fields_from s c [] ts a = tt
 fields_from s c (f ∷ fs) [] a = absurd a
 fields_from s c (f ∷ fs) (t ∷ ts) (h, a) = ((refl, h), fields_from s c fs ts a)
 
-each_case_from : (s : SourceTables) (c : Converter) (cases : List (List ℕ × Option ComponentValType)) (ts : List InterfaceType) → AllZip (IsTypeFrom s c) (flat_map (λ x. option_to_list x.1) cases) ts → AreMembersFrom s c cases (cases_with cases ts)
+each_case_from : (s : SourceTables) (c : Builder) (cases : List (List ℕ × Option ComponentValType)) (ts : List InterfaceType) → AllZip (IsTypeFrom s c) (flat_map (λ x. option_to_list x.1) cases) ts → AreMembersFrom s c cases (cases_with cases ts)
 each_case_from s c [] ts a = tt
 each_case_from s c ((n, None) ∷ xs) ts a = ((refl, tt), each_case_from s c xs ts a)
 each_case_from s c ((n, Some v) ∷ xs) [] a = absurd a
 each_case_from s c ((n, Some v) ∷ xs) (t ∷ ts) (h, a) = ((refl, h), each_case_from s c xs ts a)
 
 -- repeated names are merged behind the conversion as they are in the source
-pub cases_from : (s : SourceTables) (c : Converter) (cases : List (List ℕ × Option ComponentValType)) (ts : List InterfaceType) → AllZip (IsTypeFrom s c) (flat_map (λ x. option_to_list x.1) cases) ts → AreMembersFrom s c (merged cases) (merged (cases_with cases ts))
+pub cases_from : (s : SourceTables) (c : Builder) (cases : List (List ℕ × Option ComponentValType)) (ts : List InterfaceType) → AllZip (IsTypeFrom s c) (flat_map (λ x. option_to_list x.1) cases) ts → AreMembersFrom s c (merged cases) (merged (cases_with cases ts))
 cases_from s c cases ts a = both_merged (pointwise nat_eq) (IsMemberFrom s c) [] cases [] (cases_with cases ts) tt (each_case_from s c cases ts a)
 
-pub names_from : (s : SourceTables) (c : Converter) (names : List (List ℕ)) → AreMembersFrom s c (map (λ n. (n, None)) names) (map (λ n. (n, None)) names)
+pub names_from : (s : SourceTables) (c : Builder) (names : List (List ℕ)) → AreMembersFrom s c (map (λ n. (n, None)) names) (map (λ n. (n, None)) names)
 names_from s c [] = tt
 names_from s c (n ∷ names) = ((refl, tt), names_from s c names)
 
@@ -144,10 +136,10 @@ fields_all t (f ∷ fs) [] a i d l = absurd (omega (arith, l))
 fields_all t (f ∷ fs) (y ∷ ts) a zero d l = a 0 y (omega arith)
 fields_all t (f ∷ fs) (y ∷ ts) a (suc i) d l = fields_all t fs ts (λ j e m. a (suc j) e (omega (arith, m))) i d (omega (arith, l))
 
-pub fields_live : (a z : Converter) → a ≡ z → (fs : List (List ℕ × ComponentValType)) (ts : List InterfaceType) (made : List RecordField) → made ≡ fields_with fs ts → All (IsLive (tables_of z)) ts → All (λ (f : RecordField). IsLive (tables_of a) f.ty) made
-fields_live a z same fs ts made e l = subst (λ (y : Converter). All (λ (f : RecordField). IsLive (tables_of y) f.ty) made) (sym same) (subst (All (λ (f : RecordField). IsLive (tables_of z) f.ty)) (sym e) (fields_all (tables_of z) fs ts l))
+pub fields_live : (t : Tables) (fs : List (List ℕ × ComponentValType)) (ts : List InterfaceType) (made : List RecordField) → made ≡ fields_with fs ts → All (IsLive t) ts → All (λ (f : RecordField). IsLive t f.ty) made
+fields_live t fs ts made e l = subst (All (λ (f : RecordField). IsLive t f.ty)) (sym e) (fields_all t fs ts l)
 
-pub fields_now : (s : SourceTables) (c : Converter) (fs : List (List ℕ × ComponentValType)) (ts : List InterfaceType) (shown : List (List ℕ × ComponentValType)) (made : List RecordField) → made ≡ fields_with shown ts → shown ≡ fs → AllZip (IsTypeFrom s c) (map (λ f. f.1) fs) ts → AreMembersFrom s c (map (λ f. (f.0, Some f.1)) fs) (map (λ (f : RecordField). (f.name, Some f.ty)) made)
+pub fields_now : (s : SourceTables) (c : Builder) (fs : List (List ℕ × ComponentValType)) (ts : List InterfaceType) (shown : List (List ℕ × ComponentValType)) (made : List RecordField) → made ≡ fields_with shown ts → shown ≡ fs → AllZip (IsTypeFrom s c) (map (λ f. f.1) fs) ts → AreMembersFrom s c (map (λ f. (f.0, Some f.1)) fs) (map (λ (f : RecordField). (f.name, Some f.ty)) made)
 fields_now s c fs ts shown made e q a = subst (λ ms. AreMembersFrom s c (map (λ f. (f.0, Some f.1)) fs) (map (λ (f : RecordField). (f.name, Some f.ty)) ms)) (sym (e ∙ ap (λ ws. fields_with ws ts) q)) (fields_from s c fs ts a)
 
 cases_each : (t : Tables) (cases : List (List ℕ × Option ComponentValType)) (ts : List InterfaceType) → All (IsLive t) ts → Each (IsLiveMember t) (cases_with cases ts)
@@ -156,22 +148,21 @@ cases_each t ((n, None) ∷ xs) ts a = (tt, cases_each t xs ts a)
 cases_each t ((n, Some v) ∷ xs) [] a = (tt, cases_each t xs [] a)
 cases_each t ((n, Some v) ∷ xs) (y ∷ ts) a = (a 0 y (omega arith), cases_each t xs ts (λ j e m. a (suc j) e (omega (arith, m))))
 
-pub cases_live : (a z : Converter) → a ≡ z → (cases : List (List ℕ × Option ComponentValType)) (ts : List InterfaceType) (made : List (List ℕ × Option InterfaceType)) → made ≡ merged (cases_with cases ts) → All (IsLive (tables_of z)) ts → All (λ x. IsLiveMember (tables_of a) x.1) made
-cases_live a z same cases ts made e l =
-    subst (λ (y : Converter). All (λ x. IsLiveMember (tables_of y) x.1) made) (sym same)
-    (subst (All (λ x. IsLiveMember (tables_of z) x.1)) (sym e) (each_all (IsLiveMember (tables_of z)) (merged (cases_with cases ts)) (each_merged (pointwise nat_eq) (IsLiveMember (tables_of z)) [] (cases_with cases ts) tt (cases_each (tables_of z) cases ts l))))
+pub cases_live : (t : Tables) (cases : List (List ℕ × Option ComponentValType)) (ts : List InterfaceType) (made : List (List ℕ × Option InterfaceType)) → made ≡ merged (cases_with cases ts) → All (IsLive t) ts → All (λ x. IsLiveMember t x.1) made
+cases_live t cases ts made e l =
+    subst (All (λ x. IsLiveMember t x.1)) (sym e) (each_all (IsLiveMember t) (merged (cases_with cases ts)) (each_merged (pointwise nat_eq) (IsLiveMember t) [] (cases_with cases ts) tt (cases_each t cases ts l)))
 
 -- types as they are named
-pub all_live : (a z : Converter) → a ≡ z → (ts made : List InterfaceType) → made ≡ ts → All (IsLive (tables_of z)) ts → All (IsLive (tables_of a)) made
-all_live a z same ts made e l = subst (λ (y : Converter). All (IsLive (tables_of y)) made) (sym same) (subst (All (IsLive (tables_of z))) (sym e) l)
+pub all_live : (t : Tables) (ts made : List InterfaceType) → made ≡ ts → All (IsLive t) ts → All (IsLive t) made
+all_live t ts made e l = subst (All (IsLive t)) (sym e) l
 
-pub cases_now : (s : SourceTables) (c : Converter) (cases : List (List ℕ × Option ComponentValType)) (ts : List InterfaceType) (shown : List (List ℕ × Option ComponentValType)) (made : List (List ℕ × Option InterfaceType)) → made ≡ merged (cases_with shown ts) → shown ≡ cases → AllZip (IsTypeFrom s c) (flat_map (λ x. option_to_list x.1) cases) ts → AreMembersFrom s c (merged cases) made
+pub cases_now : (s : SourceTables) (c : Builder) (cases : List (List ℕ × Option ComponentValType)) (ts : List InterfaceType) (shown : List (List ℕ × Option ComponentValType)) (made : List (List ℕ × Option InterfaceType)) → made ≡ merged (cases_with shown ts) → shown ≡ cases → AllZip (IsTypeFrom s c) (flat_map (λ x. option_to_list x.1) cases) ts → AreMembersFrom s c (merged cases) made
 cases_now s c cases ts shown made e q a = subst (AreMembersFrom s c (merged cases)) (sym (e ∙ ap (λ ws. merged (cases_with ws ts)) q)) (cases_from s c cases ts a)
 
-pub names_now : (s : SourceTables) (c : Converter) (names shown made : List (List ℕ)) → made ≡ merged_names shown → shown ≡ names → AreMembersFrom s c (map (λ n. (n, None)) (merged_names names)) (map (λ n. (n, None)) made)
+pub names_now : (s : SourceTables) (c : Builder) (names shown made : List (List ℕ)) → made ≡ merged_names shown → shown ≡ names → AreMembersFrom s c (map (λ n. (n, None)) (merged_names names)) (map (λ n. (n, None)) made)
 names_now s c names shown made e q = subst (λ ms. AreMembersFrom s c (map (λ n. (n, None)) (merged_names names)) (map (λ n. (n, None)) ms)) (sym (e ∙ ap merged_names q)) (names_from s c (merged_names names))
 
-pub types_now : (s : SourceTables) (c : Converter) (vs : List ComponentValType) (ts made : List InterfaceType) → made ≡ ts → AllZip (IsTypeFrom s c) vs ts → AreMembersFrom s c (placed_values 0 vs) (placed 0 made)
+pub types_now : (s : SourceTables) (c : Builder) (vs : List ComponentValType) (ts made : List InterfaceType) → made ≡ ts → AllZip (IsTypeFrom s c) vs ts → AreMembersFrom s c (placed_values 0 vs) (placed 0 made)
 types_now s c vs ts made e a = subst (λ ms. AreMembersFrom s c (placed_values 0 vs) (placed 0 ms)) (sym e) (placed_from s c 0 vs ts a)
 
 -- as many as there are fields

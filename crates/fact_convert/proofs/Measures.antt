@@ -1,5 +1,5 @@
 -- What the calls of a conversion go by: how far down the types of values stand, and how far imports and exports reach.
-use Rattle.std.proofs.Common.{◌≡◌, ◌<◌, ◌≤◌, ◌+◌, ℕ, zero, suc, List, [], ◌∷◌, length, Option, Some, None, All, get_or, refl, sym, ◌∙◌, ap, subst, arith}
+use Rattle.std.proofs.Common.{◌≡◌, ◌<◌, ◌≤◌, ℕ, zero, suc, List, [], ◌∷◌, length, Option, Some, None, All, get_or, refl, subst, arith}
 use Rattle.std.specs.Prelude.{slice_get, option_map, max}
 use Rattle.fact_entity.specs.declared.id.Id.{Id}
 use Rattle.fact_entity.specs.declared.table.SourceComponentTypes.{SourceComponentTypes}
@@ -12,7 +12,7 @@ use Rattle.fact_source.specs.declared.items.SourceComponent.{SourceComponent}
 use Rattle.fact_source.specs.declared.items.SourceInstance.{SourceInstance}
 use Rattle.fact_source.specs.declared.items.SourceItem.{SourceItem}
 use Rattle.fact_source.specs.declared.tables.Ranked.{Ranked}
-use Rattle.fact_source.specs.Live.{IsValueBelow, IsDefinedBelow, IsSoundSource, above_rank, reach_of, ReachBelow, AreLiveItems}
+use Rattle.fact_source.specs.Live.{IsValueBelow, IsSoundSource, above_rank, reach_of, ReachBelow, AreLiveItems}
 use Rattle.fact_source.specs.SourceTables.{SourceTables, instance_at, component_at}
 use Rattle.fact_convert.specs.Tasks.{member_types}
 use Rattle.fact_convert.proofs.Enough.{EachIs, members_below}

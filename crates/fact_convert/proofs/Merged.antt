@@ -1,6 +1,6 @@
 -- Repeated names of what was converted are merged as those of the source are.
-use Rattle.std.proofs.Common.{◌≡◌, ◌<◌, ◌≤◌, ◌+◌, ℕ, zero, suc, All, arith, Bool, true, false, List, [], ◌∷◌, ◌++◌, length, take, get_or, refl, sym, ◌∙◌, ap, true≢false}
-use Rattle.std.specs.Prelude.{fold, nat_eq, if◌then◌else◌}
+use Rattle.std.proofs.Common.{◌≡◌, ◌<◌, ◌≤◌, ◌+◌, ℕ, zero, suc, All, arith, Bool, true, false, List, [], ◌∷◌, ◌++◌, length, take, get_or, sym, ◌∙◌, ap, true≢false}
+use Rattle.std.specs.Prelude.{nat_eq, if◌then◌else◌}
 use Rattle.std.specs.List.{AllZip}
 use Rattle.std.specs.Cmp.Lexicographic.{pointwise}
 use Rattle.std.proofs.lemmas.List.{take_more, take_all}
@@ -8,7 +8,7 @@ use Rattle.std.proofs.lemmas.List.Sums.{fold-append}
 use Rattle.indexmap.specs.IndexMap.{insert_entry, insert_all}
 use Rattle.indexmap.specs.IndexSet.{insert_key}
 use Rattle.fact_convert.specs.Merging.{merged, merged_names}
-use Rattle.fact_convert.specs.Steps.{AreKeyed}
+use Rattle.fact_convert.specs.Progress.{AreKeyed}
 
 put_at : {K V W : Type 0} (R : V → W → Type 0) (b c : Bool) (e : K × V) (f : K × W) (es more : List (K × V)) (fs more' : List (K × W)) (v : V) (w : W) → c ≡ b → f.0 ≡ e.0 → R e.1 f.1 → R v w → AreKeyed R es fs → AreKeyed R more more' → AreKeyed R (if b then (e.0, v) ∷ es else e ∷ more) (if c then (f.0, w) ∷ fs else f ∷ more')
 put_at R true true e f es more fs more' v w q k h r a m = ((k, r), a)

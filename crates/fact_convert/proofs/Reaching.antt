@@ -13,8 +13,8 @@ use Rattle.fact_source.specs.declared.items.SourceInstance.{SourceInstance}
 use Rattle.fact_source.specs.declared.items.SourceComponent.{SourceComponent}
 use Rattle.fact_source.specs.declared.tables.Ranked.{Ranked}
 use Rattle.fact_source.specs.SourceTables.{SourceTables, instance_at, component_at}
-use Rattle.fact_source.specs.Live.{IsLiveEntity, above_rank, reach_of, ReachBelow, IsSoundSource}
-use Rattle.fact_resources.specs.Walk.{resources_of}
+use Rattle.fact_source.specs.Live.{above_rank, reach_of, ReachBelow, IsSoundSource}
+use Rattle.fact_builder.specs.Walk.{resources_of}
 use Rattle.fact_convert.specs.Tasks.{Task, registers, appends_instance, appends_component, items_where_any, item_tasks, tasks_within, tasks_of}
 
 -- ---- items of a list, one by one

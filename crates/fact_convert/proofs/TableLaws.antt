@@ -1,5 +1,5 @@
 -- What a call that adds an entry to one of the builder's tables comes to, for each table whose entries are looked for.
-use Rattle.std.proofs.Common.{◌≡◌, ◌↔◌, ℕ, Bool, true, List, [], ◌∷◌, length, Option, Some, None, refl, sym, ◌∙◌, ap, subst}
+use Rattle.std.proofs.Common.{◌≡◌, ◌↔◌, ℕ, Bool, true, List, [], ◌∷◌, length, Some, None, sym, ◌∙◌, ap, subst}
 use Rattle.std.specs.Prelude.{slice_get, position, Result, Ok, Err}
 use Rattle.fact_entity.specs.declared.error.PushError.{PushError}
 use Rattle.fact_entity.specs.declared.error.PushError.TheVariants as push
@@ -26,13 +26,13 @@ use Rattle.fact_types.specs.declared.kinds.TypeStreamTable.{TypeStreamTable}
 use Rattle.fact_types.specs.Tables.{Tables}
 use Rattle.fact_builder.specs.Builder.{Builder}
 use Rattle.fact_builder.specs.Keeps.{Keeps}
-use Rattle.fact_resources.specs.declared.error.BuildError.TheVariants.{TooLarge}
-use Rattle.fact_resources.specs.Errors.{build_error}
-use Rattle.fact_convert.specs.Conversion.{ConverterGrows}
-use Rattle.fact_convert.specs.Converters.{Converter, tables_of, with_tables}
+use Rattle.fact_builder.specs.declared.error.BuildError.TheVariants.{TooLarge}
+use Rattle.fact_builder.specs.Errors.{build_error}
+use Rattle.fact_convert.specs.Conversion.{BuilderGrows}
+use Rattle.fact_convert.specs.BuilderTables.{tables_of, with_tables}
 use Rattle.fact_convert.specs.Interning.{Interns, LacksRoom}
 use Rattle.fact_convert.specs.Performing.{Performs, Fails}
-use Rattle.fact_convert.specs.Steps.{Comes}
+use Rattle.fact_convert.specs.Progress.{Comes}
 use Rattle.fact_convert.specs.Tasks.{Task}
 use Rattle.fact_convert.proofs.Adding.{Gains, gains_grow, gains_kept, gains_func, gains_future, gains_future_table, gains_stream, gains_stream_table, gains_error_context_table}
 use Rattle.fact_convert.proofs.Coming.{comes_by, comes_refused}
@@ -66,20 +66,20 @@ error_context_tables = record { eq = error_context_table_eq.ghosts.eq; same = er
 
 -- ---- the entry has an index, or there is no room for it
 
-pub comes_interned : {X J K : Type 0} (T : Interned X) (s : SourceTables) (a : Converter) (b : Builder) (m : Task) (F : Converter → K → Type 0) (e : X) (i : ℕ) (j : J) (k : K)
-    → IsInterned T.eq (T.get a.builder.tables) (T.get b.tables) e i → slice_get (T.get b.tables) i ≡ Some e → b ≡ record a.builder { tables = T.set a.builder.tables (T.get b.tables) } → Keeps a.builder.tables b.tables
-    → ((Ok j ≡ Err push.TooLarge) ↔ ((position (T.eq e) (T.get a.builder.tables) ≡ None) × (length (T.get a.builder.tables) ≡ 4294967295)))
+pub comes_interned : {X J K : Type 0} (T : Interned X) (s : SourceTables) (a : Builder) (b : Builder) (m : Task) (F : Builder → K → Type 0) (e : X) (i : ℕ) (j : J) (k : K)
+    → IsInterned T.eq (T.get a.tables) (T.get b.tables) e i → slice_get (T.get b.tables) i ≡ Some e → b ≡ record a { tables = T.set a.tables (T.get b.tables) } → Keeps a.tables b.tables
+    → ((Ok j ≡ Err push.TooLarge) ↔ ((position (T.eq e) (T.get a.tables) ≡ None) × (length (T.get a.tables) ≡ 4294967295)))
     → ((xs : List X) → Interns (T.get (tables_of a)) e xs → Performs s a m (with_tables a (T.set (tables_of a) xs)))
-    → (ConverterGrows a (with_tables a (T.set (tables_of a) (T.get b.tables))) → F (with_tables a (T.set (tables_of a) (T.get b.tables))) k) → Comes s a (m ∷ []) F (record a { builder = b }) (Ok k)
+    → (BuilderGrows a (with_tables a (T.set (tables_of a) (T.get b.tables))) → F (with_tables a (T.set (tables_of a) (T.get b.tables))) k) → Comes s a (m ∷ []) F b (Ok k)
 comes_interned T s a b m F e i j k d at rest keeps t performs f =
     let xs = T.get b.tables in
-    let n = interned T.eq T.same (T.get a.builder.tables) xs e i j d at t in
-    let g = T.gains a.builder e xs n (subst (λ (z : Builder). Keeps a.builder.tables z.tables) rest keeps) in
-    let b' : Builder = record a.builder { tables = T.set a.builder.tables xs } in
-    subst (λ (z : Builder). Comes s a (m ∷ []) F (record a { builder = z }) (Ok k)) (sym rest)
-    (comes_by s a (record a { builder = b' }) m F k (performs xs n) (gains_grow a b' g) (gains_kept a b' g) (f (gains_grow a b' g)))
+    let n = interned T.eq T.same (T.get a.tables) xs e i j d at t in
+    let g = T.gains a e xs n (subst (λ (z : Builder). Keeps a.tables z.tables) rest keeps) in
+    let b' : Builder = record a { tables = T.set a.tables xs } in
+    subst (λ (z : Builder). Comes s a (m ∷ []) F z (Ok k)) (sym rest)
+    (comes_by s a b' m F k (performs xs n) (gains_grow a b' g) (gains_kept a b' g) (f (gains_grow a b' g)))
 
-pub comes_full : {X K Y : Type 0} (T : Interned X) (s : SourceTables) (a : Converter) (m : Task) (ms : List Task) (F : Converter → Y → Type 0) (e : X) (res : Result K PushError) (x : PushError) → res ≡ Err x
-    → ((res ≡ Err push.TooLarge) ↔ ((position (T.eq e) (T.get a.builder.tables) ≡ None) × (length (T.get a.builder.tables) ≡ 4294967295)))
+pub comes_full : {X K Y : Type 0} (T : Interned X) (s : SourceTables) (a : Builder) (m : Task) (ms : List Task) (F : Builder → Y → Type 0) (e : X) (res : Result K PushError) (x : PushError) → res ≡ Err x
+    → ((res ≡ Err push.TooLarge) ↔ ((position (T.eq e) (T.get a.tables) ≡ None) × (length (T.get a.tables) ≡ 4294967295)))
     → (LacksRoom (T.get (tables_of a)) e → Fails s a m TooLarge) → Comes s a (m ∷ ms) F a (Err (build_error x))
-comes_full T s a m ms F e res x q t fails = comes_refused s a m ms F x (λ z. fails (no_room T.eq T.same (T.get a.builder.tables) e (t.0 (q ∙ ap Err z))))
+comes_full T s a m ms F e res x q t fails = comes_refused s a m ms F x (λ z. fails (no_room T.eq T.same (T.get a.tables) e (t.0 (q ∙ ap Err z))))

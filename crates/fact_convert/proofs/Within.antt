@@ -1,10 +1,9 @@
--- What an import or export has become stays so while a converter grows, is live, and does not hang on how many steps it takes to say so.
-use Rattle.std.proofs.Common.{◌≡◌, ◌≢◌, ◌<◌, ◌≤◌, ◌+◌, ℕ, zero, suc, Bool, true, false, List, [], ◌∷◌, length, Option, Some, None, All, refl, sym, ◌∙◌, ap, subst, arith}
+-- What an import or export has become stays so while a builder grows, is live, and does not hang on how many steps it takes to say so.
+use Rattle.std.proofs.Common.{◌≡◌, ◌≤◌, ℕ, zero, suc, List, [], ◌∷◌, Option, Some, None, All, refl, subst, arith}
 use Rattle.std.specs.Prelude.{slice_get, option_map, nat_eq}
 use Rattle.std.specs.List.{AllZip}
 use Rattle.std.specs.Cmp.Lexicographic.{pointwise}
 use Rattle.std.proofs.lemmas.Option.{slice_get_within}
-use Rattle.indexmap.specs.IndexMap.{insert_entry, insert_all}
 use Rattle.fact_source.specs.declared.defined.ComponentValType.{ComponentValType}
 use Rattle.fact_source.specs.declared.defined.ComponentValType.TheVariants as val
 use Rattle.fact_source.specs.declared.defined.SourceFunc.{SourceFunc}
@@ -33,13 +32,14 @@ use Rattle.fact_types.specs.declared.kinds.TypeFunc.{TypeFunc}
 use Rattle.fact_types.specs.Externs.{ModuleType}
 use Rattle.fact_types.specs.Shapes.{k_tuple, s_node}
 use Rattle.fact_types.specs.Tables.{IsLiveDef}
-use Rattle.fact_resources.specs.Known.{AreKeptLive}
-use Rattle.fact_resources.proofs.TableLaws.{kept_is_live}
-use Rattle.fact_convert.specs.Conversion.{ConverterGrows}
-use Rattle.fact_convert.specs.Converted.{IsTypeFrom, IsTupleFrom, IsFuncFrom, IsEntityFrom, IsModuleFrom, IsItemFrom, IsDefWithin, IsDefFrom, entity_of}
-use Rattle.fact_convert.specs.Converters.{Converter, tables_of}
+use Rattle.fact_builder.specs.Known.{AreKeptLive}
+use Rattle.fact_builder.proofs.TableLaws.{kept_is_live}
+use Rattle.fact_convert.specs.Conversion.{BuilderGrows}
+use Rattle.fact_convert.specs.Converted.{IsTupleFrom, IsFuncFrom, IsEntityFrom, IsModuleFrom, IsItemFrom, IsDefWithin, IsDefFrom, entity_of}
+use Rattle.fact_convert.specs.BuilderTables.{tables_of}
+use Rattle.fact_builder.specs.Builder.{Builder}
 use Rattle.fact_convert.specs.Merging.{merged}
-use Rattle.fact_convert.specs.Steps.{IsExternFrom, AreItemsFrom}
+use Rattle.fact_convert.specs.Progress.{IsExternFrom, AreItemsFrom}
 use Rattle.fact_convert.proofs.Growing.{type_stays, members_stay}
 use Rattle.fact_convert.proofs.LiveLaws.{type_live}
 use Rattle.fact_convert.proofs.Merged.{Each, each_merged, zip_right, zip_so}
@@ -47,18 +47,18 @@ use Rattle.fact_convert.proofs.Reaching.{instance_sound, component_sound}
 
 -- ---- functions and core modules stay
 
-pub tuple_stays : (s : SourceTables) (a b : Converter) → ConverterGrows a b → (vs : List ComponentValType) (t : InterfaceType) → IsTupleFrom s a vs t → IsTupleFrom s b vs t
+pub tuple_stays : (s : SourceTables) (a b : Builder) → BuilderGrows a b → (vs : List ComponentValType) (t : InterfaceType) → IsTupleFrom s a vs t → IsTupleFrom s b vs t
 tuple_stays s a b g vs t (ms, h, q) = (ms, g.types.shapes t (s_node k_tuple ms) h, members_stay s a b g _ ms q)
 
-pub func_stays : (s : SourceTables) (a b : Converter) → ConverterGrows a b → (f : SourceFunc) (g' : TypeFunc) → IsFuncFrom s a f g' → IsFuncFrom s b f g'
+pub func_stays : (s : SourceTables) (a b : Builder) → BuilderGrows a b → (f : SourceFunc) (g' : TypeFunc) → IsFuncFrom s a f g' → IsFuncFrom s b f g'
 func_stays s a b g f g' h = record { async_ = h.async_; names = h.names; params = tuple_stays s a b g _ (plain.Tuple g'.params) h.params; results = tuple_stays s a b g _ (plain.Tuple g'.results) h.results }
 
-pub entity_stays : (a b : Converter) → ConverterGrows a b → (x : SourceEntityType) (e : EntityType) → IsEntityFrom a x e → IsEntityFrom b x e
+pub entity_stays : (a b : Builder) → BuilderGrows a b → (x : SourceEntityType) (e : EntityType) → IsEntityFrom a x e → IsEntityFrom b x e
 entity_stays a b g (source.Func ps rs) (made.Function (core.Module i)) h = g.core i.number _ h
 entity_stays a b g (source.Tag ps rs) (made.Tag (core.Module i)) h = g.core i.number _ h
 entity_stays a b g x e h = h
 
-pub module_stays : (a b : Converter) → ConverterGrows a b → (m : SourceModule) (e : ModuleType) → IsModuleFrom a m e → IsModuleFrom b m e
+pub module_stays : (a b : Builder) → BuilderGrows a b → (m : SourceModule) (e : ModuleType) → IsModuleFrom a m e → IsModuleFrom b m e
 module_stays a b g m e h = record {
   imports = zip_so _ _ _ _ (λ x y k. (k.0, entity_stays a b g x.1 y.1 k.1)) h.imports;
   exports = zip_so _ _ _ _ (λ x y k. (k.0, entity_stays a b g x.1 y.1 k.1)) h.exports;
@@ -69,7 +69,7 @@ module_stays a b g m e h = record {
 item_so : (P Q : ComponentEntityType → TypeDef → Type 0) → ((e : ComponentEntityType) (d : TypeDef) → P e d → Q e d) → (x : List ℕ × SourceItem) (y : List ℕ × ComponentExtern) → IsItemFrom P x y → IsItemFrom Q x y
 item_so P Q f x y h = record { name = h.name; implements = h.implements; external_id = h.external_id; ty = f x.1.ty y.1.ty h.ty }
 
-pub def_stays : (n : ℕ) (s : SourceTables) (a b : Converter) → ConverterGrows a b → (e : ComponentEntityType) (d : TypeDef) → IsDefWithin n s a e d → IsDefWithin n s b e d
+pub def_stays : (n : ℕ) (s : SourceTables) (a b : Builder) → BuilderGrows a b → (e : ComponentEntityType) (d : TypeDef) → IsDefWithin n s a e d → IsDefWithin n s b e d
 def_stays n s a b g (entity.Module i) (def.Module j) (m, e, h, at, k) = (m, e, h, g.tables.modules j.number e at, module_stays a b g m e k)
 def_stays n s a b g (entity.Func i) (def.ComponentFunc j) (f, e, h, at, k) = (f, e, h, g.tables.functions j.number e at, func_stays s a b g f e k)
 def_stays n s a b g (entity.AnyType (any.Defined i)) (def.Interface t) h = type_stays s a b g (val.Defined i) t h
@@ -78,15 +78,15 @@ def_stays (suc n) s a b g (entity.Instance i) (def.ComponentInstance j) (x, e, h
 def_stays (suc n) s a b g (entity.Component i) (def.Component j) (x, e, h, at, k, l) = (x, e, h, g.tables.components j.number e at, zip_so _ _ _ _ (item_so _ _ (λ c d. def_stays n s a b g c d)) k, zip_so _ _ _ _ (item_so _ _ (λ c d. def_stays n s a b g c d)) l)
 def_stays n s a b g e d h = absurd h
 
-pub extern_stays : (s : SourceTables) (a b : Converter) → ConverterGrows a b → (x : SourceItem) (y : ComponentExtern) → IsExternFrom s a x y → IsExternFrom s b x y
+pub extern_stays : (s : SourceTables) (a b : Builder) → BuilderGrows a b → (x : SourceItem) (y : ComponentExtern) → IsExternFrom s a x y → IsExternFrom s b x y
 extern_stays s a b g x y (h, k, l) = (h, k, def_stays _ s a b g x.ty y.ty l)
 
-pub items_stay : (s : SourceTables) (a b : Converter) → ConverterGrows a b → (items : List (List ℕ × SourceItem)) (made : List (List ℕ × ComponentExtern)) → AreItemsFrom s a items made → AreItemsFrom s b items made
+pub items_stay : (s : SourceTables) (a b : Builder) → BuilderGrows a b → (items : List (List ℕ × SourceItem)) (made : List (List ℕ × ComponentExtern)) → AreItemsFrom s a items made → AreItemsFrom s b items made
 items_stay s a b g items made h = zip_so _ _ _ _ (λ x y k. (k.0, extern_stays s a b g x.1 y.1 k.1)) h
 
 -- ---- and it is live
 
-pub def_live : (n : ℕ) (s : SourceTables) (c : Converter) → AreKeptLive c.resources (tables_of c) → (e : ComponentEntityType) (d : TypeDef) → IsDefWithin n s c e d → IsLiveDef (tables_of c) d
+pub def_live : (n : ℕ) (s : SourceTables) (c : Builder) → AreKeptLive c.resources (tables_of c) → (e : ComponentEntityType) (d : TypeDef) → IsDefWithin n s c e d → IsLiveDef (tables_of c) d
 def_live n s c k (entity.Module i) (def.Module j) (m, e, h, at, l) = slice_get_within _ j.number e at
 def_live n s c k (entity.Func i) (def.ComponentFunc j) (f, e, h, at, l) = slice_get_within _ j.number e at
 def_live n s c k (entity.AnyType (any.Defined i)) (def.Interface t) h = type_live s c k (val.Defined i) t h
@@ -97,7 +97,7 @@ def_live n s c k e d h = absurd h
 
 -- ---- a list of items that were converted is live
 
-pub items_live : (s : SourceTables) (c : Converter) → AreKeptLive c.resources (tables_of c) → (items : List (List ℕ × SourceItem)) (made : List (List ℕ × ComponentExtern)) → AreItemsFrom s c items made → All (λ y. IsLiveDef (tables_of c) y.1.ty) made
+pub items_live : (s : SourceTables) (c : Builder) → AreKeptLive c.resources (tables_of c) → (items : List (List ℕ × SourceItem)) (made : List (List ℕ × ComponentExtern)) → AreItemsFrom s c items made → All (λ y. IsLiveDef (tables_of c) y.1.ty) made
 items_live s c k items made h = zip_right _ _ (λ x y l. def_live _ s c k x.1.ty y.1.ty l.1.2) (merged items) made h
 
 -- ---- more steps than an item reaches say nothing else
@@ -121,10 +121,10 @@ le_trans a b c h k = omega (arith, h, k)
 below_suc : (a b : ℕ) → suc a ≤ suc b → a ≤ b
 below_suc a b h = omega (arith, h)
 
-abbrev SameWithin : SourceTables → Converter → ℕ → ℕ → Type 0
+abbrev SameWithin : SourceTables → Builder → ℕ → ℕ → Type 0
 SameWithin s c n m = (e : ComponentEntityType) (d : TypeDef) → reach_of s e ≤ n → reach_of s e ≤ m → IsDefWithin n s c e d → IsDefWithin m s c e d
 
-same_items : (s : SourceTables) (c : Converter) (n m rank : ℕ) (items : List (List ℕ × SourceItem)) (made : List (List ℕ × ComponentExtern)) → ReachBelow s rank items → rank ≤ n → rank ≤ m → SameWithin s c n m
+same_items : (s : SourceTables) (c : Builder) (n m rank : ℕ) (items : List (List ℕ × SourceItem)) (made : List (List ℕ × ComponentExtern)) → ReachBelow s rank items → rank ≤ n → rank ≤ m → SameWithin s c n m
     → AllZip (IsItemFrom (λ a b. IsDefWithin n s c a b)) (merged items) made → AllZip (IsItemFrom (λ a b. IsDefWithin m s c a b)) (merged items) made
 same_items s c n m rank items made k l h same a =
     zip_each (λ (x : SourceItem). reach_of s x.ty ≤ rank) (IsItemFrom (λ a b. IsDefWithin n s c a b)) (IsItemFrom (λ a b. IsDefWithin m s c a b))
@@ -143,7 +143,7 @@ rank_within None n x h l = cc
 rank_within (Some r) zero x h l = absurd (omega (arith, l))
 rank_within (Some r) (suc m) x h l = (r, m, refl, cc, refl, below_suc _ _ l)
 
-pub same_within : (s : SourceTables) → IsSoundSource s → (c : Converter) (n m : ℕ) → SameWithin s c n m
+pub same_within : (s : SourceTables) → IsSoundSource s → (c : Builder) (n m : ℕ) → SameWithin s c n m
 same_within s k c n m (entity.Module i) (def.Module j) l h a = a
 same_within s k c n m (entity.Func i) (def.ComponentFunc j) l h a = a
 same_within s k c n m (entity.AnyType (any.Defined i)) (def.Interface t) l h a = a
@@ -168,7 +168,7 @@ same_within s k c (suc n) (suc m) (entity.Component i) (def.Component j) l h (x,
 same_within s k c n m e d l h a = absurd a
 
 -- items that each reach so far at most are as they are within just so many steps
-pub items_within : (s : SourceTables) → IsSoundSource s → (c : Converter) (rank : ℕ) (items : List (List ℕ × SourceItem)) (made : List (List ℕ × ComponentExtern)) → ReachBelow s rank items → AllZip (IsItemFrom (IsDefFrom s c)) (merged items) made → AllZip (IsItemFrom (λ a b. IsDefWithin rank s c a b)) (merged items) made
+pub items_within : (s : SourceTables) → IsSoundSource s → (c : Builder) (rank : ℕ) (items : List (List ℕ × SourceItem)) (made : List (List ℕ × ComponentExtern)) → ReachBelow s rank items → AllZip (IsItemFrom (IsDefFrom s c)) (merged items) made → AllZip (IsItemFrom (λ a b. IsDefWithin rank s c a b)) (merged items) made
 items_within s k c rank items made b a =
     zip_each (λ (x : SourceItem). reach_of s x.ty ≤ rank) (IsItemFrom (IsDefFrom s c)) (IsItemFrom (λ a b. IsDefWithin rank s c a b))
     (λ x y l i. record { name = i.name; implements = i.implements; external_id = i.external_id; ty = same_within s k c (reach_of s x.1.ty) rank x.1.ty y.1.ty (le_refl _) l i.ty })
@@ -181,3 +181,7 @@ live_entity_of s (any.Defined i) l = l
 live_entity_of s (any.Func i) l = l
 live_entity_of s (any.Instance i) l = l
 live_entity_of s (any.Component i) l = l
+
+-- imports or exports are from the source under another name of their list
+pub items_in : (s : SourceTables) (a : Builder) (xs ys : List (List ℕ × SourceItem)) → xs ≡ ys → (made : List (List ℕ × ComponentExtern)) → AreItemsFrom s a xs made → AreItemsFrom s a ys made
+items_in s a xs ys same made h = subst (λ us. AreItemsFrom s a us made) same h

@@ -9,7 +9,8 @@ use Rattle.fact_types.specs.declared.interface.TypeDef.{TypeDef}
 use Rattle.fact_types.specs.declared.interface.TypeDef.TheVariants as def
 use Rattle.fact_types.specs.Tables.{Tables}
 use Rattle.fact_convert.specs.Converted.{IsDefFrom}
-use Rattle.fact_convert.specs.Converters.{Converter, tables_of}
+use Rattle.fact_convert.specs.BuilderTables.{tables_of}
+use Rattle.fact_builder.specs.Builder.{Builder}
 use Rattle.fact_convert.specs.Merging.{merged}
 use Rattle.fact_convert.specs.Tasks.{Task, appends_module, appends_instance, appends_component, item_tasks, tasks_of}
 
@@ -49,7 +50,7 @@ IsLast sizes (def.Component j) = suc j.number ≡ sizes component_table
 IsLast sizes d = Unit {0}
 
 -- What an import or export becomes, and that what was appended for it stands behind all others.
-abbrev pub IsDefMade : SourceTables → Converter → ComponentEntityType → TypeDef → Type 0
+abbrev pub IsDefMade : SourceTables → Builder → ComponentEntityType → TypeDef → Type 0
 IsDefMade s c e d = IsDefFrom s c e d × IsLast (size_of (tables_of c)) d
 
 -- ---- imports and exports that were converted one after another

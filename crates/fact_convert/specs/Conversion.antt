@@ -1,5 +1,5 @@
 -- What conversions come to.
-use Rattle.std.specs.Prelude.{◌≡◌, ◌≤◌, ◌<◌, ℕ, List, [], ◌∷◌, Option, Some, None, Result, Ok, Err, slice_get, length, flat_map, option_to_list}
+use Rattle.std.specs.Prelude.{◌≡◌, ◌≤◌, ◌<◌, ℕ, List, [], ◌∷◌, Some, None, Result, Ok, Err, slice_get}
 use Rattle.fact_entity.specs.declared.id.Id.{Id}
 use Rattle.fact_entity.specs.declared.table.AbstractResources.{AbstractResources}
 use Rattle.fact_entity.specs.declared.table.SourceDefinedTypes.{SourceDefinedTypes}
@@ -23,19 +23,18 @@ use Rattle.fact_types.specs.declared.interface.TypeDef.{TypeDef}
 use Rattle.fact_types.specs.declared.interface.TypeDef.TheVariants as def
 use Rattle.fact_types.specs.declared.kinds.TypeResourceTable.{TypeResourceTable}
 use Rattle.fact_types.specs.Tables.{Tables}
-use Rattle.fact_types.specs.Shapes.{Kind}
 use Rattle.fact_builder.specs.Keeps.{Keeps}
-use Rattle.fact_builder.specs.Kinds.{count_of}
-use Rattle.fact_resources.specs.declared.error.BuildError.{BuildError}
-use Rattle.fact_resources.specs.declared.registration.Registration.{Registration}
-use Rattle.fact_resources.specs.declared.registration.Registration.TheVariants as is
-use Rattle.fact_resources.specs.Known.{kept_table, registration, new_table_of, AreKeptLive}
+use Rattle.fact_builder.specs.declared.error.BuildError.{BuildError}
+use Rattle.fact_builder.specs.declared.registration.Registration.{Registration}
+use Rattle.fact_builder.specs.declared.registration.Registration.TheVariants as is
+use Rattle.fact_builder.specs.Known.{kept_table, registration, new_table_of, AreKeptLive}
 use Rattle.fact_convert.specs.Appended.{IsDefMade}
 use Rattle.fact_convert.specs.Converted.{IsTypeFrom, IsDefFrom}
-use Rattle.fact_convert.specs.Converters.{Converter, tables_of}
-use Rattle.fact_convert.specs.Performing.{IsMemberFrom, PerformsAll, EndsEarly}
+use Rattle.fact_convert.specs.BuilderTables.{tables_of}
+use Rattle.fact_builder.specs.Builder.{Builder}
+use Rattle.fact_convert.specs.Performing.{PerformsAll, EndsEarly}
 use Rattle.fact_convert.specs.SourceShapes.{IsPlainFrom}
-use Rattle.fact_convert.specs.Tasks.{Task, takes_table, makes_error_context, value_tasks, tasks_of}
+use Rattle.fact_convert.specs.Tasks.{Task, makes_error_context, value_tasks, tasks_of}
 
 -- ---- what stays, whatever the answer
 
@@ -61,11 +60,11 @@ pub record OnlyAdds (old new : Tables) : Type 0 where
 -- What resources were registered as, and the tables that were kept for them, stay; so do the types, their source, and the
 -- instance that is set. A resource that is registered anew has a number of its own that no abstract resource had before,
 -- and a table that is kept anew is the one that the resource's registration asks for.
-pub record ConverterGrows (old new : Converter) : Type 0 where
-  pub source : new.builder.source ≡ old.builder.source
+pub record BuilderGrows (old new : Builder) : Type 0 where
+  pub source : new.source ≡ old.source
   pub types : Keeps (tables_of old) (tables_of new)
   pub tables : OnlyAdds (tables_of old) (tables_of new)
-  pub core : KeepsEntries old.builder.module_types new.builder.module_types
+  pub core : KeepsEntries old.module_types new.module_types
   pub registered : (r : Id SourceResources) (k : Registration) → registration old.resources r ≡ Some k → registration new.resources r ≡ Some k
   pub numbered : (r : Id SourceResources) (k : Registration) → registration old.resources r ≡ None → registration new.resources r ≡ Some k → (i : Id AbstractResources) × (k ≡ is.Abstract i) × (old.abstracts < i.number) × (i.number ≤ new.abstracts)
   pub kept : (r : Id SourceResources) (t : Id TypeResourceTables) → kept_table old.resources r ≡ Some t → kept_table new.resources r ≡ Some t
@@ -74,37 +73,34 @@ pub record ConverterGrows (old new : Converter) : Type 0 where
   pub counted : old.abstracts ≤ new.abstracts
 
 -- What a conversion asks of the builder: types come from this source, and each table that is kept is there.
-pub record IsReadyFor (s : SourceTables) (c : Converter) : Type 0 where
-  pub source : s.number ≡ c.builder.source
+pub record IsReadyFor (s : SourceTables) (c : Builder) : Type 0 where
+  pub source : s.number ≡ c.source
   pub kept : AreKeptLive c.resources (tables_of c)
 
 -- ---- a conversion: all its tasks were performed and what was answered is from the source, or it ended early
-abbrev pub ConvertsBy : {X : Type 0} → SourceTables → Converter → List Task → (Converter → X → Type 0) → Converter → Result X BuildError → Type 0
+abbrev pub ConvertsBy : {X : Type 0} → SourceTables → Builder → List Task → (Builder → X → Type 0) → Builder → Result X BuildError → Type 0
 ConvertsBy s old ms IsFrom new (Ok x) = PerformsAll s old ms new × IsFrom new x
 ConvertsBy s old ms IsFrom new (Err e) = EndsEarly s old ms e new
 
 -- The conversion of an import or export by its type: a module, an instance or a component is appended, and its index answered.
-abbrev pub ConvertsEntity : SourceTables → Converter → ComponentEntityType → Converter → Result TypeDef BuildError → Type 0
+abbrev pub ConvertsEntity : SourceTables → Builder → ComponentEntityType → Builder → Result TypeDef BuildError → Type 0
 ConvertsEntity s old e new result = ConvertsBy s old (tasks_of s e) (λ c d. IsDefMade s c e d) new result
 
 -- The conversion of an import or export, with what is said of it.
-abbrev pub ConvertsItem : SourceTables → Converter → SourceItem → Converter → Result ComponentExtern BuildError → Type 0
+abbrev pub ConvertsItem : SourceTables → Builder → SourceItem → Builder → Result ComponentExtern BuildError → Type 0
 ConvertsItem s old x new result = ConvertsBy s old (tasks_of s x.ty) (λ c y. (y.extern_data.implements ≡ x.implements) × (y.extern_data.external_id ≡ x.external_id) × IsDefMade s c x.ty y.ty) new result
 
 -- The conversion of a function type.
-abbrev pub ConvertsFunc : SourceTables → Converter → Id SourceFuncTypes → Converter → Result (Id TypeFuncs) BuildError → Type 0
+abbrev pub ConvertsFunc : SourceTables → Builder → Id SourceFuncTypes → Builder → Result (Id TypeFuncs) BuildError → Type 0
 ConvertsFunc s old i new result = ConvertsBy s old (tasks_of s (entity.Func i)) (λ c j. IsDefFrom s c (entity.Func i) (def.ComponentFunc j)) new result
 
 -- The conversion of a type of values, and of a defined type.
-abbrev pub ConvertsValue : SourceTables → Converter → ComponentValType → Converter → Result InterfaceType BuildError → Type 0
+abbrev pub ConvertsValue : SourceTables → Builder → ComponentValType → Builder → Result InterfaceType BuildError → Type 0
 ConvertsValue s old v new result = ConvertsBy s old (value_tasks s v) (λ c t. IsTypeFrom s c v t) new result
 
-abbrev pub ConvertsDefined : SourceTables → Converter → Id SourceDefinedTypes → Converter → Result InterfaceType BuildError → Type 0
+abbrev pub ConvertsDefined : SourceTables → Builder → Id SourceDefinedTypes → Builder → Result InterfaceType BuildError → Type 0
 ConvertsDefined s old i new result = ConvertsValue s old (val.Defined i) new result
 
--- The table of a resource, and that of the error contexts of the instance that is set, whatever the source is.
-abbrev pub ConvertsResource : Converter → Id SourceResources → Converter → Result (Id TypeResourceTables) BuildError → Type 0
-ConvertsResource old r new result = (s : SourceTables) → ConvertsBy s old (takes_table r ∷ []) (λ c i. kept_table c.resources r ≡ Some i) new result
-
-abbrev pub ConvertsErrorContext : Converter → Converter → Result (Id TypeComponentLocalErrorContextTables) BuildError → Type 0
+-- The table of the error contexts of the instance that is set, whatever the source is.
+abbrev pub ConvertsErrorContext : Builder → Builder → Result (Id TypeComponentLocalErrorContextTables) BuildError → Type 0
 ConvertsErrorContext old new result = (s : SourceTables) → ConvertsBy s old (makes_error_context ∷ []) (λ c i. IsPlainFrom c (ty.Primitive word.ErrorContext) (plain.ErrorContext i)) new result

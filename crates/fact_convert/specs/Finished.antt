@@ -14,30 +14,30 @@ use Rattle.fact_builder.specs.Builder.{Builder}
 use Rattle.fact_convert.specs.declared.component.Component.{Component}
 use Rattle.fact_convert.specs.declared.component.Export.{Export}
 use Rattle.fact_convert.specs.declared.component.Export.TheVariants as item
-use Rattle.fact_resources.specs.declared.error.BuildError.{BuildError}
-use Rattle.fact_resources.specs.declared.error.BuildError.TheVariants.{OutOfMemory, TooLarge}
+use Rattle.fact_builder.specs.declared.error.BuildError.{BuildError}
+use Rattle.fact_builder.specs.declared.error.BuildError.TheVariants.{OutOfMemory, TooLarge}
 use Rattle.fact_convert.specs.Merging.{merged}
 use Rattle.fact_convert.specs.Interning.{CanGrow}
 
 -- The type of an item that is exported.
-abbrev pub type_of_item : Export → TypeDef
-type_of_item (item.LiftedFunction i) = def.ComponentFunc i
-type_of_item (item.ModuleStatic i) = def.Module i
-type_of_item (item.ModuleImport i) = def.Module i
-type_of_item (item.Instance i) = def.ComponentInstance i
-type_of_item (item.AnyType d) = d
+abbrev pub type_of_export : Export → TypeDef
+type_of_export (item.LiftedFunction i) = def.ComponentFunc i
+type_of_export (item.ModuleStatic i) = def.Module i
+type_of_export (item.ModuleImport i) = def.Module i
+type_of_export (item.Instance i) = def.ComponentInstance i
+type_of_export (item.AnyType d) = d
 
 -- What a component names is there: the items of its exports, and the types of its imports and items.
-pub record IsLinkedComponent (t : Tables) (c : Component) : Type 0 where
+pub record IsLiveComponent (t : Tables) (c : Component) : Type 0 where
   pub exports : All (λ x. x.1.number < length c.export_items) c.exports
   pub imports : AreLiveExterns t c.import_types
-  pub items : All (λ x. IsLiveDef t (type_of_item x)) c.export_items
+  pub items : All (λ x. IsLiveDef t (type_of_export x)) c.export_items
 
 -- An export has its name, the type of its item, and what is said of it.
 pub record IsExternOf (items : List Export) (x : List ℕ × (Id Exports × ComponentExternData)) (y : List ℕ × ComponentExtern) : Type 0 where
   pub name : y.0 ≡ x.0
   pub told : y.1.extern_data ≡ x.1.1
-  pub ty : (e : Export) × (slice_get items x.1.0.number ≡ Some e) × (y.1.ty ≡ type_of_item e)
+  pub ty : (e : Export) × (slice_get items x.1.0.number ≡ Some e) × (y.1.ty ≡ type_of_export e)
 
 -- The type of the component: its imports and exports in order, repeated names merged.
 pub record IsComponentTypeOf (c : Component) (e : ComponentType) : Type 0 where

@@ -1,12 +1,11 @@
 pub mod Appended
+pub mod BuilderTables
 pub mod Conversion
 pub mod Converted
-pub mod Converters
 pub mod Finished
 pub mod Interning
-pub mod Lending
 pub mod Merging
 pub mod Performing
+pub mod Progress
 pub mod SourceShapes
-pub mod Steps
 pub mod Tasks

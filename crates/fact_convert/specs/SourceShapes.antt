@@ -12,8 +12,9 @@ use Rattle.fact_source.specs.SourceTables.{SourceTables}
 use Rattle.fact_types.specs.declared.interface.InterfaceType.{InterfaceType}
 use Rattle.fact_types.specs.declared.interface.InterfaceType.TheVariants as plain
 use Rattle.fact_types.specs.Shapes.{Kind, k_record, k_variant, k_list, k_tuple, k_map, k_flags, k_enum, k_option, k_result, k_fixed, k_future, k_stream, Shape, s_plain, s_node, Members, no_members, bare, typed, none_name, some_name, ok_name, error_name}
-use Rattle.fact_resources.specs.Known.{kept_table}
-use Rattle.fact_convert.specs.Converters.{Converter, tables_of}
+use Rattle.fact_builder.specs.Known.{kept_table}
+use Rattle.fact_convert.specs.BuilderTables.{tables_of}
+use Rattle.fact_builder.specs.Builder.{Builder}
 use Rattle.fact_convert.specs.Merging.{merged, merged_names}
 
 -- ---- defined types with members
@@ -81,7 +82,7 @@ interface_of word.ErrorContext = None
 
 -- An error context is that of a table of the instance that is set; an own or a borrow has the table that is kept for its
 -- resource.
-abbrev pub IsPlainFrom : Converter → ComponentDefinedType → InterfaceType → Type 0
+abbrev pub IsPlainFrom : Builder → ComponentDefinedType → InterfaceType → Type 0
 IsPlainFrom c (ty.Primitive word.ErrorContext) (plain.ErrorContext i) = (n : Id RuntimeComponentInstances) × (c.resources.instance ≡ Some n) × (slice_get (tables_of c).error_context_tables i.number ≡ Some (record { instance = n }))
 IsPlainFrom c (ty.Primitive p) q = interface_of p ≡ Some q
 IsPlainFrom c (ty.Own r) (plain.Own i) = kept_table c.resources r ≡ Some i
@@ -89,20 +90,20 @@ IsPlainFrom c (ty.Borrow r) (plain.Borrow i) = kept_table c.resources r ≡ Some
 IsPlainFrom c e q = ⊥
 
 -- A future or a stream has a table of the instance that is set.
-abbrev pub IsKindFrom : Converter → SourceKind → Kind → Type 0
+abbrev pub IsKindFrom : Builder → SourceKind → Kind → Type 0
 IsKindFrom c (of_kind k) l = k ≡ l
 IsKindFrom c of_future (k_future table instance) = (n : Id RuntimeComponentInstances) × (c.resources.instance ≡ Some n) × (n.number ≡ instance)
 IsKindFrom c of_stream (k_stream table instance) = (n : Id RuntimeComponentInstances) × (c.resources.instance ≡ Some n) × (n.number ≡ instance)
 IsKindFrom c k l = ⊥
 
--- ---- a type of the source has a shape in a converter, by recursion on the shape
+-- ---- a type of the source has a shape in a builder, by recursion on the shape
 
 abbrev mutual
-  pub HasSourceShape : SourceTables → Converter → ComponentValType → Shape → Type 0
+  pub HasSourceShape : SourceTables → Builder → ComponentValType → Shape → Type 0
   HasSourceShape s c v (s_plain p) = (e : ComponentDefinedType) × (defined_of s v ≡ Some e) × IsPlainFrom c e p
   HasSourceShape s c v (s_node k ms) = (e : ComponentDefinedType) × (n : SourceNode) × (defined_of s v ≡ Some e) × (source_node e ≡ Some n) × IsKindFrom c n.kind k × HaveSourceShapes s c n.members ms
 
-  pub HaveSourceShapes : SourceTables → Converter → List (List ℕ × Option ComponentValType) → Members → Type 0
+  pub HaveSourceShapes : SourceTables → Builder → List (List ℕ × Option ComponentValType) → Members → Type 0
   HaveSourceShapes s c [] no_members = Unit {0}
   HaveSourceShapes s c (x ∷ xs) no_members = ⊥
   HaveSourceShapes s c [] (bare n ms) = ⊥

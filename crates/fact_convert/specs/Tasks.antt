@@ -20,9 +20,9 @@ use Rattle.fact_source.specs.declared.modules.SourceEntityType.TheVariants as so
 use Rattle.fact_source.specs.declared.modules.SourceModule.{SourceModule}
 use Rattle.fact_source.specs.SourceTables.{SourceTables, instance_at, component_at}
 use Rattle.fact_source.specs.Live.{reach_of}
-use Rattle.fact_resources.specs.declared.error.BuildError.{BuildError}
-use Rattle.fact_resources.specs.declared.error.BuildError.TheVariants.{UnsupportedTypeExport, ValuesNotSupported, CustomDescriptors}
-use Rattle.fact_resources.specs.Walk.{resources_of}
+use Rattle.fact_builder.specs.declared.error.BuildError.{BuildError}
+use Rattle.fact_builder.specs.declared.error.BuildError.TheVariants.{UnsupportedTypeExport, ValuesNotSupported, CustomDescriptors}
+use Rattle.fact_builder.specs.Walk.{resources_of}
 use Rattle.fact_convert.specs.SourceShapes.{defined_of}
 
 -- One task: to register a resource where it has no registration; to take a resource's table; to look for the table of error

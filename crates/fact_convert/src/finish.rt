@@ -2,41 +2,25 @@
 
 ghost use Rattle.std.specs.Prelude.{◌≡◌, ◌<◌, IfOk, All, length, map};
 ghost use Rattle.std.specs.List.{AllZip};
-ghost use Rattle.fact_convert.specs.Finished.{type_of_item as type_of, IsLinkedComponent, IsExternOf, Finishes, FinishesWith};
+ghost use Rattle.fact_convert.specs.Finished.{type_of_export as type_of, IsLiveComponent, IsExternOf, Finishes, FinishesWith};
 ghost use Rattle.fact_convert.specs.Merging.{merged};
 
 use crate::component::{Component, Export};
-use crate::converter::ConvertingBuilder;
 use crate::names::put;
-use fact_builder::ComponentTypesBuilder;
+use fact_builder::{BuildError, ComponentTypesBuilder};
 use fact_entity::OutOfMemory;
-use fact_resources::BuildError;
 use fact_types::{ComponentExtern, ComponentTypes, TypeComponent, TypeComponentIndex, TypeDef};
 use fact_wasm::Text;
 use indexmap::IndexMap;
 use std::alloc::Global;
 
-impl ConvertingBuilder {
-    /// All tables, with the core function types and, behind the last component, that of the imports and exports of this one.
-    pub fn finish(
-        self,
-        component: &Component,
-    ) -> Result<(ComponentTypes, TypeComponentIndex), BuildError>
-        requires { IsLinkedComponent self.builder.tables component.now }
-        ensures { Finishes self.builder component.now result }
-    {
-        let (alloc, builder) = self.into_builder();
-        finish_with(alloc, builder, component)
-    }
-}
-
 // The tables of a builder, with a component behind the last one. The builder ends on each answer.
-fn finish_with(
+pub(crate) fn finish_with(
     alloc: Global,
     mut builder: ComponentTypesBuilder,
     component: &Component,
 ) -> Result<(ComponentTypes, TypeComponentIndex), BuildError>
-    requires { IsLinkedComponent builder.tables component.now }
+    requires { IsLiveComponent builder.tables component.now }
     ensures { Finishes builder component.now result }
 {
     let index = push_whole(alloc, &mut builder, component);
@@ -56,7 +40,7 @@ fn push_whole(
     builder: &mut ComponentTypesBuilder,
     component: &Component,
 ) -> Result<TypeComponentIndex, BuildError>
-    requires { IsLinkedComponent builder.old.tables component.now }
+    requires { IsLiveComponent builder.old.tables component.now }
     ensures { FinishesWith builder.old component.now builder.new result }
 {
     let imports = import_types_of(alloc, component)?;

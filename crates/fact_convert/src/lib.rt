@@ -1,8 +1,9 @@
-//! What conversions make of the types of a source, and what the end of a builder makes of a component.
+//! What conversions make of the types of a source, and what the end of a builder makes of a component: calls of
+//! `ComponentTypesBuilder`, by the trait [`Conversions`].
 #![tactic(auto)]
 
 mod component;
-mod converter;
+mod conversions;
 mod finish;
 mod funcs;
 mod handles;
@@ -14,5 +15,5 @@ mod registers;
 mod values;
 
 pub use component::{Component, Export};
-pub use converter::ConvertingBuilder;
-pub use fact_resources::{BuildError, Registration, ResourcesBuilder};
+pub use conversions::Conversions;
+pub use fact_builder::{BuildError, Registration, ResourcesBuilder};

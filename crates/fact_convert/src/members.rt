@@ -8,152 +8,156 @@ ghost use Rattle.fact_source.specs.declared.defined.ComponentValType.{ComponentV
 ghost use Rattle.fact_source.specs.SourceTables.{SourceTables};
 ghost use Rattle.fact_types.specs.Tables.{IsLive, IsLiveMember};
 ghost use Rattle.fact_convert.specs.Converted.{IsTypeFrom};
-ghost use Rattle.fact_convert.specs.Converters.{tables_of};
+ghost use Rattle.fact_convert.specs.BuilderTables.{tables_of};
 ghost use Rattle.fact_convert.specs.Merging.{merged};
 ghost use Rattle.fact_convert.specs.Performing.{IsMemberFrom};
-ghost use Rattle.fact_convert.specs.Steps.{Comes, IsMadeFrom, answer_of, fields_with, cases_with, taken_payload, left_behind};
+ghost use Rattle.fact_convert.specs.Progress.{Comes, IsMadeFrom, answer_of, fields_with, cases_with, taken_payload, left_behind};
 ghost use Rattle.fact_convert.specs.Tasks.{own_tasks, member_types as member_types_of};
 
-use crate::converter::ConvertingBuilder;
-use crate::names::put;
-use fact_entity::{OutOfMemory, PushError};
-use fact_making::{
-    make_fixed_length_list, make_list, make_map, make_option, make_record, make_result, make_tuple,
-    make_variant,
+use crate::handles::{type_of_borrow, type_of_futures, type_of_own, type_of_streams};
+use crate::names::{put, type_of_enum, type_of_flags};
+use crate::values::type_of_primitive;
+use fact_builder::{
+    BuildError, ComponentTypesBuilder, make_fixed_length_list, make_list, make_map, make_option,
+    make_record, make_result, make_tuple, make_variant,
 };
-use fact_resources::BuildError;
+use fact_entity::{OutOfMemory, PushError};
 use fact_source::{ComponentDefinedType, ComponentValType};
 use fact_types::{InterfaceType, RecordField};
 use fact_wasm::{Seq, Text};
 use indexmap::IndexMap;
 use std::alloc::Global;
 
-impl ConvertingBuilder {
-    // Makes the type of an entry whose members became these, in order.
-    pub(crate) fn type_of_entry(
-        &mut self,
-        entry: &ComponentDefinedType,
-        members: &[InterfaceType],
-    ) -> Result<InterfaceType, BuildError>
-        requires live { All (IsLive (tables_of self.old)) members.now }
-        requires many { length members.now ≡ length (member_types_of entry.now) }
-        ensures { (s : SourceTables) → AllZip (IsTypeFrom s self.old) (member_types_of entry.now) members.now → Comes s self.old (own_tasks entry.now) (λ c t. IsMadeFrom s c entry.now t) self.new result }
-    {
-        match entry {
-            ComponentDefinedType::Primitive(ty) => self.type_of_primitive(*ty),
-            ComponentDefinedType::Record(fields) => self.type_of_record(fields, members),
-            ComponentDefinedType::Variant(cases) => self.type_of_variant(cases, members),
-            ComponentDefinedType::List(_) => self.type_of_list(member_at(members, 0)),
-            ComponentDefinedType::Map(..) => {
-                let key = member_at(members, 0);
-                let value = member_at(members, 1);
-                self.type_of_map(key, value)
-            }
-            ComponentDefinedType::Tuple(_) => self.type_of_tuple(members),
-            ComponentDefinedType::Flags(names) => self.type_of_flags(names),
-            ComponentDefinedType::Enum(names) => self.type_of_enum(names),
-            ComponentDefinedType::Option(_) => self.type_of_option(member_at(members, 0)),
-            ComponentDefinedType::Result { ok, err } => {
-                let (ok, err) = both_payloads(*ok, *err, members);
-                self.type_of_result(ok, err)
-            }
-            ComponentDefinedType::Own(id) => self.type_of_own(*id),
-            ComponentDefinedType::Borrow(id) => self.type_of_borrow(*id),
-            ComponentDefinedType::Future(_) => self.type_of_futures(first_payload(members)),
-            ComponentDefinedType::Stream(_) => self.type_of_streams(first_payload(members)),
-            ComponentDefinedType::FixedLengthList(_, size) => {
-                self.type_of_fixed_length_list(member_at(members, 0), *size)
-            }
+// Makes the type of an entry whose members became these, in order.
+pub(crate) fn type_of_entry(
+    builder: &mut ComponentTypesBuilder,
+    entry: &ComponentDefinedType,
+    members: &[InterfaceType],
+) -> Result<InterfaceType, BuildError>
+    requires live { All (IsLive (tables_of builder.old)) members.now }
+    requires many { length members.now ≡ length (member_types_of entry.now) }
+    ensures { (s : SourceTables) → AllZip (IsTypeFrom s builder.old) (member_types_of entry.now) members.now → Comes s builder.old (own_tasks entry.now) (λ c t. IsMadeFrom s c entry.now t) builder.new result }
+{
+    match entry {
+        ComponentDefinedType::Primitive(ty) => type_of_primitive(builder, *ty),
+        ComponentDefinedType::Record(fields) => type_of_record(builder, fields, members),
+        ComponentDefinedType::Variant(cases) => type_of_variant(builder, cases, members),
+        ComponentDefinedType::List(_) => type_of_list(builder, member_at(members, 0)),
+        ComponentDefinedType::Map(..) => {
+            let key = member_at(members, 0);
+            let value = member_at(members, 1);
+            type_of_map(builder, key, value)
+        }
+        ComponentDefinedType::Tuple(_) => type_of_tuple(builder, members),
+        ComponentDefinedType::Flags(names) => type_of_flags(builder, names),
+        ComponentDefinedType::Enum(names) => type_of_enum(builder, names),
+        ComponentDefinedType::Option(_) => type_of_option(builder, member_at(members, 0)),
+        ComponentDefinedType::Result { ok, err } => {
+            let (ok, err) = both_payloads(*ok, *err, members);
+            type_of_result(builder, ok, err)
+        }
+        ComponentDefinedType::Own(id) => type_of_own(builder, *id),
+        ComponentDefinedType::Borrow(id) => type_of_borrow(builder, *id),
+        ComponentDefinedType::Future(_) => type_of_futures(builder, first_payload(members)),
+        ComponentDefinedType::Stream(_) => type_of_streams(builder, first_payload(members)),
+        ComponentDefinedType::FixedLengthList(_, size) => {
+            type_of_fixed_length_list(builder, member_at(members, 0), *size)
         }
     }
+}
 
-    fn type_of_record(
-        &mut self,
-        fields: &Seq<(Text, ComponentValType)>,
-        members: &[InterfaceType],
-    ) -> Result<InterfaceType, BuildError>
-        requires live { All (IsLive (tables_of self.old)) members.now }
-        requires many { length members.now ≡ length (member_types_of (defined.Record fields.now)) }
-        ensures { (s : SourceTables) → AllZip (IsTypeFrom s self.old) (member_types_of (defined.Record fields.now)) members.now → Comes s self.old (own_tasks (defined.Record fields.now)) (λ c t. IsMadeFrom s c (defined.Record fields.now) t) self.new result }
-    {
-        let made = fields_of(self.alloc, fields.as_slice(), members)?;
-        answer(make_record(self.alloc, &mut self.builder, made))
-    }
+fn type_of_record(
+    builder: &mut ComponentTypesBuilder,
+    fields: &Seq<(Text, ComponentValType)>,
+    members: &[InterfaceType],
+) -> Result<InterfaceType, BuildError>
+    requires live { All (IsLive (tables_of builder.old)) members.now }
+    requires many { length members.now ≡ length (member_types_of (defined.Record fields.now)) }
+    ensures { (s : SourceTables) → AllZip (IsTypeFrom s builder.old) (member_types_of (defined.Record fields.now)) members.now → Comes s builder.old (own_tasks (defined.Record fields.now)) (λ c t. IsMadeFrom s c (defined.Record fields.now) t) builder.new result }
+{
+    let record_fields = fields_of(builder.allocator(), fields.as_slice(), members)?;
+    answer(make_record(builder.allocator(), builder, record_fields))
+}
 
-    fn type_of_variant(
-        &mut self,
-        cases: &Seq<(Text, Option<ComponentValType>)>,
-        members: &[InterfaceType],
-    ) -> Result<InterfaceType, BuildError>
-        requires live { All (IsLive (tables_of self.old)) members.now }
-        requires many { length members.now ≡ length (member_types_of (defined.Variant cases.now)) }
-        ensures { (s : SourceTables) → AllZip (IsTypeFrom s self.old) (member_types_of (defined.Variant cases.now)) members.now → Comes s self.old (own_tasks (defined.Variant cases.now)) (λ c t. IsMadeFrom s c (defined.Variant cases.now) t) self.new result }
-    {
-        let made = cases_of(self.alloc, cases.as_slice(), members)?;
-        answer(make_variant(self.alloc, &mut self.builder, made))
-    }
+fn type_of_variant(
+    builder: &mut ComponentTypesBuilder,
+    cases: &Seq<(Text, Option<ComponentValType>)>,
+    members: &[InterfaceType],
+) -> Result<InterfaceType, BuildError>
+    requires live { All (IsLive (tables_of builder.old)) members.now }
+    requires many { length members.now ≡ length (member_types_of (defined.Variant cases.now)) }
+    ensures { (s : SourceTables) → AllZip (IsTypeFrom s builder.old) (member_types_of (defined.Variant cases.now)) members.now → Comes s builder.old (own_tasks (defined.Variant cases.now)) (λ c t. IsMadeFrom s c (defined.Variant cases.now) t) builder.new result }
+{
+    let variant_cases = cases_of(builder.allocator(), cases.as_slice(), members)?;
+    answer(make_variant(builder.allocator(), builder, variant_cases))
+}
 
-    // The list of a type that was converted before, and so on.
-    fn type_of_list(&mut self, element: InterfaceType) -> Result<InterfaceType, BuildError>
-        requires { IsLive (tables_of self.old) element }
-        ensures { (s : SourceTables) (v : ComponentValType) → IsTypeFrom s self.old v element → Comes s self.old (own_tasks (defined.List v)) (λ c t. IsMadeFrom s c (defined.List v) t) self.new result }
-    {
-        answer(make_list(&mut self.builder, element))
-    }
+// The list of a type that was converted before, and so on.
+fn type_of_list(
+    builder: &mut ComponentTypesBuilder,
+    element: InterfaceType,
+) -> Result<InterfaceType, BuildError>
+    requires { IsLive (tables_of builder.old) element }
+    ensures { (s : SourceTables) (v : ComponentValType) → IsTypeFrom s builder.old v element → Comes s builder.old (own_tasks (defined.List v)) (λ c t. IsMadeFrom s c (defined.List v) t) builder.new result }
+{
+    answer(make_list(builder, element))
+}
 
-    fn type_of_option(&mut self, payload: InterfaceType) -> Result<InterfaceType, BuildError>
-        requires { IsLive (tables_of self.old) payload }
-        ensures { (s : SourceTables) (v : ComponentValType) → IsTypeFrom s self.old v payload → Comes s self.old (own_tasks (defined.Option v)) (λ c t. IsMadeFrom s c (defined.Option v) t) self.new result }
-    {
-        answer(make_option(&mut self.builder, payload))
-    }
+fn type_of_option(
+    builder: &mut ComponentTypesBuilder,
+    payload: InterfaceType,
+) -> Result<InterfaceType, BuildError>
+    requires { IsLive (tables_of builder.old) payload }
+    ensures { (s : SourceTables) (v : ComponentValType) → IsTypeFrom s builder.old v payload → Comes s builder.old (own_tasks (defined.Option v)) (λ c t. IsMadeFrom s c (defined.Option v) t) builder.new result }
+{
+    answer(make_option(builder, payload))
+}
 
-    fn type_of_fixed_length_list(
-        &mut self,
-        element: InterfaceType,
-        size: u32,
-    ) -> Result<InterfaceType, BuildError>
-        requires { IsLive (tables_of self.old) element }
-        ensures { (s : SourceTables) (v : ComponentValType) → IsTypeFrom s self.old v element → Comes s self.old (own_tasks (defined.FixedLengthList v size)) (λ c t. IsMadeFrom s c (defined.FixedLengthList v size) t) self.new result }
-    {
-        answer(make_fixed_length_list(&mut self.builder, element, size))
-    }
+fn type_of_fixed_length_list(
+    builder: &mut ComponentTypesBuilder,
+    element: InterfaceType,
+    size: u32,
+) -> Result<InterfaceType, BuildError>
+    requires { IsLive (tables_of builder.old) element }
+    ensures { (s : SourceTables) (v : ComponentValType) → IsTypeFrom s builder.old v element → Comes s builder.old (own_tasks (defined.FixedLengthList v size)) (λ c t. IsMadeFrom s c (defined.FixedLengthList v size) t) builder.new result }
+{
+    answer(make_fixed_length_list(builder, element, size))
+}
 
-    fn type_of_map(
-        &mut self,
-        key: InterfaceType,
-        value: InterfaceType,
-    ) -> Result<InterfaceType, BuildError>
-        requires key { IsLive (tables_of self.old) key }
-        requires value { IsLive (tables_of self.old) value }
-        ensures { (s : SourceTables) (k v : ComponentValType) → IsTypeFrom s self.old k key → IsTypeFrom s self.old v value → Comes s self.old (own_tasks (defined.Map k v)) (λ c t. IsMadeFrom s c (defined.Map k v) t) self.new result }
-    {
-        answer(make_map(&mut self.builder, key, value))
-    }
+fn type_of_map(
+    builder: &mut ComponentTypesBuilder,
+    key: InterfaceType,
+    value: InterfaceType,
+) -> Result<InterfaceType, BuildError>
+    requires key { IsLive (tables_of builder.old) key }
+    requires value { IsLive (tables_of builder.old) value }
+    ensures { (s : SourceTables) (k v : ComponentValType) → IsTypeFrom s builder.old k key → IsTypeFrom s builder.old v value → Comes s builder.old (own_tasks (defined.Map k v)) (λ c t. IsMadeFrom s c (defined.Map k v) t) builder.new result }
+{
+    answer(make_map(builder, key, value))
+}
 
-    fn type_of_result(
-        &mut self,
-        ok: Option<InterfaceType>,
-        err: Option<InterfaceType>,
-    ) -> Result<InterfaceType, BuildError>
-        requires ok { IsLiveMember (tables_of self.old) ok }
-        requires err { IsLiveMember (tables_of self.old) err }
-        ensures { (s : SourceTables) (p q : Option ComponentValType) → IsMemberFrom s self.old p ok → IsMemberFrom s self.old q err → Comes s self.old (own_tasks (defined.Result p q)) (λ c t. IsMadeFrom s c (defined.Result p q) t) self.new result }
-    {
-        answer(make_result(&mut self.builder, ok, err))
-    }
+fn type_of_result(
+    builder: &mut ComponentTypesBuilder,
+    ok: Option<InterfaceType>,
+    err: Option<InterfaceType>,
+) -> Result<InterfaceType, BuildError>
+    requires ok { IsLiveMember (tables_of builder.old) ok }
+    requires err { IsLiveMember (tables_of builder.old) err }
+    ensures { (s : SourceTables) (p q : Option ComponentValType) → IsMemberFrom s builder.old p ok → IsMemberFrom s builder.old q err → Comes s builder.old (own_tasks (defined.Result p q)) (λ c t. IsMadeFrom s c (defined.Result p q) t) builder.new result }
+{
+    answer(make_result(builder, ok, err))
+}
 
-    // The tuple of types that were converted before.
-    pub(crate) fn type_of_tuple(
-        &mut self,
-        members: &[InterfaceType],
-    ) -> Result<InterfaceType, BuildError>
-        requires { All (IsLive (tables_of self.old)) members.now }
-        ensures { (s : SourceTables) (vs : List ComponentValType) → AllZip (IsTypeFrom s self.old) vs members.now → Comes s self.old (own_tasks (defined.Tuple vs)) (λ c t. IsMadeFrom s c (defined.Tuple vs) t) self.new result }
-    {
-        let types = members.to_vec(self.alloc)?;
-        answer(make_tuple(self.alloc, &mut self.builder, Seq::from_vec(types)))
-    }
+// The tuple of types that were converted before.
+pub(crate) fn type_of_tuple(
+    builder: &mut ComponentTypesBuilder,
+    members: &[InterfaceType],
+) -> Result<InterfaceType, BuildError>
+    requires { All (IsLive (tables_of builder.old)) members.now }
+    ensures { (s : SourceTables) (vs : List ComponentValType) → AllZip (IsTypeFrom s builder.old) vs members.now → Comes s builder.old (own_tasks (defined.Tuple vs)) (λ c t. IsMadeFrom s c (defined.Tuple vs) t) builder.new result }
+{
+    let types = members.to_vec(builder.allocator())?;
+    answer(make_tuple(builder.allocator(), builder, Seq::from_vec(types)))
 }
 
 // The type at a place.
@@ -286,13 +290,13 @@ fn fields_of(
     requires { length types.now ≡ length fields.now }
     ensures { IfOk result (λ made. made ≡ fields_with fields.now types.now) }
 {
-    let mut made = Seq::new(alloc);
+    let mut record_fields = Seq::new(alloc);
     for i in 0..fields.len() {
         let ty = member_at(types, i);
         let field = field_of(&fields[i], ty)?;
-        made.push(field)?;
+        record_fields.push(field)?;
     }
-    Ok(made)
+    Ok(record_fields)
 }
 
 // The field of a name, of this type.
@@ -311,14 +315,14 @@ fn cases_of(
 ) -> Result<IndexMap<Text, Option<InterfaceType>>, OutOfMemory>
     ensures { IfOk result (λ made. made.entries ≡ merged (cases_with cases.now types.now)) }
 {
-    let mut made = IndexMap::new(alloc);
+    let mut variant_cases = IndexMap::new(alloc);
     let mut rest = types;
     for (name, payload) in cases {
         let taken = take_payload(payload, rest);
         rest = taken.1;
-        put(&mut made, name, taken.0)?;
+        put(&mut variant_cases, name, taken.0)?;
     }
-    Ok(made)
+    Ok(variant_cases)
 }
 
 // The first type where there is a payload, and the types that are left.

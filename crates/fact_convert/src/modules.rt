@@ -9,14 +9,12 @@ ghost use Rattle.fact_types.specs.declared.interface.TypeDef.TheVariants as def;
 ghost use Rattle.fact_convert.specs.Appended.{IsDefMade};
 ghost use Rattle.fact_convert.specs.Converted.{IsEntityFrom};
 ghost use Rattle.fact_convert.specs.Merging.{same_pair};
-ghost use Rattle.fact_convert.specs.Steps.{Comes, AreCoreImportsFrom, AreCoreExportsFrom, IsCoreFrom};
+ghost use Rattle.fact_convert.specs.Progress.{Comes, AreCoreImportsFrom, AreCoreExportsFrom, IsCoreFrom};
 ghost use Rattle.fact_convert.specs.Tasks.{core_tasks, makes_core, tasks_of};
 
-use crate::converter::ConvertingBuilder;
 use crate::names::put;
-use fact_builder::ComponentTypesBuilder;
+use fact_builder::{BuildError, ComponentTypesBuilder};
 use fact_entity::{OutOfMemory, PushError};
-use fact_resources::BuildError;
 use fact_source::{ComponentCoreModuleTypeId, SourceEntityType, SourceModule, SourceTypes};
 use fact_types::{
     EngineOrModuleTypeIndex, EntityType, ModuleInternedTypeIndex, TypeModule, TypeModuleIndex,
@@ -24,108 +22,109 @@ use fact_types::{
 use fact_wasm::{FuncType, Text, ValType};
 use indexmap::IndexMap;
 
-impl ConvertingBuilder {
-    // Converts a type of core modules: its imports, then its exports. A repeated name, or pair of names, takes the last type.
-    pub(crate) fn module_type(
-        &mut self,
-        types: &SourceTypes,
-        id: ComponentCoreModuleTypeId,
-    ) -> Result<TypeModuleIndex, BuildError>
-        requires { id.number < length types.now.modules }
-        ensures { Comes types.now self.old (tasks_of types.now (entity.Module id)) (λ c i. IsDefMade types.now c (entity.Module id) (def.Module i)) self.new result }
-    {
-        let Some(module) = types.get_module(id) else {
-            unreachable!();
-        };
-        let imports = self.core_imports(module)?;
-        let exports = self.core_exports(module)?;
-        let index = self.builder.push_module(TypeModule { imports, exports })?;
-        Ok(index)
-    }
+// Converts a type of core modules: its imports, then its exports. A repeated name, or pair of names, takes the last type.
+pub(crate) fn module_type(
+    builder: &mut ComponentTypesBuilder,
+    types: &SourceTypes,
+    id: ComponentCoreModuleTypeId,
+) -> Result<TypeModuleIndex, BuildError>
+    requires { id.number < length types.now.modules }
+    ensures { Comes types.now builder.old (tasks_of types.now (entity.Module id)) (λ c i. IsDefMade types.now c (entity.Module id) (def.Module i)) builder.new result }
+{
+    let Some(module) = types.get_module(id) else {
+        unreachable!();
+    };
+    let imports = core_imports(builder, module)?;
+    let exports = core_exports(builder, module)?;
+    let index = builder.push_module(TypeModule { imports, exports })?;
+    Ok(index)
+}
 
-    fn core_imports(
-        &mut self,
-        entry: &SourceModule,
-    ) -> Result<IndexMap<(Text, Text), EntityType>, BuildError>
-        ensures { (s : SourceTables) → Comes s self.old (flat_map (λ x. core_tasks x.2) entry.now.imports) (λ c made. AreCoreImportsFrom c entry.now.imports made.entries) self.new result }
-    {
-        let mut imports = IndexMap::new(self.alloc);
-        for (from, name, ty) in entry.imports.as_slice() {
-            let ty = self.core_item(ty)?;
-            put_pair(&mut imports, from, name, ty)?;
+fn core_imports(
+    builder: &mut ComponentTypesBuilder,
+    entry: &SourceModule,
+) -> Result<IndexMap<(Text, Text), EntityType>, BuildError>
+    ensures { (s : SourceTables) → Comes s builder.old (flat_map (λ x. core_tasks x.2) entry.now.imports) (λ c made. AreCoreImportsFrom c entry.now.imports made.entries) builder.new result }
+{
+    let mut imports = IndexMap::new(builder.allocator());
+    for (from, name, ty) in entry.imports.as_slice() {
+        let ty = core_item(builder, ty)?;
+        put_pair(&mut imports, from, name, ty)?;
+    }
+    Ok(imports)
+}
+
+fn core_exports(
+    builder: &mut ComponentTypesBuilder,
+    entry: &SourceModule,
+) -> Result<IndexMap<Text, EntityType>, BuildError>
+    ensures { (s : SourceTables) → Comes s builder.old (flat_map (λ x. core_tasks x.1) entry.now.exports) (λ c made. AreCoreExportsFrom c entry.now.exports made.entries) builder.new result }
+{
+    let mut exports = IndexMap::new(builder.allocator());
+    for (name, ty) in entry.exports.as_slice() {
+        let ty = core_item(builder, ty)?;
+        put(&mut exports, name, ty)?;
+    }
+    Ok(exports)
+}
+
+// Converts the type of an import or export of a core module.
+fn core_item(
+    builder: &mut ComponentTypesBuilder,
+    ty: &SourceEntityType,
+) -> Result<EntityType, BuildError>
+    ensures { (s : SourceTables) → Comes s builder.old (core_tasks ty.now) (λ c e. IsEntityFrom c ty.now e) builder.new result }
+{
+    match ty {
+        SourceEntityType::Func { params, results } => {
+            let index = core_func(builder, params.as_slice(), results.as_slice())?;
+            Ok(EntityType::Function(index))
         }
-        Ok(imports)
-    }
-
-    fn core_exports(
-        &mut self,
-        entry: &SourceModule,
-    ) -> Result<IndexMap<Text, EntityType>, BuildError>
-        ensures { (s : SourceTables) → Comes s self.old (flat_map (λ x. core_tasks x.1) entry.now.exports) (λ c made. AreCoreExportsFrom c entry.now.exports made.entries) self.new result }
-    {
-        let mut exports = IndexMap::new(self.alloc);
-        for (name, ty) in entry.exports.as_slice() {
-            let ty = self.core_item(ty)?;
-            put(&mut exports, name, ty)?;
+        SourceEntityType::Table {
+            minimum,
+            maximum,
+            table64,
+        } => Ok(EntityType::Table {
+            minimum: *minimum,
+            maximum: *maximum,
+            table64: *table64,
+        }),
+        SourceEntityType::Memory {
+            minimum,
+            maximum,
+            shared,
+            memory64,
+            page_size_log2,
+        } => Ok(EntityType::Memory {
+            minimum: *minimum,
+            maximum: *maximum,
+            shared: *shared,
+            memory64: *memory64,
+            page_size_log2: *page_size_log2,
+        }),
+        SourceEntityType::Global { ty, mutable } => Ok(EntityType::Global {
+            ty: *ty,
+            mutable: *mutable,
+        }),
+        SourceEntityType::Tag { params, results } => {
+            let signature = core_func(builder, params.as_slice(), results.as_slice())?;
+            Ok(EntityType::Tag { signature })
         }
-        Ok(exports)
+        SourceEntityType::FuncExact => Err(BuildError::CustomDescriptors),
     }
+}
 
-    // Converts the type of an import or export of a core module.
-    fn core_item(&mut self, ty: &SourceEntityType) -> Result<EntityType, BuildError>
-        ensures { (s : SourceTables) → Comes s self.old (core_tasks ty.now) (λ c e. IsEntityFrom c ty.now e) self.new result }
-    {
-        match ty {
-            SourceEntityType::Func { params, results } => {
-                let index = self.core_func(params.as_slice(), results.as_slice())?;
-                Ok(EntityType::Function(index))
-            }
-            SourceEntityType::Table {
-                minimum,
-                maximum,
-                table64,
-            } => Ok(EntityType::Table {
-                minimum: *minimum,
-                maximum: *maximum,
-                table64: *table64,
-            }),
-            SourceEntityType::Memory {
-                minimum,
-                maximum,
-                shared,
-                memory64,
-                page_size_log2,
-            } => Ok(EntityType::Memory {
-                minimum: *minimum,
-                maximum: *maximum,
-                shared: *shared,
-                memory64: *memory64,
-                page_size_log2: *page_size_log2,
-            }),
-            SourceEntityType::Global { ty, mutable } => Ok(EntityType::Global {
-                ty: *ty,
-                mutable: *mutable,
-            }),
-            SourceEntityType::Tag { params, results } => {
-                let signature = self.core_func(params.as_slice(), results.as_slice())?;
-                Ok(EntityType::Tag { signature })
-            }
-            SourceEntityType::FuncExact => Err(BuildError::CustomDescriptors),
-        }
-    }
-
-    // The core function type of these parameters and results.
-    fn core_func(
-        &mut self,
-        params: &[ValType],
-        results: &[ValType],
-    ) -> Result<EngineOrModuleTypeIndex, BuildError>
-        ensures { (s : SourceTables) → Comes s self.old (makes_core params.now results.now ∷ []) (λ c i. IsCoreFrom c params.now results.now i) self.new result }
-    {
-        let ty = FuncType::from_slices(self.alloc, params, results)?;
-        let index = intern_core(&mut self.builder, ty)?;
-        Ok(EngineOrModuleTypeIndex::Module(index))
-    }
+// The core function type of these parameters and results.
+fn core_func(
+    builder: &mut ComponentTypesBuilder,
+    params: &[ValType],
+    results: &[ValType],
+) -> Result<EngineOrModuleTypeIndex, BuildError>
+    ensures { (s : SourceTables) → Comes s builder.old (makes_core params.now results.now ∷ []) (λ c i. IsCoreFrom c params.now results.now i) builder.new result }
+{
+    let ty = FuncType::from_slices(builder.allocator(), params, results)?;
+    let index = intern_core(builder, ty)?;
+    Ok(EngineOrModuleTypeIndex::Module(index))
 }
 
 // Looks for a core function type, and adds it where it is not there. The builder is unchanged after a refusal.

@@ -6,35 +6,37 @@ ghost use Rattle.indexmap.specs.IndexMap.{insert_entry};
 ghost use Rattle.fact_source.specs.declared.defined.ComponentDefinedType.TheVariants as defined;
 ghost use Rattle.fact_source.specs.SourceTables.{SourceTables};
 ghost use Rattle.fact_convert.specs.Merging.{merged_names};
-ghost use Rattle.fact_convert.specs.Steps.{Comes, IsMadeFrom};
+ghost use Rattle.fact_convert.specs.Progress.{Comes, IsMadeFrom};
 ghost use Rattle.fact_convert.specs.Tasks.{own_tasks};
 
-use crate::converter::ConvertingBuilder;
 use crate::members::answer;
+use fact_builder::{BuildError, ComponentTypesBuilder, make_enum, make_flags};
 use fact_entity::OutOfMemory;
-use fact_making::{make_enum, make_flags};
-use fact_resources::BuildError;
 use fact_types::InterfaceType;
 use fact_wasm::{Seq, Text};
 use indexmap::{IndexMap, IndexSet};
 use std::alloc::Global;
 
-impl ConvertingBuilder {
-    // The flags of these names.
-    pub(crate) fn type_of_flags(&mut self, names: &Seq<Text>) -> Result<InterfaceType, BuildError>
-        ensures { (s : SourceTables) → Comes s self.old (own_tasks (defined.Flags names.now)) (λ c t. IsMadeFrom s c (defined.Flags names.now) t) self.new result }
-    {
-        let set = set_of(self.alloc, names.as_slice())?;
-        answer(make_flags(&mut self.builder, set))
-    }
+// The flags of these names.
+pub(crate) fn type_of_flags(
+    builder: &mut ComponentTypesBuilder,
+    names: &Seq<Text>,
+) -> Result<InterfaceType, BuildError>
+    ensures { (s : SourceTables) → Comes s builder.old (own_tasks (defined.Flags names.now)) (λ c t. IsMadeFrom s c (defined.Flags names.now) t) builder.new result }
+{
+    let set = set_of(builder.allocator(), names.as_slice())?;
+    answer(make_flags(builder, set))
+}
 
-    // The enum of these names.
-    pub(crate) fn type_of_enum(&mut self, names: &Seq<Text>) -> Result<InterfaceType, BuildError>
-        ensures { (s : SourceTables) → Comes s self.old (own_tasks (defined.Enum names.now)) (λ c t. IsMadeFrom s c (defined.Enum names.now) t) self.new result }
-    {
-        let set = set_of(self.alloc, names.as_slice())?;
-        answer(make_enum(&mut self.builder, set))
-    }
+// The enum of these names.
+pub(crate) fn type_of_enum(
+    builder: &mut ComponentTypesBuilder,
+    names: &Seq<Text>,
+) -> Result<InterfaceType, BuildError>
+    ensures { (s : SourceTables) → Comes s builder.old (own_tasks (defined.Enum names.now)) (λ c t. IsMadeFrom s c (defined.Enum names.now) t) builder.new result }
+{
+    let set = set_of(builder.allocator(), names.as_slice())?;
+    answer(make_enum(builder, set))
 }
 
 /// The names, each at its first place.

@@ -1,113 +1,92 @@
 //! Types of values: a defined type is converted member by member, in order, and is then made of what they became.
 
-ghost use Rattle.std.specs.Prelude.{◌≡◌, ◌<◌, Some, slice_get, length, flat_map, All, IfOk};
+ghost use Rattle.std.specs.Prelude.{◌≡◌, ◌<◌, Some, slice_get, length, flat_map, All};
 ghost use Rattle.std.specs.List.{AllZip};
-ghost use Rattle.fact_resources.specs.Known.{AreKeptLive};
 ghost use Rattle.fact_source.specs.declared.defined.ComponentValType.TheVariants as val;
 ghost use Rattle.fact_source.specs.SourceTables.{SourceTables};
 ghost use Rattle.fact_source.specs.Live.{IsValueBelow};
-ghost use Rattle.fact_types.specs.Tables.{IsLive};
-ghost use Rattle.fact_convert.specs.Conversion.{ConverterGrows, IsReadyFor, ConvertsDefined};
+ghost use Rattle.fact_convert.specs.Conversion.{IsReadyFor};
 ghost use Rattle.fact_convert.specs.Converted.{IsTypeFrom};
-ghost use Rattle.fact_convert.specs.Converters.{tables_of};
 ghost use Rattle.fact_convert.specs.SourceShapes.{interface_of};
-ghost use Rattle.fact_convert.specs.Steps.{Comes};
+ghost use Rattle.fact_convert.specs.Progress.{Comes};
 ghost use Rattle.fact_convert.specs.Tasks.{value_tasks};
 
-use crate::converter::ConvertingBuilder;
-use crate::members::member_types;
-use fact_resources::BuildError;
+use crate::handles::table_of_error_contexts;
+use crate::members::{member_types, type_of_entry};
+use fact_builder::{BuildError, ComponentTypesBuilder};
 use fact_source::{ComponentDefinedTypeId, ComponentValType, PrimitiveValType, SourceTypes};
 use fact_types::InterfaceType;
 use fact_wasm::Seq;
 
-impl ConvertingBuilder {
-    /// Converts a defined type, and the types that it names.
-    pub fn defined_type(
-        &mut self,
-        types: &SourceTypes,
-        id: ComponentDefinedTypeId,
-    ) -> Result<InterfaceType, BuildError>
-        requires ready { IsReadyFor types.now self.old }
-        requires live { id.number < length types.now.defined }
-        ensures converts { ConvertsDefined types.now self.old id self.new result }
-        ensures live { IfOk result (IsLive (tables_of self.new)) }
-        ensures grows { ConverterGrows self.old self.new }
-        ensures kept_live { AreKeptLive self.new.resources (tables_of self.new) }
-    {
-        self.type_of_defined(types, id)
-    }
+// Converts a defined type: its members one by one, and then the type of what they became.
+#[cycle(values)]
+pub(crate) fn type_of_defined(
+    builder: &mut ComponentTypesBuilder,
+    types: &SourceTypes,
+    id: ComponentDefinedTypeId,
+) -> Result<InterfaceType, BuildError>
+    requires ready { IsReadyFor types.now builder.old }
+    requires live { id.number < length types.now.defined }
+    ensures { Comes types.now builder.old (value_tasks types.now (val.Defined id)) (λ c t. IsTypeFrom types.now c (val.Defined id) t) builder.new result }
+{
+    types.reveal();
+    let Some(entry) = types.get_defined(id) else {
+        unreachable!();
+    };
+    let named = member_types(builder.allocator(), entry)?;
+    let members = types_of_values(builder, types, named.as_slice())?;
+    type_of_entry(builder, entry, members.as_slice())
+}
 
-    // Converts a defined type: its members one by one, and then the type of what they became.
-    #[cycle(values)]
-    pub(crate) fn type_of_defined(
-        &mut self,
-        types: &SourceTypes,
-        id: ComponentDefinedTypeId,
-    ) -> Result<InterfaceType, BuildError>
-        requires ready { IsReadyFor types.now self.old }
-        requires live { id.number < length types.now.defined }
-        ensures { Comes types.now self.old (value_tasks types.now (val.Defined id)) (λ c t. IsTypeFrom types.now c (val.Defined id) t) self.new result }
-    {
-        types.reveal();
-        let Some(entry) = types.get_defined(id) else {
-            unreachable!();
-        };
-        let named = member_types(self.alloc, entry)?;
-        let members = self.types_of_values(types, named.as_slice())?;
-        self.type_of_entry(entry, members.as_slice())
+// Converts types one by one.
+#[cycle(values)]
+pub(crate) fn types_of_values(
+    builder: &mut ComponentTypesBuilder,
+    types: &SourceTypes,
+    tys: &[ComponentValType],
+) -> Result<Seq<InterfaceType>, BuildError>
+    requires ready { IsReadyFor types.now builder.old }
+    requires live { All (IsValueBelow (length types.now.defined)) tys.now }
+    ensures { Comes types.now builder.old (flat_map (value_tasks types.now) tys.now) (λ c ts. AllZip (IsTypeFrom types.now c) tys.now ts) builder.new result }
+{
+    let mut value_types = Seq::new(builder.allocator());
+    for i in 0..tys.len() {
+        let ty = value_at(tys, i);
+        let next = type_of_value(builder, types, ty)?;
+        value_types.push(next)?;
     }
+    Ok(value_types)
+}
 
-    // Converts types one by one.
-    #[cycle(values)]
-    pub(crate) fn types_of_values(
-        &mut self,
-        types: &SourceTypes,
-        tys: &[ComponentValType],
-    ) -> Result<Seq<InterfaceType>, BuildError>
-        requires ready { IsReadyFor types.now self.old }
-        requires live { All (IsValueBelow (length types.now.defined)) tys.now }
-        ensures { Comes types.now self.old (flat_map (value_tasks types.now) tys.now) (λ c ts. AllZip (IsTypeFrom types.now c) tys.now ts) self.new result }
-    {
-        let mut made = Seq::new(self.alloc);
-        for i in 0..tys.len() {
-            let ty = value_at(tys, i);
-            let next = self.type_of_value(types, ty)?;
-            made.push(next)?;
-        }
-        Ok(made)
+// Converts a type of values.
+#[cycle(values)]
+fn type_of_value(
+    builder: &mut ComponentTypesBuilder,
+    types: &SourceTypes,
+    ty: ComponentValType,
+) -> Result<InterfaceType, BuildError>
+    requires ready { IsReadyFor types.now builder.old }
+    requires live { IsValueBelow (length types.now.defined) ty }
+    ensures { Comes types.now builder.old (value_tasks types.now ty) (λ c t. IsTypeFrom types.now c ty t) builder.new result }
+{
+    match ty {
+        ComponentValType::Primitive(ty) => type_of_primitive(builder, ty),
+        ComponentValType::Defined(id) => type_of_defined(builder, types, id),
     }
+}
 
-    // Converts a type of values.
-    #[cycle(values)]
-    fn type_of_value(
-        &mut self,
-        types: &SourceTypes,
-        ty: ComponentValType,
-    ) -> Result<InterfaceType, BuildError>
-        requires ready { IsReadyFor types.now self.old }
-        requires live { IsValueBelow (length types.now.defined) ty }
-        ensures { Comes types.now self.old (value_tasks types.now ty) (λ c t. IsTypeFrom types.now c ty t) self.new result }
-    {
-        match ty {
-            ComponentValType::Primitive(ty) => self.type_of_primitive(ty),
-            ComponentValType::Defined(id) => self.type_of_defined(types, id),
-        }
-    }
-
-    // The type of a primitive one; that of an error context has a table.
-    pub(crate) fn type_of_primitive(
-        &mut self,
-        ty: PrimitiveValType,
-    ) -> Result<InterfaceType, BuildError>
-        ensures { (s : SourceTables) → Comes s self.old (value_tasks s (val.Primitive ty)) (λ c t. IsTypeFrom s c (val.Primitive ty) t) self.new result }
-    {
-        match plain_type(ty) {
-            Some(ty) => Ok(ty),
-            None => {
-                let index = self.table_of_error_contexts()?;
-                Ok(InterfaceType::ErrorContext(index))
-            }
+// The type of a primitive one; that of an error context has a table.
+pub(crate) fn type_of_primitive(
+    builder: &mut ComponentTypesBuilder,
+    ty: PrimitiveValType,
+) -> Result<InterfaceType, BuildError>
+    ensures { (s : SourceTables) → Comes s builder.old (value_tasks s (val.Primitive ty)) (λ c t. IsTypeFrom s c (val.Primitive ty) t) builder.new result }
+{
+    match plain_type(ty) {
+        Some(ty) => Ok(ty),
+        None => {
+            let index = table_of_error_contexts(builder)?;
+            Ok(InterfaceType::ErrorContext(index))
         }
     }
 }

@@ -12,23 +12,23 @@ use Rattle.fact_types.specs.declared.import.Import.TheVariants as import
 use Rattle.fact_types.specs.declared.outside.CoreDef.{CoreDef}
 use Rattle.fact_types.specs.declared.outside.CoreDef.TheVariants as def
 use Rattle.fact_types.specs.declared.outside.MemoryOption.{MemoryOption}
-use Rattle.fact_moves.specs.Adapters.{lift_signature_of}
-use Rattle.fact_moves.specs.Running.{ImportPlaces}
-use Rattle.fact_moves.specs.TypedAnswers.{HasPlaces, HaveCoreTypes}
-use Rattle.fact_pieces.specs.Knows.{KnowsFunction}
-use Rattle.fact_emit.specs.AdapterLinks.{AdapterLinks, IsAdapterLinked, IsLinkedIfAny, IsMemoryLinked, IsSideLinked, SideLinks}
+use Rattle.fact_actions.specs.Adapters.{lift_signature_of}
+use Rattle.fact_actions.specs.Running.{ImportPlaces}
+use Rattle.fact_actions.specs.TypedAnswers.{HasPlaces, HaveCoreTypes}
+use Rattle.fact_code_laws.specs.Knows.{KnowsFunction}
+use Rattle.fact_emit.specs.AdapterImports.{AdapterImports, IsAdapterImported, IsImportedIfAny, IsMemoryImportedIfAny, IsSideImported, SideImports}
 use Rattle.fact_emit.specs.ImportSection.{Callback, Callee, Flags, Mention, PostReturn, Realloc, Role, Storage, adapter_mentions, memory_mention, mention, side_mentions}
 use Rattle.fact_emit.specs.Imports.{Extended, Serves}
-use Rattle.fact_emit.specs.Known.{AreKnown, AreLinked, AreUsedAlike}
+use Rattle.fact_emit.specs.Known.{AreKnown, AreImportedAt, AreUsedAlike}
 use Rattle.fact_emit.specs.KnownAdapters.{KnowsAdapter, KnowsFunctionAt, KnowsMemoryAt, KnowsSide, results_of_import}
-use Rattle.fact_emit.specs.Linked.{type_of_role}
+use Rattle.fact_emit.specs.DefImports.{type_of_role}
 use Rattle.fact_emit.specs.States.{ModuleSoFar}
 use Rattle.fact_emit.proofs.ImportLaws.{extended_on}
 use Rattle.fact_emit.proofs.ImportLists.{there-get}
-use Rattle.fact_emit.proofs.KnownLaws.{extended_links, known_link, known_links, links_on}
-use Rattle.fact_emit.proofs.LinkLaws.{knows_flags, knows_function, knows_memory}
+use Rattle.fact_emit.proofs.KnownLaws.{extended_defs, known_def, known_defs, imports_on}
+use Rattle.fact_emit.proofs.KnownImports.{knows_flags, knows_function, knows_memory}
 
--- ---- the steps are links of the mentions
+-- ---- the steps are imports of the mentions
 
 abbrev pub flags_mention : Side → Mention
 flags_mention s = record { def = def.InstanceFlags (record { table = _; number = s.instance }); role = Flags s.instance }
@@ -39,51 +39,51 @@ realloc_mention s = mention (Realloc (is_wide s.memory)) s.realloc
 abbrev pub callback_mention : Side → List Mention
 callback_mention s = mention Callback s.callback
 
--- mentions are linked, with places that are found
-abbrev pub Links : (old new : ModuleSoFar) → List Mention → Type 0
-Links old new ms = (places : List ℕ) × AreLinked old new ms places
+-- mentions are imported, with places that are found
+abbrev pub AreImportedSomewhere : (old new : ModuleSoFar) → List Mention → Type 0
+AreImportedSomewhere old new ms = (places : List ℕ) × AreImportedAt old new ms places
 
-pub memory_links : (old new : ModuleSoFar) (o : Option MemoryOption) (place : Option ℕ) → IsMemoryLinked old new o place → Links old new (memory_mention o)
-memory_links old new None place l = ([], l.0)
-memory_links old new (Some m) place l = (l.number ∷ [], (new, l.linked, refl))
+pub memory_imports : (old new : ModuleSoFar) (o : Option MemoryOption) (place : Option ℕ) → IsMemoryImportedIfAny old new o place → AreImportedSomewhere old new (memory_mention o)
+memory_imports old new None place l = ([], l.0)
+memory_imports old new (Some m) place l = (l.number ∷ [], (new, l.imported, refl))
 
-any_links : (old new : ModuleSoFar) (role : Role) (o : Option CoreDef) (place : Option ℕ) → IsLinkedIfAny old new role o place → Links old new (mention role o)
-any_links old new role None place l = ([], l.0)
-any_links old new role (Some d) place l = (l.number ∷ [], (new, l.linked, refl))
+imports_if_any : (old new : ModuleSoFar) (role : Role) (o : Option CoreDef) (place : Option ℕ) → IsImportedIfAny old new role o place → AreImportedSomewhere old new (mention role o)
+imports_if_any old new role None place l = ([], l.0)
+imports_if_any old new role (Some d) place l = (l.number ∷ [], (new, l.imported, refl))
 
-joined : (a b c : ModuleSoFar) (xs ys : List Mention) → Links a b xs → Links b c ys → Links a c (xs ++ ys)
-joined a b c xs ys l k = (l.0 ++ k.0, links_on a b c xs ys l.0 k.0 l.1 k.1)
+joined : (a b c : ModuleSoFar) (xs ys : List Mention) → AreImportedSomewhere a b xs → AreImportedSomewhere b c ys → AreImportedSomewhere a c (xs ++ ys)
+joined a b c xs ys l k = (l.0 ++ k.0, imports_on a b c xs ys l.0 k.0 l.1 k.1)
 
-module _ (old new : ModuleSoFar) (s : Side) (at : SideLinks) (l : IsSideLinked old new s at) where
-  behind_realloc : Links l.supplied new (callback_mention s)
-  behind_realloc = any_links l.supplied new Callback s.callback at.callback l.callback
+module _ (old new : ModuleSoFar) (s : Side) (at : SideImports) (l : IsSideImported old new s at) where
+  behind_realloc : AreImportedSomewhere l.supplied new (callback_mention s)
+  behind_realloc = imports_if_any l.supplied new Callback s.callback at.callback l.callback
 
-  pub behind_memory : Links l.stored new (realloc_mention s ++ callback_mention s)
-  behind_memory = joined l.stored l.supplied new (realloc_mention s) (callback_mention s) (any_links l.stored l.supplied (Realloc (is_wide s.memory)) s.realloc at.realloc l.realloc) behind_realloc
+  pub behind_memory : AreImportedSomewhere l.stored new (realloc_mention s ++ callback_mention s)
+  behind_memory = joined l.stored l.supplied new (realloc_mention s) (callback_mention s) (imports_if_any l.stored l.supplied (Realloc (is_wide s.memory)) s.realloc at.realloc l.realloc) behind_realloc
 
-  behind_flags : Links l.flagged new (memory_mention s.memory ++ (realloc_mention s ++ callback_mention s))
-  behind_flags = joined l.flagged l.stored new (memory_mention s.memory) (realloc_mention s ++ callback_mention s) (memory_links l.flagged l.stored s.memory at.memory l.memory) behind_memory
+  behind_flags : AreImportedSomewhere l.flagged new (memory_mention s.memory ++ (realloc_mention s ++ callback_mention s))
+  behind_flags = joined l.flagged l.stored new (memory_mention s.memory) (realloc_mention s ++ callback_mention s) (memory_imports l.flagged l.stored s.memory at.memory l.memory) behind_memory
 
-  pub side_links : Links old new (side_mentions s)
-  side_links = (at.flags ∷ behind_flags.0, (l.flagged, l.flags, behind_flags.1))
+  pub side_imports : AreImportedSomewhere old new (side_mentions s)
+  side_imports = (at.flags ∷ behind_flags.0, (l.flagged, l.flags, behind_flags.1))
 
 -- the mentions behind those of the sides
 abbrev pub ends : LinkedAdapter → List Mention
 ends a = record { def = a.callee; role = Callee a.name a.lift.core_type } ∷ mention (PostReturn a.name a.lift.core_type.results) a.lift.post_return
 
-module _ (old new : ModuleSoFar) (a : LinkedAdapter) (at : AdapterLinks) (l : IsAdapterLinked old new a at) where
-  behind_callee : Links l.called new (mention (PostReturn a.name a.lift.core_type.results) a.lift.post_return)
-  behind_callee = any_links l.called new (PostReturn a.name a.lift.core_type.results) a.lift.post_return at.post_return l.post_return
+module _ (old new : ModuleSoFar) (a : LinkedAdapter) (at : AdapterImports) (l : IsAdapterImported old new a at) where
+  behind_callee : AreImportedSomewhere l.called new (mention (PostReturn a.name a.lift.core_type.results) a.lift.post_return)
+  behind_callee = imports_if_any l.called new (PostReturn a.name a.lift.core_type.results) a.lift.post_return at.post_return l.post_return
 
-  pub behind_lower : Links l.lowered new (ends a)
+  pub behind_lower : AreImportedSomewhere l.lowered new (ends a)
   behind_lower = (at.callee ∷ behind_callee.0, (l.called, l.callee, behind_callee.1))
 
-  pub behind_lift : Links l.lifted new (side_mentions a.lower ++ ends a)
-  behind_lift = joined l.lifted l.lowered new (side_mentions a.lower) (ends a) (side_links l.lifted l.lowered a.lower at.lower l.lower) behind_lower
+  pub behind_lift : AreImportedSomewhere l.lifted new (side_mentions a.lower ++ ends a)
+  behind_lift = joined l.lifted l.lowered new (side_mentions a.lower) (ends a) (side_imports l.lifted l.lowered a.lower at.lower l.lower) behind_lower
 
-  -- all mentions of an adapter are linked
-  pub adapter_links : (places : List ℕ) × AreLinked old new (adapter_mentions a) places
-  adapter_links = joined old l.lifted new (side_mentions a.lift) (side_mentions a.lower ++ ends a) (side_links old l.lifted a.lift at.lift l.lift) behind_lift
+  -- all mentions of an adapter are imported
+  pub adapter_imports : (places : List ℕ) × AreImportedAt old new (adapter_mentions a) places
+  adapter_imports = joined old l.lifted new (side_mentions a.lift) (side_mentions a.lower ++ ends a) (side_imports old l.lifted a.lift at.lift l.lift) behind_lift
 
 -- ---- what a side mentions
 
@@ -102,37 +102,37 @@ module _ (s : Side) where
 -- ---- what a last module knows
 
 module _ {M : WasmModule} {p : ImportPlaces} {last : ModuleSoFar} {ms : List Mention} (serves : Serves M p last) (are_known : AreKnown last ms) (alike : AreUsedAlike ms) where
-  memory_known : (old new : ModuleSoFar) (o : Option MemoryOption) (place : Option ℕ) → IsMemoryLinked old new o place → Extended new last → (m : MemoryOption) → o ≡ Some m
+  memory_known : (old new : ModuleSoFar) (o : Option MemoryOption) (place : Option ℕ) → IsMemoryImportedIfAny old new o place → Extended new last → (m : MemoryOption) → o ≡ Some m
       → Contains ms (record { def = m.def; role = Storage m.memory64 m.page_size_log2 }) → KnowsMemoryAt M p m place
   memory_known old new o place l later m is there =
-      let here = subst (λ x. IsMemoryLinked old new x place) is l in
-      record { number = here.number; place_is = here.place_is; knows = knows_memory serves are_known later alike m.def m.memory64 m.page_size_log2 here.number there here.linked }
+      let here = subst (λ x. IsMemoryImportedIfAny old new x place) is l in
+      record { number = here.number; place_is = here.place_is; knows = knows_memory serves are_known later alike m.def m.memory64 m.page_size_log2 here.number there here.imported }
 
-  function_known : (old new : ModuleSoFar) (role : Role) (ty : FuncType) (o : Option CoreDef) (place : Option ℕ) → type_of_role role ≡ Some ty → IsLinkedIfAny old new role o place → Extended new last → (f : CoreDef) → o ≡ Some f
+  function_known : (old new : ModuleSoFar) (role : Role) (ty : FuncType) (o : Option CoreDef) (place : Option ℕ) → type_of_role role ≡ Some ty → IsImportedIfAny old new role o place → Extended new last → (f : CoreDef) → o ≡ Some f
       → Contains ms (record { def = f; role = role }) → KnowsFunctionAt M p f ty place
   function_known old new role ty o place typed l later f is there =
-      let here = subst (λ x. IsLinkedIfAny old new role x place) is l in
-      record { number = here.number; place_is = here.place_is; knows = knows_function serves are_known later alike f role ty here.number typed there here.linked }
+      let here = subst (λ x. IsImportedIfAny old new role x place) is l in
+      record { number = here.number; place_is = here.place_is; knows = knows_function serves are_known later alike f role ty here.number typed there here.imported }
 
-  module _ (old new : ModuleSoFar) (before : List Mention) (s : Side) (at : SideLinks) (known : AreKnown old before) (l : IsSideLinked old new s at) (later : Extended new last)
+  module _ (old new : ModuleSoFar) (before : List Mention) (s : Side) (at : SideImports) (known : AreKnown old before) (l : IsSideImported old new s at) (later : Extended new last)
       (within : (m : Mention) → Contains (side_mentions s) m → Contains ms m) where
     known_flagged : AreKnown l.flagged (before ++ flags_mention s ∷ [])
-    known_flagged = known_link (flags_mention s) at.flags l.flags known
+    known_flagged = known_def (flags_mention s) at.flags l.flags known
 
     known_stored : AreKnown l.stored ((before ++ flags_mention s ∷ []) ++ memory_mention s.memory)
-    known_stored = let links = memory_links l.flagged l.stored s.memory at.memory l.memory in known_links l.flagged l.stored _ (memory_mention s.memory) links.0 links.1 known_flagged
+    known_stored = let found = memory_imports l.flagged l.stored s.memory at.memory l.memory in known_defs l.flagged l.stored _ (memory_mention s.memory) found.0 found.1 known_flagged
 
     known_supplied : AreKnown l.supplied (((before ++ flags_mention s ∷ []) ++ memory_mention s.memory) ++ realloc_mention s)
-    known_supplied = let links = any_links l.stored l.supplied (Realloc (is_wide s.memory)) s.realloc at.realloc l.realloc in known_links l.stored l.supplied _ (realloc_mention s) links.0 links.1 known_stored
+    known_supplied = let found = imports_if_any l.stored l.supplied (Realloc (is_wide s.memory)) s.realloc at.realloc l.realloc in known_defs l.stored l.supplied _ (realloc_mention s) found.0 found.1 known_stored
 
     from_flagged : Extended l.flagged last
-    from_flagged = let behind = behind_flags old new s at l in extended_on (extended_links l.flagged new _ (memory_mention s.memory ++ (realloc_mention s ++ callback_mention s)) behind.0 behind.1 known_flagged) later
+    from_flagged = let behind = behind_flags old new s at l in extended_on (extended_defs l.flagged new _ (memory_mention s.memory ++ (realloc_mention s ++ callback_mention s)) behind.0 behind.1 known_flagged) later
 
     from_stored : Extended l.stored last
-    from_stored = let behind = behind_memory old new s at l in extended_on (extended_links l.stored new _ (realloc_mention s ++ callback_mention s) behind.0 behind.1 known_stored) later
+    from_stored = let behind = behind_memory old new s at l in extended_on (extended_defs l.stored new _ (realloc_mention s ++ callback_mention s) behind.0 behind.1 known_stored) later
 
     from_supplied : Extended l.supplied last
-    from_supplied = let behind = behind_realloc old new s at l in extended_on (extended_links l.supplied new _ (callback_mention s) behind.0 behind.1 known_supplied) later
+    from_supplied = let behind = behind_realloc old new s at l in extended_on (extended_defs l.supplied new _ (callback_mention s) behind.0 behind.1 known_supplied) later
 
     pub knows_side : KnowsSide M p s at
     knows_side = record {
@@ -142,24 +142,24 @@ module _ {M : WasmModule} {p : ImportPlaces} {last : ModuleSoFar} {ms : List Men
       callback = λ f is. function_known l.supplied new Callback callback_type s.callback at.callback refl l.callback later f is (within _ (callback_mentioned s f is));
     }
 
-  module _ (old new : ModuleSoFar) (before : List Mention) (a : LinkedAdapter) (at : AdapterLinks) (known : AreKnown old before) (l : IsAdapterLinked old new a at) (later : Extended new last)
+  module _ (old new : ModuleSoFar) (before : List Mention) (a : LinkedAdapter) (at : AdapterImports) (known : AreKnown old before) (l : IsAdapterImported old new a at) (later : Extended new last)
       (within : (m : Mention) → Contains (adapter_mentions a) m → Contains ms m) where
     known_lifted : AreKnown l.lifted (before ++ side_mentions a.lift)
-    known_lifted = let links = side_links old l.lifted a.lift at.lift l.lift in known_links old l.lifted before (side_mentions a.lift) links.0 links.1 known
+    known_lifted = let found = side_imports old l.lifted a.lift at.lift l.lift in known_defs old l.lifted before (side_mentions a.lift) found.0 found.1 known
 
     known_lowered : AreKnown l.lowered ((before ++ side_mentions a.lift) ++ side_mentions a.lower)
-    known_lowered = let links = side_links l.lifted l.lowered a.lower at.lower l.lower in known_links l.lifted l.lowered _ (side_mentions a.lower) links.0 links.1 known_lifted
+    known_lowered = let found = side_imports l.lifted l.lowered a.lower at.lower l.lower in known_defs l.lifted l.lowered _ (side_mentions a.lower) found.0 found.1 known_lifted
 
     from_lifted : Extended l.lifted last
-    from_lifted = let behind = behind_lift old new a at l in extended_on (extended_links l.lifted new _ (side_mentions a.lower ++ ends a) behind.0 behind.1 known_lifted) later
+    from_lifted = let behind = behind_lift old new a at l in extended_on (extended_defs l.lifted new _ (side_mentions a.lower ++ ends a) behind.0 behind.1 known_lifted) later
 
     from_lowered : Extended l.lowered last
-    from_lowered = let behind = behind_lower old new a at l in extended_on (extended_links l.lowered new _ (ends a) behind.0 behind.1 known_lowered) later
+    from_lowered = let behind = behind_lower old new a at l in extended_on (extended_defs l.lowered new _ (ends a) behind.0 behind.1 known_lowered) later
 
     from_called : Extended l.called last
     from_called =
         let behind = behind_callee old new a at l in
-        extended_on (extended_links l.called new _ (mention (PostReturn a.name a.lift.core_type.results) a.lift.post_return) behind.0 behind.1 (known_link (record { def = a.callee; role = Callee a.name a.lift.core_type }) at.callee l.callee known_lowered)) later
+        extended_on (extended_defs l.called new _ (mention (PostReturn a.name a.lift.core_type.results) a.lift.post_return) behind.0 behind.1 (known_def (record { def = a.callee; role = Callee a.name a.lift.core_type }) at.callee l.callee known_lowered)) later
 
     -- what stands behind the lift side's mentions, and behind the lower side's
     within_rest : (m : Mention) → Contains (side_mentions a.lower ++ ends a) m → Contains ms m
@@ -189,9 +189,9 @@ results_known {M} h =
     ∙ ap (λ o. given (elim o [ None ↦ None | Some t ↦ slice_get M.types t ])) h.imported
     ∙ ap given h.type_is
 
-module _ (M : WasmModule) (p : ImportPlaces) (a : LinkedAdapter) (at : AdapterLinks) (h : KnowsAdapter M p a at) where
-  memory_placed : (s : Side) (links : SideLinks) → KnowsSide M p s links → (m : MemoryOption) → s.memory ≡ Some m → p.memory m.def < length p.memory_types
-  memory_placed s links k m is =
+module _ (M : WasmModule) (p : ImportPlaces) (a : LinkedAdapter) (at : AdapterImports) (h : KnowsAdapter M p a at) where
+  memory_placed : (s : Side) (places : SideImports) → KnowsSide M p s places → (m : MemoryOption) → s.memory ≡ Some m → p.memory m.def < length p.memory_types
+  memory_placed s places k m is =
       let here = k.memory m is in
       slice_get_within p.memory_types (p.memory m.def) _ (ap (λ n. slice_get p.memory_types n) here.knows.placed ∙ here.knows.kind)
 

@@ -13,23 +13,23 @@ use Rattle.fact_types.specs.declared.outside.Trap.TheVariants.{MemoryOutOfBounds
 use Rattle.fact_machine.specs.declared.types.CoreValue.{CoreValue}
 use Rattle.fact_machine.specs.Typing.{address_bits, address_type, address_operand}
 use Rattle.fact_machine.proofs.NumericLaws.{leaves_i64_const}
-use Rattle.fact_moves.specs.Actions.{Action, Give}
-use Rattle.fact_moves.specs.Running.{ImportPlaces}
-use Rattle.fact_moves.specs.Sides.{LiftLowerOptions, check_region}
-use Rattle.fact_pieces.specs.Does.{Locals, Way, Onward, held_types, Does}
-use Rattle.fact_pieces.specs.Places.{KeepsLocals, stack_type, limit_of, widen}
-use Rattle.fact_pieces.specs.Typed.{OnStack, IsTyped}
-use Rattle.fact_pieces.proofs.Guards.{takes_aligned}
-use Rattle.fact_pieces.proofs.ListTurns.{length_addresses}
-use Rattle.fact_pieces.proofs.Pointers.{address_is, may_hold, keep_number, region}
-use Rattle.fact_pieces.specs.Tests.{pointer, region_code}
-use Rattle.fact_pieces.proofs.Regions.{typed_bounds}
-use Rattle.fact_pieces.proofs.Rules.{within, pushing, local_get, done}
-use Rattle.fact_pieces.proofs.Temporaries.{Temporaries, standing, set_temp}
-use Rattle.fact_pieces.proofs.TypedPlaces.{typed_widen}
-use Rattle.fact_pieces.proofs.TypedRows.{takes_plain, takes_local_get, takes_local_set}
-use Rattle.fact_pieces.proofs.TypedShapes.{takes_guard, typed_length}
-use Rattle.fact_pieces.proofs.TypingLaws.{typed_done, typed_then, typed_next, typed_one}
+use Rattle.fact_actions.specs.Actions.{Action, Give}
+use Rattle.fact_actions.specs.Running.{ImportPlaces}
+use Rattle.fact_actions.specs.Sides.{LiftLowerOptions, check_region}
+use Rattle.fact_code_laws.specs.Does.{Locals, Way, Onward, held_types, Does}
+use Rattle.fact_code_laws.specs.Places.{KeepsLocals, stack_type, limit_of, widen}
+use Rattle.fact_code_laws.specs.Typed.{OnStack, IsTyped}
+use Rattle.fact_code_laws.proofs.Guards.{takes_aligned}
+use Rattle.fact_code_laws.proofs.ListTurns.{length_addresses}
+use Rattle.fact_code_laws.proofs.Pointers.{address_is, may_hold, keep_number, region}
+use Rattle.fact_code_laws.specs.Tests.{pointer_of_width, region_code}
+use Rattle.fact_code_laws.proofs.Regions.{typed_bounds}
+use Rattle.fact_code_laws.proofs.Rules.{within, pushing, local_get, done}
+use Rattle.fact_code_laws.proofs.Temporaries.{Temporaries, standing, set_temp}
+use Rattle.fact_code_laws.proofs.TypedPlaces.{typed_widen}
+use Rattle.fact_code_laws.proofs.TypedRows.{takes_plain, takes_local_get, takes_local_set}
+use Rattle.fact_code_laws.proofs.TypedShapes.{takes_guard, typed_length}
+use Rattle.fact_code_laws.proofs.TypingLaws.{typed_done, typed_then, typed_next, typed_one}
 use Rattle.fact_emit.specs.declared.places.LinearMemory.{LinearMemory}
 use Rattle.fact_emit.specs.declared.pointers.AreaLocals.{AreaLocals}
 use Rattle.fact_emit.specs.declared.writer.Writer.{Writer}
@@ -82,7 +82,7 @@ each_of P x y z a b c (suc (suc i)) lt = c
 
 -- ---- what it does
 
-pub limit_is : (memory64 : Bool) → limit_of (pointer memory64) ≡ 2 ^ address_bits memory64
+pub limit_is : (memory64 : Bool) → limit_of (pointer_of_width memory64) ≡ 2 ^ address_bits memory64
 limit_is true = refl
 limit_is false = refl
 
@@ -90,7 +90,7 @@ pub below_wide : (memory64 : Bool) (n : ℕ) → n < 2 ^ address_bits memory64 �
 below_wide true n h = h
 below_wide false n h = omega (arith, h)
 
-pub stack_address : (memory64 : Bool) → stack_type (pointer memory64) ≡ address_type memory64
+pub stack_address : (memory64 : Bool) → stack_type (pointer_of_width memory64) ≡ address_type memory64
 stack_address true = refl
 stack_address false = refl
 
@@ -130,7 +130,7 @@ area_checks m taken address size align t M p locals code xy xz yz fx fy fz tx ty
           free = each_of (λ i. used i ≡ false) t.pointer t.bytes t.length (unkept used within_taken t.pointer fx) (unkept used within_taken t.bytes fy) (unkept used within_taken t.length fz);
         } in
         let r = check_region o MemoryOutOfBounds at size align q in
-        let keep : List Instr = widen (pointer m.memory64) val.I64 ++ I.LocalSet t.pointer ∷ [] in
+        let keep : List Instr = widen (pointer_of_width m.memory64) val.I64 ++ I.LocalSet t.pointer ∷ [] in
         let rest : List Instr = I.I64Const size ∷ I.LocalSet t.bytes ∷ region_at m.page_size_log2 in
         let all : code ++ c ≡ I.LocalGet address ∷ (keep ++ (rest ++ c)) = ap (λ x. x ++ c) k.is ∙ ap (λ x. I.LocalGet address ∷ x) (append_assoc keep rest c) in
         subst (λ x. Does M p way (40 + extra) spare ins ls x r out Holds) (sym all)
@@ -145,8 +145,8 @@ area_checks m taken address size align t M p locals code xy xz yz fx fy fz tx ty
     typed : (o : LiftLowerOptions) → IsLinearMemoryOf M p o m → slice_get locals address ≡ Some (address_type m.memory64) → IsTyped M locals [] code [] (OnStack [])
     typed o side h =
         subst (λ x. IsTyped M locals [] x [] (OnStack [])) (sym k.is)
-        (typed_next (takes_local_get h) (subst (λ v. IsTyped M locals [] ((widen (pointer m.memory64) val.I64 ++ I.LocalSet t.pointer ∷ []) ++ (I.I64Const size ∷ I.LocalSet t.bytes ∷ region_at m.page_size_log2)) (v ∷ []) (OnStack [])) (stack_address m.memory64)
-        (typed_then (typed_then (typed_widen (pointer m.memory64) val.I64 (may_hold m.memory64)) (typed_one (takes_local_set tx)))
+        (typed_next (takes_local_get h) (subst (λ v. IsTyped M locals [] ((widen (pointer_of_width m.memory64) val.I64 ++ I.LocalSet t.pointer ∷ []) ++ (I.I64Const size ∷ I.LocalSet t.bytes ∷ region_at m.page_size_log2)) (v ∷ []) (OnStack [])) (stack_address m.memory64)
+        (typed_then (typed_then (typed_widen (pointer_of_width m.memory64) val.I64 (may_hold m.memory64)) (typed_one (takes_local_set tx)))
         (typed_next (takes_plain (op.I64Const size) (I.outs-I64Const size) refl) (typed_next (takes_local_set ty)
         (subst (λ log2. IsTyped M locals [] (region_at log2) [] (OnStack [])) side.log2
         (takes_aligned p (nat_eq align 1) t.pointer align k.unaligned k.has_unaligned tx

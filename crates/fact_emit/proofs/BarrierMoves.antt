@@ -7,7 +7,7 @@ use Rattle.fact_wasm.specs.declared.instr.Instr.TheVariants as I
 use Rattle.fact_wasm.specs.Ranges.{AreRanged, IsPoint, points}
 use Rattle.fact_wasm.proofs.Ranged.{all-first, all-second}
 use Rattle.fact_types.specs.declared.outside.Trap.TheVariants.{UncaughtException}
-use Rattle.fact_pieces.specs.Code.{barrier_code, trap_code}
+use Rattle.fact_code_laws.specs.Code.{barrier_code, trap_code}
 use Rattle.fact_emit.specs.declared.writer.Writer.{Writer}
 use Rattle.fact_emit.specs.Asked.{AskedHelper}
 use Rattle.fact_emit.specs.Barriers.{Barred, WroteBarrier}
@@ -15,7 +15,7 @@ use Rattle.fact_emit.specs.Brought.{Brought}
 use Rattle.fact_emit.specs.Emits.{EmitsAsking, GrewAsking, Later}
 use Rattle.fact_emit.specs.Imports.{AreOnce}
 use Rattle.fact_emit.specs.NamedFunctions.{defined_named, defined_place, functions_named, imported_named}
-use Rattle.fact_emit.specs.Writers.{Began, Ended, TookTrap, Wrote}
+use Rattle.fact_emit.specs.Writers.{Began, EndedBody, TookTrap, Wrote}
 use Rattle.fact_emit.specs.States.{ModuleSoFar}
 use Rattle.fact_emit.specs.Pieces.{Piece}
 use Rattle.fact_emit.proofs.BroughtLaws.{brought_as, brought_between, brought_on, brought_runtime}
@@ -69,7 +69,7 @@ barrier_written {b = b} {c} {place} took same wrote = record { place = place; mi
 -- ---- a barrier around a body
 
 -- The code was set aside (a, b), a body was written (b, c), the code from before was put back (c, d), and behind it the barrier (d, e).
-module _ {a b c d e : Writer} {out body : List Instr} (began : Began a b out) (ended : Ended c d out body) (barrier : WroteBarrier d e body) where
+module _ {a b c d e : Writer} {out body : List Instr} (began : Began a b out) (ended : EndedBody c d out body) (barrier : WroteBarrier d e body) where
   abbrev place : ℕ
   place = barrier.place
 
@@ -82,7 +82,7 @@ module _ {a b c d e : Writer} {out body : List Instr} (began : Began a b out) (e
         calls =
             ap (filter_map defined_place) (barrier_named body place) ∙ defined_append body (trap_code place) ∙ ap (λ ns. defined_named body ++ ns) (defined_none (suc place) (trap_code place) (one_trap_ranged place))
             ∙ append-nil (defined_named body) ∙ ap defined_named is ∙ x.calls;
-        brought = barrier_brought (subst (Brought a.imports d.imports) (sym is) (brought_between began.imports (sym ended.imports) x.brought)) (brought_between refl (sym barrier.wrote.imports) (brought_runtime (trap_named place) (one_trap_ranged place) barrier.took.imported));
+        brought = barrier_brought (subst (Brought a.sections d.sections) (sym is) (brought_between began.imports (sym ended.imports) x.brought)) (brought_between refl (sym barrier.wrote.imports) (brought_runtime (trap_named place) (one_trap_ranged place) barrier.took.imported));
         imports = extended_on (extended_none began.imports) (extended_on x.imports (extended_on (extended_none ended.imports) (extended_on barrier.took.imports (extended_none barrier.wrote.imports))));
         once = λ o. subst AreOnce (sym barrier.wrote.imports) (barrier.took.once (subst AreOnce (sym ended.imports) (x.once (subst AreOnce (sym began.imports) o))));
         locals = grows_on (same_locals a b began.locals) (grows_on x.locals (same_locals c e (barrier.wrote.locals ∙ barrier.took.locals ∙ ended.locals)));

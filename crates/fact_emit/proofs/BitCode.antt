@@ -15,20 +15,20 @@ use Rattle.fact_machine.specs.World.{World}
 use Rattle.fact_machine.proofs.Laws.{leaves_next, leaves_none, leaves_then}
 use Rattle.fact_machine.proofs.RowLaws.{leaves_i32_const, leaves_local_get}
 use Rattle.fact_machine.proofs.NumericLaws.{leaves_i32_and, leaves_i32_or, leaves_i32_shl, leaves_i32_shr_u}
-use Rattle.fact_moves.specs.Actions.{Visit}
-use Rattle.fact_moves.specs.Moves.{move_number}
-use Rattle.fact_moves.specs.Sides.{Source, Target, write_number}
-use Rattle.fact_pieces.specs.Does.{Locals, Onward, held_types, Does}
-use Rattle.fact_pieces.specs.Places.{Setting, transfer, FitsNumber, From, To, StandsAt, MayGo, Stood, KeepsLocals, Moves, read_code, code_before, code_behind, ToUsed, DebugChecks, Number, size_of, limit_of}
-use Rattle.fact_pieces.specs.Typed.{OnStack, IsTyped}
-use Rattle.fact_pieces.proofs.Keeping.{writes_later}
-use Rattle.fact_pieces.proofs.Numbers.{reads, begins, set_keeps, below_number}
-use Rattle.fact_pieces.proofs.Rules.{within, visit, pushing, local_set}
-use Rattle.fact_pieces.proofs.Scalars.{IsNarrow}
-use Rattle.fact_pieces.proofs.Tested.{Temporary}
-use Rattle.fact_pieces.proofs.TypedPlaces.{typed_read, typed_before, typed_behind, below_type}
-use Rattle.fact_pieces.proofs.TypedRows.{takes_plain, takes_local_get, takes_local_set}
-use Rattle.fact_pieces.proofs.TypingLaws.{typed_done, typed_then, typed_next, typed_one}
+use Rattle.fact_actions.specs.Actions.{Visit}
+use Rattle.fact_actions.specs.Moves.{move_number}
+use Rattle.fact_actions.specs.Sides.{Source, Target, write_number}
+use Rattle.fact_code_laws.specs.Does.{Locals, Onward, held_types, Does}
+use Rattle.fact_code_laws.specs.Places.{Setting, transfer, FitsNumber, From, To, StandsAt, MayGo, Stood, KeepsLocals, Moves, read_code, code_before, code_behind, ToUsed, DebugChecks, Number, size_of, limit_of}
+use Rattle.fact_code_laws.specs.Typed.{OnStack, IsTyped}
+use Rattle.fact_code_laws.proofs.Keeping.{writes_later}
+use Rattle.fact_code_laws.proofs.Numbers.{reads, begins, set_keeps, below_number}
+use Rattle.fact_code_laws.proofs.Rules.{within, visit, pushing, local_set}
+use Rattle.fact_code_laws.proofs.Scalars.{IsNarrow}
+use Rattle.fact_code_laws.proofs.Tested.{Temporary}
+use Rattle.fact_code_laws.proofs.TypedPlaces.{typed_read, typed_before, typed_behind, below_type}
+use Rattle.fact_code_laws.proofs.TypedRows.{takes_plain, takes_local_get, takes_local_set}
+use Rattle.fact_code_laws.proofs.TypingLaws.{typed_done, typed_then, typed_next, typed_one}
 use Rattle.fact_emit.specs.declared.bits.BitMove.{BitMove}
 use Rattle.fact_emit.specs.PlacedBits.{shifted, moved_bits, shift_code, bit_moves_code}
 

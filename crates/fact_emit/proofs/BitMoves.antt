@@ -7,8 +7,8 @@ use Rattle.fact_wasm.specs.Ranges.{AreRanged}
 use Rattle.fact_wasm.specs.declared.instr.Instr.{the_lemmas}
 use Rattle.fact_wasm.specs.declared.instr.Instr.TheVariants as I
 use Rattle.fact_wasm.specs.declared.types.ValType.TheVariants as val
-use Rattle.fact_pieces.specs.Places.{From, To, Number, N64, Setting, code_before, code_behind}
-use Rattle.fact_pieces.proofs.Rules.{within}
+use Rattle.fact_code_laws.specs.Places.{From, To, Number, N64, Setting, code_before, code_behind}
+use Rattle.fact_code_laws.proofs.Rules.{within}
 use Rattle.fact_emit.specs.declared.bits.BitMove.{BitMove}
 use Rattle.fact_emit.specs.declared.places.Sides.{Sides}
 use Rattle.fact_emit.specs.declared.writer.Writer.{Writer}

@@ -11,11 +11,11 @@ use Rattle.fact_wasm.specs.Ranges.{AreRanged}
 use Rattle.fact_types.specs.declared.import.Import.TheVariants as import
 use Rattle.fact_types.specs.declared.outside.Trap.{Trap}
 use Rattle.fact_types.specs.declared.outside.Trap.TheVariants.{UnalignedPointer, DebugAssertPointerAligned, DebugAssertUpperBitsUnset}
-use Rattle.fact_moves.specs.Running.{ImportPlaces}
-use Rattle.fact_pieces.specs.Code.{guard_code, trap_code, length_code}
-use Rattle.fact_pieces.specs.Knows.{KnowsFunction}
-use Rattle.fact_pieces.specs.Places.{From, To, upper_test, place_test, place_check, HasAligned}
-use Rattle.fact_pieces.specs.Tests.{aligned_code, bounds_code, HasUnaligned, aligned_guard}
+use Rattle.fact_actions.specs.Running.{ImportPlaces}
+use Rattle.fact_code_laws.specs.Code.{guard_code, trap_code, length_code}
+use Rattle.fact_code_laws.specs.Knows.{KnowsFunction}
+use Rattle.fact_code_laws.specs.Places.{From, To, upper_test, place_test, place_check, HasAligned}
+use Rattle.fact_code_laws.specs.Tests.{aligned_code, bounds_code, HasUnaligned, aligned_guard}
 use Rattle.std.proofs.Common.{Bor}
 use Rattle.fact_emit.specs.declared.places.Address.{Address}
 use Rattle.fact_emit.specs.declared.places.LinearMemory.{LinearMemory}

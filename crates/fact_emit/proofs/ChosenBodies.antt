@@ -11,9 +11,9 @@ use Rattle.fact_wasm.specs.declared.module.WasmModule.{WasmModule}
 use Rattle.fact_wasm.specs.Ranges.{AreRanged, IsPoint, points}
 use Rattle.fact_wasm.proofs.Ranged.{all-first, all-second}
 use Rattle.fact_machine.specs.Exits.{nest}
-use Rattle.fact_moves.specs.Running.{ImportPlaces}
-use Rattle.fact_pieces.specs.Choices.{all_of_chunks, chunk_codes, chunk_number, full_chunk_code, place_in_chunk, IsChoice, InOneTable, InChunks}
-use Rattle.fact_pieces.specs.Code.{arms, cases_code, labels_from, trap_code, sum_code}
+use Rattle.fact_actions.specs.Running.{ImportPlaces}
+use Rattle.fact_code_laws.specs.Choices.{all_of_chunks, chunk_codes, chunk_number, full_chunk_code, place_in_chunk, IsChoice, InOneTable, InChunks}
+use Rattle.fact_code_laws.specs.Code.{arms, cases_code, labels_from, trap_code, sum_code}
 use Rattle.fact_emit.specs.declared.writer.Writer.{Writer}
 use Rattle.fact_emit.specs.Asked.{AskedHelper, HasHelpers}
 use Rattle.fact_emit.specs.Bodies.{ChoosesCase, WroteChoice, code_of_bodies}
@@ -23,7 +23,7 @@ use Rattle.fact_emit.specs.Imports.{AreOnce}
 use Rattle.fact_emit.specs.NamedFunctions.{defined_named, defined_place, functions_named, imported_named}
 use Rattle.fact_emit.specs.Pieces.{Piece}
 use Rattle.fact_emit.specs.States.{ModuleSoFar}
-use Rattle.fact_emit.specs.Writers.{Began, Ended}
+use Rattle.fact_emit.specs.Writers.{Began, EndedBody}
 use Rattle.fact_emit.proofs.BroughtLaws.{brought_as, brought_before, brought_between, brought_on, brought_runtime}
 use Rattle.fact_emit.proofs.Emitting.{same_locals, same_still, same_types, serves_imported, sooner, still_numbers}
 use Rattle.fact_emit.proofs.ImportLaws.{extended_none, extended_on, grows_none, grows_on}
@@ -187,7 +187,7 @@ aside_on {first} {second} {xs = xs} {ys} x y = record {
 }
 
 -- A body was written aside: the code was set aside, the body was written, and the code from before is back.
-module _ {a b c d : Writer} {outer body : List Instr} (began : Began a b outer) (ended : Ended c d outer body) where
+module _ {a b c d : Writer} {outer body : List Instr} (began : Began a b outer) (ended : EndedBody c d outer body) where
   pub body_aside : {asks : List AskedHelper} (x : GrewAsking asks b c) → body ≡ x.added
   body_aside x = ended.body ∙ x.code ∙ ap (λ l. l ++ x.added) began.code
 
@@ -195,7 +195,7 @@ module _ {a b c d : Writer} {outer body : List Instr} (began : Began a b outer) 
   aside_grew x = record {
     code = ended.code ∙ began.outer;
     calls = ap defined_named (body_aside x) ∙ x.calls;
-    brought = subst (Brought a.imports d.imports) (sym (body_aside x)) (brought_between began.imports (sym ended.imports) x.brought);
+    brought = subst (Brought a.sections d.sections) (sym (body_aside x)) (brought_between began.imports (sym ended.imports) x.brought);
     imports = extended_on (extended_none began.imports) (extended_on x.imports (extended_none ended.imports));
     once = λ o. subst AreOnce (sym ended.imports) (x.once (subst AreOnce (sym began.imports) o));
     locals = grows_on (same_locals a b began.locals) (grows_on x.locals (same_locals c d ended.locals));
@@ -232,7 +232,7 @@ choice_defined local place {bodies} (InChunks chunks rest many are is) =
 
 -- Bodies were written aside, and then the choice among them. It brings what they bring, and then the trap.
 module _ {asks : List AskedHelper} {a b c : Writer} {local : ℕ} {bodies : List (List Instr)} (aside : GrewAsideAsking asks a b (code_of_bodies bodies)) (w : WroteChoice b c local bodies) where
-  trap_brought : Brought b.imports c.imports (trap_code w.place)
+  trap_brought : Brought b.sections c.sections (trap_code w.place)
   trap_brought = brought_between refl (sym w.wrote.imports) (brought_runtime (trap_names w.place) (trap_in_range w.place) w.took.imported)
 
   pub choice_grew : GrewAsking asks a c

@@ -5,9 +5,9 @@ use Rattle.std.proofs.Math.Nat.{eq-or-lt_of_le}
 use Rattle.std.proofs.lemmas.Grind.{flat_map-append}
 use Rattle.std.proofs.lemmas.List.{map-append, length-map}
 use Rattle.fact_wasm.specs.declared.instr.Instr.{Instr}
-use Rattle.fact_pieces.specs.Choices.{all_of_chunks, chunk_number, full_chunk_code, place_in_chunk, IsChoice, InChunks}
-use Rattle.fact_pieces.specs.Code.{cases_code, labels_from, sum_code}
-use Rattle.fact_pieces.proofs.Choices.{length_of_chunks}
+use Rattle.fact_code_laws.specs.Choices.{all_of_chunks, chunk_number, full_chunk_code, place_in_chunk, IsChoice, InChunks}
+use Rattle.fact_code_laws.specs.Code.{cases_code, labels_from, sum_code}
+use Rattle.fact_code_laws.proofs.Choices.{length_of_chunks}
 use Rattle.fact_emit.specs.Bodies.{AreChunkCodes, HasChunks}
 
 full_more : (chunks : List (List (List Instr))) (chunk : List (List Instr)) → AllByRecursion (λ c. length c ≡ 64) chunks → length chunk ≡ 64 → AllByRecursion (λ c. length c ≡ 64) (chunks ++ chunk ∷ [])

@@ -14,10 +14,10 @@ use Rattle.fact_types.specs.declared.import.Import.TheVariants as known
 use Rattle.fact_types.specs.declared.outside.CoreDef.{CoreDef}
 use Rattle.fact_types.specs.declared.outside.MemoryOption.{MemoryOption}
 use Rattle.fact_machine.specs.Trace.{Grows}
-use Rattle.fact_moves.specs.Running.{ImportPlaces}
-use Rattle.fact_moves.specs.Sides.{LiftLowerOptions}
-use Rattle.fact_pieces.specs.Knows.{KnowsFunction}
-use Rattle.fact_pieces.specs.Places.{SideMemory}
+use Rattle.fact_actions.specs.Running.{ImportPlaces}
+use Rattle.fact_actions.specs.Sides.{LiftLowerOptions}
+use Rattle.fact_code_laws.specs.Knows.{KnowsFunction}
+use Rattle.fact_code_laws.specs.Places.{SideMemory}
 use Rattle.fact_emit.specs.declared.imported.RuntimeFunction.{RuntimeFunction}
 use Rattle.fact_emit.specs.declared.transcoders.Transcoder.{Transcoder}
 use Rattle.fact_emit.specs.declared.writer.Local.{Local}
@@ -57,7 +57,7 @@ grew_on {first} {second} {a} {b} {c} x y = record {
 }
 
 -- what is later than a writer is later than the writer before
-pub sooner : {a b : Writer} {M : WasmModule} {p : ImportPlaces} {locals : List ValType} → Extended a.imports b.imports → Grows (types_of_locals a) (types_of_locals b) → Later b M p locals → Later a M p locals
+pub sooner : {a b : Writer} {M : WasmModule} {p : ImportPlaces} {locals : List ValType} → Extended a.sections b.sections → Grows (types_of_locals a) (types_of_locals b) → Later b M p locals → Later a M p locals
 sooner imports grows l = record {
   serves = serves_sooner imports l.serves;
   begin = grows_on grows l.begin;
@@ -100,12 +100,12 @@ pub same_still : (a b : Writer) → b.locals ≡ a.locals → (i : ℕ) → take
 same_still a b e i = ap (λ v. is_local_in_use (slice_get v.items i)) e
 
 -- instructions that were put there, in range with the functions that were imported before
-pub grew_before : {a b : Writer} {xs : List Instr} → AreRanged (length (functions_of a.imports)) 0 xs → Wrote a b xs → Grew a b
+pub grew_before : {a b : Writer} {xs : List Instr} → AreRanged (length (functions_of a.sections)) 0 xs → Wrote a b xs → Grew a b
 grew_before {a} {b} {xs} ranged w = record {
   added = xs;
   code = w.code;
-  calls = defined_none (length (functions_of a.imports)) xs ranged;
-  brought = brought_before w.imports (ranged_in (length (functions_of a.imports)) (length (functions_of a.imports)) 0 (next_number a.imports) (omega arith) (omega arith) xs ranged);
+  calls = defined_none (length (functions_of a.sections)) xs ranged;
+  brought = brought_before w.imports (ranged_in (length (functions_of a.sections)) (length (functions_of a.sections)) 0 (next_number a.sections) (omega arith) (omega arith) xs ranged);
   imports = extended_none w.imports;
   once = λ o. subst AreOnce (sym w.imports) o;
   locals = same_locals a b w.locals;
@@ -113,13 +113,13 @@ grew_before {a} {b} {xs} ranged w = record {
   still = same_still a b w.locals;
 }
 
-pub emits_before : {a b : Writer} {xs : List Instr} → AreRanged (length (functions_of a.imports)) 0 xs → Wrote a b xs → Emits a b (Is xs)
+pub emits_before : {a b : Writer} {xs : List Instr} → AreRanged (length (functions_of a.sections)) 0 xs → Wrote a b xs → Emits a b (Is xs)
 unfolding grew_before
 emits_before ranged w = record { grew = grew_before ranged w; does = λ M p locals l h. refl }
 
 -- they name no function
 pub grew_wrote : {a b : Writer} {xs : List Instr} → AreRanged 0 0 xs → Wrote a b xs → Grew a b
-grew_wrote {a} {xs = xs} ranged w = grew_before (ranged_more 0 (length (functions_of a.imports)) (omega arith) xs ranged) w
+grew_wrote {a} {xs = xs} ranged w = grew_before (ranged_more 0 (length (functions_of a.sections)) (omega arith) xs ranged) w
 
 pub emits_wrote : {a b : Writer} {xs : List Instr} → AreRanged 0 0 xs → Wrote a b xs → Emits a b (Is xs)
 unfolding grew_before grew_wrote
@@ -150,8 +150,8 @@ pub serves_side : {M : WasmModule} {p : ImportPlaces} {s : ModuleSoFar} {place :
 serves_side {log2 = log2} o m s i is = record { option = m; is = is; wide = refl; log2 = log2; has = s.memories _ _ _ _ i }
 
 -- A function was imported, or a helper asked for, and then code was put there that names it, and no other one.
-module _ {a b c : Writer} {xs : List Instr} (code : b.code.items ≡ a.code.items) (locals : b.locals ≡ a.locals) (imports : Extended a.imports b.imports) (once : AreOnce a.imports → AreOnce b.imports)
-    (brought : Brought a.imports b.imports xs) (y : Wrote b c xs) {asks : List AskedHelper} (calls : defined_named xs ≡ map (λ h. h.number) asks) where
+module _ {a b c : Writer} {xs : List Instr} (code : b.code.items ≡ a.code.items) (locals : b.locals ≡ a.locals) (imports : Extended a.sections b.sections) (once : AreOnce a.sections → AreOnce b.sections)
+    (brought : Brought a.sections b.sections xs) (y : Wrote b c xs) {asks : List AskedHelper} (calls : defined_named xs ≡ map (λ h. h.number) asks) where
   pub grew_naming : GrewAsking asks a c
   grew_naming = record {
     added = xs;
@@ -165,7 +165,7 @@ module _ {a b c : Writer} {xs : List Instr} (code : b.code.items ≡ a.code.item
     still = λ i. same_still b c y.locals i ∙ same_still a b locals i;
   }
 
-  pub emits_naming : {P : Piece} → ((M : WasmModule) (p : ImportPlaces) (locals : List ValType) → Serves M p b.imports → HasHelpers M p asks → P M p locals xs) → EmitsAsking asks a c P
+  pub emits_naming : {P : Piece} → ((M : WasmModule) (p : ImportPlaces) (locals : List ValType) → Serves M p b.sections → HasHelpers M p asks → P M p locals xs) → EmitsAsking asks a c P
   unfolding grew_naming
   emits_naming d = record { grew = grew_naming; does = λ M p locals l h. d M p locals (sooner {a = b} (extended_none y.imports) (same_locals b c y.locals) l).serves h }
 
@@ -199,15 +199,15 @@ body_is empty x = x.code ∙ ap (λ l. l ++ x.added) empty
 
 -- The code was set aside (a, b), a body was written (b, c), and one instruction with this body was put behind the code from
 -- before (c, d). The instruction names what the body names, and is in range where the body is.
-module _ {a b c d : Writer} (i : Instr) (empty : b.code.items ≡ []) (locals : b.locals ≡ a.locals) (imports : b.imports ≡ a.imports)
-    (code : d.code.items ≡ a.code.items ++ i ∷ []) (locals' : d.locals ≡ c.locals) (imports' : d.imports ≡ c.imports)
+module _ {a b c d : Writer} (i : Instr) (empty : b.code.items ≡ []) (locals : b.locals ≡ a.locals) (imports : b.sections ≡ a.sections)
+    (code : d.code.items ≡ a.code.items ++ i ∷ []) (locals' : d.locals ≡ c.locals) (imports' : d.sections ≡ c.sections)
     (names : functions_named (i ∷ []) ≡ functions_named c.code.items) (ranged : (imports funcs : ℕ) → AreRanged imports funcs c.code.items → AreRanged imports funcs (i ∷ [])) where
   pub grew_aside : {asks : List AskedHelper} → GrewAsking asks b c → GrewAsking asks a d
   grew_aside x = record {
     added = i ∷ [];
     code = code;
     calls = ap (filter_map defined_place) names ∙ ap defined_named (body_is empty x) ∙ x.calls;
-    brought = brought_as names ranged (subst (Brought a.imports d.imports) (sym (body_is empty x)) (brought_between imports (sym imports') x.brought));
+    brought = brought_as names ranged (subst (Brought a.sections d.sections) (sym (body_is empty x)) (brought_between imports (sym imports') x.brought));
     imports = extended_on (extended_none imports) (extended_on x.imports (extended_none imports'));
     once = λ o. subst AreOnce (sym imports') (x.once (subst AreOnce (sym imports) o));
     locals = grows_on (same_locals a b locals) (grows_on x.locals (same_locals c d locals'));

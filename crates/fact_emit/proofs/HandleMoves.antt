@@ -8,15 +8,15 @@ use Rattle.fact_wasm.specs.declared.types.ValType.{ValType}
 use Rattle.fact_wasm.specs.Ranges.{AreRanged}
 use Rattle.fact_types.specs.declared.interface.InterfaceType.{InterfaceType}
 use Rattle.fact_types.specs.declared.interface.InterfaceType.TheVariants as ty
-use Rattle.fact_moves.specs.Running.{ImportPlaces}
-use Rattle.fact_pieces.specs.Knows.{KnowsFunction}
-use Rattle.fact_pieces.specs.Places.{From, To, N32, read_code, code_before, code_behind}
-use Rattle.fact_pieces.proofs.Handles.{handle_code, moves_handle}
+use Rattle.fact_actions.specs.Running.{ImportPlaces}
+use Rattle.fact_code_laws.specs.Knows.{KnowsFunction}
+use Rattle.fact_code_laws.specs.Places.{From, To, N32, read_code, code_before, code_behind}
+use Rattle.fact_code_laws.proofs.Handles.{handle_code, moves_handle}
 use Rattle.fact_emit.specs.declared.handles.HandleTransfer.{HandleTransfer}
 use Rattle.fact_emit.specs.declared.places.Sides.{Sides}
 use Rattle.fact_emit.specs.declared.writer.Writer.{Writer}
 use Rattle.fact_emit.specs.Emits.{Emits}
-use Rattle.fact_emit.specs.Handles.{IsTransfer, handle_moves, handle_transfer}
+use Rattle.fact_emit.specs.Handles.{MovesHandle, handle_moves, handle_transfer}
 use Rattle.fact_emit.specs.MovesValue.{MovesValue}
 use Rattle.fact_emit.specs.Numbers.{FitsUnchecked, HasUpperAt, ReadsNumber}
 use Rattle.fact_emit.specs.Pieces.{Is}
@@ -39,12 +39,12 @@ tables_ranged from to = ranged_none 0 0 (I.I32Const from ∷ I.I32Const to ∷ [
 abbrev CallsThen : HandleTransfer → To → WasmModule → ImportPlaces → List ValType → List Instr → Type 0
 CallsThen h dst M p locals code = KnowsFunction M p (import_of h.function) (p.function (import_of h.function)) transfer_type.params transfer_type.results × (code ≡ runtime_call p h.function ∷ code_behind N32 dst)
 
-calls_then : {a b c : Writer} (dst : To) (h : HandleTransfer) → IsTransfer h → Emits a b (CallsRuntime h.function) → Wrote b c (code_behind N32 dst) → Emits a c (CallsThen h dst)
+calls_then : {a b c : Writer} (dst : To) (h : HandleTransfer) → MovesHandle h → Emits a b (CallsRuntime h.function) → Wrote b c (code_behind N32 dst) → Emits a c (CallsThen h dst)
 calls_then dst h is x y =
     emits_then (λ M p locals c k g e. (subst (λ (t : FuncType). KnowsFunction M p (import_of h.function) (p.function (import_of h.function)) t.params t.results) is g.has, λ i. g.is i ++ e i)) x (emits_wrote (behind_ranged N32 dst) y)
 
 -- A number that is read, handed to the function, and what that answers written.
-pub handle_emits : {a b c d e f g : Writer} {src : From} {dst : To} (sides : Sides) (h : HandleTransfer) → IsTransfer h
+pub handle_emits : {a b c d e f g : Writer} {src : From} {dst : To} (sides : Sides) (h : HandleTransfer) → MovesHandle h
     → Wrote a b (code_before dst) → Emits b c (ReadsNumber sides.debug N32 src) → Wrote c d (I.I32Const h.from_table ∷ []) → Wrote d e (I.I32Const h.to_table ∷ []) → Emits e f (CallsRuntime h.function) → Wrote f g (code_behind N32 dst)
     → Emits a g (MovesValue sides src dst (taken_in a) 516 (FitsUnchecked N32 src dst) (handle_moves h))
 handle_emits {a} {src = src} {dst} sides h is x y z v u w =
@@ -65,10 +65,10 @@ handle_emits {a} {src = src} {dst} sides h is x y z v u w =
     (calls_then dst h is u w)
 
 -- the transfers of handles take and give what transfers do
-pub transfers_handles : (from to : InterfaceType) (h : HandleTransfer) → handle_transfer from to ≡ Some h → IsTransfer h
-transfers_handles (ty.Own i) (ty.Own j) h e = subst IsTransfer (same_some _ _ h refl e) refl
-transfers_handles (ty.Borrow i) (ty.Borrow j) h e = subst IsTransfer (same_some _ _ h refl e) refl
-transfers_handles (ty.Future i) (ty.Future j) h e = subst IsTransfer (same_some _ _ h refl e) refl
-transfers_handles (ty.Stream i) (ty.Stream j) h e = subst IsTransfer (same_some _ _ h refl e) refl
-transfers_handles (ty.ErrorContext i) (ty.ErrorContext j) h e = subst IsTransfer (same_some _ _ h refl e) refl
+pub transfers_handles : (from to : InterfaceType) (h : HandleTransfer) → handle_transfer from to ≡ Some h → MovesHandle h
+transfers_handles (ty.Own i) (ty.Own j) h e = subst MovesHandle (same_some _ _ h refl e) refl
+transfers_handles (ty.Borrow i) (ty.Borrow j) h e = subst MovesHandle (same_some _ _ h refl e) refl
+transfers_handles (ty.Future i) (ty.Future j) h e = subst MovesHandle (same_some _ _ h refl e) refl
+transfers_handles (ty.Stream i) (ty.Stream j) h e = subst MovesHandle (same_some _ _ h refl e) refl
+transfers_handles (ty.ErrorContext i) (ty.ErrorContext j) h e = subst MovesHandle (same_some _ _ h refl e) refl
 transfers_handles _ _ h e = cc

@@ -15,9 +15,9 @@ use Rattle.fact_machine.proofs.Tests.{get_append}
 use Rattle.fact_types.specs.declared.import.Import.{Import}
 use Rattle.fact_types.specs.declared.import.Import.TheVariants as known
 use Rattle.fact_types.specs.declared.outside.CoreDef.{CoreDef}
-use Rattle.fact_moves.specs.Running.{ImportPlaces}
-use Rattle.fact_pieces.specs.Knows.{KnowsFlags, KnowsFunction, KnowsMemory, ExtendsModule}
-use Rattle.fact_pieces.proofs.KnowsLaws.{has_flags, has_function, has_memory}
+use Rattle.fact_actions.specs.Running.{ImportPlaces}
+use Rattle.fact_code_laws.specs.Knows.{KnowsFlags, KnowsFunction, KnowsMemory, ExtendsModule}
+use Rattle.fact_code_laws.proofs.KnowsLaws.{has_flags, has_function, has_memory}
 use Rattle.fact_emit.specs.Imports.{HasFlags, HasImport, HasMemory, Extended}
 use Rattle.fact_emit.specs.States.{ModuleSoFar, functions_of, globals_of, memories_of, module_of}
 

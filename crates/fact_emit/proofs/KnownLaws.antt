@@ -11,8 +11,8 @@ use Rattle.fact_emit.specs.ImportSection.{AreNamed, IsNamed, IsNamedIfTranscoder
 use Rattle.fact_emit.specs.Imports.{Extended}
 use Rattle.fact_emit.specs.declared.imported.RuntimeFunction.{RuntimeFunction}
 use Rattle.fact_emit.specs.declared.transcoders.Transcoder.{Transcoder}
-use Rattle.fact_emit.specs.Known.{AreKnown, AreLinked}
-use Rattle.fact_emit.specs.Linked.{HasTypeIfAny, IsDefLinked, type_of_role}
+use Rattle.fact_emit.specs.Known.{AreKnown, AreImportedAt}
+use Rattle.fact_emit.specs.DefImports.{HasTypeIfAny, IsDefImported, type_of_role}
 use Rattle.fact_emit.specs.Runtime.{name_of_runtime, origin_of_runtime}
 use Rattle.fact_emit.specs.States.{HasType, IsImported, IsRuntimeImported, IsTranscoderImported, ModuleSoFar, import_as, memories_of, nothing_so_far}
 use Rattle.fact_emit.proofs.ImportLaws.{extended_none, extended_on, grows_none}
@@ -96,17 +96,17 @@ same_section old new (Some ty) (inl there) = ap (λ (s : ModuleSoFar). s.section
 same_section old new (Some ty) (inr anew) = ap (λ (s : ModuleSoFar). s.section) anew.1
 
 -- a definition in the role in which it is mentioned
-pub known_link : {old new : ModuleSoFar} {ms : List Mention} (m : Mention) (place : ℕ) → IsDefLinked old new m.role m.def place → AreKnown old ms → AreKnown new (ms ++ m ∷ [])
-known_link {old} {new} {ms} m place l h =
+pub known_def : {old new : ModuleSoFar} {ms : List Mention} (m : Mention) (place : ℕ) → IsDefImported old new m.role m.def place → AreKnown old ms → AreKnown new (ms ++ m ∷ [])
+known_def {old} {new} {ms} m place l h =
     let typed : AreKnown l.typed ms = known_type_if_any old l.typed (type_of_role m.role) l.types h in
     let stands : StandsFor l.typed.types l.typed.section m.role l.import = subst (λ ws. StandsFor l.typed.types ws m.role l.import) (sym (same_section old l.typed (type_of_role m.role) l.types)) l.stands in
     known_import l.imported (m.role, Contains-push ms m, stands) tt (known_more l.typed ms (m ∷ []) typed)
 
-pub known_links : (old new : ModuleSoFar) (ms xs : List Mention) (places : List ℕ) → AreLinked old new xs places → AreKnown old ms → AreKnown new (ms ++ xs)
-known_links old new ms [] [] l h = subst (λ s. AreKnown s (ms ++ [])) (sym l) (known_more old ms [] h)
-known_links old new ms (x ∷ xs) (n ∷ ns) l h = subst (AreKnown new) (append_assoc ms (x ∷ []) xs) (known_links l.0 new (ms ++ x ∷ []) xs ns l.2 (known_link x n l.1 h))
-known_links old new ms [] (n ∷ ns) l h = absurd l
-known_links old new ms (x ∷ xs) [] l h = absurd l
+pub known_defs : (old new : ModuleSoFar) (ms xs : List Mention) (places : List ℕ) → AreImportedAt old new xs places → AreKnown old ms → AreKnown new (ms ++ xs)
+known_defs old new ms [] [] l h = subst (λ s. AreKnown s (ms ++ [])) (sym l) (known_more old ms [] h)
+known_defs old new ms (x ∷ xs) (n ∷ ns) l h = subst (AreKnown new) (append_assoc ms (x ∷ []) xs) (known_defs l.0 new (ms ++ x ∷ []) xs ns l.2 (known_def x n l.1 h))
+known_defs old new ms [] (n ∷ ns) l h = absurd l
+known_defs old new ms (x ∷ xs) [] l h = absurd l
 
 -- ---- the module grows meanwhile
 
@@ -134,24 +134,24 @@ extended_import {old} {new} {w} {i} even x =
       | inr anew ↦ subst (Extended old) (sym anew.0) (extended-by old even w i)
     ]
 
-pub extended_link : {old new : ModuleSoFar} {ms : List Mention} {role : Role} {d : CoreDef} {place : ℕ} → AreKnown old ms → IsDefLinked old new role d place → Extended old new
-extended_link {old} {ms = ms} {role} h l =
+pub extended_def : {old new : ModuleSoFar} {ms : List Mention} {role : Role} {d : CoreDef} {place : ℕ} → AreKnown old ms → IsDefImported old new role d place → Extended old new
+extended_def {old} {ms = ms} {role} h l =
     let even = named-lengths l.typed.types ms [] l.typed.section l.typed.imports (known_type_if_any old l.typed (type_of_role role) l.types h).named in
     extended_on (extended_type_if_any old l.typed (type_of_role role) l.types) (extended_import even l.imported)
 
-pub extended_links : (old new : ModuleSoFar) (ms xs : List Mention) (places : List ℕ) → AreLinked old new xs places → AreKnown old ms → Extended old new
-extended_links old new ms [] [] l h = extended_none l
-extended_links old new ms (x ∷ xs) (n ∷ ns) l h = extended_on (extended_link h l.1) (extended_links l.0 new (ms ++ x ∷ []) xs ns l.2 (known_link x n l.1 h))
-extended_links old new ms [] (n ∷ ns) l h = absurd l
-extended_links old new ms (x ∷ xs) [] l h = absurd l
+pub extended_defs : (old new : ModuleSoFar) (ms xs : List Mention) (places : List ℕ) → AreImportedAt old new xs places → AreKnown old ms → Extended old new
+extended_defs old new ms [] [] l h = extended_none l
+extended_defs old new ms (x ∷ xs) (n ∷ ns) l h = extended_on (extended_def h l.1) (extended_defs l.0 new (ms ++ x ∷ []) xs ns l.2 (known_def x n l.1 h))
+extended_defs old new ms [] (n ∷ ns) l h = absurd l
+extended_defs old new ms (x ∷ xs) [] l h = absurd l
 
--- links one after another
-pub links_on : (a b c : ModuleSoFar) (xs ys : List Mention) (ns ms : List ℕ) → AreLinked a b xs ns → AreLinked b c ys ms → AreLinked a c (xs ++ ys) (ns ++ ms)
-links_on a b c [] ys [] ms l k = subst (λ s. AreLinked s c ys ms) l k
-links_on a b c (x ∷ xs) ys (n ∷ ns) ms l k = (l.0, l.1, links_on l.0 b c xs ys ns ms l.2 k)
-links_on a b c [] ys (n ∷ ns) ms l k = absurd l
-links_on a b c (x ∷ xs) ys [] ms l k = absurd l
+-- imports one after another
+pub imports_on : (a b c : ModuleSoFar) (xs ys : List Mention) (ns ms : List ℕ) → AreImportedAt a b xs ns → AreImportedAt b c ys ms → AreImportedAt a c (xs ++ ys) (ns ++ ms)
+imports_on a b c [] ys [] ms l k = subst (λ s. AreImportedAt s c ys ms) l k
+imports_on a b c (x ∷ xs) ys (n ∷ ns) ms l k = (l.0, l.1, imports_on l.0 b c xs ys ns ms l.2 k)
+imports_on a b c [] ys (n ∷ ns) ms l k = absurd l
+imports_on a b c (x ∷ xs) ys [] ms l k = absurd l
 
 -- a definition has its place among the imports of its kind
-pub linked_at : {old new : ModuleSoFar} {d : CoreDef} {place : ℕ} (role : Role) → IsDefLinked old new role d place → slice_get (imports_of (sort_for role) new.section new.imports) place ≡ Some (known.CoreDef d)
-linked_at {old} {new} {d} {place} role l = subst (λ q. slice_get (imports_of q new.section new.imports) place ≡ Some (known.CoreDef d)) (stands-sort l.typed.types old.section role l.import l.stands) l.imported.there
+pub imported_at : {old new : ModuleSoFar} {d : CoreDef} {place : ℕ} (role : Role) → IsDefImported old new role d place → slice_get (imports_of (sort_for role) new.section new.imports) place ≡ Some (known.CoreDef d)
+imported_at {old} {new} {d} {place} role l = subst (λ q. slice_get (imports_of q new.section new.imports) place ≡ Some (known.CoreDef d)) (stands-sort l.typed.types old.section role l.import l.stands) l.imported.there

@@ -17,9 +17,9 @@ pub mod HandleMoves
 pub mod HelperLaws
 pub mod ImportLaws
 pub mod ImportLists
+pub mod ImportedInTurn
+pub mod KnownImports
 pub mod KnownLaws
-pub mod LinkLaws
-pub mod LinkedLaws
 pub mod ListedCalls
 pub mod ListedLaws
 pub mod Locals

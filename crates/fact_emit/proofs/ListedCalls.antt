@@ -14,8 +14,8 @@ use Rattle.fact_types.specs.Adapters.{LinkedAdapter}
 use Rattle.fact_types.specs.declared.outside.CoreDef.{CoreDef}
 use Rattle.fact_types.specs.declared.import.Import.{Import}
 use Rattle.fact_types.specs.declared.import.Import.TheVariants as known
-use Rattle.fact_moves.specs.Adapters.{def_of_memory}
-use Rattle.fact_moves.specs.Sides.{options_of}
+use Rattle.fact_actions.specs.Adapters.{def_of_memory}
+use Rattle.fact_actions.specs.Sides.{options_of}
 use Rattle.fact_emit.specs.declared.task_calls.StartCall.{StartCall}
 use Rattle.fact_emit.specs.ImportSection.{AreStartCallsNamed, HasStartOf, IsPrepareNamed, Mention, imported_type, is_awaited, prepares_in}
 use Rattle.fact_emit.specs.Listed.{ListsMentions}

@@ -19,8 +19,8 @@ use Rattle.fact_emit.specs.declared.transcoders.Transcoder.{Transcoder}
 use Rattle.fact_emit.specs.Brought.{AreCalledImported, CalledFunction, IsCalledImported, Runtime, Transcoding, Helping}
 use Rattle.fact_emit.specs.ImportSection.{AreNamed, AreTaskCallsNamed, AreTranscodersNamed, Callback, Callee, Flags, IsNamed, IsNamedIfTranscoder, Mention, PostReturn, Realloc, Role, Sort, StandsFor, Storage, a_function, a_global, a_memory, def_of, imports_of, is_awaited, is_made_once, is_mentioned, sort_of, with_mention, with_mentions}
 use Rattle.fact_emit.specs.Known.{AreUsedAlike, IsUsedAlike, memory_of_role}
-use Rattle.fact_emit.specs.Linked.{HasTypeIfAny, IsDefLinked, type_of_role}
-use Rattle.fact_emit.specs.Listed.{AreLinkedInTurn, ListsMentions}
+use Rattle.fact_emit.specs.DefImports.{HasTypeIfAny, IsDefImported, type_of_role}
+use Rattle.fact_emit.specs.Listed.{AreImportedInTurn, ListsMentions}
 use Rattle.fact_emit.specs.Runtime.{import_of, name_of_runtime, origin_of_runtime}
 use Rattle.fact_emit.specs.States.{HasType, IsImported, IsRuntimeImported, IsTranscoderImported, ModuleSoFar, import_as, memories_of, with_helper, with_import}
 use Rattle.fact_emit.proofs.ExactItems.{runtime-made-once}
@@ -227,7 +227,7 @@ section_if_any old new (Some ty) (inl same) = ap (λ (s : ModuleSoFar). s.sectio
 section_if_any old new (Some ty) (inr anew) = ap (λ (s : ModuleSoFar). s.section) anew.1
 
 -- One mention: what is imported, and that the module lists it too.
-module _ (old new : ModuleSoFar) (ms : List Mention) (adapters : List LinkedAdapter) (r : Mention) (place : ℕ) (h : ListsMentions old ms adapters) (l : IsDefLinked old new r.role r.def place)
+module _ (old new : ModuleSoFar) (ms : List Mention) (adapters : List LinkedAdapter) (r : Mention) (place : ℕ) (h : ListsMentions old ms adapters) (l : IsDefImported old new r.role r.def place)
     (alike : (q : Role) → Contains ms (record { def = r.def; role = q }) → sort_for q ≡ sort_for r.role) where
   here : ListsMentions l.typed ms adapters
   here = listed_if_any old l.typed ms adapters _ l.types h
@@ -238,11 +238,11 @@ module _ (old new : ModuleSoFar) (ms : List Mention) (adapters : List LinkedAdap
   alike-sort : (q : Role) → Contains ms (record { def = r.def; role = q }) → sort_for q ≡ sort_of l.import.ty
   alike-sort q c = alike q c ∙ sym (stands-sort l.typed.types l.typed.section r.role l.import stands)
 
-  pub linked_step : IsMentionStep l.typed new ms r l.import
-  linked_step = mention_step l.typed new ms adapters r l.import here stands alike-sort place l.imported
+  pub imported_step : IsMentionStep l.typed new ms r l.import
+  imported_step = mention_step l.typed new ms adapters r l.import here stands alike-sort place l.imported
 
-  pub listed_linked : ListsMentions new (with_mention ms r) adapters
-  listed_linked = listed_mention l.typed new ms adapters r l.import here stands alike-sort linked_step
+  pub listed_imported : ListsMentions new (with_mention ms r) adapters
+  listed_imported = listed_mention l.typed new ms adapters r l.import here stands alike-sort imported_step
 
 -- ---- many mentions
 
@@ -260,8 +260,8 @@ alike_more ms r rs h = record { alike = λ q p cq cp e. h.alike q p (in_more ms 
 pub alike_first : (ms : List Mention) (r : Mention) (rs : List Mention) → AreUsedAlike (ms ++ r ∷ rs) → (q : Role) → Contains ms (record { def = r.def; role = q }) → sort_for q ≡ sort_for r.role
 alike_first ms r rs h q c = sorts_alike q r.role (h.alike (record { def = r.def; role = q }) r (Contains-append_left ms (r ∷ rs) _ c) (Contains-append_right ms (r ∷ rs) r (there-get (r ∷ rs) 0 r refl)) refl)
 
-pub listed_all : (rs : List Mention) (old new : ModuleSoFar) (ms : List Mention) (adapters : List LinkedAdapter) → AreLinkedInTurn old new rs → AreUsedAlike (ms ++ rs) → ListsMentions old ms adapters
+pub listed_all : (rs : List Mention) (old new : ModuleSoFar) (ms : List Mention) (adapters : List LinkedAdapter) → AreImportedInTurn old new rs → AreUsedAlike (ms ++ rs) → ListsMentions old ms adapters
     → ListsMentions new (with_mentions ms rs) adapters
 listed_all [] old new ms adapters l alike h = subst (λ s. ListsMentions s ms adapters) (sym l) h
 listed_all (r ∷ rs) old new ms adapters l alike h =
-    listed_all rs l.0 new (with_mention ms r) adapters l.3 (alike_more ms r rs alike) (listed_linked old l.0 ms adapters r l.1 h l.2 (alike_first ms r rs alike))
+    listed_all rs l.0 new (with_mention ms r) adapters l.3 (alike_more ms r rs alike) (listed_imported old l.0 ms adapters r l.1 h l.2 (alike_first ms r rs alike))

@@ -8,7 +8,7 @@ use Rattle.std.proofs.lemmas.Option.{slice_get_past}
 use Rattle.fact_wasm.specs.declared.types.ValType.{ValType}
 use Rattle.fact_machine.proofs.Tests.{first_of, second_of, both}
 use Rattle.fact_machine.specs.Typing.{is_number}
-use Rattle.fact_pieces.proofs.Lists.{get_set_here, get_set_other, map_set}
+use Rattle.fact_code_laws.proofs.Lists.{get_set_here, get_set_other, map_set}
 use Rattle.fact_emit.specs.declared.writer.Local.{Local}
 use Rattle.fact_emit.specs.declared.writer.Writer.{Writer}
 use Rattle.fact_emit.specs.Writers.{AreNumberTypes, types_of_locals, free_local_of, used_local_of, is_local_in_use, taken_in, AddedLocal, Took, Freed}
@@ -44,13 +44,13 @@ there (x ∷ xs) zero l h e = ap Some (sym e)
 there (x ∷ xs) (suc i) l h e = there xs i l h e
 
 pub freed : (a b : Writer) (i : ℕ) (l : Local) → taken_in a i ≡ true → l ≡ get_or a.locals.items i l → b.locals.items ≡ slice_set a.locals.items i (record { ty = l.ty; in_use = false })
-    → b.code.items ≡ a.code.items → b.imports ≡ a.imports → Freed a b i
+    → b.code.items ≡ a.code.items → b.sections ≡ a.sections → Freed a b i
 freed a b i l h e is code imports =
     let at = there a.locals.items i l h e in
     record { code = code; imports = imports; free = set_here a b i l false at is; others = set_others a b i l false at is; types = set_types a b i l false at is }
 
 pub took_freed : (a b : Writer) (i : ℕ) (t : ValType) → slice_get a.locals.items i ≡ Some (free_local_of t) → b.locals.items ≡ slice_set a.locals.items i (record { ty = t; in_use = true })
-    → b.code.items ≡ a.code.items → b.imports ≡ a.imports → Took a b t i
+    → b.code.items ≡ a.code.items → b.sections ≡ a.sections → Took a b t i
 took_freed a b i t h is code imports = record {
   code = code;
   imports = imports;
@@ -62,7 +62,7 @@ took_freed a b i t h is code imports = record {
   numbers = λ n. subst AreNumberTypes (sym (set_types a b i (free_local_of t) true h is)) n;
 }
 
-pub added_local : (a b : Writer) (t : ValType) (i : ℕ) → i ≡ vec_len a.locals → b.locals.items ≡ a.locals.items ++ used_local_of t ∷ [] → b.code.items ≡ a.code.items → b.imports ≡ a.imports → AddedLocal a b t i
+pub added_local : (a b : Writer) (t : ValType) (i : ℕ) → i ≡ vec_len a.locals → b.locals.items ≡ a.locals.items ++ used_local_of t ∷ [] → b.code.items ≡ a.code.items → b.sections ≡ a.sections → AddedLocal a b t i
 added_local a b t i e is code imports = record { code = code; imports = imports; locals = is; place = e ∙ a.locals.ok.0 }
 
 -- one more type of numbers

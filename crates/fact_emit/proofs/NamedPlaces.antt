@@ -11,7 +11,7 @@ use Rattle.fact_machine.specs.Typing.{global_import}
 use Rattle.fact_types.specs.declared.import.Import.{Import}
 use Rattle.fact_emit.specs.ImportSection.{AreNamed, Callback, Callee, Flags, IsNamed, Mention, PostReturn, Realloc, Role, StandsFor, Storage, a_function, a_global, a_memory, custom_page_size, imported_type, imports_of, sort_of}
 use Rattle.fact_emit.specs.Known.{memory_of_role}
-use Rattle.fact_emit.specs.Linked.{type_of_role}
+use Rattle.fact_emit.specs.DefImports.{type_of_role}
 use Rattle.fact_emit.proofs.Named.{function-sort, sort_for}
 
 -- ---- by their places

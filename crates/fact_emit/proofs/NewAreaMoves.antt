@@ -19,30 +19,30 @@ use Rattle.fact_machine.specs.declared.types.CoreValue.TheVariants.{I32}
 use Rattle.fact_machine.specs.Machine.{has_type}
 use Rattle.fact_machine.specs.Typing.{address_type, address_operand}
 use Rattle.fact_machine.proofs.NumericLaws.{leaves_i64_const}
-use Rattle.fact_moves.specs.Actions as action
-use Rattle.fact_moves.specs.Actions.{Action, Give, Ask}
-use Rattle.fact_moves.specs.Running.{ImportPlaces}
-use Rattle.fact_moves.specs.Sides.{LiftLowerOptions, check_region, first_bits, get_slots, reallocate, set_slots}
-use Rattle.fact_pieces.specs.Does.{Locals, Onward, held_types, Does}
-use Rattle.fact_pieces.specs.Context.{ContextSlots}
-use Rattle.fact_pieces.specs.Lists.{address_code}
-use Rattle.fact_pieces.specs.Places.{Slot, AreLocals, limit_of, widen}
-use Rattle.fact_pieces.specs.Typed.{OnStack, IsTyped}
-use Rattle.fact_pieces.specs.Tests.{pointer, region_code}
-use Rattle.fact_pieces.proofs.Guards.{takes_aligned}
-use Rattle.fact_pieces.proofs.Keeping.{keeps_then}
-use Rattle.fact_pieces.proofs.ListCode.{realloc_code, reallocates, region_action}
-use Rattle.fact_pieces.proofs.ListTyped.{typed_as_address, typed_ask, typed_keep_address}
-use Rattle.fact_pieces.proofs.Numbers.{set_keeps}
-use Rattle.fact_pieces.proofs.ListTurns.{length_addresses}
-use Rattle.fact_pieces.proofs.Pointers.{gets_address, limit_wide, region}
-use Rattle.fact_pieces.proofs.Regions.{typed_bounds}
-use Rattle.fact_pieces.proofs.Rules.{within, pushing, local_set, done}
-use Rattle.fact_pieces.proofs.Slots.{others, typed_slots}
-use Rattle.fact_pieces.proofs.Temporaries.{Temporaries, standing, set_temp}
-use Rattle.fact_pieces.proofs.TypedRows.{takes_plain, takes_local_set}
-use Rattle.fact_pieces.proofs.TypedShapes.{takes_guard, typed_length}
-use Rattle.fact_pieces.proofs.TypingLaws.{typed_done, typed_then, typed_next, typed_one}
+use Rattle.fact_actions.specs.Actions as action
+use Rattle.fact_actions.specs.Actions.{Action, Give, Ask}
+use Rattle.fact_actions.specs.Running.{ImportPlaces}
+use Rattle.fact_actions.specs.Sides.{LiftLowerOptions, check_region, first_bits, get_slots, reallocate, set_slots}
+use Rattle.fact_code_laws.specs.Does.{Locals, Onward, held_types, Does}
+use Rattle.fact_code_laws.specs.Context.{ContextSlots}
+use Rattle.fact_code_laws.specs.Lists.{address_code}
+use Rattle.fact_code_laws.specs.Places.{Slot, AreLocals, limit_of, widen}
+use Rattle.fact_code_laws.specs.Typed.{OnStack, IsTyped}
+use Rattle.fact_code_laws.specs.Tests.{pointer_of_width, region_code}
+use Rattle.fact_code_laws.proofs.Guards.{takes_aligned}
+use Rattle.fact_code_laws.proofs.Keeping.{keeps_then}
+use Rattle.fact_code_laws.proofs.ListCode.{realloc_code, reallocates, region_action}
+use Rattle.fact_code_laws.proofs.ListTyped.{typed_as_address, typed_ask, typed_keep_address}
+use Rattle.fact_code_laws.proofs.Numbers.{set_keeps}
+use Rattle.fact_code_laws.proofs.ListTurns.{length_addresses}
+use Rattle.fact_code_laws.proofs.Pointers.{gets_address, limit_wide, region}
+use Rattle.fact_code_laws.proofs.Regions.{typed_bounds}
+use Rattle.fact_code_laws.proofs.Rules.{within, pushing, local_set, done}
+use Rattle.fact_code_laws.proofs.Slots.{others, typed_slots}
+use Rattle.fact_code_laws.proofs.Temporaries.{Temporaries, standing, set_temp}
+use Rattle.fact_code_laws.proofs.TypedRows.{takes_plain, takes_local_set}
+use Rattle.fact_code_laws.proofs.TypedShapes.{takes_guard, typed_length}
+use Rattle.fact_code_laws.proofs.TypingLaws.{typed_done, typed_then, typed_next, typed_one}
 use Rattle.fact_emit.specs.declared.context.ContextLocals.{ContextLocals}
 use Rattle.fact_emit.specs.declared.places.LinearMemory.{LinearMemory}
 use Rattle.fact_emit.specs.declared.pointers.AreaLocals.{AreaLocals}
@@ -78,7 +78,7 @@ new_area_emits {concurrency = concurrency} {m} {address} {size} {wide} {align} t
     {Q = λ M p locals k. (c : List Instr) × AsksRegion concurrency m (new_region t s align) MemoryOutOfBounds M p locals c × (k ≡ c ++ back)}
     (λ M p locals c k is r.
     let request : List Instr = request_code concurrency (slots_of p s) m.realloc m.memory64 align t.bytes in
-    let keep : List Instr = widen (pointer m.memory64) val.I64 ++ I.LocalSet t.pointer ∷ [] in
+    let keep : List Instr = widen (pointer_of_width m.memory64) val.I64 ++ I.LocalSet t.pointer ∷ [] in
     let checks : List Instr = region_code m.memory m.memory64 m.page_size_log2 align t.pointer t.bytes t.length (p.function (import.Trap UnalignedPointer)) (p.function (import.Trap MemoryOutOfBounds)) in
     record {
       slots = r.1.slots;
@@ -113,7 +113,7 @@ request_is {A} concurrency o w f align size k wide given = ap (by_realloc (is_wi
     typed true = refl
     typed false = refl
 
-limit_least : (memory64 : Bool) → 2 ^ 32 ≤ limit_of (pointer memory64)
+limit_least : (memory64 : Bool) → 2 ^ 32 ≤ limit_of (pointer_of_width memory64)
 limit_least true = omega arith
 limit_least false = omega arith
 
@@ -152,7 +152,7 @@ area_asks concurrency m taken address size align t s M p locals code (px, (bx, (
     back = address_code m.memory64 t.pointer ++ I.LocalSet address ∷ []
 
     keep : List Instr
-    keep = widen (pointer m.memory64) val.I64 ++ I.LocalSet t.pointer ∷ []
+    keep = widen (pointer_of_width m.memory64) val.I64 ++ I.LocalSet t.pointer ∷ []
 
     -- the code with the place of realloc
     code_with : ℕ → Option ℕ → List Instr
@@ -191,7 +191,7 @@ area_asks concurrency m taken address size align t s M p locals code (px, (bx, (
           typed = each_of (λ i. slice_get locals i ≡ Some val.I64) t.pointer t.bytes t.length tp tb tl;
           free = each_of (λ i. used i ≡ false) t.pointer t.bytes t.length (unkept used inside t.pointer fp) (unkept used inside t.bytes fb) (unkept used inside t.length fl);
         } in
-        let fits : size < limit_of (pointer m.memory64) = omega (arith, small, limit_least m.memory64) in
+        let fits : size < limit_of (pointer_of_width m.memory64) = omega (arith, small, limit_least m.memory64) in
         let bytes_other : others slots t.bytes ≡ true = other_than slots t.bytes bx.1.0 bx.1.1.0 in
         subst (λ c. Does M p Onward 60 0 [] ls c (reallocate concurrency o MemoryOutOfBounds 0 0 align size (λ at. Give at)) (λ at. []) (λ at ls'. HoldsArea m used address size ls at ls')) (sym (code_is side r))
         (subst (λ q. Does M p Onward 60 0 [] ls (code_with r.place side.side.log2) q (λ at. []) (λ at ls'. HoldsArea m used address size ls at ls')) (sym (request_is concurrency o m.memory64 r.def align size (λ at. Give at) (wide_of side) r.given))

@@ -9,14 +9,14 @@ use Rattle.fact_wasm.specs.declared.instr.Instr.{Instr}
 use Rattle.fact_wasm.specs.declared.instr.Instr.TheVariants as I
 use Rattle.fact_wasm.specs.declared.module.WasmModule.{WasmModule}
 use Rattle.fact_wasm.specs.Ranges.{AreRanged}
-use Rattle.fact_moves.specs.Running.{ImportPlaces}
-use Rattle.fact_moves.specs.Sides.{LiftLowerOptions}
-use Rattle.fact_pieces.specs.Code.{scaled_code}
-use Rattle.fact_pieces.specs.Places.{From, InLocals, InMemory, To, Number, N8, N16, N32, N64, FitsNumber, DebugChecks, Off, Setting, is_halved, Readable, code_before, code_behind, read_code, narrow, widen}
-use Rattle.fact_pieces.proofs.Chars.{scalar_is, case_is}
-use Rattle.fact_pieces.specs.Tests.{pointer}
-use Rattle.fact_pieces.proofs.Scalars.{Converts, converts_none, converts_bool, converts_s8, converts_s16, converts_low, IsNarrow, narrow_8, narrow_16, narrow_32, moves_number, number_code}
-use Rattle.fact_pieces.proofs.Tested.{IsTest, moves_tested, tested_code}
+use Rattle.fact_actions.specs.Running.{ImportPlaces}
+use Rattle.fact_actions.specs.Sides.{LiftLowerOptions}
+use Rattle.fact_code_laws.specs.Code.{scaled_code}
+use Rattle.fact_code_laws.specs.Places.{From, InLocals, InMemory, To, Number, N8, N16, N32, N64, FitsNumber, DebugChecks, Off, Setting, is_halved, Readable, code_before, code_behind, read_code, narrow, widen}
+use Rattle.fact_code_laws.proofs.Chars.{scalar_is, case_is}
+use Rattle.fact_code_laws.specs.Tests.{pointer_of_width}
+use Rattle.fact_code_laws.proofs.Scalars.{Converts, converts_none, converts_bool, converts_s8, converts_s16, converts_low, IsNarrow, narrow_8, narrow_16, narrow_32, moves_number, number_code}
+use Rattle.fact_code_laws.proofs.Tested.{IsTest, moves_tested, tested_code}
 use Rattle.fact_types.proofs.ShapeLaws.{same_some, none_some}
 use Rattle.std.proofs.Common.{Bor}
 use Rattle.fact_emit.specs.declared.places.Address.{Address}
@@ -95,7 +95,7 @@ ReadsThen debug n from ys M p locals code = HasUpperAt M p (checks_at debug p) n
 pub reads_then : {a b c : Writer} {debug : Bool} {n : Number} {from : From} {ys : List Instr} → AreRanged 0 0 ys → Emits a b (ReadsNumber debug n from) → Wrote b c ys → Emits a c (ReadsThen debug n from ys)
 reads_then ranged x y = emits_then (λ M p locals c k r is. (r.has, λ i. r.is i ++ is i)) x (emits_wrote ranged y)
 
-pub pointer_emits : {a b c d : Writer} {debug memory64 : Bool} {n : Number} {from : From} {local : ℕ} → n ≡ pointer memory64 → Emits a b (ReadsNumber debug n from) → Wrote b c (widen n val.I64) → Wrote c d (I.LocalSet local ∷ []) → Emits a d (ReadsPointer debug memory64 from local)
+pub pointer_emits : {a b c d : Writer} {debug memory64 : Bool} {n : Number} {from : From} {local : ℕ} → n ≡ pointer_of_width memory64 → Emits a b (ReadsNumber debug n from) → Wrote b c (widen n val.I64) → Wrote c d (I.LocalSet local ∷ []) → Emits a d (ReadsPointer debug memory64 from local)
 pointer_emits {debug = debug} {memory64} {n} {from} {local} e x y z =
     emits_as (λ M p locals code r. record {
       is = r.1 ∙ ap (λ n. read_code (checks_at debug p) n from ++ (widen n val.I64 ++ I.LocalSet local ∷ [])) e;

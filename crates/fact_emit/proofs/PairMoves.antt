@@ -1,7 +1,7 @@
 -- Functions that read and write a pointer and a length.
 use Rattle.std.proofs.Common.{◌≡◌, ℕ, Bool, ◌++◌, subst}
-use Rattle.fact_pieces.specs.Lists.{put_code}
-use Rattle.fact_pieces.specs.Places.{From, To}
+use Rattle.fact_code_laws.specs.Lists.{put_code}
+use Rattle.fact_code_laws.specs.Places.{From, To}
 use Rattle.fact_emit.specs.declared.writer.Writer.{Writer}
 use Rattle.fact_emit.specs.Checks.{ReadsPointer}
 use Rattle.fact_emit.specs.Emits.{Emits}

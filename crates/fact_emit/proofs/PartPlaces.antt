@@ -4,9 +4,9 @@ use Rattle.std.specs.Prelude.{nat_eq, if◌then◌else◌}
 use Rattle.std.proofs.lemmas.Bool.{eqb-true, eq-eqb}
 use Rattle.fact_wasm.specs.declared.types.ValType.{ValType}
 use Rattle.fact_types.specs.declared.flats.FlatType.{FlatType}
-use Rattle.fact_pieces.specs.Places.{Slot, AreUsed, AreLocals, IsNone}
-use Rattle.fact_pieces.proofs.FieldMoves.{AreApart, with_slots}
-use Rattle.fact_pieces.proofs.UsedLocals.{local_more}
+use Rattle.fact_code_laws.specs.Places.{Slot, AreUsed, AreLocals, IsNone}
+use Rattle.fact_code_laws.proofs.FieldMoves.{AreApart, with_slots}
+use Rattle.fact_code_laws.proofs.UsedLocals.{local_more}
 use Rattle.fact_emit.specs.declared.places.TypedLocal.{TypedLocal}
 use Rattle.fact_emit.specs.Fitting.{AreRoom}
 use Rattle.fact_emit.specs.Places.{AreDistinctSlots, slots_of_locals}

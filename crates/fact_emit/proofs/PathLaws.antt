@@ -2,8 +2,8 @@
 use Rattle.std.proofs.Common.{◌≡◌, ℕ, suc, ◌+◌, ◌<◌, sym, subst, arith, rules}
 use Rattle.fact_types.specs.declared.outside.StringEncoding.{StringEncoding}
 use Rattle.fact_types.specs.declared.outside.StringEncoding.TheVariants as string
-use Rattle.fact_moves.specs.Paths.{Path, End, Limit, Resize, Pass, If, Tag, Assert, TextForm, AsUtf8, AsUtf16, AsCompactLatin1, AsCompactUtf16, align_of, path}
-use Rattle.fact_pieces.specs.StringCode.{align_of_form}
+use Rattle.fact_actions.specs.Paths.{Path, End, Limit, Resize, Pass, If, Tag, Assert, TextForm, AsUtf8, AsUtf16, AsCompactLatin1, AsCompactUtf16, align_of, path}
+use Rattle.fact_code_laws.specs.StringCode.{align_of_form}
 use Rattle.fact_emit.specs.StringPaths.{AreLimitsSome}
 
 limits_some : (f : TextForm) (e : StringEncoding) → AreLimitsSome (path f e)

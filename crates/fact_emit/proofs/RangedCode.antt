@@ -8,10 +8,10 @@ use Rattle.fact_wasm.specs.declared.instr.Instr.TheVariants as I
 use Rattle.fact_wasm.specs.declared.types.ValType.{ValType}
 use Rattle.fact_wasm.specs.declared.types.ValType.TheVariants as val
 use Rattle.fact_wasm.specs.Ranges.{AreRanged}
-use Rattle.fact_pieces.specs.Cases.{tag_code, zero_code, zero_const, zero_slots}
-use Rattle.fact_pieces.specs.Code.{length_code, pages_code, scaled_code, trap_code}
-use Rattle.fact_pieces.specs.Places.{InMemory, Number, N8, N16, N32, N64, Off, Slot, To, ToLocals, ToMemory, code_before, code_behind, from_i32, from_i64, narrow, place_test, read_code, to_i32, to_i64, upper_test, widen}
-use Rattle.fact_pieces.specs.Tests.{aligned_code, bounds_code, pointer}
+use Rattle.fact_code_laws.specs.Cases.{tag_code, zero_code, zero_const, zero_slots}
+use Rattle.fact_code_laws.specs.Code.{length_code, pages_code, scaled_code, trap_code}
+use Rattle.fact_code_laws.specs.Places.{InMemory, Number, N8, N16, N32, N64, Off, Slot, To, ToLocals, ToMemory, code_before, code_behind, from_i32, from_i64, narrow, place_test, read_code, to_i32, to_i64, upper_test, widen}
+use Rattle.fact_code_laws.specs.Tests.{aligned_code, bounds_code, pointer_of_width}
 use Rattle.fact_emit.specs.declared.scalars.Canonical.{Canonical}
 use Rattle.fact_emit.specs.declared.scalars.Canonical.TheVariants.{AsIs, Truth, Signed8, Signed16, Low}
 use Rattle.fact_emit.specs.declared.scalars.NumberTest.{NumberTest}
@@ -121,7 +121,7 @@ tag_ranged n number dst =
 -- ---- pointers
 
 pub widened_ranged : (memory64 : Bool) (address local : ℕ) → AreRanged 0 0 (widened_code memory64 address local)
-widened_ranged memory64 address local = ranged_append 0 0 (I.LocalGet address ∷ []) (widen (pointer memory64) val.I64 ++ I.LocalSet local ∷ []) (get_ranged address) (kept_ranged (pointer memory64) val.I64 local)
+widened_ranged memory64 address local = ranged_append 0 0 (I.LocalGet address ∷ []) (widen (pointer_of_width memory64) val.I64 ++ I.LocalSet local ∷ []) (get_ranged address) (kept_ranged (pointer_of_width memory64) val.I64 local)
 
 pub constant_ranged : (n local : ℕ) → AreRanged 0 0 (I.I64Const n ∷ I.LocalSet local ∷ [])
 constant_ranged n local = ranged_none 0 0 (I.I64Const n ∷ I.LocalSet local ∷ []) (simp the_lemmas)

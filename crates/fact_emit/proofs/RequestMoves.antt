@@ -9,11 +9,11 @@ use Rattle.fact_wasm.specs.declared.module.WasmModule.{WasmModule}
 use Rattle.fact_types.specs.declared.import.Import.TheVariants as import
 use Rattle.fact_types.specs.declared.outside.Trap.{Trap}
 use Rattle.fact_types.specs.declared.outside.Trap.TheVariants.{UnalignedPointer}
-use Rattle.fact_moves.specs.Running.{ImportPlaces}
-use Rattle.fact_pieces.specs.Context.{restore_code}
-use Rattle.fact_pieces.specs.Knows.{KnowsFunction}
-use Rattle.fact_pieces.specs.Places.{widen}
-use Rattle.fact_pieces.specs.Tests.{HasUnaligned, aligned_guard, pointer, region_code}
+use Rattle.fact_actions.specs.Running.{ImportPlaces}
+use Rattle.fact_code_laws.specs.Context.{restore_code}
+use Rattle.fact_code_laws.specs.Knows.{KnowsFunction}
+use Rattle.fact_code_laws.specs.Places.{widen}
+use Rattle.fact_code_laws.specs.Tests.{HasUnaligned, aligned_guard, pointer_of_width, region_code}
 use Rattle.fact_emit.specs.declared.places.LinearMemory.{LinearMemory}
 use Rattle.fact_emit.specs.declared.requests.NewRegion.{NewRegion}
 use Rattle.fact_emit.specs.declared.writer.Writer.{Writer}
@@ -51,21 +51,21 @@ region_at {m} {align} {address} {bytes} {length} {t} M p locals code r =
     }
 
 -- realloc is called, with the slots saved in front of the call and set back behind it
-pub calls_realloc : {a b c d : Writer} {concurrency : Bool} {m : LinearMemory} (r : NewRegion) → IsReallocImported m b.imports → Emits a b (SavesSlots concurrency r.context) → Wrote b c (ask_code_if m.realloc m.memory64 r.align r.bytes) → Emits c d (WritesSlots concurrency r.context)
+pub calls_realloc : {a b c d : Writer} {concurrency : Bool} {m : LinearMemory} (r : NewRegion) → IsReallocImported m b.sections → Emits a b (SavesSlots concurrency r.context) → Wrote b c (ask_code_if m.realloc m.memory64 r.align r.bytes) → Emits c d (WritesSlots concurrency r.context)
     → Emits a d (CallsRealloc concurrency m r)
 calls_realloc {b = b} {concurrency = concurrency} {m} r imported x y z =
     let ask : List Instr = ask_code_if m.realloc m.memory64 r.align r.bytes in
     emits_then {Q = λ M p locals k. k ≡ ask ++ restore_code concurrency (slots_of p r.context)} (λ M p locals c k s is. record { slots = s.has; is = λ i. s.is i ++ is i }) x
-    (emits_then {P = Is ask} (λ M p locals c k is w. λ i. is i ++ w.is i) (emits_before (asked_ranged m b.imports r.align r.bytes imported) y) z)
+    (emits_then {P = Is ask} (λ M p locals c k is w. λ i. is i ++ w.is i) (emits_before (asked_ranged m b.sections r.align r.bytes imported) y) z)
 
-pub asks_region : {a b c d : Writer} {t : Trap} {concurrency : Bool} {m : LinearMemory} (r : NewRegion) → Emits a b (CallsRealloc concurrency m r) → Wrote b c (widen (pointer m.memory64) val.I64 ++ I.LocalSet r.address ∷ []) → Emits c d (ChecksRegion m r.align r.address r.bytes r.length t)
+pub asks_region : {a b c d : Writer} {t : Trap} {concurrency : Bool} {m : LinearMemory} (r : NewRegion) → Emits a b (CallsRealloc concurrency m r) → Wrote b c (widen (pointer_of_width m.memory64) val.I64 ++ I.LocalSet r.address ∷ []) → Emits c d (ChecksRegion m r.align r.address r.bytes r.length t)
     → Emits a d (AsksRegion concurrency m r t)
 asks_region {t = t} {concurrency} {m} r x y z =
-    let keep : List Instr = widen (pointer m.memory64) val.I64 ++ I.LocalSet r.address ∷ [] in
+    let keep : List Instr = widen (pointer_of_width m.memory64) val.I64 ++ I.LocalSet r.address ∷ [] in
     emits_then {Q = λ M p locals k. (checks : List Instr) × RegionAt m r.align r.address r.bytes r.length t M p locals checks × (k ≡ keep ++ checks)} (λ M p locals c k q g. record {
       slots = q.slots;
       unaligned = g.1.unaligned;
       outside = g.1.outside;
       is = λ i. q.is i ++ (g.2 ∙ ap (λ k. keep ++ k) g.1.is) i;
     }) x
-    (emits_then {P = Is keep} (λ M p locals c k is g. (k, g, ap (λ c. c ++ k) is)) (emits_wrote (kept_ranged (pointer m.memory64) val.I64 r.address) y) (emits_as region_at z))
+    (emits_then {P = Is keep} (λ M p locals c k is g. (k, g, ap (λ c. c ++ k) is)) (emits_wrote (kept_ranged (pointer_of_width m.memory64) val.I64 r.address) y) (emits_as region_at z))

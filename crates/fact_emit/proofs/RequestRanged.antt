@@ -5,8 +5,8 @@ use Rattle.fact_wasm.specs.declared.instr.Instr.{Instr, the_lemmas}
 use Rattle.fact_wasm.specs.declared.instr.Instr.TheVariants as I
 use Rattle.fact_wasm.specs.declared.types.ValType.TheVariants as val
 use Rattle.fact_wasm.specs.Ranges.{AreRanged}
-use Rattle.fact_pieces.specs.Lists.{address_code, ask_code, const_code}
-use Rattle.fact_pieces.specs.Tests.{pointer}
+use Rattle.fact_code_laws.specs.Lists.{address_code, ask_code, const_code}
+use Rattle.fact_code_laws.specs.Tests.{pointer_of_width}
 use Rattle.fact_emit.specs.declared.places.LinearMemory.{LinearMemory}
 use Rattle.fact_emit.specs.declared.writer.Writer.{Writer}
 use Rattle.fact_emit.specs.Emits.{Grew}
@@ -21,7 +21,7 @@ const_ranged true n = ranged_none 0 0 (const_code true n ∷ []) (simp the_lemma
 const_ranged false n = ranged_none 0 0 (const_code false n ∷ []) (simp the_lemmas)
 
 pub address_ranged : (memory64 : Bool) (local : ℕ) → AreRanged 0 0 (address_code memory64 local)
-address_ranged memory64 local = local_ranged local (pointer memory64) val.I64
+address_ranged memory64 local = local_ranged local (pointer_of_width memory64) val.I64
 
 -- realloc is called, which is imported
 ask_ranged : (imports : ℕ) (memory64 : Bool) (align bytes place : ℕ) → place < imports → AreRanged imports 0 (ask_code memory64 align bytes place)
@@ -41,7 +41,7 @@ asked_ranged m s align bytes h = go m.realloc refl
     go (Some place) e = ask_ranged (length (functions_of s)) m.memory64 align bytes place (h.below place e)
 
 -- it is imported still when more is
-pub realloc_on : {m : LinearMemory} {a b : Writer} → IsReallocImported m a.imports → Grew a b → IsReallocImported m b.imports
+pub realloc_on : {m : LinearMemory} {a b : Writer} → IsReallocImported m a.sections → Grew a b → IsReallocImported m b.sections
 realloc_on h x = realloc_later x.imports h
 
 pub realloc_same : {m : LinearMemory} {s s' : ModuleSoFar} → s' ≡ s → IsReallocImported m s → IsReallocImported m s'

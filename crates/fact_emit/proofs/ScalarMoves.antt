@@ -12,10 +12,10 @@ use Rattle.fact_types.specs.declared.widths.MemoryWidth.{MemoryWidth}
 use Rattle.fact_types.specs.FlatShapes.{flat, flat_plain}
 use Rattle.fact_types.specs.Shapes.{Shape, s_plain}
 use Rattle.fact_machine.specs.Typing.{address_bits}
-use Rattle.fact_moves.specs.Running.{ImportPlaces}
-use Rattle.fact_moves.specs.Sides.{LiftLowerOptions, Source, Target, width_of_side}
-use Rattle.fact_pieces.specs.Places.{From, InLocals, InMemory, To, ToLocals, ToMemory, Number, N32, MayHold, Readable, Writable, FromTyped, ToTyped, Off, Setting, transfer}
-use Rattle.fact_pieces.proofs.FieldMoves.{moves_same}
+use Rattle.fact_actions.specs.Running.{ImportPlaces}
+use Rattle.fact_actions.specs.Sides.{LiftLowerOptions, Source, Target, width_of_side}
+use Rattle.fact_code_laws.specs.Places.{From, InLocals, InMemory, To, ToLocals, ToMemory, Number, N32, MayHold, Readable, Writable, FromTyped, ToTyped, Off, Setting, transfer}
+use Rattle.fact_code_laws.proofs.FieldMoves.{moves_same}
 use Rattle.fact_emit.specs.declared.places.Sides.{Sides}
 use Rattle.fact_emit.specs.declared.scalars.Canonical.{Canonical}
 use Rattle.fact_emit.specs.declared.scalars.NumberTest.TheVariants.{ScalarValue}

@@ -6,8 +6,8 @@ use Rattle.fact_wasm.specs.declared.module.WasmModule.{WasmModule}
 use Rattle.fact_machine.specs.Machine.{func_import, memory_import}
 use Rattle.fact_machine.specs.Typed.{type_of_global, type_of_memory}
 use Rattle.fact_machine.specs.Typing.{global_import}
-use Rattle.fact_moves.specs.Running.{ImportPlaces}
-use Rattle.fact_pieces.specs.Knows.{ArePlacesOf}
+use Rattle.fact_actions.specs.Running.{ImportPlaces}
+use Rattle.fact_code_laws.specs.Knows.{ArePlacesOf}
 use Rattle.fact_types.specs.declared.import.Import.TheVariants as known
 use Rattle.fact_emit.specs.ImportedPlaces.{AreImportPlaces}
 use Rattle.fact_emit.specs.Imports.{Extended, Serves}

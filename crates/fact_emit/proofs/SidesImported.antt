@@ -37,7 +37,7 @@ sides_later x h = record {
 }
 
 -- behind code that was put there
-pub sides_on : {sides : Sides} {a b : Writer} → AreSidesImported sides a.imports → Grew a b → AreSidesImported sides b.imports
+pub sides_on : {sides : Sides} {a b : Writer} → AreSidesImported sides a.sections → Grew a b → AreSidesImported sides b.sections
 sides_on h x = sides_later x.imports h
 
 pub sides_same : {sides : Sides} {s s' : ModuleSoFar} → s' ≡ s → AreSidesImported sides s → AreSidesImported sides s'

@@ -15,16 +15,16 @@ use Rattle.fact_types.specs.declared.outside.Trap.{Trap}
 use Rattle.fact_types.specs.declared.outside.Trap.TheVariants.{StringOutOfBounds, UnalignedPointer}
 use Rattle.fact_types.specs.declared.import.Import.{Import}
 use Rattle.fact_types.specs.declared.import.Import.TheVariants as import
-use Rattle.fact_moves.specs.Paths.{Amount, Test}
-use Rattle.fact_moves.specs.Running.{ImportPlaces}
-use Rattle.fact_moves.specs.Transcoders.{transcode_kind}
-use Rattle.fact_pieces.specs.Code.{guard_code}
-use Rattle.fact_pieces.specs.Context.{HasSlotsIf, restore_code, save_code}
-use Rattle.fact_pieces.specs.Knows.{KnowsFunction}
-use Rattle.fact_pieces.specs.Places.{is_on}
-use Rattle.fact_pieces.specs.StringCode.{StringMove, amount_code, answer_code, assert_code, from_address, limit_code, pass_code, regrow_code, resize_code, source_code, target_code, test_code}
-use Rattle.fact_pieces.specs.StringNeeds.{Needs, NeedsNone, NeedsRegion, NeedsRequest, NeedsTranscoder, NeedsTrap}
-use Rattle.fact_pieces.specs.Tests.{region_code}
+use Rattle.fact_actions.specs.Paths.{Amount, Test}
+use Rattle.fact_actions.specs.Running.{ImportPlaces}
+use Rattle.fact_actions.specs.Transcoders.{transcode_kind}
+use Rattle.fact_code_laws.specs.Code.{guard_code}
+use Rattle.fact_code_laws.specs.Context.{HasSlotsIf, restore_code, save_code}
+use Rattle.fact_code_laws.specs.Knows.{KnowsFunction}
+use Rattle.fact_code_laws.specs.Places.{is_on}
+use Rattle.fact_code_laws.specs.StringCode.{StringMove, amount_code, answer_code, assert_code, from_address, limit_code, pass_code, regrow_code, resize_code, source_code, target_code, test_code}
+use Rattle.fact_code_laws.specs.StringNeeds.{Needs, NeedsNone, NeedsRegion, NeedsRequest, NeedsTranscoder, NeedsTrap}
+use Rattle.fact_code_laws.specs.Tests.{region_code}
 use Rattle.fact_emit.specs.declared.places.Sides.{Sides}
 use Rattle.fact_emit.specs.declared.string_locals.StringLocals.{StringLocals}
 use Rattle.fact_emit.specs.declared.transcoders.Transcoder.{Transcoder}
@@ -36,7 +36,7 @@ use Rattle.fact_emit.specs.Pieces.{Is, Piece}
 use Rattle.fact_emit.specs.Places.{checks_at}
 use Rattle.fact_emit.specs.RuntimeCalls.{SavesSlots, WritesSlots}
 use Rattle.fact_emit.specs.States.{AreMemoriesImported, HaveMemoryWidths, ModuleSoFar, functions_of}
-use Rattle.fact_emit.specs.StringPieces.{AreSidesImported, IsPart, NeedsBoth, NeedsTrapIf, StringPiece, WrotePart, string_move, transcoder_between}
+use Rattle.fact_emit.specs.StringPieces.{AreSidesImported, IsPart, NeedsBoth, NeedsTrapIf, StringPiece, WroteStringPart, string_move, transcoder_between}
 use Rattle.fact_emit.specs.Writers.{Wrote, TookTranscoder}
 use Rattle.fact_emit.proofs.CheckMoves.{guard_is, guarded_as, trap_is}
 use Rattle.fact_emit.proofs.Emitting.{emits_as, emits_before, emits_nothing, emits_then, emits_transcoding, emits_wrote}
@@ -118,7 +118,7 @@ same_added : {a b : Writer} {xs ys : List Instr} → Wrote a b xs → Wrote a b 
 same_added {a} {xs = xs} {ys} x y = append_cancel_left a.code.items xs ys (sym x.code ∙ y.code)
 
 module _ {sides : Sides} {l : StringLocals} where
-  pub piece_part : {a b : Writer} (P : Part) → ((m : StringMove) → AreRanged 0 0 (P m)) → WrotePart sides l P a b → Emits a b (StringPiece sides l P NeedsNone)
+  pub piece_part : {a b : Writer} (P : Part) → ((m : StringMove) → AreRanged 0 0 (P m)) → WroteStringPart sides l P a b → Emits a b (StringPiece sides l P NeedsNone)
   piece_part P ranged w =
       let x = w nowhere no_def no_def in
       emits_as (λ M p locals code is. record { is = λ d e h. is ∙ same_added x (w p d e); has = λ d e h. tt }) (emits_wrote (ranged (string_move sides l nowhere no_def no_def)) x)
@@ -127,7 +127,7 @@ module _ {sides : Sides} {l : StringLocals} where
   piece_code ranged x = emits_as (λ M p locals code is. record { is = λ d e h. is; has = λ d e h. tt }) (emits_wrote ranged x)
 
   -- they may name functions that were imported before
-  pub piece_before : {xs : List Instr} {a b : Writer} → AreRanged (length (functions_of a.imports)) 0 xs → Wrote a b xs → Emits a b (StringPiece sides l (λ m. xs) NeedsNone)
+  pub piece_before : {xs : List Instr} {a b : Writer} → AreRanged (length (functions_of a.sections)) 0 xs → Wrote a b xs → Emits a b (StringPiece sides l (λ m. xs) NeedsNone)
   piece_before ranged x = emits_as (λ M p locals code is. record { is = λ d e h. is; has = λ d e h. tt }) (emits_before ranged x)
 
   -- the code of a part that was written aside
@@ -203,15 +203,15 @@ module _ {sides : Sides} {l : StringLocals} where
   answered restores answer region checks = piece_behind (restored restores) (piece_behind (piece_code (from_address_ranged sides.to.memory64) answer) (piece_behind (piece_code (set_ranged l.region) region) (to_region checks)))
 
   -- the amounts before and after
-  amounts_put : {a b c d e : Writer} (x y : Amount) → WrotePart sides l (λ m. amount_code m x) a b → Wrote b c (I.LocalSet l.before ∷ []) → WrotePart sides l (λ m. amount_code m y) c d → Wrote d e (I.LocalSet l.bytes ∷ [])
+  amounts_put : {a b c d e : Writer} (x y : Amount) → WroteStringPart sides l (λ m. amount_code m x) a b → Wrote b c (I.LocalSet l.before ∷ []) → WroteStringPart sides l (λ m. amount_code m y) c d → Wrote d e (I.LocalSet l.bytes ∷ [])
       → Emits a e (StringPiece sides l (λ m. amount_code m x ++ ((I.LocalSet l.before ∷ []) ++ (amount_code m y ++ (I.LocalSet l.bytes ∷ [])))) NeedsNone)
   amounts_put x y from before to bytes =
       piece_behind (piece_part (λ m. amount_code m x) (amount_ranged x) from) (piece_behind (piece_code (set_ranged l.before) before)
       (piece_behind (piece_part (λ m. amount_code m y) (amount_ranged y) to) (piece_code (set_ranged l.bytes) bytes)))
 
   -- realloc is called, and what it answers is checked
-  pub resized : {a b c d e f g h i j k : Writer} {align : ℕ} (x y : Amount) → AreSidesImported sides a.imports
-      → WrotePart sides l (λ m. amount_code m x) a b → Wrote b c (I.LocalSet l.before ∷ []) → WrotePart sides l (λ m. amount_code m y) c d → Wrote d e (I.LocalSet l.bytes ∷ [])
+  pub resized : {a b c d e f g h i j k : Writer} {align : ℕ} (x y : Amount) → AreSidesImported sides a.sections
+      → WroteStringPart sides l (λ m. amount_code m x) a b → Wrote b c (I.LocalSet l.before ∷ []) → WroteStringPart sides l (λ m. amount_code m y) c d → Wrote d e (I.LocalSet l.bytes ∷ [])
       → Emits e f (SavesSlots sides.concurrency l.context) → Wrote f g (regrow_code sides.to.realloc sides.to.memory64 l.region l.before align l.bytes) → Emits g h (WritesSlots sides.concurrency l.context)
       → Wrote h i (from_address sides.to.memory64) → Wrote i j (I.LocalSet l.region ∷ []) → Emits j k (ChecksRegion sides.to align l.region l.bytes l.length StringOutOfBounds)
       → Emits a k (StringPiece sides l (λ m. resize_code m align x y) (NeedsRequest align))
@@ -220,7 +220,7 @@ module _ {sides : Sides} {l : StringLocals} where
       let still = realloc_on (realloc_on imported.realloc amounts.grew) saves.grew in
       let regrow : List Instr = regrow_code sides.to.realloc sides.to.memory64 l.region l.before align l.bytes in
       piece_as (λ p d e. in_order (string_move sides l p d e) align x y) (piece_needs (λ m M p d e h. record { slots = h.0; region = h.1 }) (piece_behind amounts (piece_then (saved saves)
-      (piece_behind (piece_before (regrow_ranged (length (functions_of f.imports)) sides.to.realloc sides.to.memory64 l.region l.before align l.bytes still.below) regrows) (answered restores answer region checks)))))
+      (piece_behind (piece_before (regrow_ranged (length (functions_of f.sections)) sides.to.realloc sides.to.memory64 l.region l.before align l.bytes still.below) regrows) (answered restores answer region checks)))))
 
   -- by the alignment that was worked out
   pub resized_at : {a b : Writer} {align align' : ℕ} (x y : Amount) → align ≡ align' → Emits a b (StringPiece sides l (λ m. resize_code m align x y) (NeedsRequest align)) → Emits a b (StringPiece sides l (λ m. resize_code m align' x y) (NeedsRequest align'))
@@ -237,8 +237,8 @@ module _ {sides : Sides} {l : StringLocals} where
       })
 
   -- a pass: what the transcoder is told, the call, and what becomes of its answer
-  pub passed : {a b c d e f : Writer} {place : ℕ} (o : Transcode) (rest : Bool) (room : ℕ) → WrotePart sides l (λ m. source_code m o rest) a b → WrotePart sides l (λ m. target_code m (transcode_kind o) rest room) b c
-      → TookTranscoder c d (transcoder_between sides o) place → Wrote d e (I.Call (func.Import place) ∷ []) → WrotePart sides l (λ m. answer_code m (transcode_kind o) rest) e f
+  pub passed : {a b c d e f : Writer} {place : ℕ} (o : Transcode) (rest : Bool) (room : ℕ) → WroteStringPart sides l (λ m. source_code m o rest) a b → WroteStringPart sides l (λ m. target_code m (transcode_kind o) rest room) b c
+      → TookTranscoder c d (transcoder_between sides o) place → Wrote d e (I.Call (func.Import place) ∷ []) → WroteStringPart sides l (λ m. answer_code m (transcode_kind o) rest) e f
       → Emits a f (StringPiece sides l (λ m. pass_code m o rest room) (NeedsTranscoder o))
   passed o rest room source target took call answer =
       piece_as (λ p d e. refl) (piece_behind (piece_part (λ m. source_code m o rest) (source_ranged o rest) source) (piece_behind (piece_part (λ m. target_code m (transcode_kind o) rest room) (λ m. target_ranged m room (transcode_kind o) rest) target)

@@ -7,13 +7,13 @@ use Rattle.fact_wasm.specs.declared.types.ValType.TheVariants as val
 use Rattle.fact_wasm.specs.Ranges.{AreRanged}
 use Rattle.fact_types.specs.declared.outside.Transcode.{Transcode}
 use Rattle.fact_values.specs.Texts.{unit_bytes, utf16_tag}
-use Rattle.fact_moves.specs.Paths.{Amount, SourceUnits, WrittenUnits, Test, AllRead, WrittenIs, HasNoTag, KeepsUnits}
-use Rattle.fact_moves.specs.Transcoders.{TranscodeKind, AllUnits, Counted, Fitting, Narrow, Tagged, Widening, from_encoding}
-use Rattle.fact_pieces.specs.Code.{scaled_code}
-use Rattle.fact_pieces.specs.Lists.{address_code, const_code, put_code}
-use Rattle.fact_pieces.specs.Places.{To, code_behind, code_before}
-use Rattle.fact_pieces.specs.StringCode.{StringMove, add_to_code, amount_code, answer_code, from_address, keep_code, limit_code, no_tag_code, regrow_code, source_code, target_code, test_code, times_code, to_address, untag_code, wrap_code}
-use Rattle.fact_pieces.specs.Tests.{pointer}
+use Rattle.fact_actions.specs.Paths.{Amount, SourceUnits, WrittenUnits, Test, AllRead, WrittenIs, HasNoTag, KeepsUnits}
+use Rattle.fact_actions.specs.Transcoders.{TranscodeKind, AllUnits, Counted, Fitting, Narrow, Tagged, Widening, from_encoding}
+use Rattle.fact_code_laws.specs.Code.{scaled_code}
+use Rattle.fact_code_laws.specs.Lists.{address_code, const_code, put_code}
+use Rattle.fact_code_laws.specs.Places.{To, code_behind, code_before}
+use Rattle.fact_code_laws.specs.StringCode.{StringMove, add_to_code, amount_code, answer_code, from_address, keep_code, limit_code, no_tag_code, regrow_code, source_code, target_code, test_code, times_code, to_address, untag_code, wrap_code}
+use Rattle.fact_code_laws.specs.Tests.{pointer_of_width}
 use Rattle.fact_emit.specs.Pairs.{length_to, put_pair_code}
 use Rattle.fact_emit.proofs.NamedLaws.{ranged_append, ranged_more, ranged_none}
 use Rattle.fact_emit.proofs.RangedCode.{before_ranged, behind_ranged, get_ranged, kept_ranged, narrow_ranged, scaled_ranged, set_ranged, unreachable_ranged, widen_ranged}
@@ -37,10 +37,10 @@ wrap_ranged true = tt
 wrap_ranged false = ranged_none 0 0 (wrap_code false) (simp the_lemmas)
 
 to_address_ranged : (memory64 : Bool) → AreRanged 0 0 (to_address memory64)
-to_address_ranged memory64 = narrow_ranged (pointer memory64) val.I64
+to_address_ranged memory64 = narrow_ranged (pointer_of_width memory64) val.I64
 
 pub from_address_ranged : (memory64 : Bool) → AreRanged 0 0 (from_address memory64)
-from_address_ranged memory64 = widen_ranged (pointer memory64) val.I64
+from_address_ranged memory64 = widen_ranged (pointer_of_width memory64) val.I64
 
 pub times_ranged : (memory64 : Bool) (factor local : ℕ) → AreRanged 0 0 (times_code memory64 factor local)
 times_ranged memory64 factor local =
@@ -51,7 +51,7 @@ amount_ranged (SourceUnits factor) m = times_ranged m.to64 factor m.temporaries.
 amount_ranged (WrittenUnits factor) m = times_ranged m.to64 factor m.temporaries.written
 
 keep_ranged : (memory64 : Bool) (local : ℕ) → AreRanged 0 0 (keep_code memory64 local)
-keep_ranged memory64 local = kept_ranged (pointer memory64) val.I64 local
+keep_ranged memory64 local = kept_ranged (pointer_of_width memory64) val.I64 local
 
 add_to_ranged : (memory64 : Bool) (local : ℕ) → AreRanged 0 0 (add_to_code memory64 local)
 add_to_ranged memory64 local =
@@ -169,8 +169,8 @@ zero_ranged local = ranged_none 0 0 (I.I64Const 0 ∷ I.LocalSet local ∷ []) (
 
 put_ranged : (memory64 : Bool) (local : ℕ) (dst : To) → AreRanged 0 0 (put_code memory64 local dst)
 put_ranged memory64 local dst =
-    ranged_append 0 0 (code_before dst) (address_code memory64 local ++ code_behind (pointer memory64) dst) (before_ranged dst)
-    (ranged_append 0 0 (address_code memory64 local) (code_behind (pointer memory64) dst) (address_ranged memory64 local) (behind_ranged (pointer memory64) dst))
+    ranged_append 0 0 (code_before dst) (address_code memory64 local ++ code_behind (pointer_of_width memory64) dst) (before_ranged dst)
+    (ranged_append 0 0 (address_code memory64 local) (code_behind (pointer_of_width memory64) dst) (address_ranged memory64 local) (behind_ranged (pointer_of_width memory64) dst))
 
 pub put_pair_ranged : (memory64 : Bool) (start units : ℕ) (dst : To) → AreRanged 0 0 (put_pair_code memory64 start units dst)
 put_pair_ranged memory64 start units dst = ranged_append 0 0 (put_code memory64 start dst) (put_code memory64 units (length_to memory64 dst)) (put_ranged memory64 start dst) (put_ranged memory64 units (length_to memory64 dst))

@@ -10,12 +10,12 @@ use Rattle.fact_types.specs.declared.outside.Transcode.{Transcode}
 use Rattle.fact_types.specs.declared.outside.Trap.{Trap}
 use Rattle.fact_types.specs.declared.outside.Trap.TheVariants.{StringOutOfBounds}
 use Rattle.fact_values.specs.Texts.{utf16_tag}
-use Rattle.fact_moves.specs.Paths.{Amount, Path, End, Limit, Resize, Pass, If, Tag, Assert, Test, TextForm, AsUtf8, AsUtf16, AsCompactLatin1, AsCompactUtf16, align_of, path}
-use Rattle.fact_pieces.specs.Code.{guard_code}
-use Rattle.fact_pieces.specs.Places.{From, To}
-use Rattle.fact_pieces.specs.StringCode.{align_of_form, assert_code, bytes_of_form, check_text_code, either_code, encoded_code, limit_code, pass_code, path_code, resize_code, test_code, text_code, times_code, untag_code}
-use Rattle.fact_pieces.specs.StringNeeds.{Needs, NeedsEncoded, NeedsPath, NeedsRegion, NeedsRequest, NeedsText, NeedsTranscoder, NeedsTrap}
-use Rattle.fact_pieces.specs.Tests.{read_into}
+use Rattle.fact_actions.specs.Paths.{Amount, Path, End, Limit, Resize, Pass, If, Tag, Assert, Test, TextForm, AsUtf8, AsUtf16, AsCompactLatin1, AsCompactUtf16, align_of, path}
+use Rattle.fact_code_laws.specs.Code.{guard_code}
+use Rattle.fact_code_laws.specs.Places.{From, To}
+use Rattle.fact_code_laws.specs.StringCode.{align_of_form, assert_code, bytes_of_form, check_text_code, either_code, encoded_code, limit_code, pass_code, path_code, resize_code, test_code, text_code, times_code, untag_code}
+use Rattle.fact_code_laws.specs.StringNeeds.{Needs, NeedsEncoded, NeedsPath, NeedsRegion, NeedsRequest, NeedsText, NeedsTranscoder, NeedsTrap}
+use Rattle.fact_code_laws.specs.Tests.{read_into}
 use Rattle.fact_emit.specs.declared.places.Sides.{Sides}
 use Rattle.fact_emit.specs.declared.string_locals.StringLocals.{StringLocals}
 use Rattle.fact_emit.specs.declared.writer.Writer.{Writer}
@@ -27,7 +27,7 @@ use Rattle.fact_emit.specs.NamedFunctions.{defined_place, functions_named}
 use Rattle.fact_emit.specs.Pairs.{ReadsPair, length_from, put_pair_code}
 use Rattle.fact_emit.specs.Places.{checks_at}
 use Rattle.fact_emit.specs.StringPieces.{IsPart, NeedsBoth, NeedsTrapIf, StringPiece, WroteString}
-use Rattle.fact_emit.specs.Writers.{Began, Ended, Wrote}
+use Rattle.fact_emit.specs.Writers.{Began, EndedBody, Wrote}
 use Rattle.fact_emit.proofs.BroughtLaws.{brought_as, brought_between}
 use Rattle.fact_emit.proofs.ChosenBodies.{aside_does, aside_grew, aside_on, table_named, table_ranged}
 use Rattle.fact_emit.proofs.Emitting.{emits_nothing, emits_then, same_locals, same_still, same_types, sooner, still_numbers}
@@ -39,11 +39,11 @@ use Rattle.fact_emit.proofs.RangedCode.{set_ranged}
 -- ---- a test that was written aside
 
 -- the code is what it was
-pub wrote_aside : {a b c d : Writer} {outer body xs : List Instr} → Began a b outer → Wrote b c xs → Ended c d outer body → Wrote a d []
+pub wrote_aside : {a b c d : Writer} {outer body xs : List Instr} → Began a b outer → Wrote b c xs → EndedBody c d outer body → Wrote a d []
 wrote_aside {a} began w ended = record { code = ended.code ∙ began.outer ∙ sym (append-nil a.code.items); locals = ended.locals ∙ w.locals ∙ began.locals; imports = ended.imports ∙ w.imports ∙ began.imports }
 
 -- and the body is what was written
-pub body_wrote : {a b c d : Writer} {outer body xs : List Instr} → Began a b outer → Wrote b c xs → Ended c d outer body → body ≡ xs
+pub body_wrote : {a b c d : Writer} {outer body xs : List Instr} → Began a b outer → Wrote b c xs → EndedBody c d outer body → body ≡ xs
 body_wrote {xs = xs} began w ended = ended.body ∙ w.code ∙ ap (λ c. c ++ xs) began.code
 
 -- ---- one of two bodies
@@ -76,7 +76,7 @@ module _ (test one other : List Instr) (ranged : AreRanged 0 0 test) where
 module _ {sides : Sides} {l : StringLocals} where
   -- the same of parts
   pub either_put : {a b c d e f g h i : Writer} {test one other outer outer' : List Instr} {T Y Z : Part} {N O : Needs} → AreRanged 0 0 test → IsPart sides l T test → Wrote a b []
-      → Began b c outer → Emits c d (StringPiece sides l Z O) → Ended d e outer other → Began e f outer' → Emits f g (StringPiece sides l Y N) → Ended g h outer' one
+      → Began b c outer → Emits c d (StringPiece sides l Z O) → EndedBody d e outer other → Began e f outer' → Emits f g (StringPiece sides l Y N) → EndedBody g h outer' one
       → Wrote h i (either_code test one other) → Emits a i (StringPiece sides l (λ m. either_code (T m) (Y m) (Z m)) (NeedsBoth N O))
   unfolding either_grew
   either_put {e = e} {h = h} {i} {test} {one} {other} ranged is tested began other_put ended began' one_put ended' chosen =

@@ -3,7 +3,7 @@ use Rattle.std.proofs.Common.{◌≡◌, ◌≢◌, ℕ, true, false, List, [], 
 use Rattle.std.specs.List.{AllByRecursion}
 use Rattle.std.proofs.lemmas.Bool.{eqb-false, ne_eqb}
 use Rattle.fact_wasm.specs.declared.types.ValType.{ValType}
-use Rattle.fact_pieces.specs.Places.{Slot, IsNone}
+use Rattle.fact_code_laws.specs.Places.{Slot, IsNone}
 use Rattle.fact_emit.specs.declared.writer.Writer.{Writer}
 use Rattle.fact_emit.specs.Writers.{taken_in, Took, TookAll}
 use Rattle.fact_emit.proofs.ImportLaws.{grown_get, grows_none, grows_on}

@@ -3,7 +3,7 @@ use Rattle.std.proofs.Common.{◌≡◌, ◌≢◌, ℕ, Bool, true, false, List
 use Rattle.std.specs.Prelude.{nat_eq, if◌then◌else◌}
 use Rattle.std.proofs.lemmas.Bool.{eqb-true, eq-eqb}
 use Rattle.fact_wasm.specs.declared.types.ValType.{ValType}
-use Rattle.fact_pieces.specs.Places.{From, To, ToLocals, ToMemory, Slot, AreUsed, Setting}
+use Rattle.fact_code_laws.specs.Places.{From, To, ToLocals, ToMemory, Slot, AreUsed, Setting}
 use Rattle.fact_emit.specs.declared.places.Sides.{Sides}
 use Rattle.fact_emit.specs.declared.writer.Writer.{Writer}
 use Rattle.fact_emit.specs.Asked.{AskedHelper}

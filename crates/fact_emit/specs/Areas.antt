@@ -10,20 +10,20 @@ use Rattle.fact_types.specs.declared.import.Import.TheVariants as import
 use Rattle.fact_types.specs.declared.outside.Trap.TheVariants.{MemoryOutOfBounds}
 use Rattle.fact_machine.specs.declared.types.CoreValue.{CoreValue}
 use Rattle.fact_machine.specs.Typing.{address_bits, address_type, address_operand}
-use Rattle.fact_moves.specs.Actions.{Give}
-use Rattle.fact_moves.specs.Running.{ImportPlaces}
-use Rattle.fact_moves.specs.Sides.{LiftLowerOptions, check_region as check_region_of}
-use Rattle.fact_pieces.specs.Does.{Locals, Onward, held_types, Does}
-use Rattle.fact_pieces.specs.Knows.{KnowsFunction}
-use Rattle.fact_pieces.specs.Places.{SideMemory, KeepsLocals, widen}
-use Rattle.fact_pieces.specs.Typed.{OnStack, IsTyped}
-use Rattle.fact_pieces.specs.Tests.{HasUnaligned, pointer, region_code}
+use Rattle.fact_actions.specs.Actions.{Give}
+use Rattle.fact_actions.specs.Running.{ImportPlaces}
+use Rattle.fact_actions.specs.Sides.{LiftLowerOptions, check_region as check_region_of}
+use Rattle.fact_code_laws.specs.Does.{Locals, Onward, held_types, Does}
+use Rattle.fact_code_laws.specs.Knows.{KnowsFunction}
+use Rattle.fact_code_laws.specs.Places.{SideMemory, KeepsLocals, widen}
+use Rattle.fact_code_laws.specs.Typed.{OnStack, IsTyped}
+use Rattle.fact_code_laws.specs.Tests.{HasUnaligned, pointer_of_width, region_code}
 use Rattle.fact_emit.specs.declared.places.LinearMemory.{LinearMemory}
 use Rattle.fact_emit.specs.declared.pointers.AreaLocals.{AreaLocals}
 
 -- an address in a local as an i64 in another one
 abbrev pub widened_code : (memory64 : Bool) → (address local : ℕ) → List Instr
-widened_code memory64 address local = I.LocalGet address ∷ (widen (pointer memory64) val.I64 ++ I.LocalSet local ∷ [])
+widened_code memory64 address local = I.LocalGet address ∷ (widen (pointer_of_width memory64) val.I64 ++ I.LocalSet local ∷ [])
 
 -- the check of so many bytes at an address, whose traps have their places
 pub record AreaCode (m : LinearMemory) (address size align : ℕ) (t : AreaLocals) (M : WasmModule) (p : ImportPlaces) (locals : List ValType) (code : List Instr) : Type 0 where

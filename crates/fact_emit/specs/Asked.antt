@@ -8,11 +8,11 @@ use Rattle.fact_types.specs.FlatShapes.{IsCounted}
 use Rattle.fact_types.specs.Shapes.{Shape}
 use Rattle.fact_types.specs.Signatures.{flat_values}
 use Rattle.fact_types.specs.Tables.{Tables, HasShape}
-use Rattle.fact_moves.specs.Moves.{move}
-use Rattle.fact_moves.specs.Running.{ImportPlaces}
-use Rattle.fact_moves.specs.Sides.{LiftLowerOptions, width_of_side}
-use Rattle.fact_pieces.specs.Helpers.{IsHelper}
-use Rattle.fact_pieces.specs.Places.{From, InLocals, InMemory, To, ToLocals, ToMemory, Rooms, transfer}
+use Rattle.fact_actions.specs.Moves.{move}
+use Rattle.fact_actions.specs.Running.{ImportPlaces}
+use Rattle.fact_actions.specs.Sides.{LiftLowerOptions, width_of_side}
+use Rattle.fact_code_laws.specs.Helpers.{IsHelper}
+use Rattle.fact_code_laws.specs.Places.{From, InLocals, InMemory, To, ToLocals, ToMemory, Rooms, transfer}
 use Rattle.fact_emit.specs.declared.helpers.Helper.{Helper}
 use Rattle.fact_emit.specs.declared.helpers.HelperLocation.TheVariants as location
 use Rattle.fact_emit.specs.declared.helpers.HelperType.{HelperType}

@@ -5,9 +5,9 @@ use Rattle.fact_wasm.specs.declared.module.WasmModule.{WasmModule}
 use Rattle.fact_wasm.specs.declared.types.ValType.{ValType}
 use Rattle.fact_types.specs.declared.import.Import.TheVariants as import
 use Rattle.fact_types.specs.declared.outside.Trap.TheVariants.{UncaughtException}
-use Rattle.fact_moves.specs.Running.{ImportPlaces}
-use Rattle.fact_pieces.specs.Code.{barrier_code}
-use Rattle.fact_pieces.specs.Knows.{KnowsFunction}
+use Rattle.fact_actions.specs.Running.{ImportPlaces}
+use Rattle.fact_code_laws.specs.Code.{barrier_code}
+use Rattle.fact_code_laws.specs.Knows.{KnowsFunction}
 use Rattle.fact_emit.specs.declared.writer.Writer.{Writer}
 use Rattle.fact_emit.specs.Pieces.{Piece}
 use Rattle.fact_emit.specs.Writers.{Wrote, TookTrap}

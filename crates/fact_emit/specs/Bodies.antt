@@ -7,9 +7,9 @@ use Rattle.fact_wasm.specs.declared.instr.Instr.TheVariants as I
 use Rattle.fact_wasm.specs.declared.module.WasmModule.{WasmModule}
 use Rattle.fact_types.specs.declared.import.Import.TheVariants as import
 use Rattle.fact_types.specs.declared.outside.Trap.TheVariants.{InvalidDiscriminant}
-use Rattle.fact_moves.specs.Running.{ImportPlaces}
-use Rattle.fact_pieces.specs.Choices.{AreChunks, full_chunk_code, chunk_codes, IsChoice}
-use Rattle.fact_pieces.specs.Knows.{KnowsFunction}
+use Rattle.fact_actions.specs.Running.{ImportPlaces}
+use Rattle.fact_code_laws.specs.Choices.{AreChunks, full_chunk_code, chunk_codes, IsChoice}
+use Rattle.fact_code_laws.specs.Knows.{KnowsFunction}
 use Rattle.fact_emit.specs.declared.writer.Writer.{Writer}
 use Rattle.fact_emit.specs.Writers.{TookTrap, Wrote}
 

@@ -5,11 +5,11 @@ use Rattle.fact_wasm.specs.declared.instr.Instr.{Instr}
 use Rattle.fact_wasm.specs.declared.module.WasmModule.{WasmModule}
 use Rattle.fact_types.specs.declared.outside.Trap.{Trap}
 use Rattle.fact_types.specs.declared.import.Import.TheVariants as import
-use Rattle.fact_moves.specs.Running.{ImportPlaces}
-use Rattle.fact_pieces.specs.Code.{guard_code}
-use Rattle.fact_pieces.specs.Knows.{KnowsFunction}
-use Rattle.fact_pieces.specs.Places.{From, To, HasUpper, HasAligned, FromChecked, ToChecked, upper_check, place_check, from_check, to_check}
-use Rattle.fact_pieces.specs.Tests.{HasUnaligned, aligned_guard, pointer, read_into, region_code}
+use Rattle.fact_actions.specs.Running.{ImportPlaces}
+use Rattle.fact_code_laws.specs.Code.{guard_code}
+use Rattle.fact_code_laws.specs.Knows.{KnowsFunction}
+use Rattle.fact_code_laws.specs.Places.{From, To, HasUpper, HasAligned, FromChecked, ToChecked, upper_check, place_check, from_check, to_check}
+use Rattle.fact_code_laws.specs.Tests.{HasUnaligned, aligned_guard, pointer_of_width, read_into, region_code}
 use Rattle.fact_emit.specs.declared.places.LinearMemory.{LinearMemory}
 use Rattle.fact_emit.specs.Numbers.{HasUpperAt}
 use Rattle.fact_emit.specs.Places.{checks_at}
@@ -49,7 +49,7 @@ pub record ChecksPlaces (debug from64 to64 : Bool) (from_align to_align : ℕ) (
 -- a pointer is read into a local of type i64
 pub record ReadsPointer (debug memory64 : Bool) (from : From) (local : ℕ) (M : WasmModule) (p : ImportPlaces) (locals : List ValType) (code : List Instr) : Type 0 where
   pub is : code ≡ read_into (checks_at debug p) memory64 from local
-  pub has : HasUpperAt M p (checks_at debug p) (pointer memory64) from
+  pub has : HasUpperAt M p (checks_at debug p) (pointer_of_width memory64) from
 
 pub record ChecksAligned (align local : ℕ) (M : WasmModule) (p : ImportPlaces) (locals : List ValType) (code : List Instr) : Type 0 where
   pub place : ℕ

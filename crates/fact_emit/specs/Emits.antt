@@ -4,7 +4,7 @@ use Rattle.fact_wasm.specs.declared.types.ValType.{ValType}
 use Rattle.fact_wasm.specs.declared.instr.Instr.{Instr}
 use Rattle.fact_wasm.specs.declared.module.WasmModule.{WasmModule}
 use Rattle.fact_machine.specs.Trace.{Grows}
-use Rattle.fact_moves.specs.Running.{ImportPlaces}
+use Rattle.fact_actions.specs.Running.{ImportPlaces}
 use Rattle.fact_emit.specs.declared.writer.Writer.{Writer}
 use Rattle.fact_emit.specs.Asked.{AskedHelper, HasHelpers}
 use Rattle.fact_emit.specs.Brought.{Brought}
@@ -17,7 +17,7 @@ use Rattle.fact_emit.specs.Writers.{AreNumberTypes, types_of_locals, taken_in}
 
 -- A later module has all that the writer's module imports so far, and a later function the locals that the writer has so far.
 pub record Later (w : Writer) (M : WasmModule) (p : ImportPlaces) (locals : List ValType) : Type 0 where
-  pub serves : Serves M p w.imports
+  pub serves : Serves M p w.sections
   pub begin : Grows (types_of_locals w) locals
 
 -- Code was added that asks for these helpers: the functions that it names and the module defines are, front to back, theirs. The module grew by what this
@@ -26,9 +26,9 @@ pub record GrewAsking (asks : List AskedHelper) (old new : Writer) : Type 0 wher
   pub added : List Instr
   pub code : new.code.items ≡ old.code.items ++ added
   pub calls : defined_named added ≡ map (λ a. a.number) asks
-  pub brought : Brought old.imports new.imports added
-  pub imports : Extended old.imports new.imports
-  pub once : AreOnce old.imports → AreOnce new.imports
+  pub brought : Brought old.sections new.sections added
+  pub imports : Extended old.sections new.sections
+  pub once : AreOnce old.sections → AreOnce new.sections
   pub locals : Grows (types_of_locals old) (types_of_locals new)
   pub numbers : AreNumberTypes (types_of_locals old) → AreNumberTypes (types_of_locals new)
   pub still : (i : ℕ) → taken_in new i ≡ taken_in old i
@@ -42,9 +42,9 @@ Grew old new = GrewAsking [] old new
 pub record GrewAsideAsking (asks : List AskedHelper) (old new : Writer) (bodies : List Instr) : Type 0 where
   pub code : new.code.items ≡ old.code.items
   pub calls : defined_named bodies ≡ map (λ a. a.number) asks
-  pub brought : Brought old.imports new.imports bodies
-  pub imports : Extended old.imports new.imports
-  pub once : AreOnce old.imports → AreOnce new.imports
+  pub brought : Brought old.sections new.sections bodies
+  pub imports : Extended old.sections new.sections
+  pub once : AreOnce old.sections → AreOnce new.sections
   pub locals : Grows (types_of_locals old) (types_of_locals new)
   pub numbers : AreNumberTypes (types_of_locals old) → AreNumberTypes (types_of_locals new)
   pub still : (i : ℕ) → taken_in new i ≡ taken_in old i

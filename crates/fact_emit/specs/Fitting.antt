@@ -12,11 +12,11 @@ use Rattle.fact_types.specs.FlatShapes.{flat, flat_members}
 use Rattle.fact_types.specs.Layout.{extent}
 use Rattle.fact_types.specs.PointerPairs.{has_pointer_pair, have_pointer_pair}
 use Rattle.fact_types.specs.Shapes.{Shape, s_plain, s_node, Members, layout_of, ends_of}
-use Rattle.fact_moves.specs.Actions.{Visit}
-use Rattle.fact_moves.specs.Moves.{move, move_fields, move_case, move_to_plain, move_to_node}
-use Rattle.fact_moves.specs.Running.{ImportPlaces}
-use Rattle.fact_moves.specs.Sides.{LiftLowerOptions, width_of_side}
-use Rattle.fact_pieces.specs.Places.{Slot, From, InLocals, InMemory, To, ToLocals, ToMemory, Number, N32, N64, SideMemory, AreLocals, Rooms, Setting}
+use Rattle.fact_actions.specs.Actions.{Visit}
+use Rattle.fact_actions.specs.Moves.{move, move_fields, move_case, move_to_plain, move_to_node}
+use Rattle.fact_actions.specs.Running.{ImportPlaces}
+use Rattle.fact_actions.specs.Sides.{LiftLowerOptions, width_of_side}
+use Rattle.fact_code_laws.specs.Places.{Slot, From, InLocals, InMemory, To, ToLocals, ToMemory, Number, N32, N64, SideMemory, AreLocals, Rooms, Setting}
 use Rattle.fact_emit.specs.declared.places.Sides.{Sides}
 use Rattle.fact_emit.specs.MovesValue.{Act, MovesValue}
 use Rattle.fact_emit.specs.Pieces.{Piece}

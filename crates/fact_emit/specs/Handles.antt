@@ -2,8 +2,8 @@
 use Rattle.std.specs.Prelude.{◌≡◌, ℕ, Option, Some, None}
 use Rattle.fact_types.specs.declared.interface.InterfaceType.{InterfaceType}
 use Rattle.fact_types.specs.declared.interface.InterfaceType.TheVariants as ty
-use Rattle.fact_moves.specs.Actions.{Visit}
-use Rattle.fact_moves.specs.Moves as moved
+use Rattle.fact_actions.specs.Actions.{Visit}
+use Rattle.fact_actions.specs.Moves as moved
 use Rattle.fact_emit.specs.declared.handles.HandleTransfer.{HandleTransfer}
 use Rattle.fact_emit.specs.declared.imported.RuntimeFunction.{RuntimeFunction}
 use Rattle.fact_emit.specs.declared.imported.RuntimeFunction.TheVariants as runtime
@@ -23,8 +23,8 @@ handle_transfer (ty.ErrorContext i) (ty.ErrorContext j) = Some (transfer_by runt
 handle_transfer _ _ = None
 
 -- its function takes and gives a number of a handle
-abbrev pub IsTransfer : HandleTransfer → Type 0
-IsTransfer h = type_of_runtime h.function ≡ transfer_type
+abbrev pub MovesHandle : HandleTransfer → Type 0
+MovesHandle h = type_of_runtime h.function ≡ transfer_type
 
 -- a node that is a handle
 abbrev pub handle_moves : HandleTransfer → Act

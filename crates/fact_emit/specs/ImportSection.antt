@@ -20,9 +20,9 @@ use Rattle.fact_types.specs.declared.outside.MemoryOption.{MemoryOption}
 use Rattle.fact_types.specs.declared.outside.Transcode.{Transcode}
 use Rattle.fact_types.specs.Adapters.{LinkedAdapter, Side, is_async, is_crossing, is_wide, same_def}
 use Rattle.fact_types.specs.ImportTypes.{callback_type, post_return_type, realloc_type}
-use Rattle.fact_moves.specs.Adapters.{def_of_memory}
-use Rattle.fact_moves.specs.Sides.{options_of}
-use Rattle.fact_pieces.specs.StringCode.{transcoder_type}
+use Rattle.fact_actions.specs.Adapters.{def_of_memory}
+use Rattle.fact_actions.specs.Sides.{options_of}
+use Rattle.fact_code_laws.specs.StringCode.{transcoder_type}
 use Rattle.fact_emit.specs.declared.imported.RuntimeFunction.{RuntimeFunction}
 use Rattle.fact_emit.specs.declared.imported.RuntimeFunction.TheVariants as runtime
 use Rattle.fact_emit.specs.Runtime.{name_of_runtime, origin_of_runtime, type_of_runtime}

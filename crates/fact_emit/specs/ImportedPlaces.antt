@@ -8,7 +8,7 @@ use Rattle.fact_types.specs.declared.outside.CoreDef.{CoreDef}
 use Rattle.fact_types.specs.declared.outside.CoreDef.TheVariants as def
 use Rattle.fact_types.specs.declared.import.Import.{Import}
 use Rattle.fact_types.specs.declared.import.Import.TheVariants as known
-use Rattle.fact_moves.specs.Running.{ImportPlaces}
+use Rattle.fact_actions.specs.Running.{ImportPlaces}
 use Rattle.fact_emit.specs.ImportSection.{is_made_once}
 use Rattle.fact_emit.specs.States.{ModuleSoFar, functions_of, globals_of, memories_of}
 

@@ -1,7 +1,7 @@
 -- What modules that import definitions in some roles know of them.
 use Rattle.std.specs.Prelude.{◌≡◌, ℕ, Bool, List, [], ◌∷◌, Contains, Option, Some, None}
 use Rattle.fact_emit.specs.ImportSection.{AreNamed, AreTranscodersNamed, Mention, Role, Storage, custom_page_size}
-use Rattle.fact_emit.specs.Linked.{IsDefLinked, type_of_role}
+use Rattle.fact_emit.specs.DefImports.{IsDefImported, type_of_role}
 use Rattle.fact_emit.specs.States.{ModuleSoFar}
 
 -- the width and the custom page size of a memory that is used so
@@ -24,8 +24,8 @@ pub record AreKnown (s : ModuleSoFar) (ms : List Mention) : Type 0 where
   pub transcoders : AreTranscodersNamed s.types s.section s.imports
 
 -- Definitions were imported in the roles in which they are mentioned, one after another, and have these places.
-abbrev pub AreLinked : (old new : ModuleSoFar) → List Mention → List ℕ → Type 0
-AreLinked old new [] [] = new ≡ old
-AreLinked old new (m ∷ ms) (n ∷ ns) = (mid : ModuleSoFar) × IsDefLinked old mid m.role m.def n × AreLinked mid new ms ns
-AreLinked old new [] (n ∷ ns) = ⊥
-AreLinked old new (m ∷ ms) [] = ⊥
+abbrev pub AreImportedAt : (old new : ModuleSoFar) → List Mention → List ℕ → Type 0
+AreImportedAt old new [] [] = new ≡ old
+AreImportedAt old new (m ∷ ms) (n ∷ ns) = (mid : ModuleSoFar) × IsDefImported old mid m.role m.def n × AreImportedAt mid new ms ns
+AreImportedAt old new [] (n ∷ ns) = ⊥
+AreImportedAt old new (m ∷ ms) [] = ⊥

@@ -9,9 +9,9 @@ use Rattle.fact_types.specs.ImportTypes.{callback_type, post_return_type, reallo
 use Rattle.fact_types.specs.declared.import.Import.TheVariants as import
 use Rattle.fact_types.specs.declared.outside.CoreDef.{CoreDef}
 use Rattle.fact_types.specs.declared.outside.MemoryOption.{MemoryOption}
-use Rattle.fact_moves.specs.Running.{ImportPlaces}
-use Rattle.fact_pieces.specs.Knows.{KnowsFlags, KnowsFunction, KnowsMemory}
-use Rattle.fact_emit.specs.AdapterLinks.{AdapterLinks, SideLinks}
+use Rattle.fact_actions.specs.Running.{ImportPlaces}
+use Rattle.fact_code_laws.specs.Knows.{KnowsFlags, KnowsFunction, KnowsMemory}
+use Rattle.fact_emit.specs.AdapterImports.{AdapterImports, SideImports}
 use Rattle.fact_emit.specs.ImportSection.{custom_page_size}
 
 -- the memory of a side, which is that of this place
@@ -27,14 +27,14 @@ pub record KnowsFunctionAt (M : WasmModule) (p : ImportPlaces) (d : CoreDef) (ty
   pub knows : KnowsFunction M p (import.CoreDef d) number ty.params ty.results
 
 -- flags, memory, realloc and callback of a side
-pub record KnowsSide (M : WasmModule) (p : ImportPlaces) (s : Side) (at : SideLinks) : Type 0 where
+pub record KnowsSide (M : WasmModule) (p : ImportPlaces) (s : Side) (at : SideImports) : Type 0 where
   pub flags : KnowsFlags M p s.instance at.flags
   pub memory : (m : MemoryOption) → s.memory ≡ Some m → KnowsMemoryAt M p m at.memory
   pub realloc : (f : CoreDef) → s.realloc ≡ Some f → KnowsFunctionAt M p f (realloc_type (is_wide s.memory)) at.realloc
   pub callback : (f : CoreDef) → s.callback ≡ Some f → KnowsFunctionAt M p f callback_type at.callback
 
 -- both sides, the callee and the post-return
-pub record KnowsAdapter (M : WasmModule) (p : ImportPlaces) (a : LinkedAdapter) (at : AdapterLinks) : Type 0 where
+pub record KnowsAdapter (M : WasmModule) (p : ImportPlaces) (a : LinkedAdapter) (at : AdapterImports) : Type 0 where
   pub lift : KnowsSide M p a.lift at.lift
   pub lower : KnowsSide M p a.lower at.lower
   pub callee : KnowsFunction M p (import.CoreDef a.callee) at.callee a.lift.core_type.params a.lift.core_type.results

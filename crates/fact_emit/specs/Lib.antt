@@ -1,10 +1,11 @@
-pub mod AdapterLinks
+pub mod AdapterImports
 pub mod Areas
 pub mod Asked
 pub mod Barriers
 pub mod Bodies
 pub mod Brought
 pub mod Checks
+pub mod DefImports
 pub mod Emits
 pub mod Fitting
 pub mod Handles
@@ -13,7 +14,6 @@ pub mod ImportedPlaces
 pub mod Imports
 pub mod Known
 pub mod KnownAdapters
-pub mod Linked
 pub mod Listed
 pub mod Movable
 pub mod MovesValue

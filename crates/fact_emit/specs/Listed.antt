@@ -3,7 +3,7 @@ use Rattle.std.specs.Prelude.{◌≡◌, ◌≢◌, ℕ, List, [], ◌∷◌, Al
 use Rattle.std.specs.List.{filter_map}
 use Rattle.fact_types.specs.Adapters.{LinkedAdapter}
 use Rattle.fact_emit.specs.ImportSection.{AreNamed, AreTaskCallsNamed, AreTranscodersNamed, Mention, def_of, is_made_once}
-use Rattle.fact_emit.specs.Linked.{IsDefLinked}
+use Rattle.fact_emit.specs.DefImports.{IsDefImported}
 use Rattle.fact_emit.specs.States.{ModuleSoFar}
 
 -- Its imports have the names and types of what they are, each once, the core definitions among them are those of these mentions, the calls by
@@ -17,6 +17,6 @@ pub record ListsMentions (s : ModuleSoFar) (ms : List Mention) (adapters : List 
   pub signatures : AllPairs (λ t u. t ≢ u) s.types
 
 -- The core definitions of these mentions are imported one after another, each where it was not imported before.
-abbrev pub AreLinkedInTurn : (old new : ModuleSoFar) → List Mention → Type 0
-AreLinkedInTurn old new [] = new ≡ old
-AreLinkedInTurn old new (r ∷ rs) = (next : ModuleSoFar) × (place : ℕ) × IsDefLinked old next r.role r.def place × AreLinkedInTurn next new rs
+abbrev pub AreImportedInTurn : (old new : ModuleSoFar) → List Mention → Type 0
+AreImportedInTurn old new [] = new ≡ old
+AreImportedInTurn old new (r ∷ rs) = (next : ModuleSoFar) × (place : ℕ) × IsDefImported old next r.role r.def place × AreImportedInTurn next new rs

@@ -4,10 +4,10 @@ use Rattle.fact_wasm.specs.declared.types.ValType.{ValType}
 use Rattle.fact_wasm.specs.declared.instr.Instr.{Instr}
 use Rattle.fact_wasm.specs.declared.module.WasmModule.{WasmModule}
 use Rattle.fact_machine.specs.declared.types.CoreValue.{CoreValue}
-use Rattle.fact_moves.specs.Actions.{Action}
-use Rattle.fact_moves.specs.Running.{ImportPlaces}
-use Rattle.fact_moves.specs.Sides.{LiftLowerOptions, Transfer, Source, Target}
-use Rattle.fact_pieces.specs.Places.{From, To, Rooms, Setting, transfer, Moves}
+use Rattle.fact_actions.specs.Actions.{Action}
+use Rattle.fact_actions.specs.Running.{ImportPlaces}
+use Rattle.fact_actions.specs.Sides.{LiftLowerOptions, Transfer, Source, Target}
+use Rattle.fact_code_laws.specs.Places.{From, To, Rooms, Setting, transfer, Moves}
 use Rattle.fact_emit.specs.declared.places.Sides.{Sides}
 use Rattle.fact_emit.specs.Places.{setting_of, Using}
 

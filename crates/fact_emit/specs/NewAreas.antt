@@ -9,16 +9,16 @@ use Rattle.fact_wasm.specs.declared.module.WasmModule.{WasmModule}
 use Rattle.fact_types.specs.declared.import.Import.TheVariants as import
 use Rattle.fact_types.specs.declared.outside.Trap.TheVariants.{MemoryOutOfBounds, UnalignedPointer}
 use Rattle.fact_machine.specs.Typing.{address_bits, address_type, address_operand}
-use Rattle.fact_moves.specs.Actions.{Give}
-use Rattle.fact_moves.specs.Running.{ImportPlaces}
-use Rattle.fact_moves.specs.Sides.{LiftLowerOptions, reallocate}
-use Rattle.fact_pieces.specs.Context.{HasSlotsIf}
-use Rattle.fact_pieces.specs.Does.{Locals, Onward, held_types, Does}
-use Rattle.fact_pieces.specs.Knows.{KnowsFunction}
-use Rattle.fact_pieces.specs.Lists.{address_code}
-use Rattle.fact_pieces.specs.Places.{KeepsLocals, widen}
-use Rattle.fact_pieces.specs.Typed.{OnStack, IsTyped}
-use Rattle.fact_pieces.specs.Tests.{HasUnaligned, pointer, region_code}
+use Rattle.fact_actions.specs.Actions.{Give}
+use Rattle.fact_actions.specs.Running.{ImportPlaces}
+use Rattle.fact_actions.specs.Sides.{LiftLowerOptions, reallocate}
+use Rattle.fact_code_laws.specs.Context.{HasSlotsIf}
+use Rattle.fact_code_laws.specs.Does.{Locals, Onward, held_types, Does}
+use Rattle.fact_code_laws.specs.Knows.{KnowsFunction}
+use Rattle.fact_code_laws.specs.Lists.{address_code}
+use Rattle.fact_code_laws.specs.Places.{KeepsLocals, widen}
+use Rattle.fact_code_laws.specs.Typed.{OnStack, IsTyped}
+use Rattle.fact_code_laws.specs.Tests.{HasUnaligned, pointer_of_width, region_code}
 use Rattle.fact_emit.specs.Areas.{IsLinearMemoryOf}
 use Rattle.fact_emit.specs.Requests.{IsReallocOf, request_code}
 use Rattle.fact_emit.specs.RuntimeCalls.{slots_of}
@@ -32,7 +32,7 @@ pub record NewAreaCode (concurrency : Bool) (m : LinearMemory) (address size ali
   pub slots : HasSlotsIf concurrency M p (slots_of p c)
   pub unaligned : HasUnaligned (nat_eq align 1) M p (p.function (import.Trap UnalignedPointer))
   pub outside : KnowsFunction M p (import.Trap MemoryOutOfBounds) (p.function (import.Trap MemoryOutOfBounds)) [] []
-  pub is : code ≡ I.I64Const size ∷ I.LocalSet t.bytes ∷ (request_code concurrency (slots_of p c) m.realloc m.memory64 align t.bytes ++ ((widen (pointer m.memory64) val.I64 ++ I.LocalSet t.pointer ∷ [])
+  pub is : code ≡ I.I64Const size ∷ I.LocalSet t.bytes ∷ (request_code concurrency (slots_of p c) m.realloc m.memory64 align t.bytes ++ ((widen (pointer_of_width m.memory64) val.I64 ++ I.LocalSet t.pointer ∷ [])
       ++ (region_code m.memory m.memory64 m.page_size_log2 align t.pointer t.bytes t.length (p.function (import.Trap UnalignedPointer)) (p.function (import.Trap MemoryOutOfBounds))
       ++ (address_code m.memory64 t.pointer ++ I.LocalSet address ∷ []))))
 

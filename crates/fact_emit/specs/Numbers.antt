@@ -3,8 +3,8 @@ use Rattle.std.specs.Prelude.{◌≡◌, Bool, List, [], ◌∷◌}
 use Rattle.fact_wasm.specs.declared.types.ValType.{ValType}
 use Rattle.fact_wasm.specs.declared.instr.Instr.{Instr}
 use Rattle.fact_wasm.specs.declared.module.WasmModule.{WasmModule}
-use Rattle.fact_moves.specs.Running.{ImportPlaces}
-use Rattle.fact_pieces.specs.Places.{Number, N8, N16, N32, N64, From, InLocals, InMemory, To, DebugChecks, Off, Setting, FitsNumber, HasUpper, is_halved, read_code}
+use Rattle.fact_actions.specs.Running.{ImportPlaces}
+use Rattle.fact_code_laws.specs.Places.{Number, N8, N16, N32, N64, From, InLocals, InMemory, To, DebugChecks, Off, Setting, FitsNumber, HasUpper, is_halved, read_code}
 use Rattle.fact_emit.specs.declared.numbers.NumberSize.{NumberSize}
 use Rattle.fact_emit.specs.declared.numbers.NumberSize.TheVariants.{Bits8, Bits16, Bits32, Bits64}
 use Rattle.fact_emit.specs.Places.{checks_at}

@@ -1,13 +1,13 @@
 -- The places of the writing functions as places of pieces of code.
-pub use Rattle.fact_pieces.specs.Places.{AreDistinctSlots}
+pub use Rattle.fact_code_laws.specs.Places.{AreDistinctSlots}
 use Rattle.std.specs.Prelude.{◌≡◌, ℕ, Bool, true, false, List, map}
 use Rattle.fact_wasm.specs.declared.types.ValType.{ValType}
 use Rattle.fact_wasm.specs.declared.module.WasmModule.{WasmModule}
 use Rattle.fact_types.specs.declared.import.Import.TheVariants as import
 use Rattle.fact_types.specs.declared.outside.Trap.TheVariants.{DebugAssertPointerAligned, DebugAssertUpperBitsUnset}
-use Rattle.fact_moves.specs.Running.{ImportPlaces}
-use Rattle.fact_moves.specs.Sides.{LiftLowerOptions}
-use Rattle.fact_pieces.specs.Places.{Slot, From, InLocals, InMemory, To, ToLocals, ToMemory, DebugChecks, Off, On, Rooms, Setting, AreUsed, FromUsed, ToUsed}
+use Rattle.fact_actions.specs.Running.{ImportPlaces}
+use Rattle.fact_actions.specs.Sides.{LiftLowerOptions}
+use Rattle.fact_code_laws.specs.Places.{Slot, From, InLocals, InMemory, To, ToLocals, ToMemory, DebugChecks, Off, On, Rooms, Setting, AreUsed, FromUsed, ToUsed}
 use Rattle.fact_emit.specs.declared.places.TypedLocal.{TypedLocal}
 use Rattle.fact_emit.specs.declared.places.SourcePlace.{SourcePlace}
 use Rattle.fact_emit.specs.declared.places.SourcePlace.TheVariants as source

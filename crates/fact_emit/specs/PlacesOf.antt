@@ -10,7 +10,7 @@ use Rattle.fact_types.specs.contracts.outside.CoreDefPartialEq.TheImpl as def_eq
 use Rattle.fact_types.specs.contracts.outside.TranscodePartialEq.TheImpl as transcode_eq
 use Rattle.fact_types.specs.contracts.outside.TrapPartialEq.TheImpl as trap_eq
 use Rattle.fact_types.specs.contracts.outside.UnsafeIntrinsicPartialEq.TheImpl as intrinsic_eq
-use Rattle.fact_moves.specs.Running.{ImportPlaces}
+use Rattle.fact_actions.specs.Running.{ImportPlaces}
 use Rattle.fact_emit.specs.States.{ModuleSoFar, functions_of, globals_of, memories_of}
 
 abbrev pub same_bool : Bool → Bool → Bool

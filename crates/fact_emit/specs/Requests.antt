@@ -10,13 +10,13 @@ use Rattle.fact_types.specs.declared.outside.CoreDef.{CoreDef}
 use Rattle.fact_types.specs.declared.outside.Trap.{Trap}
 use Rattle.fact_types.specs.declared.outside.Trap.TheVariants.{UnalignedPointer}
 use Rattle.fact_types.specs.declared.import.Import.TheVariants as import
-use Rattle.fact_moves.specs.Running.{ImportPlaces}
-use Rattle.fact_moves.specs.Sides.{LiftLowerOptions}
-use Rattle.fact_pieces.specs.Context.{ContextSlots, HasSlotsIf, save_code, restore_code}
-use Rattle.fact_pieces.specs.Knows.{KnowsFunction}
-use Rattle.fact_pieces.specs.Lists.{ask_code}
-use Rattle.fact_pieces.specs.Places.{widen}
-use Rattle.fact_pieces.specs.Tests.{HasUnaligned, pointer, region_code}
+use Rattle.fact_actions.specs.Running.{ImportPlaces}
+use Rattle.fact_actions.specs.Sides.{LiftLowerOptions}
+use Rattle.fact_code_laws.specs.Context.{ContextSlots, HasSlotsIf, save_code, restore_code}
+use Rattle.fact_code_laws.specs.Knows.{KnowsFunction}
+use Rattle.fact_code_laws.specs.Lists.{ask_code}
+use Rattle.fact_code_laws.specs.Places.{widen}
+use Rattle.fact_code_laws.specs.Tests.{HasUnaligned, pointer_of_width, region_code}
 use Rattle.fact_emit.specs.declared.places.LinearMemory.{LinearMemory}
 use Rattle.fact_emit.specs.declared.requests.NewRegion.{NewRegion}
 use Rattle.fact_emit.specs.Areas.{IsLinearMemoryOf}
@@ -46,7 +46,7 @@ pub record AsksRegion (concurrency : Bool) (m : LinearMemory) (r : NewRegion) (t
   pub slots : HasSlotsIf concurrency M p (slots_of p r.context)
   pub unaligned : HasUnaligned (nat_eq r.align 1) M p (p.function (import.Trap UnalignedPointer))
   pub outside : KnowsFunction M p (import.Trap t) (p.function (import.Trap t)) [] []
-  pub is : code ≡ request_code concurrency (slots_of p r.context) m.realloc m.memory64 r.align r.bytes ++ ((widen (pointer m.memory64) val.I64 ++ I.LocalSet r.address ∷ [])
+  pub is : code ≡ request_code concurrency (slots_of p r.context) m.realloc m.memory64 r.align r.bytes ++ ((widen (pointer_of_width m.memory64) val.I64 ++ I.LocalSet r.address ∷ [])
       ++ region_code m.memory m.memory64 m.page_size_log2 r.align r.address r.bytes r.length (p.function (import.Trap UnalignedPointer)) (p.function (import.Trap t)))
 
 -- ---- what requests ask for

@@ -5,9 +5,9 @@ use Rattle.fact_wasm.specs.declared.instr.Instr.{Instr}
 use Rattle.fact_wasm.specs.declared.instr.Instr.TheVariants as I
 use Rattle.fact_wasm.specs.declared.module.WasmModule.{WasmModule}
 use Rattle.fact_wasm.specs.declared.types.ValType.{ValType}
-use Rattle.fact_moves.specs.Running.{ImportPlaces}
-use Rattle.fact_pieces.specs.Context.{ContextSlots, slots_at, read_slots_code, zero_slots_code, save_code, restore_code, HasSlotsIf, CanReadSlotsIf, CanWriteSlotsIf}
-use Rattle.fact_pieces.specs.Knows.{KnowsFunction}
+use Rattle.fact_actions.specs.Running.{ImportPlaces}
+use Rattle.fact_code_laws.specs.Context.{ContextSlots, slots_at, read_slots_code, zero_slots_code, save_code, restore_code, HasSlotsIf, CanReadSlotsIf, CanWriteSlotsIf}
+use Rattle.fact_code_laws.specs.Knows.{KnowsFunction}
 use Rattle.fact_emit.specs.declared.context.ContextLocals.{ContextLocals}
 use Rattle.fact_emit.specs.declared.imported.RuntimeFunction.{RuntimeFunction}
 use Rattle.fact_emit.specs.Runtime.{import_of, type_of_runtime}

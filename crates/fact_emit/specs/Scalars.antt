@@ -8,11 +8,11 @@ use Rattle.fact_types.specs.declared.outside.Trap.{Trap}
 use Rattle.fact_types.specs.declared.outside.Trap.TheVariants.{InvalidChar, InvalidDiscriminant}
 use Rattle.fact_types.specs.Shapes.{s_plain}
 use Rattle.fact_values.specs.Numbers.{is_scalar_value}
-use Rattle.fact_moves.specs.Actions.{Visit, unless}
-use Rattle.fact_moves.specs.Moves.{canonical_number, move_number}
-use Rattle.fact_moves.specs.Sides.{read_number, write_number}
-use Rattle.fact_pieces.specs.Places.{Number, N8, N16, N32, N64, size_of, From, To}
-use Rattle.fact_pieces.specs.Tests.{scalar_test, case_test}
+use Rattle.fact_actions.specs.Actions.{Visit, unless}
+use Rattle.fact_actions.specs.Moves.{canonical_number, move_number}
+use Rattle.fact_actions.specs.Sides.{read_number, write_number}
+use Rattle.fact_code_laws.specs.Places.{Number, N8, N16, N32, N64, size_of, From, To}
+use Rattle.fact_code_laws.specs.Tests.{scalar_test, case_test}
 use Rattle.fact_emit.specs.declared.places.Sides.{Sides}
 use Rattle.fact_emit.specs.declared.scalars.Canonical.{Canonical}
 use Rattle.fact_emit.specs.declared.scalars.Canonical.TheVariants.{AsIs, Truth, Signed8, Signed16, Low}

@@ -13,7 +13,7 @@ use Rattle.fact_types.specs.declared.outside.CoreDef.{CoreDef}
 use Rattle.fact_types.specs.declared.outside.Trap.{Trap}
 use Rattle.fact_types.specs.declared.import.Import.{Import}
 use Rattle.fact_types.specs.declared.import.Import.TheVariants as known
-use Rattle.fact_pieces.specs.StringCode.{transcoder_type}
+use Rattle.fact_code_laws.specs.StringCode.{transcoder_type}
 use Rattle.fact_emit.specs.declared.helpers.Helper.{Helper}
 use Rattle.fact_emit.specs.declared.imported.ImportedItem.{ImportedItem}
 use Rattle.fact_emit.specs.declared.imported.ImportedItem.TheVariants as item
@@ -26,8 +26,8 @@ use Rattle.fact_emit.specs.Runtime.{import_of, name_of_runtime, origin_of_runtim
 use Rattle.fact_emit.specs.TaskTypes.{prepare_call_type, start_call_type}
 use Rattle.fact_emit.specs.TranscoderNames.{transcoder_name}
 
--- The sections of a module so far, and what its imports are. The exports of imported functions stand behind the others. Each helper that code asked for
--- stands beside the number of its function. Functions below a number may be numbered ahead, before there is code of them.
+-- What `ModuleSections` holds: the sections of a module so far, and what its imports are. The exports of imported functions stand behind the others. Each
+-- helper that code asked for stands beside the number of its function. Functions below a number may be numbered ahead, before there is code of them.
 pub record ModuleSoFar : Type 0 where
   pub types : List FuncType
   pub section : List WasmImport

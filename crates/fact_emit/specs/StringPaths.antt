@@ -2,8 +2,8 @@
 use Rattle.std.specs.Prelude.{ℕ, ◌<◌, true}
 use Rattle.fact_types.specs.declared.outside.Transcode.{Transcode}
 use Rattle.fact_types.specs.declared.outside.Trap.TheVariants.{DebugAssertStringEncodingFinished}
-use Rattle.fact_moves.specs.Paths as of_moves
-use Rattle.fact_moves.specs.Transcoders as of_kinds
+use Rattle.fact_actions.specs.Paths as of_moves
+use Rattle.fact_actions.specs.Transcoders as of_kinds
 use Rattle.fact_emit.specs.declared.paths.Amount.{Amount}
 use Rattle.fact_emit.specs.declared.paths.Amount.TheVariants as amount
 use Rattle.fact_emit.specs.declared.paths.PathTest.{PathTest}

@@ -8,11 +8,11 @@ use Rattle.fact_types.specs.declared.outside.CoreDef.{CoreDef}
 use Rattle.fact_types.specs.declared.outside.Transcode.{Transcode}
 use Rattle.fact_types.specs.declared.outside.Trap.{Trap}
 use Rattle.fact_types.specs.declared.import.Import.TheVariants as import
-use Rattle.fact_moves.specs.Running.{ImportPlaces}
-use Rattle.fact_pieces.specs.Places.{From, Slot, To, is_on}
-use Rattle.fact_pieces.specs.StringCode.{StringMove, string_code}
-use Rattle.fact_pieces.specs.StringNeeds.{Needs, NeedsEncoded, NeedsTrap}
-use Rattle.fact_pieces.specs.Tests.{pointer}
+use Rattle.fact_actions.specs.Running.{ImportPlaces}
+use Rattle.fact_code_laws.specs.Places.{From, Slot, To, is_on}
+use Rattle.fact_code_laws.specs.StringCode.{StringMove, string_code}
+use Rattle.fact_code_laws.specs.StringNeeds.{Needs, NeedsEncoded, NeedsTrap}
+use Rattle.fact_code_laws.specs.Tests.{pointer_of_width}
 use Rattle.fact_emit.specs.declared.places.LinearMemory.{LinearMemory}
 use Rattle.fact_emit.specs.declared.places.Sides.{Sides}
 use Rattle.fact_emit.specs.declared.string_locals.StringLocals.{StringLocals}
@@ -97,8 +97,8 @@ pub record StringPiece (sides : Sides) (l : StringLocals) (part : StringMove →
   pub has : (d e : CoreDef) → HaveMemories sides p d e → needs (string_move sides l p d e) M p d e
 
 -- Code was put there that calls no function: this part, wherever the module's imports stand.
-abbrev pub WrotePart : (sides : Sides) → StringLocals → (part : StringMove → List Instr) → (old new : Writer) → Type 0
-WrotePart sides l part old new = (p : ImportPlaces) (d e : CoreDef) → Wrote old new (part (string_move sides l p d e))
+abbrev pub WroteStringPart : (sides : Sides) → StringLocals → (part : StringMove → List Instr) → (old new : Writer) → Type 0
+WroteStringPart sides l part old new = (p : ImportPlaces) (d e : CoreDef) → Wrote old new (part (string_move sides l p d e))
 
 -- Code that was written aside is this part, wherever the module's imports stand.
 pub record IsPart (sides : Sides) (l : StringLocals) (part : StringMove → List Instr) (code : List Instr) : Type 0 where
@@ -116,8 +116,8 @@ transcoder_between sides o = record {
 
 -- The whole code of a string's move. The functions that it calls are there.
 pub record WroteString (sides : Sides) (l : StringLocals) (src : From) (dst : To) (M : WasmModule) (p : ImportPlaces) (locals : List ValType) (code : List Instr) : Type 0 where
-  pub has_pointer : HasUpperAt M p (checks_at sides.debug p) (pointer sides.from.memory64) src
-  pub has_length : HasUpperAt M p (checks_at sides.debug p) (pointer sides.from.memory64) (length_from sides.from.memory64 src)
+  pub has_pointer : HasUpperAt M p (checks_at sides.debug p) (pointer_of_width sides.from.memory64) src
+  pub has_length : HasUpperAt M p (checks_at sides.debug p) (pointer_of_width sides.from.memory64) (length_from sides.from.memory64 src)
   pub is : (d e : CoreDef) → HaveMemories sides p d e
       → code ≡ string_code (string_move sides l p d e) sides.from.encoding sides.to.encoding src (length_from sides.from.memory64 src) dst (length_to sides.to.memory64 dst)
   pub has : (d e : CoreDef) → HaveMemories sides p d e → NeedsEncoded sides.from.encoding sides.to.encoding (string_move sides l p d e) M p d e

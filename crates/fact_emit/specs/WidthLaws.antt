@@ -7,17 +7,18 @@ use Rattle.fact_wasm.specs.declared.instr.Instr.{Instr, out-Instr, map-Instr}
 use Rattle.fact_wasm.specs.declared.instr.Instr.TheOpen.{Instr-F}
 use Rattle.fact_wasm.specs.declared.instr.Instr.TheVariants as I
 use Rattle.fact_wasm.specs.declared.module.WasmModule.{WasmModule}
+use Rattle.fact_types.specs.Signatures.{pointer_bytes, width}
 use Rattle.fact_machine.specs.declared.types.CoreValue.{CoreValue}
 use Rattle.fact_machine.specs.World.{World, Done, read, written, with_number}
 use Rattle.fact_machine.specs.Machine.{Around, act, type_of}
 use Rattle.fact_machine.specs.Typing.{address_bits, address_operand, Operands, Context, Typing, instruction_type, typing}
 use Rattle.fact_machine.specs.Exits.{Falls, leads, Leaves, res_exit}
-use Rattle.fact_pieces.proofs.Lists.{get_set_here}
+use Rattle.fact_code_laws.proofs.Lists.{get_set_here}
 use Rattle.fact_machine.proofs.MemoryRows.{read_within, write_within, leaves_i32_load, leaves_i64_load, leaves_i32_store, leaves_i64_store}
 use Rattle.fact_machine.proofs.Places.{load_after_store, store_keeps_length}
 use Rattle.fact_machine.proofs.RowLaws.{leaves_row}
 use Rattle.fact_machine.proofs.TypingRows.{typing_is, row_of, plain_row}
-use Rattle.fact_emit.specs.Widths.{address_bytes, integer_modulo, ReplacesOperands, PushesPointer, LoadsPointer, StoresPointer, LoadGivesStored, IsPointerCode, IsPointerType, code_32, code_64, pointer_code}
+use Rattle.fact_emit.specs.Widths.{integer_modulo, ReplacesOperands, PushesPointer, LoadsPointer, StoresPointer, LoadGivesStored, IsPointerCode, IsPointerType, code_32, code_64, pointer_code}
 
 -- ---- instructions on operands
 
@@ -47,15 +48,15 @@ modulo_64 (negsuc a) h = omega (arith, h.sfits)
 -- ---- instructions on memory
 
 -- a pointer has no more bits than its bytes
-pointer_kept : (memory64 : Bool) (x : ℕ) → x < 2 ^ address_bits memory64 → x % 256 ^ address_bytes memory64 ≡ x
+pointer_kept : (memory64 : Bool) (x : ℕ) → x < 2 ^ address_bits memory64 → x % 256 ^ pointer_bytes (width memory64) ≡ x
 pointer_kept true x below = omega arith
 pointer_kept false x below = omega arith
 
 -- a number of either width is put into memory, and read there again
-reads_stored : (memory64 : Bool) (w : World) (index : ℕ) (bytes : List ℕ) (a x : ℕ) → a + address_bytes memory64 ≤ length bytes → x < 2 ^ address_bits memory64
-    → read (address_bytes memory64) (with_number (address_bytes memory64) bytes a x) a (written (address_bytes memory64) index bytes a x w) ≡ Done x (written (address_bytes memory64) index bytes a x w)
+reads_stored : (memory64 : Bool) (w : World) (index : ℕ) (bytes : List ℕ) (a x : ℕ) → a + pointer_bytes (width memory64) ≤ length bytes → x < 2 ^ address_bits memory64
+    → read (pointer_bytes (width memory64)) (with_number (pointer_bytes (width memory64)) bytes a x) a (written (pointer_bytes (width memory64)) index bytes a x w) ≡ Done x (written (pointer_bytes (width memory64)) index bytes a x w)
 reads_stored memory64 w index bytes a x fits below =
-    let n = address_bytes memory64 in
+    let n = pointer_bytes (width memory64) in
     let stored = with_number n bytes a x in
     let after : World = written n index bytes a x w in
     read_within n a stored after (subst (λ k. a + n ≤ k) (sym (store_keeps_length bytes n a x fits)) fits)
@@ -68,7 +69,7 @@ still_there w index bytes n a x there = get_set_here w.state.memories index (wit
 -- what loads and stores a pointer gives what was stored
 load_gives_stored : (memory64 : Bool) (at : MemArg) (store load : Instr) → StoresPointer memory64 at store → LoadsPointer memory64 at load → LoadGivesStored memory64 at store load
 load_gives_stored memory64 at store load stores loads M w ls wide log2 bytes base x imported there fits below =
-    let n = address_bytes memory64 in
+    let n = pointer_bytes (width memory64) in
     let a = base + at.offset in
     let place = address_operand wide base in
     let value = address_operand memory64 x in

@@ -8,6 +8,7 @@ use Rattle.fact_wasm.specs.declared.instr.MemArg.{MemArg}
 use Rattle.fact_wasm.specs.declared.instr.Instr.{Instr}
 use Rattle.fact_wasm.specs.declared.instr.Instr.TheVariants as I
 use Rattle.fact_wasm.specs.declared.module.WasmModule.{WasmModule}
+use Rattle.fact_types.specs.Signatures.{pointer_bytes, width}
 use Rattle.fact_machine.specs.declared.types.CoreValue.{CoreValue}
 use Rattle.fact_machine.specs.declared.types.CoreValue.TheVariants.{I32}
 use Rattle.fact_machine.specs.World.{World, read, write}
@@ -18,11 +19,7 @@ use Rattle.fact_machine.specs.Exits.{Falls, Leaves, res_exit}
 
 -- ---- numbers
 
--- the bytes of a pointer, and the exponent of their number
-abbrev pub address_bytes : (memory64 : Bool) → ℕ
-address_bytes true = 8
-address_bytes false = 4
-
+-- the exponent of the number of bytes of a pointer
 abbrev pub address_exponent : (memory64 : Bool) → ℕ
 address_exponent true = 3
 address_exponent false = 2
@@ -61,14 +58,14 @@ TestsPointer memory64 value i = (x : ℕ) → ReplacesOperands (address_operand 
 pub record LoadsPointer (memory64 : Bool) (at : MemArg) (i : Instr) : Type 0 where
   pub typed : (G : Context) (s : Operands) → typing i G s ≡ load_typing (address_exponent memory64) (address_type memory64) at G s
   pub leaves : (M : WasmModule) (w : World) (vs : List CoreValue) (ls : List (Option CoreValue)) (wide : Bool) (log2 : Option ℕ) (bytes : List ℕ) (base : ℕ) → memory_import M.imports at.memory_index ≡ Some (wide, log2) → slice_get w.state.memories at.memory_index ≡ Some bytes
-      → Leaves M 1 (i ∷ []) w (address_operand wide base ∷ vs) ls (res_exit (read (address_bytes memory64) bytes (base + at.offset) w) ls (λ x w'. Falls w' (address_operand memory64 x ∷ vs) ls))
+      → Leaves M 1 (i ∷ []) w (address_operand wide base ∷ vs) ls (res_exit (read (pointer_bytes (width memory64)) bytes (base + at.offset) w) ls (λ x w'. Falls w' (address_operand memory64 x ∷ vs) ls))
 
 -- An instruction that stores the pointer on top: at so many bytes behind the address below it. It traps where there is no room for
 -- all bytes of the pointer, and then changes nothing.
 pub record StoresPointer (memory64 : Bool) (at : MemArg) (i : Instr) : Type 0 where
   pub typed : (G : Context) (s : Operands) → typing i G s ≡ store_typing (address_exponent memory64) (address_type memory64) at G s
   pub leaves : (M : WasmModule) (w : World) (vs : List CoreValue) (ls : List (Option CoreValue)) (wide : Bool) (log2 : Option ℕ) (bytes : List ℕ) (base x : ℕ) → memory_import M.imports at.memory_index ≡ Some (wide, log2) → slice_get w.state.memories at.memory_index ≡ Some bytes
-      → Leaves M 1 (i ∷ []) w (address_operand memory64 x ∷ address_operand wide base ∷ vs) ls (res_exit (write (address_bytes memory64) at.memory_index bytes (base + at.offset) x w) ls (λ done w'. Falls w' vs ls))
+      → Leaves M 1 (i ∷ []) w (address_operand memory64 x ∷ address_operand wide base ∷ vs) ls (res_exit (write (pointer_bytes (width memory64)) at.memory_index bytes (base + at.offset) x w) ls (λ done w'. Falls w' vs ls))
 
 -- a store that goes on, and a load of the same place behind it
 pub record StoredThenLoaded (M : WasmModule) (w : World) (ls : List (Option CoreValue)) (place x : CoreValue) (store load : Instr) : Type 0 where
@@ -80,7 +77,7 @@ pub record StoredThenLoaded (M : WasmModule) (w : World) (ls : List (Option Core
 abbrev pub LoadGivesStored : (memory64 : Bool) → MemArg → (store load : Instr) → Type 0
 LoadGivesStored memory64 at store load =
     (M : WasmModule) (w : World) (ls : List (Option CoreValue)) (wide : Bool) (log2 : Option ℕ) (bytes : List ℕ) (base x : ℕ) → memory_import M.imports at.memory_index ≡ Some (wide, log2) → slice_get w.state.memories at.memory_index ≡ Some bytes
-    → base + at.offset + address_bytes memory64 ≤ length bytes → x < 2 ^ address_bits memory64
+    → base + at.offset + pointer_bytes (width memory64) ≤ length bytes → x < 2 ^ address_bits memory64
     → StoredThenLoaded M w ls (address_operand wide base) (address_operand memory64 x) store load
 
 -- ---- the instructions of a width
@@ -172,4 +169,4 @@ pub record IsPointerCode (memory64 : Bool) (code : PointerCode) : Type 0 where
 -- the type of a pointer, and how many bytes it has
 pub record IsPointerType (memory64 : Bool) (type : ValType) (size : ℕ) : Type 0 where
   pub has_type : type ≡ address_type memory64
-  pub has_size : size ≡ address_bytes memory64
+  pub has_size : size ≡ pointer_bytes (width memory64)

@@ -6,7 +6,7 @@ use Rattle.fact_wasm.specs.declared.instr.Instr.{Instr}
 use Rattle.fact_types.specs.declared.outside.Trap.{Trap}
 use Rattle.fact_machine.specs.Trace.{Grows}
 use Rattle.fact_machine.specs.Typing.{is_number}
-use Rattle.fact_pieces.specs.Places.{Slot, AreLocals, IsNone}
+use Rattle.fact_code_laws.specs.Places.{Slot, AreLocals, IsNone}
 use Rattle.fact_emit.specs.declared.imported.RuntimeFunction.{RuntimeFunction}
 use Rattle.fact_emit.specs.declared.imported.RuntimeFunction.TheVariants as runtime
 use Rattle.fact_emit.specs.declared.transcoders.Transcoder.{Transcoder}
@@ -44,32 +44,32 @@ taken_in w i = is_local_in_use (slice_get w.locals.items i)
 pub record Same (old new : Writer) : Type 0 where
   pub code : new.code ≡ old.code
   pub locals : new.locals ≡ old.locals
-  pub imports : new.imports ≡ old.imports
+  pub imports : new.sections ≡ old.sections
 
 -- these instructions were put behind the code, and nothing else changed
 pub record Wrote (old new : Writer) (added : List Instr) : Type 0 where
   pub code : new.code.items ≡ old.code.items ++ added
   pub locals : new.locals ≡ old.locals
-  pub imports : new.imports ≡ old.imports
+  pub imports : new.sections ≡ old.sections
 
 -- a body begins: the code from before it was handed out, and none is there
 pub record Began (old new : Writer) (out : List Instr) : Type 0 where
   pub outer : out ≡ old.code.items
   pub code : new.code.items ≡ []
   pub locals : new.locals ≡ old.locals
-  pub imports : new.imports ≡ old.imports
+  pub imports : new.sections ≡ old.sections
 
 -- a body ends: it was handed out, and the code from before it is back
-pub record Ended (old new : Writer) (outer out : List Instr) : Type 0 where
+pub record EndedBody (old new : Writer) (outer out : List Instr) : Type 0 where
   pub body : out ≡ old.code.items
   pub code : new.code.items ≡ outer
   pub locals : new.locals ≡ old.locals
-  pub imports : new.imports ≡ old.imports
+  pub imports : new.sections ≡ old.sections
 
 -- a local of a type was taken: it was not in use, and now is
 pub record Took (old new : Writer) (ty : ValType) (local : ℕ) : Type 0 where
   pub code : new.code.items ≡ old.code.items
-  pub imports : new.imports ≡ old.imports
+  pub imports : new.sections ≡ old.sections
   pub was_free : taken_in old local ≡ false
   pub taken : taken_in new local ≡ true
   pub others : (i : ℕ) → i ≢ local → taken_in new i ≡ taken_in old i
@@ -80,13 +80,13 @@ pub record Took (old new : Writer) (ty : ValType) (local : ℕ) : Type 0 where
 -- a local was put behind the others, and is in use
 pub record AddedLocal (old new : Writer) (ty : ValType) (local : ℕ) : Type 0 where
   pub code : new.code.items ≡ old.code.items
-  pub imports : new.imports ≡ old.imports
+  pub imports : new.sections ≡ old.sections
   pub locals : new.locals.items ≡ old.locals.items ++ used_local_of ty ∷ []
   pub place : local ≡ length old.locals.items
 
 pub record Freed (old new : Writer) (local : ℕ) : Type 0 where
   pub code : new.code.items ≡ old.code.items
-  pub imports : new.imports ≡ old.imports
+  pub imports : new.sections ≡ old.sections
   pub free : taken_in new local ≡ false
   pub others : (i : ℕ) → i ≢ local → taken_in new i ≡ taken_in old i
   pub types : types_of_locals new ≡ types_of_locals old
@@ -94,7 +94,7 @@ pub record Freed (old new : Writer) (local : ℕ) : Type 0 where
 -- locals of these types were taken: they are distinct, were not in use, and now are
 pub record TookAll (old new : Writer) (slots : List Slot) : Type 0 where
   pub code : new.code.items ≡ old.code.items
-  pub imports : new.imports ≡ old.imports
+  pub imports : new.sections ≡ old.sections
   pub were_free : AllByRecursion (λ s. taken_in old s.0 ≡ false) slots
   pub taken : AllByRecursion (λ s. taken_in new s.0 ≡ true) slots
   pub others : (i : ℕ) → IsNone i slots → taken_in new i ≡ taken_in old i
@@ -115,7 +115,7 @@ AreDistinctNumbers (n ∷ ns) = IsNoneOf n ns × AreDistinctNumbers ns
 -- locals are in use no more
 pub record FreedAll (old new : Writer) (locals : List ℕ) : Type 0 where
   pub code : new.code.items ≡ old.code.items
-  pub imports : new.imports ≡ old.imports
+  pub imports : new.sections ≡ old.sections
   pub free : AllByRecursion (λ i. taken_in new i ≡ false) locals
   pub others : (i : ℕ) → IsNoneOf i locals → taken_in new i ≡ taken_in old i
   pub types : types_of_locals new ≡ types_of_locals old
@@ -124,10 +124,10 @@ pub record FreedAll (old new : Writer) (locals : List ℕ) : Type 0 where
 pub record TookRuntime (old new : Writer) (f : RuntimeFunction) (place : ℕ) : Type 0 where
   pub code : new.code.items ≡ old.code.items
   pub locals : new.locals ≡ old.locals
-  pub imported : IsRuntimeImported old.imports new.imports f place
-  pub imports : Extended old.imports new.imports
-  pub once : AreOnce old.imports → AreOnce new.imports
-  pub there : HasImport new.imports (import_of f) place (type_of_runtime f).params (type_of_runtime f).results
+  pub imported : IsRuntimeImported old.sections new.sections f place
+  pub imports : Extended old.sections new.sections
+  pub once : AreOnce old.sections → AreOnce new.sections
+  pub there : HasImport new.sections (import_of f) place (type_of_runtime f).params (type_of_runtime f).results
 
 -- so has a trap
 abbrev pub TookTrap : (old new : Writer) → Trap → (place : ℕ) → Type 0
@@ -137,7 +137,7 @@ TookTrap old new t place = TookRuntime old new (runtime.Trap t) place
 pub record TookTranscoder (old new : Writer) (t : Transcoder) (place : ℕ) : Type 0 where
   pub code : new.code.items ≡ old.code.items
   pub locals : new.locals ≡ old.locals
-  pub imported : IsTranscoderImported old.imports new.imports t place
-  pub imports : Extended old.imports new.imports
-  pub once : AreOnce old.imports → AreOnce new.imports
-  pub there : HasTranscoder new.imports t place
+  pub imported : IsTranscoderImported old.sections new.sections t place
+  pub imports : Extended old.sections new.sections
+  pub once : AreOnce old.sections → AreOnce new.sections
+  pub there : HasTranscoder new.sections t place

@@ -1,9 +1,9 @@
-//! Barriers: a body that was written aside, in which what is thrown becomes a trap.
+//! Barriers: a body that was written into a buffer of its own is put into a block in which what is thrown becomes a trap.
 
 ghost use Rattle.std.specs.Prelude.{IfOk, OnOk, [], ◌∷◌, ◌≡◌};
 ghost use Rattle.fact_wasm.specs.declared.instr.BlockType.TheVariants.{Empty};
 ghost use Rattle.fact_wasm.specs.declared.instr.Instr.TheVariants as I;
-ghost use Rattle.fact_pieces.specs.Code.{barrier_code};
+ghost use Rattle.fact_code_laws.specs.Code.{barrier_code};
 ghost use Rattle.fact_emit.specs.Barriers.{WroteBarrier};
 
 use crate::writer::Writer;
@@ -36,7 +36,7 @@ fn barrier(alloc: Global, body: Seq<Instr>, place: u32) -> Result<Instr, OutOfMe
     Ok(Instr::Block(BlockType::Empty, Seq::from_vec(code)))
 }
 
-/// Puts a body that was written aside into a barrier (core specification, "Control Instructions", `try_table`).
+/// Puts a body, which was written into a buffer of its own, into a barrier (core specification, "Control Instructions", `try_table`).
 pub fn put_barrier(w: &mut Writer, body: Seq<Instr>) -> Result<(), OutOfMemory>
     ensures { OnOk result (WroteBarrier w.old w.new body) }
 {

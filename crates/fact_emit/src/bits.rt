@@ -4,7 +4,7 @@
 ghost use Rattle.std.specs.Prelude.{IfOk, IfSome, IsTrue, OnOk, ◌≡◌, ◌≢◌, ◌<◌, ◌≤◌, ◌+◌, ◌^◌, ℕ, Some, length};
 ghost use Rattle.std.specs.List.{AllByRecursion};
 ghost use Rattle.fact_wasm.specs.declared.types.ValType.TheVariants as val;
-ghost use Rattle.fact_pieces.specs.Places.{N64};
+ghost use Rattle.fact_code_laws.specs.Places.{N64};
 ghost use Rattle.fact_emit.specs.Emits.{Emits};
 ghost use Rattle.fact_emit.specs.MovesValue.{MovesValue, except, HasLocal};
 ghost use Rattle.fact_emit.specs.Numbers.{number_sized, FitsUnchecked};

@@ -5,9 +5,9 @@ ghost use Rattle.fact_machine.specs.Exits.{nest};
 ghost use Rattle.fact_wasm.specs.declared.instr.BlockType.TheVariants.{Empty};
 ghost use Rattle.fact_wasm.specs.declared.instr.Instr.{Instr};
 ghost use Rattle.fact_wasm.specs.declared.instr.Instr.TheVariants as I;
-ghost use Rattle.fact_pieces.specs.Choices.{chunk_number, place_in_chunk, IsChoice};
-ghost use Rattle.fact_pieces.specs.Code.{arms, cases_code, labels_from, sum_code, trap_code};
-ghost use Rattle.fact_pieces.specs.StringCode.{either_code};
+ghost use Rattle.fact_code_laws.specs.Choices.{chunk_number, place_in_chunk, IsChoice};
+ghost use Rattle.fact_code_laws.specs.Code.{arms, cases_code, labels_from, sum_code, trap_code};
+ghost use Rattle.fact_code_laws.specs.StringCode.{either_code};
 ghost use Rattle.fact_emit.specs.Bodies.{AreChunkCodes, HasChunks, WroteChoice};
 ghost use Rattle.fact_emit.specs.Writers.{Wrote};
 

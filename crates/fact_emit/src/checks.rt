@@ -3,8 +3,8 @@
 ghost use Rattle.std.specs.Prelude.{IfOk, OnOk, [], ◌∷◌, ◌≡◌, ◌++◌, ◌<◌};
 ghost use Rattle.fact_wasm.specs.Ranges.{AreRanged};
 ghost use Rattle.fact_wasm.specs.declared.instr.Instr.TheVariants as I;
-ghost use Rattle.fact_pieces.specs.Code.{trap_code};
-ghost use Rattle.fact_pieces.specs.Places.{place_test, upper_test};
+ghost use Rattle.fact_code_laws.specs.Code.{trap_code};
+ghost use Rattle.fact_code_laws.specs.Places.{place_test, upper_test};
 ghost use Rattle.fact_emit.specs.Emits.{Emits};
 ghost use Rattle.fact_emit.specs.Checks.{Guarded, ChecksUpper, ChecksAddress, ChecksFrom, ChecksTo};
 ghost use Rattle.fact_emit.specs.Places.{from_of, to_of};

@@ -1,9 +1,9 @@
 //! Handles, which functions of the runtime take from the tables of one component instance to those of another.
 
 ghost use Rattle.std.specs.Prelude.{◌≡◌, OnOk, Some};
-ghost use Rattle.fact_pieces.specs.Places.{N32};
+ghost use Rattle.fact_code_laws.specs.Places.{N32};
 ghost use Rattle.fact_emit.specs.Emits.{Emits};
-ghost use Rattle.fact_emit.specs.Handles.{IsTransfer, handle_moves, handle_transfer as transfer_of, transfer_by};
+ghost use Rattle.fact_emit.specs.Handles.{MovesHandle, handle_moves, handle_transfer as transfer_of, transfer_by};
 ghost use Rattle.fact_emit.specs.MovesValue.{MovesValue};
 ghost use Rattle.fact_emit.specs.Numbers.{FitsUnchecked};
 ghost use Rattle.fact_emit.specs.Places.{from_of, to_of};
@@ -85,7 +85,7 @@ pub fn move_handle(
     source: SourcePlace<'_>,
     target: TargetPlace<'_>,
 ) -> Result<(), OutOfMemory>
-    requires { IsTransfer transfer }
+    requires { MovesHandle transfer }
     ensures { OnOk result (Emits w.old w.new (MovesValue sides (from_of sides.from source.entry) (to_of sides.to target.entry) (taken_in w.old) 516 (FitsUnchecked N32 (from_of sides.from source.entry) (to_of sides.to target.entry)) (handle_moves transfer))) }
 {
     open(w, sides.to, target)?;

@@ -1,4 +1,4 @@
-//! What the imports of a module are looked up by.
+//! What the imports of a module are found by, each once: core definitions, functions of the runtime, transcoders, and calls of tasks.
 
 ghost use Rattle.std.specs.Prelude.{◌≡◌, IfOk};
 ghost use Rattle.fact_types.specs.declared.import.Import.TheVariants as known;

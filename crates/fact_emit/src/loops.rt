@@ -1,8 +1,8 @@
-//! Loops.
+//! Loops around a body: until a test in front of it holds, and so many times.
 
 ghost use Rattle.std.specs.Prelude.{IfOk, OnOk, ◌≡◌, ◌++◌};
-ghost use Rattle.fact_pieces.specs.Code.{turn_code, counted_code};
-ghost use Rattle.fact_pieces.specs.FixedLists.{again_code, countdown_code};
+ghost use Rattle.fact_code_laws.specs.Code.{turn_code, counted_code};
+ghost use Rattle.fact_code_laws.specs.FixedLists.{again_code, countdown_code};
 ghost use Rattle.fact_emit.specs.Writers.{Wrote};
 
 use crate::writer::Writer;

@@ -1,9 +1,9 @@
 //! Numbers, read from a place to the operand stack and written from the operand stack to a place.
 
 ghost use Rattle.std.specs.Prelude.{OnOk, ◌≡◌, ◌∷◌, []};
-ghost use Rattle.fact_pieces.specs.Code.{scaled_code};
-ghost use Rattle.fact_pieces.specs.Places.{InLocals, InMemory, Off, is_halved, load_of, store_of, memarg_at, narrow, widen, read_code, code_before, code_behind};
-ghost use Rattle.fact_pieces.specs.Rows.{load_code, load_align, store_code, store_align};
+ghost use Rattle.fact_code_laws.specs.Code.{scaled_code};
+ghost use Rattle.fact_code_laws.specs.Places.{InLocals, InMemory, Off, is_halved, load_of, store_of, memarg_at, narrow, widen, read_code, code_before, code_behind};
+ghost use Rattle.fact_code_laws.specs.Rows.{load_code, load_align, store_code, store_align};
 ghost use Rattle.fact_emit.specs.Emits.{Emits};
 ghost use Rattle.fact_emit.specs.Numbers.{number_sized, ReadsNumber};
 ghost use Rattle.fact_emit.specs.Places.{from_of, to_of};

@@ -3,7 +3,7 @@
 ghost use Rattle.std.specs.Prelude.{◌≡◌};
 ghost use Rattle.fact_emit.specs.Options.{linear_of_options, memory_place as place_of_memory, number_if_any as number_of};
 
-use crate::linking::custom_page_size;
+use crate::core_imports::custom_page_size;
 use crate::places::LinearMemory;
 use fact_entity::{FuncIndex, MemoryIndex, ModuleInternedTypeIndex};
 use fact_types::StringEncoding;

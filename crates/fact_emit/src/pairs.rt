@@ -1,9 +1,9 @@
 //! A pointer and a length beside it, each as wide as addresses: read to locals of type i64, and written out of them.
 
 ghost use Rattle.std.specs.Prelude.{OnOk, ◌≡◌};
-ghost use Rattle.fact_pieces.specs.Lists.{put_code};
-ghost use Rattle.fact_pieces.specs.Places.{size_of};
-ghost use Rattle.fact_pieces.specs.Tests.{pointer};
+ghost use Rattle.fact_code_laws.specs.Lists.{put_code};
+ghost use Rattle.fact_code_laws.specs.Places.{size_of};
+ghost use Rattle.fact_code_laws.specs.Tests.{pointer_of_width};
 ghost use Rattle.fact_emit.specs.Emits.{Emits};
 ghost use Rattle.fact_emit.specs.Pairs.{ReadsPair, put_pair_code};
 ghost use Rattle.fact_emit.specs.Places.{from_of, to_of};
@@ -18,7 +18,7 @@ use fact_wasm::OutOfMemory;
 
 /// The bytes of an address.
 pub fn address_bytes(memory64: bool) -> u32
-    ensures { result ≡ size_of (pointer memory64) }
+    ensures { result ≡ size_of (pointer_of_width memory64) }
 {
     if memory64 { 8 } else { 4 }
 }

@@ -1,14 +1,14 @@
-//! Calls of transcoders on the way of a string.
+//! The passes of a string's path: calls of transcoders, with what each is told and what is made of its answer.
 
 ghost use Rattle.std.specs.Prelude.{OnOk, ◌≡◌, ◌∷◌, [], ◌++◌, ◌&&◌, true, false};
 ghost use Rattle.fact_wasm.specs.declared.instr.Instr.TheVariants as I;
 ghost use Rattle.fact_values.specs.Texts.{unit_bytes};
-ghost use Rattle.fact_moves.specs.Transcoders.{Fitting, Widening, from_encoding, transcode_kind};
-ghost use Rattle.fact_pieces.specs.Lists.{address_code};
-ghost use Rattle.fact_pieces.specs.StringCode.{add_to_code, answer_code, keep_code, pass_code, source_code, target_code};
-ghost use Rattle.fact_pieces.specs.StringNeeds.{NeedsTranscoder};
+ghost use Rattle.fact_actions.specs.Transcoders.{Fitting, Widening, from_encoding, transcode_kind};
+ghost use Rattle.fact_code_laws.specs.Lists.{address_code};
+ghost use Rattle.fact_code_laws.specs.StringCode.{add_to_code, answer_code, keep_code, pass_code, source_code, target_code};
+ghost use Rattle.fact_code_laws.specs.StringNeeds.{NeedsTranscoder};
 ghost use Rattle.fact_emit.specs.Emits.{Emits};
-ghost use Rattle.fact_emit.specs.StringPieces.{AreSidesImported, StringPiece, WrotePart, transcoder_between};
+ghost use Rattle.fact_emit.specs.StringPieces.{AreSidesImported, StringPiece, WroteStringPart, transcoder_between};
 ghost use Rattle.fact_emit.specs.Writers.{Wrote};
 
 use crate::paths::{Pass, TranscodeKind, kind_of};
@@ -51,7 +51,7 @@ fn encoding_unit_bytes(encoding: FixedEncoding) -> u32
 
 /// Where the rest of a source begins, behind the units that are read, and how many it has.
 fn put_rest(w: &mut Writer, sides: Sides, op: Transcode, l: StringLocals) -> Result<(), OutOfMemory>
-    ensures { OnOk result (WrotePart sides l (λ m. source_code m op true) w.old w.new) }
+    ensures { OnOk result (WroteStringPart sides l (λ m. source_code m op true) w.old w.new) }
 {
     let memory64 = sides.from.memory64;
     w.put(Instr::LocalGet(l.source))?;
@@ -82,7 +82,7 @@ fn put_source(
     rest: bool,
     l: StringLocals,
 ) -> Result<(), OutOfMemory>
-    ensures { OnOk result (WrotePart sides l (λ m. source_code m op rest) w.old w.new) }
+    ensures { OnOk result (WroteStringPart sides l (λ m. source_code m op rest) w.old w.new) }
 {
     if rest {
         put_rest(w, sides, op, l)
@@ -98,7 +98,7 @@ fn put_first_room(
     room: u32,
     l: StringLocals,
 ) -> Result<(), OutOfMemory>
-    ensures { OnOk result (WrotePart sides l (λ m. target_code m Fitting false room) w.old w.new) }
+    ensures { OnOk result (WroteStringPart sides l (λ m. target_code m Fitting false room) w.old w.new) }
 {
     let memory64 = sides.to.memory64;
     put_address(w, memory64, l.region)?;
@@ -115,7 +115,7 @@ fn put_next_room(
     room: u32,
     l: StringLocals,
 ) -> Result<(), OutOfMemory>
-    ensures { OnOk result (WrotePart sides l (λ m. target_code m Fitting true room) w.old w.new) }
+    ensures { OnOk result (WroteStringPart sides l (λ m. target_code m Fitting true room) w.old w.new) }
 {
     let memory64 = sides.to.memory64;
     w.put(Instr::LocalGet(l.region))?;
@@ -137,7 +137,7 @@ fn put_wide_room(
     room: u32,
     l: StringLocals,
 ) -> Result<(), OutOfMemory>
-    ensures { OnOk result (WrotePart sides l (λ m. target_code m Widening false room) w.old w.new) }
+    ensures { OnOk result (WroteStringPart sides l (λ m. target_code m Widening false room) w.old w.new) }
 {
     let memory64 = sides.to.memory64;
     put_address(w, memory64, l.region)?;
@@ -155,7 +155,7 @@ fn put_room(
     room: u32,
     l: StringLocals,
 ) -> Result<(), OutOfMemory>
-    ensures { OnOk result (WrotePart sides l (λ m. target_code m Fitting rest room) w.old w.new) }
+    ensures { OnOk result (WroteStringPart sides l (λ m. target_code m Fitting rest room) w.old w.new) }
 {
     if rest {
         put_next_room(w, sides, room, l)
@@ -171,7 +171,7 @@ fn put_destination(
     pass: Pass,
     l: StringLocals,
 ) -> Result<(), OutOfMemory>
-    ensures { OnOk result (WrotePart sides l (λ m. target_code m (transcode_kind pass.op) pass.rest pass.room) w.old w.new) }
+    ensures { OnOk result (WroteStringPart sides l (λ m. target_code m (transcode_kind pass.op) pass.rest pass.room) w.old w.new) }
 {
     let memory64 = sides.to.memory64;
     match kind_of(pass.op) {
@@ -213,7 +213,7 @@ fn add_both(w: &mut Writer, sides: Sides, l: StringLocals) -> Result<(), OutOfMe
 
 /// What is read and written by what is answered of a room, at first or from where the one before stopped.
 fn take_fitted(w: &mut Writer, sides: Sides, rest: bool, l: StringLocals) -> Result<(), OutOfMemory>
-    ensures { OnOk result (WrotePart sides l (λ m. answer_code m Fitting rest) w.old w.new) }
+    ensures { OnOk result (WroteStringPart sides l (λ m. answer_code m Fitting rest) w.old w.new) }
 {
     if rest {
         add_both(w, sides, l)
@@ -224,7 +224,7 @@ fn take_fitted(w: &mut Writer, sides: Sides, rest: bool, l: StringLocals) -> Res
 
 /// What is read and written by what a transcoder answers.
 fn take_answer(w: &mut Writer, sides: Sides, pass: Pass, l: StringLocals) -> Result<(), OutOfMemory>
-    ensures { OnOk result (WrotePart sides l (λ m. answer_code m (transcode_kind pass.op) pass.rest) w.old w.new) }
+    ensures { OnOk result (WroteStringPart sides l (λ m. answer_code m (transcode_kind pass.op) pass.rest) w.old w.new) }
 {
     let memory64 = sides.to.memory64;
     match kind_of(pass.op) {
@@ -257,7 +257,7 @@ fn put_pass_between(
     pass: Pass,
     l: StringLocals,
 ) -> Result<(), OutOfMemory>
-    requires sides { AreSidesImported sides w.old.imports }
+    requires sides { AreSidesImported sides w.old.sections }
     requires from_there { sides.from.has_memory ≡ true }
     requires to_there { sides.to.has_memory ≡ true }
     ensures { OnOk result (Emits w.old w.new (StringPiece sides l (λ m. pass_code m pass.op pass.rest pass.room) (NeedsTranscoder pass.op))) }
@@ -285,7 +285,7 @@ pub fn put_pass(
     pass: Pass,
     l: StringLocals,
 ) -> Result<(), OutOfMemory>
-    requires sides { AreSidesImported sides w.old.imports }
+    requires sides { AreSidesImported sides w.old.sections }
     ensures { OnOk result (Emits w.old w.new (StringPiece sides l (λ m. pass_code m pass.op pass.rest pass.room) (NeedsTranscoder pass.op))) }
 {
     let there = have_memories(sides);

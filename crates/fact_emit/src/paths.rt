@@ -3,10 +3,10 @@
 
 ghost use Rattle.std.specs.Prelude.{◌≡◌, IfOk};
 ghost use Rattle.fact_types.specs.declared.outside.StringEncoding.TheVariants.{CompactUtf16};
-ghost use Rattle.fact_moves.specs.Paths as moves;
-ghost use Rattle.fact_moves.specs.Paths.{align_of};
-ghost use Rattle.fact_moves.specs.Transcoders.{transcode_kind};
-ghost use Rattle.fact_pieces.specs.StringCode.{align_of_form, bytes_of_form};
+ghost use Rattle.fact_actions.specs.Paths as moves;
+ghost use Rattle.fact_actions.specs.Paths.{align_of};
+ghost use Rattle.fact_actions.specs.Transcoders.{transcode_kind};
+ghost use Rattle.fact_code_laws.specs.StringCode.{align_of_form, bytes_of_form};
 ghost use Rattle.fact_emit.specs.StringPaths.{AreLimitsSome, amount_of, kind_named, path_of, path_test_of, second_to_utf8 as second_path, text_form_of};
 
 use fact_types::{FixedEncoding, StringEncoding, Transcode, Trap};

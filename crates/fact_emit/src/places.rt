@@ -1,7 +1,7 @@
 //! Places where values stand, and where they go.
 
 ghost use Rattle.std.specs.Prelude.{◌≡◌, take, drop};
-ghost use Rattle.fact_pieces.specs.Places.{to_past};
+ghost use Rattle.fact_code_laws.specs.Places.{to_past};
 ghost use Rattle.fact_emit.specs.Parts.{from_behind, to_behind, offset_on};
 ghost use Rattle.fact_emit.specs.declared.places.LinearMemory as linear;
 ghost use Rattle.fact_emit.specs.Places.{from_of, to_of};

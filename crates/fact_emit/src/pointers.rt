@@ -2,8 +2,8 @@
 
 ghost use Rattle.std.specs.Prelude.{IfOk, OnOk, ◌≡◌, ◌<◌, ◌%◌, ◌^◌};
 ghost use Rattle.fact_machine.specs.Machine.{page_bytes};
-ghost use Rattle.fact_pieces.specs.Code.{length_code, pages_code};
-ghost use Rattle.fact_pieces.specs.Tests.{aligned_code, bounds_code, pointer};
+ghost use Rattle.fact_code_laws.specs.Code.{length_code, pages_code};
+ghost use Rattle.fact_code_laws.specs.Tests.{aligned_code, bounds_code, pointer_of_width};
 ghost use Rattle.fact_emit.specs.Areas.{AreaCode, ChecksArea, widened_code};
 ghost use Rattle.fact_emit.specs.Checks.{ChecksAligned, ChecksRegion, ReadsPointer};
 ghost use Rattle.fact_emit.specs.Emits.{Emits};
@@ -28,7 +28,7 @@ pub struct AreaLocals {
 
 /// A number as wide as addresses.
 pub fn pointer_number(memory64: bool) -> NumberSize
-    ensures { number_sized result ≡ pointer memory64 }
+    ensures { number_sized result ≡ pointer_of_width memory64 }
 {
     if memory64 {
         NumberSize::Bits64

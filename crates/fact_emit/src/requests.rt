@@ -1,11 +1,11 @@
-//! Requests of memory: calls of realloc, and the check of what it answers.
+//! Requests of memory for lists and areas: calls of realloc, and the check of what it answers.
 
 ghost use Rattle.std.specs.Prelude.{IsTrue, OnOk, ◌≡◌, ◌∷◌, [], ◌++◌, ◌<◌};
 ghost use Rattle.fact_wasm.specs.declared.instr.Instr.TheVariants as I;
 ghost use Rattle.fact_wasm.specs.declared.types.ValType.TheVariants as val;
-ghost use Rattle.fact_pieces.specs.Lists.{const_code, address_code, ask_code, bytes_code};
-ghost use Rattle.fact_pieces.specs.Places.{widen};
-ghost use Rattle.fact_pieces.specs.Tests.{pointer};
+ghost use Rattle.fact_code_laws.specs.Lists.{const_code, address_code, ask_code, bytes_code};
+ghost use Rattle.fact_code_laws.specs.Places.{widen};
+ghost use Rattle.fact_code_laws.specs.Tests.{pointer_of_width};
 ghost use Rattle.fact_emit.specs.Emits.{Emits};
 ghost use Rattle.fact_emit.specs.NewAreas.{AsksArea, NewAreaCode};
 ghost use Rattle.fact_emit.specs.Requests.{IsReallocImported, ask_code_if, AsksRegion, CallsRealloc};
@@ -63,7 +63,7 @@ pub fn put_address(w: &mut Writer, memory64: bool, local: u32) -> Result<(), Out
 
 /// An address into a local of type i64.
 fn keep_address(w: &mut Writer, memory64: bool, local: u32) -> Result<(), OutOfMemory>
-    ensures { OnOk result (Wrote w.old w.new (widen (pointer memory64) val.I64 ++ I.LocalSet local ∷ [])) }
+    ensures { OnOk result (Wrote w.old w.new (widen (pointer_of_width memory64) val.I64 ++ I.LocalSet local ∷ [])) }
 {
     put_widened(w, pointer_number(memory64), ValType::I64)?;
     w.put(Instr::LocalSet(local))?;
@@ -105,7 +105,7 @@ fn put_request(
     linear: LinearMemory,
     region: NewRegion,
 ) -> Result<(), OutOfMemory>
-    requires realloc { IsReallocImported linear w.old.imports }
+    requires realloc { IsReallocImported linear w.old.sections }
     ensures { OnOk result (Emits w.old w.new (CallsRealloc concurrency linear region)) }
 {
     save_context(w, concurrency, region.context)?;
@@ -124,7 +124,7 @@ pub fn reallocate(
     trap: Trap,
 ) -> Result<(), OutOfMemory>
     requires aligned { 0 < region.align }
-    requires realloc { IsReallocImported linear w.old.imports }
+    requires realloc { IsReallocImported linear w.old.sections }
     ensures { OnOk result (Emits w.old w.new (AsksRegion concurrency linear region trap)) }
 {
     put_request(w, concurrency, linear, region)?;
@@ -154,7 +154,7 @@ fn ask_area_by(
     context: ContextLocals,
 ) -> Result<(), OutOfMemory>
     requires aligned { 0 < align }
-    requires realloc { IsReallocImported linear w.old.imports }
+    requires realloc { IsReallocImported linear w.old.sections }
     ensures { OnOk result (Emits w.old w.new (NewAreaCode concurrency linear address size align temporaries context)) }
 {
     w.put(Instr::I64Const(u64::from(size)))?;
@@ -183,7 +183,7 @@ pub fn ask_area(
     align: u32,
 ) -> Result<(), OutOfMemory>
     requires aligned { 0 < align }
-    requires realloc { IsReallocImported linear w.old.imports }
+    requires realloc { IsReallocImported linear w.old.sections }
     ensures { OnOk result (Emits w.old w.new (AsksArea concurrency linear (taken_in w.old) address size align)) }
 {
     let pointer = w.take_local(ValType::I64)?;

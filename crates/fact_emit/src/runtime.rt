@@ -16,7 +16,7 @@ use fact_wasm::{ImportType, OutOfMemory, ValType};
 use std::alloc::Global;
 
 /// The number of a trap, by which its import is named.
-fn trap_number(trap: Trap) -> u32
+pub fn trap_number(trap: Trap) -> u32
     ensures { result ≡ trap_number_of trap }
 {
     match trap {
@@ -37,7 +37,7 @@ fn trap_number(trap: Trap) -> u32
 }
 
 /// The name of a function of the context's slots.
-fn slot_name(slot: UnsafeIntrinsic) -> &'static str
+pub fn slot_name(slot: UnsafeIntrinsic) -> &'static str
     ensures { result.now ≡ slot_name_of slot }
 {
     match slot {

@@ -3,8 +3,8 @@
 
 ghost use Rattle.std.specs.Prelude.{IfOk, OnOk, [], ◌≡◌, ◌≢◌, ◌≤◌, ◌^◌, ◌-◌};
 ghost use Rattle.fact_wasm.specs.declared.types.ValType.TheVariants as val;
-ghost use Rattle.fact_pieces.specs.Places.{N64};
-ghost use Rattle.fact_pieces.specs.Tests.{scalar_test, case_test};
+ghost use Rattle.fact_code_laws.specs.Places.{N64};
+ghost use Rattle.fact_code_laws.specs.Tests.{scalar_test, case_test};
 ghost use Rattle.fact_emit.specs.Checks.{Guarded};
 ghost use Rattle.fact_emit.specs.Emits.{Emits};
 ghost use Rattle.fact_emit.specs.MovesValue.{MovesValue, except, HasLocal};

@@ -1,4 +1,4 @@
-//! The sections of a module that is being made.
+//! The sections of a module that is being made: [`ModuleSections`], with what its imports are found by.
 
 ghost use Rattle.std.specs.Prelude.{◌≡◌, ◌⊎◌, ◌+◌, ◌++◌, ◌∷◌, [], ◌<◌, ◌≤◌, ◌^◌, max, Contains, IsTrue, None, Some, position, slice_get, length, IfOk, IfSome, IsFalse, OnErr, OnOk, count_by};
 ghost use Rattle.fact_wasm.specs.CoreTypes.{signature};
@@ -30,6 +30,7 @@ const MOST_FUNCTIONS: usize = 4_294_967_295;
 
 /// The sections of a module that is being made, and what its imports are. Each type stands in them once, and so does each
 /// definition and each function of the runtime among the imports of its kind. A refusal leaves the imports as they were.
+/// Clauses speak of it as a `ModuleSoFar`.
 #[derive(Drop)]
 pub struct ModuleSections {
     alloc: Global,
@@ -427,7 +428,7 @@ impl ModuleSections {
         } = module;
         drop(none);
         let mut exports = exports;
-        let said = add_exports(&mut exports, callees.as_slice());
+        let exported = add_exports(&mut exports, callees.as_slice());
         drop(callees);
         let module = WasmModule {
             types: types.into_types(),
@@ -435,7 +436,7 @@ impl ModuleSections {
             funcs,
             exports,
         };
-        match said {
+        match exported {
             Ok(()) => Ok((module, imports)),
             Err(error) => {
                 drop(module);
@@ -521,8 +522,9 @@ impl ModuleSections {
         Ok(number as u32)
     }
 
-    /// The place of an item among the imports of its kind. A new one is imported last, under these names, with this type. A function
-    /// of the runtime has its type, be it a transcoder, a start-call or a prepare-call, and a prepare-call the place behind all others.
+    /// The place of an item among the imports of its kind; a new one is imported last, under these names, with this type. It asks that
+    /// the type of a function of the runtime is the one that such a function has, which goes for transcoders, start-calls and
+    /// prepare-calls too, and that a prepare-call is given the number of imported functions so far: so each is imported anew.
     pub(crate) fn import(
         &mut self,
         item: ImportedItem,

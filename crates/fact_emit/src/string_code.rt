@@ -1,17 +1,17 @@
-//! Parts of the code of strings: numbers and tests of a path, and its requests of memory. All numbers of a path stand in locals of
-//! type i64, and are taken modulo the width of the addresses of their side.
+//! The code of single steps of a string's path: numbers, tests, and the request of its region, which grows and is cut. All numbers of a path stand in
+//! locals of type i64, and are taken modulo the width of the addresses of their side.
 
 ghost use Rattle.std.specs.Prelude.{IfOk, OnOk, ◌≡◌, ◌∷◌, [], ◌++◌, ◌<◌, ◌-◌};
 ghost use Rattle.fact_wasm.specs.declared.instr.Instr.TheVariants as I;
 ghost use Rattle.fact_types.specs.declared.outside.Trap.TheVariants.{StringOutOfBounds};
 ghost use Rattle.fact_values.specs.Texts.{utf16_tag};
-ghost use Rattle.fact_moves.specs.Paths.{align_of};
-ghost use Rattle.fact_pieces.specs.Code.{guard_code};
-ghost use Rattle.fact_pieces.specs.StringCode.{add_to_code, amount_code, assert_code, from_address as from_address_code, keep_code, limit_code, no_tag_code, regrow_code, resize_code, test_code, times_code, to_address as to_address_code, wrap_code};
-ghost use Rattle.fact_pieces.specs.StringNeeds.{NeedsRequest, NeedsTrap};
+ghost use Rattle.fact_actions.specs.Paths.{align_of};
+ghost use Rattle.fact_code_laws.specs.Code.{guard_code};
+ghost use Rattle.fact_code_laws.specs.StringCode.{add_to_code, amount_code, assert_code, from_address as from_address_code, keep_code, limit_code, no_tag_code, regrow_code, resize_code, test_code, times_code, to_address as to_address_code, wrap_code};
+ghost use Rattle.fact_code_laws.specs.StringNeeds.{NeedsRequest, NeedsTrap};
 ghost use Rattle.fact_emit.specs.Emits.{Emits};
 ghost use Rattle.fact_emit.specs.StringPaths.{amount_of, path_test_of};
-ghost use Rattle.fact_emit.specs.StringPieces.{AreSidesImported, IsPart, NeedsTrapIf, StringPiece, WrotePart};
+ghost use Rattle.fact_emit.specs.StringPieces.{AreSidesImported, IsPart, NeedsTrapIf, StringPiece, WroteStringPart};
 ghost use Rattle.fact_emit.specs.Writers.{Wrote};
 
 use crate::checks::put_guard;
@@ -76,7 +76,7 @@ fn put_amount(
     amount: Amount,
     l: StringLocals,
 ) -> Result<(), OutOfMemory>
-    ensures { OnOk result (WrotePart sides l (λ m. amount_code m (amount_of amount)) w.old w.new) }
+    ensures { OnOk result (WroteStringPart sides l (λ m. amount_code m (amount_of amount)) w.old w.new) }
 {
     match amount {
         Amount::SourceUnits(factor) => put_times(w, sides.to.memory64, factor, l.units),
@@ -165,7 +165,7 @@ fn put_test(
     test: PathTest,
     l: StringLocals,
 ) -> Result<(), OutOfMemory>
-    ensures { OnOk result (WrotePart sides l (λ m. test_code m (path_test_of test)) w.old w.new) }
+    ensures { OnOk result (WroteStringPart sides l (λ m. test_code m (path_test_of test)) w.old w.new) }
 {
     match test {
         PathTest::AllRead => put_equal(w, l.read, l.units),
@@ -177,7 +177,7 @@ fn put_test(
     }
 }
 
-/// The code of a test, aside.
+/// The code of a test, in a buffer of its own: nothing is put behind the code so far.
 pub fn test_of(
     w: &mut Writer,
     sides: Sides,
@@ -270,7 +270,7 @@ pub fn resize(
     to: Amount,
     l: StringLocals,
 ) -> Result<(), OutOfMemory>
-    requires sides { AreSidesImported sides w.old.imports }
+    requires sides { AreSidesImported sides w.old.sections }
     ensures { OnOk result (Emits w.old w.new (StringPiece sides l (λ m. resize_code m (align_of sides.to.encoding) (amount_of from) (amount_of to)) (NeedsRequest (align_of sides.to.encoding)))) }
 {
     let align = written_alignment(sides.to.encoding);

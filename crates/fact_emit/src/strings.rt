@@ -1,12 +1,12 @@
-//! Strings: texts of any encoding, moved by the steps of a path.
+//! Strings, moved by the steps of the path (`paths`) of their form and of the encoding that they go to.
 
 ghost use Rattle.std.specs.Prelude.{IfOk, OnOk, ◌≡◌, ◌∷◌, []};
 ghost use Rattle.fact_types.specs.declared.outside.StringEncoding.TheVariants.{CompactUtf16};
 ghost use Rattle.fact_wasm.specs.declared.instr.Instr.TheVariants as I;
 ghost use Rattle.fact_values.specs.Texts.{utf16_tag};
-ghost use Rattle.fact_moves.specs.Paths.{AsCompactLatin1, AsCompactUtf16, align_of};
-ghost use Rattle.fact_pieces.specs.StringCode.{align_of_form, check_text_code, either_code, encoded_code, no_tag_code, path_code, test_code, text_code, untag_code};
-ghost use Rattle.fact_pieces.specs.StringNeeds.{NeedsEncoded, NeedsPath, NeedsRegion, NeedsText};
+ghost use Rattle.fact_actions.specs.Paths.{AsCompactLatin1, AsCompactUtf16, align_of};
+ghost use Rattle.fact_code_laws.specs.StringCode.{align_of_form, check_text_code, either_code, encoded_code, no_tag_code, path_code, test_code, text_code, untag_code};
+ghost use Rattle.fact_code_laws.specs.StringNeeds.{NeedsEncoded, NeedsPath, NeedsRegion, NeedsText};
 ghost use Rattle.fact_emit.specs.Emits.{Emits};
 ghost use Rattle.fact_emit.specs.Places.{from_of, to_of};
 ghost use Rattle.fact_emit.specs.StringPaths.{AreLimitsSome, path_of, path_test_of, text_form_of};
@@ -64,7 +64,7 @@ fn put_zero(w: &mut Writer, local: u32) -> Result<(), OutOfMemory>
 /// The steps of a path.
 #[cycle(paths)]
 fn put_path(w: &mut Writer, sides: Sides, l: StringLocals, path: &Path) -> Result<(), OutOfMemory>
-    requires sides { AreSidesImported sides w.old.imports }
+    requires sides { AreSidesImported sides w.old.sections }
     requires limits { AreLimitsSome (path_of path.now) }
     ensures { OnOk result (Emits w.old w.new (StringPiece sides l (λ m. path_code m (align_of sides.to.encoding) (path_of path.now)) (NeedsPath (align_of sides.to.encoding) (path_of path.now)))) }
 {
@@ -107,7 +107,7 @@ fn put_choice(
     if_true: &Path,
     if_false: &Path,
 ) -> Result<(), OutOfMemory>
-    requires sides { AreSidesImported sides w.old.imports }
+    requires sides { AreSidesImported sides w.old.sections }
     requires true_limits { AreLimitsSome (path_of if_true.now) }
     requires false_limits { AreLimitsSome (path_of if_false.now) }
     ensures { OnOk result (Emits w.old w.new (StringPiece sides l (λ m. either_code (test_code m (path_test_of test)) (path_code m (align_of sides.to.encoding) (path_of if_true.now)) (path_code m (align_of sides.to.encoding) (path_of if_false.now))) (NeedsBoth (NeedsPath (align_of sides.to.encoding) (path_of if_true.now)) (NeedsPath (align_of sides.to.encoding) (path_of if_false.now))))) }
@@ -150,7 +150,7 @@ fn put_text(
     form: TextForm,
     l: StringLocals,
 ) -> Result<(), OutOfMemory>
-    requires sides { AreSidesImported sides w.old.imports }
+    requires sides { AreSidesImported sides w.old.sections }
     ensures { OnOk result (Emits w.old w.new (StringPiece sides l (λ m. text_code m (text_form_of form) sides.to.encoding) (NeedsText (text_form_of form) sides.to.encoding))) }
 {
     check_text(w, sides, form, l)?;
@@ -163,7 +163,8 @@ fn put_text(
     put
 }
 
-/// Whether the length of a text in the compact form has no tag, aside.
+/// The code that tells whether the length of a text in the compact form has no tag, in a buffer of its own: nothing is put behind
+/// the code so far.
 fn no_tag_test(w: &mut Writer, l: StringLocals) -> Result<Vec<Instr>, OutOfMemory>
     ensures is { IfOk result (λ code. code.items ≡ no_tag_code l.units) }
     ensures aside { OnOk result (Wrote w.old w.new []) }
@@ -176,7 +177,7 @@ fn no_tag_test(w: &mut Writer, l: StringLocals) -> Result<Vec<Instr>, OutOfMemor
 
 /// A text in the compact form: it is UTF-16 where its length has the tag, and else Latin-1.
 fn put_compact(w: &mut Writer, sides: Sides, l: StringLocals) -> Result<(), OutOfMemory>
-    requires sides { AreSidesImported sides w.old.imports }
+    requires sides { AreSidesImported sides w.old.sections }
     ensures { OnOk result (Emits w.old w.new (StringPiece sides l (λ m. encoded_code m CompactUtf16 sides.to.encoding) (NeedsBoth (NeedsText AsCompactLatin1 sides.to.encoding) (NeedsText AsCompactUtf16 sides.to.encoding)))) }
 {
     let test = no_tag_test(w, l)?;
@@ -193,7 +194,7 @@ fn put_compact(w: &mut Writer, sides: Sides, l: StringLocals) -> Result<(), OutO
 
 /// A text of the encoding of its source.
 fn put_encoded(w: &mut Writer, sides: Sides, l: StringLocals) -> Result<(), OutOfMemory>
-    requires sides { AreSidesImported sides w.old.imports }
+    requires sides { AreSidesImported sides w.old.sections }
     ensures { OnOk result (Emits w.old w.new (StringPiece sides l (λ m. encoded_code m sides.from.encoding sides.to.encoding) (NeedsEncoded sides.from.encoding sides.to.encoding))) }
 {
     match sides.from.encoding {
@@ -211,7 +212,7 @@ pub fn move_string_by(
     source: SourcePlace<'_>,
     target: TargetPlace<'_>,
 ) -> Result<(), OutOfMemory>
-    requires sides { AreSidesImported sides w.old.imports }
+    requires sides { AreSidesImported sides w.old.sections }
     ensures { OnOk result (Emits w.old w.new (WroteString sides l (from_of sides.from source.entry) (to_of sides.to target.entry))) }
 {
     read_pair(w, sides.debug, sides.from, source, l.source, l.units)?;

@@ -9,8 +9,8 @@ ghost use Rattle.fact_emit.specs.State.{IsItemOf};
 ghost use Rattle.fact_emit.specs.States.{AreMemoriesImported, HaveMemoryWidths, IsTranscoderImported, OnlyTypesAdded, name_of_transcoder, type_of_transcoder};
 ghost use Rattle.fact_emit.specs.TranscoderNames.{transcode_name as transcode_name_of};
 
+use crate::core_imports::address;
 use crate::imported::{ImportedItem, TranscoderItem};
-use crate::linking::address;
 use crate::state::ModuleSections;
 use fact_entity::{EntityRef, MemoryIndex};
 use fact_types::{FixedEncoding, Transcode};

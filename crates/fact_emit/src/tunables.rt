@@ -1,4 +1,4 @@
-//! What a module is made with.
+//! What a module is made with: tunables and features.
 
 /// What the adapters of a module may use of concurrency, whether they check what the canonical ABI says of them, and the
 /// fuel of a function: how much translation it may hold before parts of it become helpers. The fuel is at least 1.

@@ -5,7 +5,7 @@ ghost use Rattle.fact_types.specs.declared.import.Import.TheVariants as import;
 ghost use Rattle.fact_emit.specs.Imports.{AreOnce};
 ghost use Rattle.fact_machine.specs.Typing.{is_number};
 ghost use Rattle.fact_emit.specs.States.{AreMemoriesImported, HaveMemoryWidths};
-ghost use Rattle.fact_emit.specs.Writers.{Wrote, AddedLocal, Began, Ended, Took, Freed, TookRuntime, TookTranscoder, TookTrap, Same, free_local_of, taken_in};
+ghost use Rattle.fact_emit.specs.Writers.{Wrote, AddedLocal, Began, EndedBody, Took, Freed, TookRuntime, TookTranscoder, TookTrap, Same, free_local_of, taken_in};
 
 use crate::imported::RuntimeFunction;
 use crate::state::ModuleSections;
@@ -22,12 +22,12 @@ pub struct Local {
     pub in_use: bool,
 }
 
-/// The code of a function so far, its locals, the parameters first, and the module around it. A local that was freed is taken
-/// again for its type, the last freed first.
+/// The code of a function so far, its locals, the parameters first, and the module around it (`imports`). A local that was freed
+/// is taken again for its type, the last freed first.
 #[derive(Drop)]
 pub struct Writer {
     pub alloc: Global,
-    pub imports: ModuleSections,
+    pub sections: ModuleSections,
     pub code: Vec<Instr>,
     pub locals: Vec<Local>,
     // Locals that were freed, the last one last. One that is in use again is passed over.
@@ -39,11 +39,11 @@ impl Writer {
     pub fn new(alloc: Global) -> Writer
         ensures code { result.code.items ≡ [] }
         ensures locals { result.locals.items ≡ [] }
-        ensures once { AreOnce result.imports }
+        ensures once { AreOnce result.sections }
     {
         Writer {
             alloc,
-            imports: ModuleSections::new(alloc),
+            sections: ModuleSections::new(alloc),
             code: Vec::new(alloc),
             locals: Vec::new(alloc),
             free: Vec::new(alloc),
@@ -51,14 +51,14 @@ impl Writer {
     }
 
     /// No code and no locals yet, of a function of this module. It takes no memory.
-    pub fn over(alloc: Global, imports: ModuleSections) -> Writer
-        ensures imports { result.imports ≡ imports }
+    pub fn over(alloc: Global, sections: ModuleSections) -> Writer
+        ensures sections { result.sections ≡ sections }
         ensures code { result.code.items ≡ [] }
         ensures locals { result.locals.items ≡ [] }
     {
         Writer {
             alloc,
-            imports,
+            sections,
             code: Vec::new(alloc),
             locals: Vec::new(alloc),
             free: Vec::new(alloc),
@@ -67,17 +67,17 @@ impl Writer {
 
     /// The module around the code, the code, and the locals.
     pub fn into_parts(self) -> (ModuleSections, Vec<Instr>, Vec<Local>)
-        ensures imports { result.0 ≡ self.imports }
+        ensures sections { result.0 ≡ self.sections }
         ensures code { result.1 ≡ self.code }
         ensures locals { result.2 ≡ self.locals }
     {
         let Writer {
-            imports,
+            sections,
             code,
             locals,
             ..
         } = self;
-        (imports, code, locals)
+        (sections, code, locals)
     }
 
     /// Puts an instruction behind the code.
@@ -97,7 +97,7 @@ impl Writer {
 
     /// Ends a body, which is handed out, and puts the code from before it back.
     pub fn end(&mut self, outer: Vec<Instr>) -> Seq<Instr>
-        ensures { Ended self.old self.new outer.items result }
+        ensures { EndedBody self.old self.new outer.items result }
     {
         Seq::from_vec(mem::replace(&mut self.code, outer))
     }
@@ -106,16 +106,16 @@ impl Writer {
     pub fn runtime(&mut self, function: RuntimeFunction) -> Result<u32, OutOfMemory>
         ensures { IfOk result (λ place. TookRuntime self.old self.new function place) }
     {
-        self.imports.runtime(function)
+        self.sections.runtime(function)
     }
 
     /// The place of a transcoder among the imported functions.
     pub fn transcoder(&mut self, transcoder: Transcoder) -> Result<u32, OutOfMemory>
-        requires memories { AreMemoriesImported transcoder self.old.imports }
-        requires widths { HaveMemoryWidths transcoder self.old.imports }
+        requires memories { AreMemoriesImported transcoder self.old.sections }
+        requires widths { HaveMemoryWidths transcoder self.old.sections }
         ensures { IfOk result (λ place. TookTranscoder self.old self.new transcoder place) }
     {
-        self.imports.transcoder(transcoder)
+        self.sections.transcoder(transcoder)
     }
 
     /// The place of a trap among the imported functions.

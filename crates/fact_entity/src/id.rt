@@ -8,7 +8,7 @@ use crate::key::EntityRef;
 use std::marker::PhantomData;
 
 /// A number that names an entry of a table. The type `Table` stands for that table, and has no values, so that keys of
-/// two tables have two types.
+/// two tables have two types. A key that no table gave finds what stands at its number, or nothing: every look-up is checked.
 #[derive_where(Clone, Copy, Debug, PartialEq, Eq, PartialOrd, Ord, Hash)]
 pub struct Id<Table> {
     /// The place of the entry, counted from 0.

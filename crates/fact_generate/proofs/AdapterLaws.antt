@@ -9,9 +9,9 @@ use Rattle.fact_types.specs.Agrees.{Agrees}
 use Rattle.fact_types.specs.Shapes.{s_plain}
 use Rattle.fact_types.specs.Signatures.{sync_lift, sync_lower}
 use Rattle.fact_agreement.specs.Lists.{AgreeAll}
-use Rattle.fact_uses.specs.Bindings.{AreConsistent}
+use Rattle.fact_adapter_rules.specs.Bindings.{AreConsistent}
 use Rattle.fact_plan_types.specs.Faults.{Fault, bad_options, type_mismatch, bad_memory, bad_signature, import_conflict, duplicate_name}
-use Rattle.fact_checks.specs.AdapterRules.{HasBadMemory, HasBadOptions, HasBadSignature, HasDuplicateName, HasImportConflict, HasOddMemory, HasTypeMismatch, IsSameAs, LiftLacksMemory, LinkedHas, LowerLacksMemory, adapter_memories, any_borrow, export_names, lift_side_signature, lower_side_signature, reallocs_of, uses_of, with}
+use Rattle.fact_adapter_rules.specs.AdapterRules.{HasBadMemory, HasBadOptions, HasBadSignature, HasDuplicateName, HasImportConflict, HasOddMemory, HasTypeMismatch, IsSameAs, LiftLacksMemory, LinkedHas, LowerLacksMemory, adapter_memories, any_borrow, export_names, lift_side_signature, lower_side_signature, reallocs_of, uses_of, with}
 use Rattle.fact_generate.specs.declared.form.AdapterForm.{AdapterForm}
 use Rattle.fact_generate.specs.declared.form.AdapterForm.TheVariants as form
 use Rattle.fact_generate.specs.Forms.{adapter_form, needs_memory}

@@ -3,8 +3,8 @@ use Rattle.std.proofs.Common.{◌≡◌, ℕ, ◌<◌, ◌≤◌, Bool, true, fa
 use Rattle.std.proofs.lemmas.Bool.{cases_lt}
 use Rattle.std.proofs.lemmas.Option.{slice_get_past, slice_get_within}
 use Rattle.fact_plan_types.specs.Faults.{Fault, unknown_index, too_large, HaveNoFault}
-use Rattle.fact_checks.specs.Adapters.{adapter_of, adapters_before}
-use Rattle.fact_checks.specs.AdapterRules.{AdapterHas, AdapterLacks, HasAdapterFault, IsPastList, LinkedHas, SideLacks, memory_def}
+use Rattle.fact_adapter_rules.specs.Adapters.{adapter_of, adapters_before}
+use Rattle.fact_adapter_rules.specs.AdapterRules.{AdapterHas, AdapterLacks, HasAdapterFault, IsPastList, LinkedHas, SideLacks, memory_def}
 use Rattle.fact_generate.specs.declared.form.AdapterForm.{AdapterForm}
 use Rattle.fact_generate.specs.declared.form.AdapterForm.TheVariants as form
 use Rattle.fact_generate.specs.Forms.{adapter_form}

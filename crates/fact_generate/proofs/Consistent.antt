@@ -10,10 +10,10 @@ use Rattle.fact_types.specs.declared.outside.CoreDef.{CoreDef}
 use Rattle.fact_types.specs.declared.outside.CoreDef.TheVariants as def
 use Rattle.fact_types.specs.Adapters.{LinkedAdapter}
 use Rattle.fact_types.specs.ImportTypes.{realloc_type}
-use Rattle.fact_uses.specs.Bindings.{AreConsistent}
-use Rattle.fact_checks.specs.declared.uses.Use.{Use}
-use Rattle.fact_checks.specs.declared.uses.Use.TheVariants as used_as
-use Rattle.fact_checks.specs.AdapterRules.{adapter_memories, bound, def_in, export_names, reallocs_of, side_uses, uses_of}
+use Rattle.fact_adapter_rules.specs.Bindings.{AreConsistent}
+use Rattle.fact_adapter_rules.specs.declared.uses.Use.{Use}
+use Rattle.fact_adapter_rules.specs.declared.uses.Use.TheVariants as used_as
+use Rattle.fact_adapter_rules.specs.AdapterRules.{adapter_memories, bound, def_in, export_names, reallocs_of, side_uses, uses_of}
 use Rattle.fact_generate.specs.declared.form.AdapterForm.{AdapterForm}
 use Rattle.fact_generate.specs.declared.form.AdapterForm.TheVariants as form
 use Rattle.fact_generate.specs.Forms.{adapter_form}

@@ -7,14 +7,14 @@ use Rattle.fact_wasm.specs.declared.types.FuncType.{FuncType}
 use Rattle.fact_types.specs.declared.outside.CoreDef.{CoreDef}
 use Rattle.fact_types.specs.declared.outside.MemoryOption.{MemoryOption}
 use Rattle.fact_types.specs.Adapters.{Side}
-use Rattle.fact_types.specs.Steps.{◌>>=◌}
+use Rattle.fact_types.specs.Options.{◌>>=◌}
 use Rattle.fact_plan.specs.declared.plan.FusePlan.{FusePlan}
 use Rattle.fact_plan.specs.declared.plan.PlanAdapter.{PlanAdapter}
 use Rattle.fact_plan.specs.declared.plan.PlanFunc.{PlanFunc}
 use Rattle.fact_plan.specs.declared.plan.PlanSide.{PlanSide}
 use Rattle.fact_plan.specs.Plan.{default_tunables}
 use Rattle.fact_plan_types.specs.TypeRules.{param_shapes, result_shapes}
-use Rattle.fact_checks.specs.Adapters.{adapter_of, adapters_before, adapters_of, named_def, named_memory, side_of}
+use Rattle.fact_adapter_rules.specs.Adapters.{adapter_of, adapters_before, adapters_of, named_def, named_memory, side_of}
 use Rattle.fact_generate.specs.declared.form.AdapterForm.{AdapterForm}
 use Rattle.fact_generate.specs.declared.form.AdapterForm.TheVariants as form
 use Rattle.fact_generate.specs.Forms.{adapter_form}

@@ -1,8 +1,8 @@
 -- What is so of the plans that are generated.
 use Rattle.std.specs.Prelude.{◌≡◌, ℕ, ◌≤◌, map}
 use Rattle.std.specs.List.{range_with_len}
-use Rattle.fact_checks.specs.Adapters.{adapters_of}
-use Rattle.fact_checks.specs.FirstFault.{IsFaultlessPlan}
+use Rattle.fact_adapter_rules.specs.Adapters.{adapters_of}
+use Rattle.fact_adapter_rules.specs.FirstFault.{IsFaultlessPlan}
 use Rattle.fact_generate.specs.Generated.{generated, most_generated}
 use Rattle.fact_generate.specs.Linked.{linked}
 

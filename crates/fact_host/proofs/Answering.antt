@@ -12,21 +12,21 @@ use Rattle.fact_machine.specs.declared.types.Event.{Event}
 use Rattle.fact_machine.specs.declared.types.MachineState.{MachineState}
 use Rattle.fact_machine.specs.Typing.{address_operand, address_type}
 use Rattle.fact_machine.specs.World.{put_at}
-use Rattle.fact_moves.specs.Transcoders.{TranscodeKind, AllUnits, Counted, Fitting, Narrow, Tagged, Widening, IsHonestPass, Room, from_encoding, numbers_answered, to_encoding, transcode_kind, transcode_types}
+use Rattle.fact_actions.specs.Transcoders.{TranscodeKind, AllUnits, Counted, Fitting, Narrow, Tagged, Widening, IsHonestPass, Room, from_encoding, numbers_answered, to_encoding, transcode_kind, transcode_types}
 use Rattle.fact_types.specs.declared.outside.FixedEncoding.{FixedEncoding}
-use Rattle.fact_moves.specs.Calls.{nth_number}
+use Rattle.fact_actions.specs.Calls.{nth_number}
 use Rattle.fact_values.specs.Lift.{bits_of}
 use Rattle.fact_host.specs.declared.allocator.Request.{Request}
 use Rattle.fact_host.specs.declared.known.Known.{Known}
 use Rattle.fact_host.specs.declared.transcoders.Told.{Told}
-use Rattle.fact_host.specs.Allocator.{alone, asked_by, Gives}
+use Rattle.fact_host.specs.Allocator.{alone, asked_by, GivesRegion}
 use Rattle.fact_values.specs.declared.value.Value.{Value}
 use Rattle.fact_host.specs.declared.calling.HostCall.{HostCall}
 use Rattle.fact_host.specs.declared.calling.HostSide.{HostSide}
 use Rattle.fact_host.specs.declared.roles.Role.{Role}
 use Rattle.fact_host.specs.declared.roles.Role.TheVariants as of
-use Rattle.fact_host.specs.Hosts.{IsMade, both_listed, event_by, number_types}
-use Rattle.fact_host.specs.Rules.{Answers, AreBytes, AreOfCoreTypes, CallShapes, memory_at, with_memory_at, cursor_of, raised, live_without, Asked, asked_of, stays, next_region, given_at, after_region, bytes_after_region, MustRefuse, OtherTransfer, NoAlignment, NotLive, NoRoom, MustStop, told_of, IsHonestlyMade, Leaves, AnswersBy, ReallocsBy, ReallocsIn, TranscodesBy}
+use Rattle.fact_host.specs.Hosts.{IsTranscoded, both_listed, event_by, number_types}
+use Rattle.fact_host.specs.Rules.{Answers, AreBytes, AreOfCoreTypes, CallShapes, memory_at, with_memory_at, cursor_of, raised, live_without, AskedRegion, asked_of, stays, next_region, given_at, after_region, bytes_after_region, MustRefuse, OtherTransfer, NoAlignment, NotLive, NoRoom, MustStop, told_of, IsHonestlyMade, Leaves, AnswersBy, ReallocsBy, ReallocsIn, TranscodesBy}
 
 -- ---- answers
 
@@ -69,7 +69,7 @@ to_lift k k' side b e is h = subst (λ z. ReallocsBy k side z e k') (is ∙ flip
     flipped false = refl
 
 -- by what is asked for
-abbrev pub ReallocsAs : Asked → Known → (n : ℕ) → (memory64 is_destination : Bool) → Event → Known → Type 0
+abbrev pub ReallocsAs : AskedRegion → Known → (n : ℕ) → (memory64 is_destination : Bool) → Event → Known → Type 0
 ReallocsAs q k n memory64 is_destination e k' =
     AnswersBy (MustRefuse k n is_destination (memory_at e.before n) q)
     (λ after rs j. (after ≡ with_memory_at e.before n (bytes_after_region k n q (memory_at e.before n))) × AreOfCoreTypes (address memory64 ∷ []) rs × (rs ≡ address_operand memory64 (given_at k n q) ∷ []) × (j ≡ after_region k n q)) k e k'
@@ -78,27 +78,27 @@ ReallocsAs q k n memory64 is_destination e k' =
 pub asked_is : (r : Request) (e : Event) → r.old ≡ record { at = nth_number e.args 0; size = nth_number e.args 1 } → r.align ≡ nth_number e.args 2 → r.size ≡ nth_number e.args 3 → asked_by r ≡ asked_of e
 asked_is r e old align size = λ i. record { old = old i; align = align i; size = size i }
 
-pub as_asked : (q : Asked) (k : Known) (n : ℕ) (memory64 is_destination : Bool) (e : Event) (k' : Known) → q ≡ asked_of e → ReallocsAs q k n memory64 is_destination e k' → ReallocsIn k n memory64 is_destination e k'
+pub as_asked : (q : AskedRegion) (k : Known) (n : ℕ) (memory64 is_destination : Bool) (e : Event) (k' : Known) → q ≡ asked_of e → ReallocsAs q k n memory64 is_destination e k' → ReallocsIn k n memory64 is_destination e k'
 as_asked q k n memory64 is_destination e k' is h = subst (λ z. ReallocsAs z k n memory64 is_destination e k') is h
 
-never_refused : (k : Known) (n : ℕ) (bytes : List ℕ) (q : Asked) (at after : ℕ) (bytes_after : List ℕ) → Gives (cursor_of k n) k.live bytes q at after bytes_after → MustRefuse k n true bytes q → ⊥
+never_refused : (k : Known) (n : ℕ) (bytes : List ℕ) (q : AskedRegion) (at after : ℕ) (bytes_after : List ℕ) → GivesRegion (cursor_of k n) k.live bytes q at after bytes_after → MustRefuse k n true bytes q → ⊥
 never_refused k n bytes q at after bytes_after g (OtherTransfer e) = true≢false e
 never_refused k n bytes q at after bytes_after g (NoAlignment e) = g.aligns e
 never_refused k n bytes q at after bytes_after g (NotLive e) = true≢false (sym g.old_live ∙ e)
 never_refused k n bytes q at after bytes_after g (NoRoom e lt) = let le = g.room e in absurd (omega (arith, lt, le))
 
 -- the host with one memory answers as the one with all of them
-same_at : (k : Known) (n : ℕ) (q : Asked) → given_at (alone (cursor_of k n) k.live) 0 q ≡ given_at k n q
+same_at : (k : Known) (n : ℕ) (q : AskedRegion) → given_at (alone (cursor_of k n) k.live) 0 q ≡ given_at k n q
 same_at k n q = refl
 
-same_bytes : (k : Known) (n : ℕ) (q : Asked) (bytes : List ℕ) → bytes_after_region (alone (cursor_of k n) k.live) 0 q bytes ≡ bytes_after_region k n q bytes
+same_bytes : (k : Known) (n : ℕ) (q : AskedRegion) (bytes : List ℕ) → bytes_after_region (alone (cursor_of k n) k.live) 0 q bytes ≡ bytes_after_region k n q bytes
 same_bytes k n q bytes = refl
 
 -- what is known then, by whether the region stays
-abbrev pub known_by : Known → ℕ → Asked → (next : ℕ) → Bool → Known
+abbrev pub known_by : Known → ℕ → AskedRegion → (next : ℕ) → Bool → Known
 known_by k n q next b = record (cond b k (raised k n (next + q.size))) { live = record { at = cond b q.old.at next; size = q.size } ∷ live_without q.old k.live }
 
-known_after : (k : Known) (n : ℕ) (q : Asked) (at after : ℕ) → at ≡ given_at k n q → after ≡ cursor_of (after_region (alone (cursor_of k n) k.live) 0 q) 0
+known_after : (k : Known) (n : ℕ) (q : AskedRegion) (at after : ℕ) → at ≡ given_at k n q → after ≡ cursor_of (after_region (alone (cursor_of k n) k.live) 0 q) 0
     → raised (record k { live = record { at = at; size = q.size } ∷ live_without q.old k.live }) n after ≡ after_region k n q
 known_after k n q at after is end = by (stays q) refl end
   where
@@ -110,12 +110,12 @@ known_after k n q at after is end = by (stays q) refl end
         (λ i. record { cursors = slice_set k.cursors n (same i); live = record { at = (is ∙ ap (λ b. cond b q.old.at (next_region k n q)) e) i; size = q.size } ∷ live_without q.old k.live; returned = k.returned; transfers = k.transfers })
         ∙ sym (ap (known_by k n q (next_region k n q)) e)
 
-pub reallocs_given : (k k' : Known) (n cursor : ℕ) (bytes : List ℕ) (memory64 : Bool) (q : Asked) (e : Event) (at after : ℕ) (bytes_after : List ℕ) (results : List CoreValue) (state : MachineState)
-    → e.answer ≡ Returns results state → cursor ≡ cursor_of k n → bytes ≡ memory_at e.before n → Gives cursor k.live bytes q at after bytes_after
+pub reallocs_given : (k k' : Known) (n cursor : ℕ) (bytes : List ℕ) (memory64 : Bool) (q : AskedRegion) (e : Event) (at after : ℕ) (bytes_after : List ℕ) (results : List CoreValue) (state : MachineState)
+    → e.answer ≡ Returns results state → cursor ≡ cursor_of k n → bytes ≡ memory_at e.before n → GivesRegion cursor k.live bytes q at after bytes_after
     → results ≡ address_operand memory64 at ∷ [] → AreOfCoreTypes (address memory64 ∷ []) results → state ≡ with_memory_at e.before n bytes_after
     → k' ≡ raised (record k { live = record { at = at; size = q.size } ∷ live_without q.old k.live }) n after → ReallocsAs q k n memory64 true e k'
 reallocs_given k k' n cursor bytes memory64 q e at after bytes_after results state is at_cursor of gives rs typed left known =
-    let g : Gives (cursor_of k n) k.live (memory_at e.before n) q at after bytes_after = subst (λ z. Gives z k.live (memory_at e.before n) q at after bytes_after) at_cursor (subst (λ z. Gives cursor k.live z q at after bytes_after) of gives) in
+    let g : GivesRegion (cursor_of k n) k.live (memory_at e.before n) q at after bytes_after = subst (λ z. GivesRegion z k.live (memory_at e.before n) q at after bytes_after) at_cursor (subst (λ z. GivesRegion cursor k.live z q at after bytes_after) of gives) in
     by_return k k' e results state is (never_refused k n (memory_at e.before n) q at after bytes_after g) (
       left ∙ ap (with_memory_at e.before n) (g.bytes_are ∙ same_bytes k n q (memory_at e.before n)),
       typed,
@@ -179,7 +179,7 @@ pub transcodes_stop : (t : Told) (k : Known) (o : Transcode) (from : ℕ) (from6
 transcodes_stop t k o from from64 to to64 e is must = by_trap k k e is must
 
 pub transcodes_made : (t : Told) (k : Known) (o : Transcode) (from : ℕ) (from64 : Bool) (to : ℕ) (to64 : Bool) (e : Event) (bytes : List ℕ) (first second : Option ℕ) (results : List CoreValue) (state : MachineState)
-    → e.answer ≡ Returns results state → IsMade o (memory_at e.before from) (memory_at e.before to) t bytes (both_listed first second) → map bits_of results ≡ both_listed first second
+    → e.answer ≡ Returns results state → IsTranscoded o (memory_at e.before from) (memory_at e.before to) t bytes (both_listed first second) → map bits_of results ≡ both_listed first second
     → AreOfCoreTypes (number_types from64 to64 first second) results → state ≡ with_memory_at e.before to (put_at (memory_at e.before to) t.to bytes) → TranscodesAs t k o from from64 to to64 e k
 transcodes_made t k o from from64 to to64 e bytes first second results state is made bits typed left =
     by_return k k e results state is made.goes_on

@@ -30,14 +30,14 @@ use Rattle.fact_machine.specs.World.{put_at}
 use Rattle.fact_machine.proofs.Places.{put_below, put_within}
 use Rattle.fact_values.specs.declared.value.Value.{Value}
 use Rattle.fact_values.specs.Lift.{bits_of}
-use Rattle.fact_moves.specs.Adapters.{flat_results}
-use Rattle.fact_moves.specs.Calls.{is_import_of, is_call_of_any, nth_number, side_memory}
-use Rattle.fact_moves.specs.Honest.{IsHonestBy, AreHonest, room_of}
-use Rattle.fact_moves.specs.Regions.{Region, Position, Landing, landed, return_area, params_landing, results_landing, is_request, without, given_up, given_region, moved_on, sync_moved_on, IsHonestRegion}
-use Rattle.fact_moves.specs.Running.{ImportPlaces, Call}
-use Rattle.fact_moves.specs.Sides.{options_of}
-use Rattle.fact_moves.specs.Transcoders.{IsHonestTranscoding, TranscodeKind, AllUnits, Counted, Fitting, Narrow, Tagged, Widening, transcode_kind}
-use Rattle.fact_texts.specs.Trapped.{AreHonestUntilTrap}
+use Rattle.fact_actions.specs.Adapters.{flat_results}
+use Rattle.fact_actions.specs.Calls.{is_import_of, is_call_of_any, nth_number, side_memory}
+use Rattle.fact_actions.specs.Honest.{IsHonestBy, AreHonest, room_of}
+use Rattle.fact_actions.specs.Regions.{Region, Position, Landing, landed, return_area, params_landing, results_landing, is_request, without, given_up, given_region, moved_on, sync_moved_on, IsHonestRegion}
+use Rattle.fact_actions.specs.Running.{ImportPlaces, Call}
+use Rattle.fact_actions.specs.Sides.{options_of}
+use Rattle.fact_actions.specs.Transcoders.{IsHonestTranscoding, TranscodeKind, AllUnits, Counted, Fitting, Narrow, Tagged, Widening, transcode_kind}
+use Rattle.fact_action_laws.specs.Trapped.{AreHonestUntilTrap}
 use Rattle.fact_host.specs.declared.calling.HostCall.{HostCall}
 use Rattle.fact_host.specs.declared.calling.HostSide.{HostSide}
 use Rattle.fact_host.specs.declared.roles.Role.{Role}
@@ -47,7 +47,7 @@ use Rattle.fact_host.specs.Beginning.{IsNamedMemory}
 use Rattle.fact_host.specs.HonestLaws.{HasRole, AnswersAreHonest}
 use Rattle.fact_host.specs.Describes.{Describes, IsImportOf, named_calls}
 use Rattle.fact_host.specs.declared.known.Known.{Known}
-use Rattle.fact_host.specs.Rules.{memory_at, bytes_of_memory, with_memory_at, cursor_of, raised, is_live, live_without, Asked, is_old_live, stays, next_region, MustRefuse, OtherTransfer, NoAlignment, NotLive, NoRoom, given_at, moved_bytes, after_region, bytes_after_region, DestinationOutside, told_of, told_room, units_read, CallShapes, Answers, AreAnswers, ReallocsAt, StoresAt, TranscodesBy, AreOfCoreTypes}
+use Rattle.fact_host.specs.Rules.{memory_at, bytes_of_memory, with_memory_at, cursor_of, raised, is_live, live_without, AskedRegion, is_old_live, stays, next_region, MustRefuse, OtherTransfer, NoAlignment, NotLive, NoRoom, given_at, moved_bytes, after_region, bytes_after_region, DestinationOutside, told_of, told_room, units_read, CallShapes, Answers, AreAnswers, ReallocsAt, StoresAt, TranscodesBy, AreOfCoreTypes}
 use Rattle.fact_host.proofs.Regular.{HasLengths, AreRegular, are_regular}
 use Rattle.fact_host.proofs.SideMemories.{changed_here, changed_other, length_at, side_is, there_at}
 use Rattle.fact_host.proofs.LiveLaws.{kept, has, live_is_has, kept_without, AllBelow, below_rises, below_without, has_below, AllOut, out_rises, out_below, out_both, out_right, any_out, between_apart, AllApart, apart_without, given_up_apart, smaller_apart, empty_apart}
@@ -188,7 +188,7 @@ module _ (m : WasmModule) (t : Tables) (c : HostCall) (p : ImportPlaces) (a : Li
   -- ---- realloc
 
   -- what a call of realloc asks for
-  abbrev ask : List CoreValue → Asked
+  abbrev ask : List CoreValue → AskedRegion
   ask given = record { old = record { at = nth_number given 0; size = nth_number given 1 }; align = nth_number given 2; size = nth_number given 3 }
 
   abbrev up : List CoreValue → Region
@@ -205,10 +205,10 @@ module _ (m : WasmModule) (t : Tables) (c : HostCall) (p : ImportPlaces) (a : Li
     pub room : stays (ask given) ≡ false → next_region k n (ask given) + (ask given).size ≤ length (memory_at before n)
 
   -- where the region begins, the bytes behind the call and what the host knows then, by whether it stays
-  abbrev region_at : Bool → Known → ℕ → Asked → ℕ
+  abbrev region_at : Bool → Known → ℕ → AskedRegion → ℕ
   region_at st k n q = cond st q.old.at (next_region k n q)
 
-  abbrev known_by : Bool → Known → ℕ → Asked → Known
+  abbrev known_by : Bool → Known → ℕ → AskedRegion → Known
   known_by st k n q = record (cond st k (raised k n (next_region k n q + q.size))) { live = record { at = region_at st k n q; size = q.size } ∷ live_without q.old k.live }
 
   is_named : (b : Bool) (n : ℕ) → (side_to b c).memory ≡ Some n → IsNamedMemory c n

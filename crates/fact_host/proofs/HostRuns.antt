@@ -16,7 +16,7 @@ use Rattle.fact_host.specs.declared.roles.Role.{Role}
 use Rattle.fact_host.specs.Contract.{IsFresh, steps_given}
 use Rattle.fact_host.specs.Describes.{HasCallShapes}
 use Rattle.fact_host.specs.Lawful.{CameOf, CameToGive, HasGivenBy, HostStays, Hosted, IsAfter, IsCalleeCause, IsEndedBy, IsLawfulHost, Told, WasGiven, first_known, hosted}
-use Rattle.fact_host.specs.Roles.{HaveRoles, imported_functions}
+use Rattle.fact_host.specs.Roles.{HaveRoles, function_imports}
 use Rattle.fact_host.specs.Rules.{CallShapes}
 
 -- the cause of an error that ended a call
@@ -56,7 +56,7 @@ module _ {C : Type 0} (tells : C → Told) where
       subst (λ x. IsAfter x s (tells last.callee.now) last.kept.now.events last.kept.now.known last.kept.now.params last.kept.now.error) at (lawful s own)
 
   pub came_of : (m : WasmModule) (t : Tables) (c : HostCall) (s : CallShapes) (begun : List ℕ) (roles : List Role) (last : Host C) (log : List Event)
-      → last.types.now ≡ t → last.call.now ≡ c → last.kept.now.roles ≡ roles → IsLawfulHost tells begun last → last.kept.now.error ≡ None → last.kept.now.events ≡ log → HaveRoles m c 0 (imported_functions m) roles → HasCallShapes t c s
+      → last.types.now ≡ t → last.call.now ≡ c → last.kept.now.roles ≡ roles → IsLawfulHost tells begun last → last.kept.now.error ≡ None → last.kept.now.events ≡ log → HaveRoles m c 0 (function_imports m) roles → HasCallShapes t c s
       → CameOf m t c s begun (tells last.callee.now) log last.kept.now.params
   came_of m t c s begun roles last log types call roles_are lawful none events have shapes = record {
     roles = roles;
@@ -74,7 +74,7 @@ module _ {C : Type 0} (tells : C → Told) where
       (subst (IsAfter (record { types = t; call = c; roles = roles; begun = begun }) s (tells last.callee.now) last.kept.now.events last.kept.now.known last.kept.now.params) some (after_run begun t c roles last types call roles_are lawful s shapes))
 
   pub given_at : (m : WasmModule) (t : Tables) (c : HostCall) (s : CallShapes) (begun : List ℕ) (roles : List Role) (last : Host C) (error : HostError) (args : List CoreValue) (first : MachineState) (o : Outcome)
-      → last.types.now ≡ t → last.call.now ≡ c → last.kept.now.roles ≡ roles → IsLawfulHost tells begun last → last.kept.now.error ≡ Some error → last.kept.now.events ≡ o.log → HaveRoles m c 0 (imported_functions m) roles → HasCallShapes t c s
+      → last.types.now ≡ t → last.call.now ≡ c → last.kept.now.roles ≡ roles → IsLawfulHost tells begun last → last.kept.now.error ≡ Some error → last.kept.now.events ≡ o.log → HaveRoles m c 0 (function_imports m) roles → HasCallShapes t c s
       → o ≡ run_of m c.func args first (answers_of o.log) steps_given → HasGivenBy m t c s begun args first (tells last.callee.now).given error
   given_at m t c s begun roles last error args first o types call roles_are lawful some events have shapes is_run =
       by error

@@ -28,11 +28,11 @@ use Rattle.fact_check.specs.declared.imports.Operation.{Operation}
 use Rattle.fact_check.specs.declared.imports.Operation.TheVariants as operation
 use Rattle.fact_check.proofs.ImportRows.{memories_same}
 use Rattle.fact_check.proofs.Transcoders.{description_apart, same_parts}
-use Rattle.fact_moves.specs.Transcoders.{transcode_kind, transcode_types}
+use Rattle.fact_actions.specs.Transcoders.{transcode_kind, transcode_types}
 use Rattle.fact_host.specs.declared.calling.HostCall.{HostCall}
 use Rattle.fact_host.specs.declared.roles.Role.{Role}
 use Rattle.fact_host.specs.declared.roles.Role.TheVariants as role
-use Rattle.fact_host.specs.Roles.{IsByName, IsRole, IsRoleBy, IsTranscoder, has_names, imported_functions, is_function, is_place, is_slot, is_told, is_transfer, operation_name}
+use Rattle.fact_host.specs.Roles.{IsNamedRole, IsRole, IsRoleBy, IsTranscoder, has_names, function_imports, is_function, is_place, is_slot, is_told, is_transfer, operation_name}
 use Rattle.fact_host.proofs.Answering.{address_is}
 use Rattle.fact_host.proofs.RoleNames.{operation_apart}
 
@@ -85,7 +85,7 @@ record HasRow (m : WasmModule) (n : ℕ) (w : WasmImport) : Type 0 where
   place : ℕ
   row : IsFunctionRow (functions_in (take place m.imports)) (memories_in (take place m.imports)) (origin_of w.module) w.name ty
 
-has_row : (m : WasmModule) (n : ℕ) (w : WasmImport) → IsAdapterModule m → slice_get (imported_functions m) n ≡ Some w → HasRow m n w
+has_row : (m : WasmModule) (n : ℕ) (w : WasmImport) → IsAdapterModule m → slice_get (function_imports m) n ≡ Some w → HasRow m n w
 has_row m n w adapter e =
     let f = found m.imports n w e in
     let i : IsAdapterImport m f.place = adapter.imports f.place (slice_get_within m.imports f.place w f.there) in
@@ -269,7 +269,7 @@ IsAt m c n w role.Slot = is_slot w ≡ true
 IsAt m c n w role.Told = is_told w ≡ true
 IsAt m c n w role.Refused = Unit {0}
 
-at_name : (m : WasmModule) (c : HostCall) (n : ℕ) (w : WasmImport) (r : Role) → IsByName m w r → IsAt m c n w r
+at_name : (m : WasmModule) (c : HostCall) (n : ℕ) (w : WasmImport) (r : Role) → IsNamedRole m w r → IsAt m c n w r
 at_name m c n w role.Callee h = absurd h
 at_name m c n w role.LiftRealloc h = absurd h
 at_name m c n w role.LowerRealloc h = absurd h
@@ -305,7 +305,7 @@ is_at m c n w r h = callee (nat_eq c.callee n) refl h
     callee false e h = lift (is_place c.lift.realloc n) refl h
 
 -- The types of the results of imports that are known by their names.
-module _ (m : WasmModule) (n : ℕ) (w : WasmImport) (adapter : IsAdapterModule m) (there : slice_get (imported_functions m) n ≡ Some w) where
+module _ (m : WasmModule) (n : ℕ) (w : WasmImport) (adapter : IsAdapterModule m) (there : slice_get (function_imports m) n ≡ Some w) where
   -- the type of an import, with these results
   abbrev pub HasResults : List ValType → Type 0
   HasResults ts = (t : FuncType) × (type_of_import m n ≡ Some t) × (t.results ≡ ts)

@@ -32,12 +32,12 @@ use Rattle.fact_values.specs.Limits.{CaseType, case_type}
 use Rattle.fact_values.specs.Numbers.{Plain, boolean, unsigned, signed, float32, float64, character, handle, text, nothing, plain_of}
 use Rattle.fact_values.specs.Opened.{fields_in, members_in, elements_in, map_entries_in, case_in, number_of_handle}
 use Rattle.fact_values.specs.Places.{first_layout, element_layout, width_of, typed_names}
-use Rattle.fact_carry.specs.Items.{ValueItem, HandleItem, TextItem, of_some, chars_in, handle_item, items_plain, items, items_fields, items_case, items_places, items_element, region_item}
-use Rattle.fact_carry.specs.Law.{AreTyped, IsWellFormed, AreWellFormed}
-use Rattle.fact_carry.proofs.Counted.{member_named, named_known, zip_parts}
-use Rattle.fact_carry.proofs.Distinct.{distinct_later, each_agrees, places_agree}
-use Rattle.fact_carry.proofs.Weights.{In, in_at, less_of, fields_in_source}
-use Rattle.fact_texts.specs.Rooms.{item_bytes, items_bytes}
+use Rattle.fact_action_laws.specs.Items.{ValueItem, HandleItem, TextItem, of_some, chars_in, handle_item, items_plain, items, items_fields, items_case, items_places, items_element, region_item}
+use Rattle.fact_action_laws.specs.Law.{AreTyped, IsWellFormed, AreWellFormed}
+use Rattle.fact_action_laws.proofs.Counted.{member_named, named_known, zip_parts}
+use Rattle.fact_action_laws.proofs.Distinct.{distinct_later, each_agrees, places_agree}
+use Rattle.fact_action_laws.proofs.Weights.{In, in_at, less_of, fields_in_source}
+use Rattle.fact_action_laws.specs.Rooms.{item_bytes, items_bytes}
 use Rattle.fact_host.specs.Fitting.{ItemsFit}
 use Rattle.fact_lowering.specs.Room.{where_there, text_in, measured_plain, shape_named, or_own, measured, measured_fields, measured_payload, measured_places, measured_element, greatest_bytes, inner_room}
 

@@ -3,7 +3,7 @@ use Rattle.std.proofs.Common.{◌≡◌, ℕ, ◌+◌, ◌<◌, ◌≤◌, ◌�
 use Rattle.std.specs.Prelude.{◌&&◌, nat_eq, cond, if◌then◌else◌}
 use Rattle.std.proofs.lemmas.Bool.{eqb-true}
 use Rattle.std.specs.Cmp.{first_so, second_so}
-use Rattle.fact_moves.specs.Regions.{Region, IsIn, IsInAny, AreApart, without}
+use Rattle.fact_actions.specs.Regions.{Region, IsIn, IsInAny, AreApart, without}
 use Rattle.fact_host.specs.declared.allocator.Region.{Region as HostRegion}
 use Rattle.fact_host.specs.Rules.{live_without, is_live}
 

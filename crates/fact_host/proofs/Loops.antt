@@ -8,10 +8,10 @@ use Rattle.std.proofs.lemmas.List.{append-nil, drop_all}
 use Rattle.fact_wasm.specs.declared.module.WasmModule.{WasmModule}
 use Rattle.fact_types.specs.declared.outside.FixedEncoding.TheVariants.{Utf8, Latin1}
 use Rattle.fact_values.specs.Texts.{AreSpelled, char_spelling, spelled_text, units}
-use Rattle.fact_texts.proofs.Bounds.{length_spelling}
+use Rattle.fact_action_laws.proofs.Bounds.{length_spelling}
 use Rattle.fact_host.specs.declared.calling.HostCall.{HostCall}
 use Rattle.fact_host.specs.declared.roles.Role.{Role}
-use Rattle.fact_host.specs.Roles.{HaveRoles, imported_functions, is_function}
+use Rattle.fact_host.specs.Roles.{HaveRoles, function_imports, is_function}
 use Rattle.fact_host.proofs.Passing.{length_with_more}
 
 -- what is not there is the default
@@ -24,11 +24,11 @@ none_there (x ∷ xs) (suc i) d e = none_there xs i d e
 
 -- these roles were found before the ith import
 abbrev pub AreFound : WasmModule → HostCall → ℕ → List Role → Type 0
-AreFound m c i roles = (rest : List Role) → HaveRoles m c (length roles) (filter is_function (drop i m.imports)) rest → HaveRoles m c 0 (imported_functions m) (roles ++ rest)
+AreFound m c i roles = (rest : List Role) → HaveRoles m c (length roles) (filter is_function (drop i m.imports)) rest → HaveRoles m c 0 (function_imports m) (roles ++ rest)
 
-pub found_all : (m : WasmModule) (c : HostCall) (i : ℕ) (roles : List Role) → length m.imports ≤ i → AreFound m c i roles → HaveRoles m c 0 (imported_functions m) roles
+pub found_all : (m : WasmModule) (c : HostCall) (i : ℕ) (roles : List Role) → length m.imports ≤ i → AreFound m c i roles → HaveRoles m c 0 (function_imports m) roles
 found_all m c i roles le found =
-    subst (HaveRoles m c 0 (imported_functions m)) (append-nil roles) (found [] (subst (λ ws. HaveRoles m c (length roles) (filter is_function ws) []) (sym (drop_all i m.imports le)) tt))
+    subst (HaveRoles m c 0 (function_imports m)) (append-nil roles) (found [] (subst (λ ws. HaveRoles m c (length roles) (filter is_function ws) []) (sym (drop_all i m.imports le)) tt))
 
 -- ---- texts
 

@@ -37,11 +37,11 @@ use Rattle.fact_check.specs.Constants.{AreBits, HasTypedConstants}
 use Rattle.fact_check.specs.Soundness.{RunsSeeTyped, SeeTyped}
 use Rattle.fact_values.specs.declared.value.Value.{Value}
 use Rattle.fact_values.specs.Places.{extent_on, width_of}
-use Rattle.fact_moves.specs.Adapters.{flat_results, last_bits, lowered_flats}
-use Rattle.fact_moves.specs.Moves.{entry_extent}
-use Rattle.fact_moves.specs.Regions.{Region, return_area}
-use Rattle.fact_moves.specs.Running.{ImportPlaces}
-use Rattle.fact_moves.specs.Sides.{options_of}
+use Rattle.fact_actions.specs.Adapters.{flat_results, last_bits, lowered_flats}
+use Rattle.fact_actions.specs.Moves.{entry_extent}
+use Rattle.fact_actions.specs.Regions.{Region, return_area}
+use Rattle.fact_actions.specs.Running.{ImportPlaces}
+use Rattle.fact_actions.specs.Sides.{options_of}
 use Rattle.fact_host.specs.declared.callee.HostError.{HostError}
 use Rattle.fact_host.specs.declared.callee.HostError.TheVariants.{OutOfMemory, Unsuited, OverLimit, NoResults}
 use Rattle.fact_host.specs.declared.calling.HostCall.{HostCall}
@@ -55,8 +55,8 @@ use Rattle.fact_host.specs.Contract.{AnswerLifts, AnsweredTooMuch, AnsweredUnsui
 use Rattle.fact_host.specs.Describes.{Describes, HasCallShapes}
 use Rattle.fact_host.specs.HonestLaws.{AnswersAreTyped, HasRole}
 use Rattle.fact_host.specs.Hosts.{AreAnswersUntil}
-use Rattle.fact_host.specs.Lawful.{AnswerStands, AreRuled, CameOf, Hosted, IsCalleeCause, IsHosting, IsRunning, IsSound, PlacesCallee, RoleAt, Told, first_known}
-use Rattle.fact_host.specs.Roles.{HaveRoles, IsRole, IsRoleBy, imported_functions, is_place, role_by_place}
+use Rattle.fact_host.specs.Lawful.{AnswerStands, AreRuled, CameOf, Hosted, IsCalleeCause, IsHosting, IsRunning, IsSoundCall, PlacesCallee, RoleAt, Told, first_known}
+use Rattle.fact_host.specs.Roles.{HaveRoles, IsRole, IsRoleBy, function_imports, is_place, role_by_place}
 use Rattle.fact_host.specs.Rules.{AreAnswers, CallShapes, bytes_of_memory, cursor_of, memory_at, side_bytes}
 use Rattle.fact_host.proofs.FirstStates.{begun_count, begun_flags, begun_lift, begun_lower, begun_others, begun_typed, first_lower, memory_there}
 use Rattle.fact_host.proofs.Honest.{law}
@@ -85,7 +85,7 @@ same_call_shapes t c s z h g = λ i. record {
 pub callable_by : (m : WasmModule) (t : Tables) (c : HostCall) (z s : CallShapes) → IsCallable m t c z → HasCallShapes t c s → IsCallable m t c s
 callable_by m t c z s h g = subst (IsCallable m t c) (same_call_shapes t c z s h.shapes g) h
 
-pub sound_of : (m : WasmModule) (t : Tables) (c : HostCall) (s : CallShapes) → IsCallable m t c s → AreLive t c → IsSound t c
+pub sound_of : (m : WasmModule) (t : Tables) (c : HostCall) (s : CallShapes) → IsCallable m t c s → AreLive t c → IsSoundCall t c
 sound_of m t c s h live = record {
   shapes = s;
   shaped = h.shapes;
@@ -110,9 +110,9 @@ has_role m c k (w ∷ ws) (q ∷ rs) (suc n) r h e =
     let at : suc k + n ≡ k + suc n = omega arith in
     (x.0, x.1, subst (λ z. IsRole m c z x.0 r) at x.2)
 
-named : (m : WasmModule) (c : HostCall) (roles : List Role) → HaveRoles m c 0 (imported_functions m) roles → (n : ℕ) (r : Role) → RoleAt roles n r → HasRole m c n r
+named : (m : WasmModule) (c : HostCall) (roles : List Role) → HaveRoles m c 0 (function_imports m) roles → (n : ℕ) (r : Role) → RoleAt roles n r → HasRole m c n r
 named m c roles have n r at =
-    let x = has_role m c 0 (imported_functions m) roles n r have at in
+    let x = has_role m c 0 (function_imports m) roles n r have at in
     let is : 0 + n ≡ n = omega arith in
     (x.0, x.1, subst (λ z. IsRole m c z x.0 r) is x.2)
 
@@ -149,23 +149,23 @@ only_callee m c n w h = by (nat_eq c.callee n) refl (is_place c.lift.realloc n) 
 first_all : (m : WasmModule) (n : ℕ) (ns : List ℕ) → All (IsNameable m) (n ∷ ns) → IsNameable m n
 first_all m n ns h = All-head (IsNameable m) n ns h
 
-pub places_callee : (m : WasmModule) (t : Tables) (c : HostCall) (s : CallShapes) (roles : List Role) → IsCallable m t c s → HaveRoles m c 0 (imported_functions m) roles → PlacesCallee c roles
+pub places_callee : (m : WasmModule) (t : Tables) (c : HostCall) (s : CallShapes) (roles : List Role) → IsCallable m t c s → HaveRoles m c 0 (function_imports m) roles → PlacesCallee c roles
 places_callee m t c s roles h have n = (
   (λ at. let x = named m c roles have n role.Callee at in only_callee m c n x.0 x.2),
   (λ is.
       let a = first_all m c.callee _ h.named in
-      let x = there_role m c 0 (imported_functions m) roles n a.import have (ap (slice_get (imported_functions m)) is ∙ a.there) in
+      let x = there_role m c 0 (function_imports m) roles n a.import have (ap (slice_get (function_imports m)) is ∙ a.there) in
       let at : 0 + n ≡ n = omega arith in
       let own : x.0 ≡ role.Callee = subst (IsRoleBy m a.import x.0) (ap (role_by_place c) at ∙ callee_by c n is) x.2 in
       subst (RoleAt roles n) own x.1),
 )
 
-pub hosting_of : (m : WasmModule) (t : Tables) (c : HostCall) (s : CallShapes) (roles : List Role) → IsCallable m t c s → AreLive t c → HaveRoles m c 0 (imported_functions m) roles → IsHosting t c roles
+pub hosting_of : (m : WasmModule) (t : Tables) (c : HostCall) (s : CallShapes) (roles : List Role) → IsCallable m t c s → AreLive t c → HaveRoles m c 0 (function_imports m) roles → IsHosting t c roles
 hosting_of m t c s roles h live have = record { sound = sound_of m t c s h live; callee = places_callee m t c s roles h have }
 
 -- ---- what came of the callee
 
-pub rules_of : (m : WasmModule) (c : HostCall) (s : CallShapes) (roles : List Role) → HaveRoles m c 0 (imported_functions m) roles → (answered : Option (List Value)) (k last : Known) (log : List Event)
+pub rules_of : (m : WasmModule) (c : HostCall) (s : CallShapes) (roles : List Role) → HaveRoles m c 0 (function_imports m) roles → (answered : Option (List Value)) (k last : Known) (log : List Event)
     → AreAnswersUntil (RoleAt roles) c s answered k log last → AreAnswers (HasRole m c) c s answered k log
 rules_of m c s roles have answered k last [] u = tt
 rules_of m c s roles have answered k last (e ∷ es) u = (u.0, named m c roles have e.func u.0 u.1, u.2, u.3, rules_of m c s roles have answered u.2 last es u.4)

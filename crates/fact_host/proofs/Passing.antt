@@ -9,9 +9,9 @@ use Rattle.std.proofs.str.Utf16.{one_unit, two_units}
 use Rattle.fact_types.specs.declared.outside.FixedEncoding.{FixedEncoding}
 use Rattle.fact_types.specs.declared.outside.FixedEncoding.TheVariants.{Utf8, Utf16, Latin1}
 use Rattle.fact_values.specs.Texts.{AreSpelled, IsSpelled, char_spelling, low_first, spelled_text}
-use Rattle.fact_moves.specs.Transcoders.{TranscodeKind, AllUnits, Counted, Fitting, Narrow, Tagged, Widening, Room, IsHonestPass, IsFull, StopsBy, bytes_written}
-use Rattle.fact_texts.proofs.Bounds.{length_spelling}
-use Rattle.fact_texts.proofs.Splits.{can_parts}
+use Rattle.fact_actions.specs.Transcoders.{TranscodeKind, AllUnits, Counted, Fitting, Narrow, Tagged, Widening, Room, IsHonestPass, IsFull, StopsBy, bytes_written}
+use Rattle.fact_action_laws.proofs.Bounds.{length_spelling}
+use Rattle.fact_action_laws.proofs.Splits.{can_parts}
 
 -- ---- spellings of scalar values
 

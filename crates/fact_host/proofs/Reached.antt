@@ -16,7 +16,7 @@ use Rattle.fact_machine.proofs.Lengths.{lengths_stay}
 use Rattle.fact_check.specs.Constants.{HasTypedConstants}
 use Rattle.fact_check.specs.Soundness.{RunsSeeTyped, SeeTyped}
 use Rattle.fact_values.specs.declared.value.Value.{Value}
-use Rattle.fact_moves.specs.Running.{Call}
+use Rattle.fact_actions.specs.Running.{Call}
 use Rattle.fact_host.specs.declared.callee.HostError.{HostError}
 use Rattle.fact_host.specs.declared.callee.HostError.TheVariants.{OutOfMemory, Unsuited, OverLimit, NoResults}
 use Rattle.fact_host.specs.declared.calling.HostCall.{HostCall}

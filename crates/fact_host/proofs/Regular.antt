@@ -14,13 +14,13 @@ use Rattle.fact_machine.specs.Lengths.{lengths_of, lengths_behind, SeeLengths}
 use Rattle.fact_machine.specs.World.{put_at}
 use Rattle.fact_values.specs.declared.value.Value.{Value}
 use Rattle.fact_values.specs.Lift.{bits_of}
-use Rattle.fact_moves.specs.Calls.{nth_number}
+use Rattle.fact_actions.specs.Calls.{nth_number}
 use Rattle.fact_host.specs.declared.calling.HostCall.{HostCall}
 use Rattle.fact_host.specs.declared.calling.HostSide.{HostSide}
 use Rattle.fact_host.specs.declared.roles.Role.{Role}
 use Rattle.fact_host.specs.declared.roles.Role.TheVariants as role
 use Rattle.fact_host.specs.declared.known.Known.{Known}
-use Rattle.fact_host.specs.Rules.{memory_at, with_memory_at, Asked, asked_of, stays, next_region, MustRefuse, NoRoom, moved_bytes, bytes_after_region, DestinationOutside, AnswersBy, CallShapes, Answers, AreAnswers, ReallocsAt, StoresAt, Leaves}
+use Rattle.fact_host.specs.Rules.{memory_at, with_memory_at, AskedRegion, asked_of, stays, next_region, MustRefuse, NoRoom, moved_bytes, bytes_after_region, DestinationOutside, AnswersBy, CallShapes, Answers, AreAnswers, ReallocsAt, StoresAt, Leaves}
 
 -- the memories of a state have these lengths
 abbrev pub HasLengths : List ℕ → MachineState → Type 0
@@ -72,7 +72,7 @@ reallocs k k' side b e (Some n) rule = by_answer k k' e rule (λ results after m
         → length (if z then memory_at e.before n else moved_bytes (memory_at e.before n) (next_region k n (asked_of e)) (asked_of e)) ≡ length (memory_at e.before n)
     by true q may = refl
     by false q may =
-        let q' : Asked = asked_of e in
+        let q' : AskedRegion = asked_of e in
         let chunk : List ℕ = take (min q'.old.size q'.size) (drop q'.old.at (memory_at e.before n)) in
         let short : length chunk ≡ min (min q'.old.size q'.size) (length (drop q'.old.at (memory_at e.before n))) = length-take (min q'.old.size q'.size) (drop q'.old.at (memory_at e.before n)) in
         length_put (memory_at e.before n) (next_region k n q') chunk

@@ -2,13 +2,13 @@
 use Rattle.std.proofs.Common.{arith}
 use Rattle.fact_types.specs.Shapes.{layout_of}
 use Rattle.fact_types.specs.Tuples.{tuple_members, tuple_of}
-use Rattle.fact_moves.specs.Adapters.{params_transfer, results_transfer}
-use Rattle.fact_moves.specs.Sides.{options_of, side_abi, width_of_side}
-use Rattle.fact_carry.proofs.Grounding.{members_ruled}
-use Rattle.fact_carry.proofs.Membered.{members_formed}
-use Rattle.fact_texts.specs.Requested.{params_parts, results_parts}
-use Rattle.fact_texts.proofs.RequestRooms.{requests_take_no_more}
-use Rattle.fact_texts.proofs.TupleRooms.{params_take_no_more, results_take_no_more}
+use Rattle.fact_actions.specs.Adapters.{params_transfer, results_transfer}
+use Rattle.fact_actions.specs.Sides.{options_of, side_abi, width_of_side}
+use Rattle.fact_action_laws.proofs.Grounding.{members_ruled}
+use Rattle.fact_action_laws.proofs.Membered.{members_formed}
+use Rattle.fact_action_laws.specs.Requested.{params_parts, results_parts}
+use Rattle.fact_action_laws.proofs.RequestRooms.{requests_take_no_more}
+use Rattle.fact_action_laws.proofs.TupleRooms.{params_take_no_more, results_take_no_more}
 use Rattle.fact_host.specs.Fitting.{ParamRequestsFit, ResultRequestsFit}
 use Rattle.fact_host.proofs.ItemRooms.{align_in, size_in, layout_most, places_in_room}
 

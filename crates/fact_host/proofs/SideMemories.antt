@@ -6,11 +6,11 @@ use Rattle.fact_types.specs.declared.outside.MemoryOption.{MemoryOption}
 use Rattle.fact_types.specs.Adapters.{Side}
 use Rattle.fact_types.specs.Tables.{Tables}
 use Rattle.fact_machine.specs.declared.types.MachineState.{MachineState}
-use Rattle.fact_moves.specs.Calls.{side_memory}
-use Rattle.fact_moves.specs.Running.{ImportPlaces}
-use Rattle.fact_moves.specs.Sides.{options_of}
+use Rattle.fact_actions.specs.Calls.{side_memory}
+use Rattle.fact_actions.specs.Running.{ImportPlaces}
+use Rattle.fact_actions.specs.Sides.{options_of}
 use Rattle.fact_host.specs.declared.calling.HostSide.{HostSide}
-use Rattle.fact_host.specs.Describes.{DescribesSide}
+use Rattle.fact_host.specs.Describes.{DescribesHostSide}
 use Rattle.fact_host.specs.Rules.{memory_at, bytes_of_memory, side_bytes, with_memory_at}
 use Rattle.fact_host.proofs.Regular.{HasLengths}
 
@@ -38,7 +38,7 @@ changed_other s n bytes None h = refl
 changed_other s n bytes (Some m) h = let other : m ≢ n = λ e. h (ap (λ k. Some k) e) in get_or-set_other s.memories n m bytes [] other
 
 -- the bytes of a side, by its description
-pub side_is : (t : Tables) (p : ImportPlaces) (h : HostSide) (s : Side) → DescribesSide t h p s → (st : MachineState) → side_memory p (options_of s) st ≡ side_bytes h st
+pub side_is : (t : Tables) (p : ImportPlaces) (h : HostSide) (s : Side) → DescribesHostSide t h p s → (st : MachineState) → side_memory p (options_of s) st ≡ side_bytes h st
 side_is t p h s d st = by s.memory d.memory
   where
     by : (o : Option MemoryOption) → option_map (λ m. p.memory m.def) o ≡ h.memory → (elim o [ None ↦ [] | Some m ↦ get_or st.memories (p.memory m.def) [] ]) ≡ bytes_of_memory h.memory st

@@ -25,7 +25,7 @@ use Rattle.fact_values.specs.declared.value.Value.{Value}
 use Rattle.fact_values.specs.Lift.{bits_of}
 use Rattle.fact_values.specs.Places.{extent_on, width_of}
 use Rattle.fact_values.specs.Tuples.{flat_or_behind, lower_param_values}
-use Rattle.fact_moves.specs.Adapters.{last_bits}
+use Rattle.fact_actions.specs.Adapters.{last_bits}
 use Rattle.fact_lowering.specs.Lowered.{AreLowered, CanStore, IsAside, LacksRoom, tuple_room}
 use Rattle.fact_lowering.specs.Lowerings.{core_of}
 use Rattle.fact_lowering.specs.Room.{fits, room}
@@ -33,7 +33,7 @@ use Rattle.fact_lowering.specs.TextForms.{AreByForm, AreByFormAt, IsByForm, Tupl
 use Rattle.fact_lowering.specs.TupleSteps.{IsTupleLowerable}
 use Rattle.fact_host.specs.declared.calling.HostCall.{HostCall}
 use Rattle.fact_host.specs.Begun.{CanBegin, DiffersIn, HaveArea, HaveAreaBy, IsAreaKept, IsBegun}
-use Rattle.fact_host.specs.Contract.{IsAreaSound, area_room}
+use Rattle.fact_host.specs.Contract.{IsHostAreaSound, area_room}
 use Rattle.fact_host.specs.Describes.{HasCallShapes}
 use Rattle.fact_host.specs.Hosts.{left_state}
 use Rattle.fact_host.specs.Rules.{AreBytes, CallShapes, bytes_of_memory, side_bytes}
@@ -193,7 +193,7 @@ module _ (c : HostCall) (s : CallShapes) (values : List Value) (before : Machine
     typed = rw e (subst (AllZip (λ v ty. IsValue v ty) cores) (sym (no_more (flat_params c.lower.abi.memory64 16 s.lower_params))) l.typed);
     stored = ap (λ z. lower_param_values false c.lower.abi z s.lower_params cores) at ∙ ap (lower_param_values false c.lower.abi bytes s.lower_params) (sym (none_more cores)) ∙ stored_by cores [] cursor bytes l;
     forms = subst (λ z. TupleIsByForm c.lower.abi z 16 s.lower_params cores) (sym at) l.forms;
-    area = rw (e, IsAreaSound) tt;
+    area = rw (e, IsHostAreaSound) tt;
     kept = rw (e, IsAreaKept) tt;
     few = (let up = l.rises.few in let most = tuple_room_most c.lower.abi 16 s.lower_params s.lift_params values in omega (arith, up, most));
     inside = (let in_bytes = l.rises.inside in omega (arith, in_bytes, ap length at));
@@ -240,7 +240,7 @@ module _ (c : HostCall) (s : CallShapes) (values : List Value) (before : Machine
     typed = rw e (AllZip-push (λ v ty. IsValue v ty) cores (flat_params c.lower.abi.memory64 16 s.lower_params) (pointer_to place) (address c.lower.abi.memory64) l.typed (pointer_value c.lower.abi.memory64 place (omega (arith, small))));
     stored = ap (λ z. lower_param_values false c.lower.abi z s.lower_params (cores ++ pointer_to place ∷ [])) at ∙ stored_by cores (pointer_to place ∷ []) low bytes l;
     forms = subst (λ z. TupleIsByForm c.lower.abi z 16 s.lower_params (cores ++ pointer_to place ∷ [])) (sym at) (forms_by cores (pointer_to place ∷ []) low bytes l);
-    area = rw (e, IsAreaSound) (λ few_bytes. area_by aside few_bytes);
+    area = rw (e, IsHostAreaSound) (λ few_bytes. area_by aside few_bytes);
     kept = rw (e, IsAreaKept) (kept_by aside);
     few = few_by aside;
     inside = inside_by aside;

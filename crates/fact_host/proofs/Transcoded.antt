@@ -9,9 +9,9 @@ use Rattle.fact_types.specs.declared.outside.FixedEncoding.{FixedEncoding}
 use Rattle.fact_types.specs.declared.outside.FixedEncoding.TheVariants.{Utf8, Utf16, Latin1}
 use Rattle.fact_types.specs.declared.outside.Transcode.{Transcode}
 use Rattle.fact_values.specs.Texts.{AreSpelled, decoded, spelled_text, unit_bytes, units_of_text}
-use Rattle.fact_moves.specs.Transcoders.{IsHonestPass, Widening, from_encoding, to_encoding, transcode_kind, widened}
-use Rattle.fact_texts.proofs.Bounds.{length_text}
-use Rattle.fact_texts.proofs.Encoded.{AreSmallBytes, encoded}
+use Rattle.fact_actions.specs.Transcoders.{IsHonestPass, Widening, from_encoding, to_encoding, transcode_kind, widened}
+use Rattle.fact_action_laws.proofs.Bounds.{length_text}
+use Rattle.fact_action_laws.proofs.Encoded.{AreSmallBytes, encoded}
 use Rattle.fact_host.specs.declared.transcoders.Told.{Told}
 use Rattle.fact_host.specs.Hosts.{IsMadeOf}
 use Rattle.fact_host.specs.Rules.{AreBytes, IsHonestlyMade, MustStop, LatinOutside, Overflows, DestinationOutside, told_room, units_read}

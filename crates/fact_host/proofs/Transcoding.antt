@@ -10,11 +10,11 @@ use Rattle.fact_types.specs.declared.outside.FixedEncoding.TheVariants.{Utf8, Ut
 use Rattle.fact_types.specs.declared.outside.Transcode.{Transcode}
 use Rattle.fact_types.specs.declared.outside.Transcode.TheVariants as op
 use Rattle.fact_values.specs.Texts.{AreSpelled, IsSpelled, char_spelling, decoded, spelled_text, unit_bytes, units_of_text}
-use Rattle.fact_moves.specs.Transcoders.{TranscodeKind, AllUnits, Counted, Fitting, Narrow, Tagged, Widening, Room, IsHonestPass, IsFull, StopsBy, all_latin1, bytes_written, numbers_answered, from_encoding, to_encoding, transcode_kind, widened}
-use Rattle.fact_texts.proofs.Decoded.{one_text}
-use Rattle.fact_texts.proofs.Splits.{can_parts, no_low_left}
+use Rattle.fact_actions.specs.Transcoders.{TranscodeKind, AllUnits, Counted, Fitting, Narrow, Tagged, Widening, Room, IsHonestPass, IsFull, StopsBy, all_latin1, bytes_written, numbers_answered, from_encoding, to_encoding, transcode_kind, widened}
+use Rattle.fact_action_laws.proofs.Decoded.{one_text}
+use Rattle.fact_action_laws.proofs.Splits.{can_parts, no_low_left}
 use Rattle.fact_host.specs.declared.transcoders.Told.{Told}
-use Rattle.fact_host.specs.Hosts.{IsMade, IsMadeOf, IsPass, IsWithin}
+use Rattle.fact_host.specs.Hosts.{IsTranscoded, IsMadeOf, IsPass, FitsDestination}
 use Rattle.fact_host.specs.Rules.{AreBytes, IsHonestlyMade, MustStop, SourceOutside, Malformed, LatinOutside, Overflows, DestinationOutside, told_room, units_read}
 use Rattle.fact_host.proofs.Passing.{one_pass}
 
@@ -269,7 +269,7 @@ same_text x a b e p q = let z : Some a ≡ Some b = sym p ∙ q in cc
 -- What is made of the text that is read, is an honest answer, if its bytes have their places.
 pub made_is : (o : Transcode) (source destination : List ℕ) (t : Told) (text bytes numbers : List ℕ) → units_read o source t ≡ spelled_text (from_encoding o) text → AreSpelled (from_encoding o) text
     → decoded (from_encoding o) (units_read o source t) ≡ Some text → t.from + unit_bytes (from_encoding o) * t.units ≤ length source
-    → IsMadeOf o text destination t bytes numbers → IsWithin o destination t → t.to + length bytes ≤ length destination → AreBytes bytes → IsMade o source destination t bytes numbers
+    → IsMadeOf o text destination t bytes numbers → FitsDestination o destination t → t.to + length bytes ≤ length destination → AreBytes bytes → IsTranscoded o source destination t bytes numbers
 made_is o source destination t text bytes numbers is can some there h within inside are = record {
   honest = honest;
   are_bytes = are;

@@ -25,7 +25,7 @@ use Rattle.fact_machine.specs.World.{put_at}
 use Rattle.fact_check.specs.Accepted.{IsAdapterModule}
 use Rattle.fact_check.specs.Soundness.{SeeTyped}
 use Rattle.fact_check.proofs.TypedStates.{memory_bytes, memory_with}
-use Rattle.fact_moves.specs.Calls.{nth_number}
+use Rattle.fact_actions.specs.Calls.{nth_number}
 use Rattle.fact_values.specs.declared.value.Value.{Value}
 use Rattle.fact_host.specs.declared.calling.HostCall.{HostCall}
 use Rattle.fact_host.specs.declared.calling.HostSide.{HostSide}
@@ -34,8 +34,8 @@ use Rattle.fact_host.specs.declared.roles.Role.{Role}
 use Rattle.fact_host.specs.declared.roles.Role.TheVariants as role
 use Rattle.fact_host.specs.Contract.{HasMeans, HasSyncTypes}
 use Rattle.fact_host.specs.HonestLaws.{AnswersAreTyped, HasRole}
-use Rattle.fact_host.specs.Roles.{imported_functions}
-use Rattle.fact_host.specs.Rules.{AreBytes, AreOfCoreTypes, memory_at, with_memory_at, Asked, asked_of, stays, next_region, moved_bytes, bytes_after_region, AnswersBy, CallShapes, Answers, AreAnswers, ReallocsAt, StoresAt, Leaves}
+use Rattle.fact_host.specs.Roles.{function_imports}
+use Rattle.fact_host.specs.Rules.{AreBytes, AreOfCoreTypes, memory_at, with_memory_at, AskedRegion, asked_of, stays, next_region, moved_bytes, bytes_after_region, AnswersBy, CallShapes, Answers, AreAnswers, ReallocsAt, StoresAt, Leaves}
 use Rattle.fact_host.proofs.ImportTypes.{IsAt, is_at, slot_results, told_results, transcoder_results, transfer_results}
 use Rattle.fact_host.proofs.Regular.{answers_stay}
 
@@ -45,10 +45,10 @@ put_bytes : (bytes : List ℕ) (at : ℕ) (chunk : List ℕ) → AreBytes bytes 
 put_bytes bytes at chunk h g =
     All-append (λ b. b < 256) (take at bytes) (chunk ++ drop (at + length chunk) bytes) (All-take (λ b. b < 256) at bytes h) (All-append (λ b. b < 256) chunk (drop (at + length chunk) bytes) g (All-drop (λ b. b < 256) (at + length chunk) bytes h))
 
-moved_are : (bytes : List ℕ) (to : ℕ) (q : Asked) → AreBytes bytes → AreBytes (moved_bytes bytes to q)
+moved_are : (bytes : List ℕ) (to : ℕ) (q : AskedRegion) → AreBytes bytes → AreBytes (moved_bytes bytes to q)
 moved_are bytes to q h = put_bytes bytes to (take (min q.old.size q.size) (drop q.old.at bytes)) h (All-take (λ b. b < 256) (min q.old.size q.size) (drop q.old.at bytes) (All-drop (λ b. b < 256) q.old.at bytes h))
 
-region_are : (bytes : List ℕ) (to : ℕ) (q : Asked) (b : Bool) → AreBytes bytes → AreBytes (if b then bytes else moved_bytes bytes to q)
+region_are : (bytes : List ℕ) (to : ℕ) (q : AskedRegion) (b : Bool) → AreBytes bytes → AreBytes (if b then bytes else moved_bytes bytes to q)
 region_are bytes to q true h = h
 region_are bytes to q false h = moved_are bytes to q h
 
@@ -141,7 +141,7 @@ module _ (m : WasmModule) (c : HostCall) (s : CallShapes) (answered : Option (Li
   stores k k' before after most None typed long h = subst (TypedState m) (sym h.0) typed
   stores k k' before after most (Some n) typed long h = left_typed m before after n h.0 typed long h.2 h.4
 
-  answer_typed : (r : Role) (k k' : Known) (e : Event) (w : WasmImport) → slice_get (imported_functions m) e.func ≡ Some w → IsAt m c e.func w r → Answers c s answered r k e k' → TypedState m e.before → TypedAnswer m e.func e.before e.answer
+  answer_typed : (r : Role) (k k' : Known) (e : Event) (w : WasmImport) → slice_get (function_imports m) e.func ≡ Some w → IsAt m c e.func w r → Answers c s answered r k e k' → TypedState m e.before → TypedAnswer m e.func e.before e.answer
   answer_typed role.Callee k k' e w there is rule typed =
       by_answer m k k' e rule.answers (answers_stay c s answered role.Callee k k' e rule) (λ results after long left. (
         given m e.func _ _ results (ap (type_of_import m) (sym is) ∙ types.callee) refl left.2,

@@ -20,9 +20,9 @@ use Rattle.fact_values.specs.declared.side.SideAbi.{SideAbi}
 use Rattle.fact_values.specs.declared.value.Value.{Value}
 use Rattle.fact_values.specs.Places.{extent_on, width_of}
 use Rattle.fact_values.specs.Tuples.{lower_param_values}
-use Rattle.fact_moves.specs.Adapters.{last_bits}
+use Rattle.fact_actions.specs.Adapters.{last_bits}
 use Rattle.fact_host.specs.declared.calling.HostCall.{HostCall}
-use Rattle.fact_host.specs.Contract.{AreSuited, HaveNeeds, IsAreaSound, area_room}
+use Rattle.fact_host.specs.Contract.{AreSuited, HaveNeeds, IsHostAreaSound, area_room}
 use Rattle.fact_lowering.specs.Lowered.{IsAside}
 use Rattle.fact_lowering.specs.Lowerings.{core_of}
 use Rattle.fact_lowering.specs.Room.{room}
@@ -109,7 +109,7 @@ pub record IsBegun (c : HostCall) (s : CallShapes) (values : List Value) (before
   pub typed : AllZip (λ v ty. IsValue v ty) args (sync_lower c.lower.abi.memory64 s.lower_params s.lower_results).params
   pub stored : lower_param_values false c.lower.abi (side_bytes c.lower state) s.lower_params args ≡ Some values
   pub forms : TupleIsByForm c.lower.abi (side_bytes c.lower state) 16 s.lower_params args
-  pub area : IsAreaSound c s args state
+  pub area : IsHostAreaSound c s args state
   pub kept : IsAreaKept c s args state cursor
   pub few : cursor ≤ room s.lower_params s.lift_params values + area_room c s
   pub inside : cursor ≤ length (side_bytes c.lower state)

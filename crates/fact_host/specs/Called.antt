@@ -5,7 +5,7 @@ use Rattle.fact_types.specs.Tuples.{tuple_members}
 use Rattle.fact_values.specs.declared.value.Value.{Value}
 use Rattle.fact_values.specs.Carry.{take_number}
 use Rattle.fact_values.specs.Handles.{cross_places}
-use Rattle.fact_carry.specs.Faithful.{all_handles}
+use Rattle.fact_action_laws.specs.Faithful.{all_handles}
 
 -- so many numbers from one on
 abbrev pub numbers_from : ℕ → ℕ → List ℕ

@@ -33,10 +33,10 @@ use Rattle.fact_values.specs.declared.value.Value.{Value}
 use Rattle.fact_values.specs.IsA.{AreMembers}
 use Rattle.fact_values.specs.Places.{extent_on, width_of}
 use Rattle.fact_values.specs.Tuples.{lower_param_values, lift_param_values, lift_result_values, sync_lower_results}
-use Rattle.fact_moves.specs.Adapters.{last_bits}
-use Rattle.fact_moves.specs.Honest.{AreHonestSync}
-use Rattle.fact_moves.specs.Running.{ImportPlaces}
-use Rattle.fact_texts.specs.Trapped.{AreHonestUntilTrap}
+use Rattle.fact_actions.specs.Adapters.{last_bits}
+use Rattle.fact_actions.specs.Honest.{AreHonestSync}
+use Rattle.fact_actions.specs.Running.{ImportPlaces}
+use Rattle.fact_action_laws.specs.Trapped.{AreHonestUntilTrap}
 use Rattle.fact_host.specs.declared.calling.HostCall.{HostCall}
 use Rattle.fact_host.specs.declared.calling.HostSide.{HostSide}
 use Rattle.fact_host.specs.declared.calling.HostOutcome.{HostOutcome}
@@ -44,7 +44,7 @@ use Rattle.fact_host.specs.declared.callee.HostError.{HostError}
 use Rattle.fact_host.specs.declared.callee.HostError.TheVariants.{OutOfMemory, Unsuited, OverLimit, NoResults}
 use Rattle.fact_host.specs.Beginning.{Begins}
 use Rattle.fact_host.specs.Describes.{Describes, HasCallShapes, named_calls}
-use Rattle.fact_host.specs.Roles.{IsRole, imported_functions}
+use Rattle.fact_host.specs.Roles.{IsRole, function_imports}
 use Rattle.fact_lowering.specs.Room.{fits, room}
 use Rattle.fact_lowering.specs.TextForms.{TupleIsByForm}
 use Rattle.fact_host.specs.declared.known.Known.{Known}
@@ -94,7 +94,7 @@ IsNamedOrigin origin = (origin ≡ codes "realloc") ⊎ ((origin ≡ codes "call
 
 pub record IsNameable (m : WasmModule) (n : ℕ) : Type 0 where
   pub import : WasmImport
-  pub there : slice_get (imported_functions m) n ≡ Some import
+  pub there : slice_get (function_imports m) n ≡ Some import
   pub origin : IsNamedOrigin import.module
 
 -- Sides have the memory that their values need, and the realloc where values go to them.
@@ -178,8 +178,8 @@ pub record HasFirstOthers (c : HostCall) (state : MachineState) : Type 0 where
   pub empty : (n : ℕ) → (c.lower.memory ≡ Some n → ⊥) → (c.lift.memory ≡ Some n → ⊥) → memory_at state n ≡ []
 
 -- the return area, where there is one of so many bytes at most, is aligned and in bounds
-abbrev pub IsAreaSound : HostCall → CallShapes → (args : List CoreValue) → MachineState → Type 0
-IsAreaSound c s args state =
+abbrev pub IsHostAreaSound : HostCall → CallShapes → (args : List CoreValue) → MachineState → Type 0
+IsHostAreaSound c s args state =
     elim (flat_all (width_of c.lower.abi) 1 s.lower_results) [
       | Some flats ↦ Unit {0}
       | None ↦ (extent_on c.lower.abi (tuple_of s.lower_results)).size ≤ 16384
@@ -241,7 +241,7 @@ pub record IsOutcomeOf (m : WasmModule) (t : Tables) (c : HostCall) (s : CallSha
   pub known : Known
   pub known_first : IsFirstKnown c s values known
   pub known_cursors : length known.cursors ≡ length first.memories
-  pub ruled : AreAnswers (λ n r. (w : WasmImport) × (slice_get (imported_functions m) n ≡ Some w) × IsRole m c n w r) c s answered known o.outcome.log
+  pub ruled : AreAnswers (λ n r. (w : WasmImport) × (slice_get (function_imports m) n ≡ Some w) × IsRole m c n w r) c s answered known o.outcome.log
   -- All that comes from outside is typed.
   pub state_typed : TypedState m first
   pub args_typed : AllZip (λ v ty. IsValue v ty) args (sync_lower c.lower.abi.memory64 s.lower_params s.lower_results).params
@@ -251,7 +251,7 @@ pub record IsOutcomeOf (m : WasmModule) (t : Tables) (c : HostCall) (s : CallSha
   pub lower_memory : HasFirstMemory c.lower first
   pub lift_memory : HasFirstMemory c.lift first
   pub other_memories : HasFirstOthers c first
-  pub area : IsAreaSound c s args first
+  pub area : IsHostAreaSound c s args first
   pub begins : (p : ImportPlaces) (a : LinkedAdapter) (names : ℕ → Import) → Describes m t c p a names → Begins c a args (lengths_of first) known
   -- Each answer that is no trap is honest, whatever adapter the call is described as.
   pub honest : (p : ImportPlaces) (a : LinkedAdapter) (names : ℕ → Import) → Describes m t c p a names → AreHonestUntilTrap (AreHonestSync p a args) (named_calls names o.outcome.log)
@@ -295,7 +295,7 @@ pub record HasReached (m : WasmModule) (t : Tables) (c : HostCall) (s : CallShap
   pub known : Known
   pub known_first : IsFirstKnown c s values known
   pub known_cursors : length known.cursors ≡ length first.memories
-  pub ruled : (answered : Option (List Value)) → AreAnswers (λ n r. (w : WasmImport) × (slice_get (imported_functions m) n ≡ Some w) × IsRole m c n w r) c s answered known front
+  pub ruled : (answered : Option (List Value)) → AreAnswers (λ n r. (w : WasmImport) × (slice_get (function_imports m) n ≡ Some w) × IsRole m c n w r) c s answered known front
   pub answers_typed : All (λ e. TypedAnswer m e.func e.before e.answer) front
   pub honest : (p : ImportPlaces) (a : LinkedAdapter) (names : ℕ → Import) → Describes m t c p a names → AreHonestSync p a args (named_calls names front)
   -- So it began.
@@ -304,7 +304,7 @@ pub record HasReached (m : WasmModule) (t : Tables) (c : HostCall) (s : CallShap
   pub flags : ones first
   pub lower_memory : HasFirstMemory c.lower first
   pub lift_memory : HasFirstMemory c.lift first
-  pub area : IsAreaSound c s args first
+  pub area : IsHostAreaSound c s args first
   pub stored : lower_param_values false c.lower.abi (side_bytes c.lower first) s.lower_params args ≡ Some values
   pub stored_forms : TupleIsByForm c.lower.abi (side_bytes c.lower first) 16 s.lower_params args
 

@@ -13,13 +13,13 @@ use Rattle.fact_types.specs.Functions.{HaveShapes}
 use Rattle.fact_types.specs.Tables.{Tables}
 use Rattle.fact_machine.specs.declared.types.Event.{Event}
 use Rattle.fact_machine.specs.Typed.{type_of_memory, type_of_global}
-use Rattle.fact_moves.specs.Calls.{HasOwnCallee}
-use Rattle.fact_moves.specs.Running.{ImportPlaces, Call}
+use Rattle.fact_actions.specs.Calls.{HasOwnCallee}
+use Rattle.fact_actions.specs.Running.{ImportPlaces, Call}
 use Rattle.fact_host.specs.declared.calling.HostCall.{HostCall}
 use Rattle.fact_host.specs.declared.calling.HostSide.{HostSide}
 use Rattle.fact_host.specs.declared.roles.Role.{Role}
 use Rattle.fact_host.specs.declared.roles.Role.TheVariants as role
-use Rattle.fact_host.specs.Roles.{IsRole, imported_functions}
+use Rattle.fact_host.specs.Roles.{IsRole, function_imports}
 use Rattle.fact_host.specs.Rules.{CallShapes}
 
 -- the types of a call stand for these shapes
@@ -30,7 +30,7 @@ pub record HasCallShapes (t : Tables) (c : HostCall) (s : CallShapes) : Type 0 w
   pub lift_results : HaveShapes t c.lift.results s.lift_results
 
 -- a side of an adapter, at these places
-pub record DescribesSide (t : Tables) (h : HostSide) (p : ImportPlaces) (s : Side) : Type 0 where
+pub record DescribesHostSide (t : Tables) (h : HostSide) (p : ImportPlaces) (s : Side) : Type 0 where
   pub is_sync : s.async_side ≡ false
   pub params : HaveShapes t h.params s.params
   pub results : HaveShapes t h.results s.results
@@ -59,14 +59,14 @@ IsImportOf p a role.Refused i = Unit {0}
 -- A description fits a call of a module: its sides, its callee and its post-return are at the places that the call names, the module has
 -- memories and globals so, and the nth imported function is so.
 pub record Describes (m : WasmModule) (t : Tables) (c : HostCall) (p : ImportPlaces) (a : LinkedAdapter) (names : ℕ → Import) : Type 0 where
-  pub lower : DescribesSide t c.lower p a.lower
-  pub lift : DescribesSide t c.lift p a.lift
+  pub lower : DescribesHostSide t c.lower p a.lower
+  pub lift : DescribesHostSide t c.lift p a.lift
   pub callee : p.function (import.CoreDef a.callee) ≡ c.callee
   pub post_return : option_map (λ d. p.function (import.CoreDef d)) a.lift.post_return ≡ c.post_return
   pub own_callee : HasOwnCallee a
   pub memory_types : p.memory_types ≡ filter_map type_of_memory m.imports
   pub global_types : p.global_types ≡ filter_map type_of_global m.imports
-  pub functions : (n : ℕ) (w : WasmImport) (r : Role) → slice_get (imported_functions m) n ≡ Some w → IsRole m c n w r → IsImportOf p a r (names n)
+  pub functions : (n : ℕ) (w : WasmImport) (r : Role) → slice_get (function_imports m) n ≡ Some w → IsRole m c n w r → IsImportOf p a r (names n)
 
 -- the events of a log as calls of imports
 abbrev pub named_calls : (names : ℕ → Import) → List Event → List Call

@@ -12,17 +12,17 @@ use Rattle.fact_values.specs.declared.side.SideAbi.{SideAbi}
 use Rattle.fact_values.specs.declared.value.Value.{Value}
 use Rattle.fact_values.specs.IsA.{IsA, AreMembers}
 use Rattle.fact_values.specs.Tuples.{lift_result_values}
-use Rattle.fact_moves.specs.Adapters.{AdapterTunables, lower_signature_of, lift_signature_of, params_transfer, results_transfer}
-use Rattle.fact_moves.specs.Calls.{side_memory}
-use Rattle.fact_moves.specs.Requests.{parts_requests}
-use Rattle.fact_moves.specs.Running.{ImportPlaces, is_state}
-use Rattle.fact_moves.specs.Sides.{options_of, side_abi}
-use Rattle.fact_carry.specs.Faithful.{params_given}
-use Rattle.fact_carry.specs.FaithfulLaws.{IsCheckedAdapter, HasSyncSides}
-use Rattle.fact_carry.specs.Items.{items}
-use Rattle.fact_carry.specs.Law.{IsWellFormed}
-use Rattle.fact_texts.specs.Requested.{params_parts, results_parts}
-use Rattle.fact_texts.specs.Rooms.{items_bytes, requests_bytes, AllCutsShrink}
+use Rattle.fact_actions.specs.Adapters.{AdapterTunables, lower_signature_of, lift_signature_of, params_transfer, results_transfer}
+use Rattle.fact_actions.specs.Calls.{side_memory}
+use Rattle.fact_actions.specs.Requests.{parts_requests}
+use Rattle.fact_actions.specs.Running.{ImportPlaces, is_state}
+use Rattle.fact_actions.specs.Sides.{options_of, side_abi}
+use Rattle.fact_action_laws.specs.Faithful.{params_given}
+use Rattle.fact_action_laws.specs.FaithfulLaws.{IsCheckedAdapter, HasSyncSides}
+use Rattle.fact_action_laws.specs.Items.{items}
+use Rattle.fact_action_laws.specs.Law.{IsWellFormed}
+use Rattle.fact_action_laws.specs.Requested.{params_parts, results_parts}
+use Rattle.fact_action_laws.specs.Rooms.{items_bytes, requests_bytes, AllCutsShrink}
 use Rattle.fact_lowering.specs.Room.{measured, measured_places, inner_room, room}
 
 -- What a value calls for on its way to a side takes no more bytes than its inner room.

@@ -13,21 +13,21 @@ use Rattle.fact_machine.specs.Typed.{TypedAnswer}
 use Rattle.fact_check.specs.Accepted.{IsAdapterModule}
 use Rattle.fact_check.specs.Soundness.{SeeTyped}
 use Rattle.fact_values.specs.declared.value.Value.{Value}
-use Rattle.fact_moves.specs.Honest.{AreHonestSync}
-use Rattle.fact_moves.specs.Running.{ImportPlaces}
-use Rattle.fact_texts.specs.Trapped.{AreHonestUntilTrap}
+use Rattle.fact_actions.specs.Honest.{AreHonestSync}
+use Rattle.fact_actions.specs.Running.{ImportPlaces}
+use Rattle.fact_action_laws.specs.Trapped.{AreHonestUntilTrap}
 use Rattle.fact_host.specs.declared.calling.HostCall.{HostCall}
 use Rattle.fact_host.specs.declared.roles.Role.{Role}
 use Rattle.fact_host.specs.Beginning.{Begins}
 use Rattle.fact_host.specs.Contract.{HasMeans, HasSyncTypes, NamesEachOnce}
 use Rattle.fact_host.specs.Describes.{Describes, named_calls}
-use Rattle.fact_host.specs.Roles.{IsRole, imported_functions}
+use Rattle.fact_host.specs.Roles.{IsRole, function_imports}
 use Rattle.fact_host.specs.declared.known.Known.{Known}
 use Rattle.fact_host.specs.Rules.{AreAnswers, CallShapes}
 
 -- the nth imported function has a role
 abbrev pub HasRole : WasmModule → HostCall → ℕ → Role → Type 0
-HasRole m c n r = (w : WasmImport) × (slice_get (imported_functions m) n ≡ Some w) × IsRole m c n w r
+HasRole m c n r = (w : WasmImport) × (slice_get (function_imports m) n ≡ Some w) × IsRole m c n w r
 
 -- A log that is answered by the rules is honest up to a trap, whatever adapter the call is described as. That the calls see the lengths and a
 -- trap is the last holds of each run.

@@ -11,7 +11,7 @@ use Rattle.fact_machine.specs.declared.types.Event.{Event}
 use Rattle.fact_machine.specs.declared.types.MachineState.{MachineState}
 use Rattle.fact_values.specs.declared.value.Value.{Value}
 use Rattle.fact_values.specs.Texts.{spelled_text}
-use Rattle.fact_moves.specs.Transcoders.{TranscodeKind, Widening, Room, IsHonestPass, from_encoding, to_encoding, transcode_kind}
+use Rattle.fact_actions.specs.Transcoders.{TranscodeKind, Widening, Room, IsHonestPass, from_encoding, to_encoding, transcode_kind}
 use Rattle.fact_host.specs.declared.calling.HostCall.{HostCall}
 use Rattle.fact_host.specs.declared.known.Known.{Known}
 use Rattle.fact_host.specs.declared.roles.Role.{Role}
@@ -58,7 +58,7 @@ AreAnswersUntil Named c s answered k [] last = last ≡ k
 AreAnswersUntil Named c s answered k (e ∷ es) last = (r : Role) × Named e.func r × (k' : Known) × Answers c s answered r k e k' × AreAnswersUntil Named c s answered k' es last
 
 -- What a transcoder makes is an honest answer, of bytes that have their places, and nothing stops it.
-pub record IsMade (o : Transcode) (source destination : List ℕ) (t : Told) (bytes numbers : List ℕ) : Type 0 where
+pub record IsTranscoded (o : Transcode) (source destination : List ℕ) (t : Told) (bytes numbers : List ℕ) : Type 0 where
   pub honest : IsHonestlyMade o source destination t bytes numbers
   pub are_bytes : AreBytes bytes
   pub inside : t.to + length bytes ≤ length destination
@@ -72,5 +72,5 @@ abbrev pub IsMadeOf : Transcode → (text destination : List ℕ) → Told → (
 IsMadeOf o text destination t bytes numbers = IsPass (transcode_kind o) (from_encoding o) (to_encoding o) (told_room (transcode_kind o) t (drop t.to destination)) text bytes numbers
 
 -- the Latin-1 bytes that are there lie in the memory, where an operation makes units of them
-abbrev pub IsWithin : Transcode → (destination : List ℕ) → Told → Type 0
-IsWithin o destination t = transcode_kind o ≡ Widening → t.to + t.latin1 ≤ length destination
+abbrev pub FitsDestination : Transcode → (destination : List ℕ) → Told → Type 0
+FitsDestination o destination t = transcode_kind o ≡ Widening → t.to + t.latin1 ≤ length destination

@@ -25,7 +25,7 @@ use Rattle.fact_host.specs.Callees.{IsGiven}
 use Rattle.fact_host.specs.Contract.{AreLive, HaveNeeds, AnsweredUnsuited, AnsweredTooMuch, AnswerLifts, IsCallee, IsFresh, first_call, params_reached, steps_given}
 use Rattle.fact_host.specs.Describes.{HasCallShapes}
 use Rattle.fact_host.specs.Hosts.{AreAnswersUntil, event_by}
-use Rattle.fact_host.specs.Roles.{HaveRoles, imported_functions}
+use Rattle.fact_host.specs.Roles.{HaveRoles, function_imports}
 use Rattle.fact_host.specs.Rules.{CallShapes, CallsBy, params_of, side_bytes}
 use Rattle.fact_lowering.specs.TextForms.{TupleIsByForm}
 
@@ -38,7 +38,7 @@ abbrev pub PlacesCallee : HostCall → List Role → Type 0
 PlacesCallee c roles = (n : ℕ) → RoleAt roles n role.Callee ↔ (n ≡ c.callee)
 
 -- The types of a call are live and have shapes, the results agree, and each side has what its values need.
-pub record IsSound (t : Tables) (c : HostCall) : Type 0 where
+pub record IsSoundCall (t : Tables) (c : HostCall) : Type 0 where
   pub shapes : CallShapes
   pub shaped : HasCallShapes t c shapes
   pub live : AreLive t c
@@ -47,7 +47,7 @@ pub record IsSound (t : Tables) (c : HostCall) : Type 0 where
 
 -- What holds of a host throughout: its call is sound, and its roles go by it.
 pub record IsHosting (t : Tables) (c : HostCall) (roles : List Role) : Type 0 where
-  pub sound : IsSound t c
+  pub sound : IsSoundCall t c
   pub callee : PlacesCallee c roles
 
 -- what is known as a run begins
@@ -159,14 +159,14 @@ pub record IsAnswerOf (k : Known) (c : HostCall) (s : CallShapes) (values : List
   pub stands : (func : ℕ) (args : List CoreValue) → AnswerStands c s (Some values) (event_by func args before answer)
 
 -- They are taken, and are answered so.
-pub record IsTaken (k : Known) (c : HostCall) (s : CallShapes) (values : List Value) (before : MachineState) (answer : Answer) (k' : Known) : Type 0 where
+pub record IsTakenCall (k : Known) (c : HostCall) (s : CallShapes) (values : List Value) (before : MachineState) (answer : Answer) (k' : Known) : Type 0 where
   pub suited : AnsweredUnsuited s (Some values) → ⊥
   pub fits : AnsweredTooMuch s (Some values) → ⊥
   pub is_answer : IsAnswerOf k c s values before answer k'
 
 -- What came of asking a callee, when so much was known: what it answered is taken, or there is an error that ends the call.
 abbrev pub IsAnswered : (k : Known) → HostCall → CallShapes → Told → (params : List Value) → MachineState → Answer → (k' : Known) → Option HostError → Type 0
-IsAnswered k c s t params before answer k' None = (values : List Value) × (t.answered ≡ Some values) × (t.last ≡ 0) × IsGiven t.given params × IsTaken k c s values before answer k'
+IsAnswered k c s t params before answer k' None = (values : List Value) × (t.answered ≡ Some values) × (t.last ≡ 0) × IsGiven t.given params × IsTakenCall k c s values before answer k'
 IsAnswered k c s t params before answer k' (Some error) = IsCalleeCause s t error × IsGiven t.given params × (answer ≡ Traps)
 
 -- ---- hosts
@@ -217,14 +217,14 @@ module _ {C : Type 0} (tells : C → Told) where
 -- The roles of the imported functions of a module, and what is known at the end of a run on a host that began with these cursors.
 pub record CameOf (m : WasmModule) (t : Tables) (c : HostCall) (s : CallShapes) (begun : List ℕ) (told : Told) (log : List Event) (params : Option (List Value)) : Type 0 where
   pub roles : List Role
-  pub have : HaveRoles m c 0 (imported_functions m) roles
+  pub have : HaveRoles m c 0 (function_imports m) roles
   pub known : Known
   pub running : IsRunning (record { types = t; call = c; roles = roles; begun = begun }) s told log known params known.returned
 
 -- A run on a host whose call an error ended: what its callee was given.
 pub record CameToGive (m : WasmModule) (t : Tables) (c : HostCall) (s : CallShapes) (begun : List ℕ) (args : List CoreValue) (first : MachineState) (given : Option (List Value)) : Type 0 where
   pub roles : List Role
-  pub have : HaveRoles m c 0 (imported_functions m) roles
+  pub have : HaveRoles m c 0 (function_imports m) roles
   pub outcome : Outcome
   pub is_run : outcome ≡ run_of m c.func args first (answers_of outcome.log) steps_given
   pub was : WasGiven (record { types = t; call = c; roles = roles; begun = begun }) s given outcome.log

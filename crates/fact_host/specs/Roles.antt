@@ -59,18 +59,18 @@ is_told w =
     || has_names (codes "async") (codes "enter-sync-call") w || has_names (codes "async") (codes "exit-sync-call") w
 
 -- what it is by its names
-abbrev pub IsByName : WasmModule → WasmImport → Role → Type 0
-IsByName m w role.Transfer = is_transfer w ≡ true
-IsByName m w role.Slot = is_slot w ≡ true
-IsByName m w role.Told = is_told w ≡ true
-IsByName m w (role.Transcoder o from from64 to to64) = IsTranscoder m w o from from64 to to64
-IsByName m w role.Refused =
+abbrev pub IsNamedRole : WasmModule → WasmImport → Role → Type 0
+IsNamedRole m w role.Transfer = is_transfer w ≡ true
+IsNamedRole m w role.Slot = is_slot w ≡ true
+IsNamedRole m w role.Told = is_told w ≡ true
+IsNamedRole m w (role.Transcoder o from from64 to to64) = IsTranscoder m w o from from64 to to64
+IsNamedRole m w role.Refused =
     (is_transfer w ≡ false) × (is_slot w ≡ false) × (is_told w ≡ false)
     × ((o : Transcode) (from : ℕ) (from64 : Bool) (to : ℕ) (to64 : Bool) → IsTranscoder m w o from from64 to to64 → ⊥)
-IsByName m w role.Callee = ⊥
-IsByName m w role.LiftRealloc = ⊥
-IsByName m w role.LowerRealloc = ⊥
-IsByName m w role.PostReturn = ⊥
+IsNamedRole m w role.Callee = ⊥
+IsNamedRole m w role.LiftRealloc = ⊥
+IsNamedRole m w role.LowerRealloc = ⊥
+IsNamedRole m w role.PostReturn = ⊥
 
 abbrev pub is_place : Option ℕ → ℕ → Bool
 is_place None n = false
@@ -87,7 +87,7 @@ role_by_place c n =
 -- the role is the one of its place, and else one of its name
 abbrev pub IsRoleBy : WasmModule → WasmImport → Role → Option Role → Type 0
 IsRoleBy m w r (Some s) = r ≡ s
-IsRoleBy m w r None = IsByName m w r
+IsRoleBy m w r None = IsNamedRole m w r
 
 -- What the nth imported function is.
 abbrev pub IsRole : WasmModule → HostCall → ℕ → WasmImport → Role → Type 0
@@ -97,8 +97,8 @@ IsRole m c n w r = IsRoleBy m w r (role_by_place c n)
 abbrev pub is_function : WasmImport → Bool
 is_function w = elim w.ty [ import.Func t ↦ true | import.Memory least wide page ↦ false | import.Global t mutable ↦ false ]
 
-abbrev pub imported_functions : WasmModule → List WasmImport
-imported_functions m = filter is_function m.imports
+abbrev pub function_imports : WasmModule → List WasmImport
+function_imports m = filter is_function m.imports
 
 -- Imported functions, of which the first is the nth, have these roles, one by one.
 abbrev pub HaveRoles : WasmModule → HostCall → ℕ → List WasmImport → List Role → Type 0

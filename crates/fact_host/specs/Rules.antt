@@ -20,8 +20,8 @@ use Rattle.fact_values.specs.declared.value.Value.{Value}
 use Rattle.fact_values.specs.Lift.{bits_of}
 use Rattle.fact_values.specs.Texts.{decoded, unit_bytes, units_of_text}
 use Rattle.fact_values.specs.Tuples.{lift_param_values, lift_result_values}
-use Rattle.fact_moves.specs.Calls.{nth_number}
-use Rattle.fact_moves.specs.Transcoders.{TranscodeKind, Fitting, Widening, transcode_kind, transcode_types, from_encoding, Room, IsHonestTranscoding}
+use Rattle.fact_actions.specs.Calls.{nth_number}
+use Rattle.fact_actions.specs.Transcoders.{TranscodeKind, Fitting, Widening, transcode_kind, transcode_types, from_encoding, Room, IsHonestTranscoding}
 use Rattle.fact_host.specs.declared.calling.HostCall.{HostCall}
 use Rattle.fact_host.specs.declared.calling.HostSide.{HostSide}
 use Rattle.fact_host.specs.declared.allocator.Region.{Region}
@@ -78,45 +78,45 @@ is_live r (s ∷ rs) = if same_region s r then true else is_live r rs
 -- ---- realloc
 
 -- what a call of realloc asks for
-pub record Asked : Type 0 where
+pub record AskedRegion : Type 0 where
   pub old : Region
   pub align : ℕ
   pub size : ℕ
 
-abbrev pub asked_of : Event → Asked
+abbrev pub asked_of : Event → AskedRegion
 asked_of e = record { old = record { at = nth_number e.args 0; size = nth_number e.args 1 }; align = nth_number e.args 2; size = nth_number e.args 3 }
 
 -- the old region is none, or one that is live
-abbrev pub is_old_live : Known → Asked → Bool
+abbrev pub is_old_live : Known → AskedRegion → Bool
 is_old_live k q = if nat_eq q.old.at 0 && nat_eq q.old.size 0 then true else is_live q.old k.live
 
 -- a region that need not grow stays where it is, if its place suits
-abbrev pub stays : Asked → Bool
+abbrev pub stays : AskedRegion → Bool
 stays q = nat_le q.size q.old.size && nat_eq (q.old.at % q.align) 0
 
 -- where the next region begins
-abbrev pub next_region : Known → ℕ → Asked → ℕ
+abbrev pub next_region : Known → ℕ → AskedRegion → ℕ
 next_region k n q = aligned (cursor_of k n) q.align
 
 -- It traps exactly where one of these holds, the values going to the nth memory or not.
-pub data MustRefuse (k : Known) (n : ℕ) (is_destination : Bool) (bytes : List ℕ) (q : Asked) : Type 0 where
+pub data MustRefuse (k : Known) (n : ℕ) (is_destination : Bool) (bytes : List ℕ) (q : AskedRegion) : Type 0 where
   OtherTransfer : is_destination ≡ false → MustRefuse k n is_destination bytes q
   NoAlignment : q.align ≡ 0 → MustRefuse k n is_destination bytes q
   NotLive : is_old_live k q ≡ false → MustRefuse k n is_destination bytes q
   NoRoom : stays q ≡ false → length bytes < next_region k n q + q.size → MustRefuse k n is_destination bytes q
 
-abbrev pub given_at : Known → ℕ → Asked → ℕ
+abbrev pub given_at : Known → ℕ → AskedRegion → ℕ
 given_at k n q = if stays q then q.old.at else next_region k n q
 
-abbrev pub moved_bytes : List ℕ → ℕ → Asked → List ℕ
+abbrev pub moved_bytes : List ℕ → ℕ → AskedRegion → List ℕ
 moved_bytes bytes to q = put_at bytes to (take (min q.old.size q.size) (drop q.old.at bytes))
 
-abbrev pub after_region : Known → ℕ → Asked → Known
+abbrev pub after_region : Known → ℕ → AskedRegion → Known
 after_region k n q = record (if stays q then k else raised k n (next_region k n q + q.size)) {
   live = record { at = given_at k n q; size = q.size } ∷ live_without q.old k.live;
 }
 
-abbrev pub bytes_after_region : Known → ℕ → Asked → List ℕ → List ℕ
+abbrev pub bytes_after_region : Known → ℕ → AskedRegion → List ℕ → List ℕ
 bytes_after_region k n q bytes = if stays q then bytes else moved_bytes bytes (next_region k n q) q
 
 -- ---- transcoders

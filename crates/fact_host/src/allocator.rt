@@ -1,7 +1,7 @@
 //! Regions of the memory that values go to, as realloc gives them.
 
 ghost use Rattle.std.specs.Prelude.{◌≡◌, ◌≤◌, ◌∷◌, take as first, drop, IfOk, IfSome, IsNone};
-ghost use Rattle.fact_host.specs.Allocator.{alone, asked_by, Gives};
+ghost use Rattle.fact_host.specs.Allocator.{alone, asked_by, GivesRegion};
 ghost use Rattle.fact_host.specs.Rules.{live_without, is_live, is_old_live, stays as region_stays, MustRefuse};
 ghost use Rattle.std.specs.Prelude.{true};
 
@@ -27,10 +27,10 @@ pub fn replaced(
 {
     let mut all = Seq::new(alloc);
     all.push(new)?;
-    let mut found = false;
+    let mut is_replaced = false;
     for region in regions.as_slice() {
-        if !found && *region == old {
-            found = true;
+        if !is_replaced && *region == old {
+            is_replaced = true;
         } else {
             all.push(*region)?;
         }
@@ -98,7 +98,7 @@ pub fn reallocate(
     request: &Request,
 ) -> Result<Option<u64>, OutOfMemory>
     ensures refused { IfOk result (λ o. IsNone o → MustRefuse (alone store.old.cursor live.now) 0 true store.old.bytes.items (asked_by request.now)) }
-    ensures gives { IfOk result (λ o. IfSome o (λ at. Gives store.old.cursor live.now store.old.bytes.items (asked_by request.now) at store.new.cursor store.new.bytes.items)) }
+    ensures gives { IfOk result (λ o. IfSome o (λ at. GivesRegion store.old.cursor live.now store.old.bytes.items (asked_by request.now) at store.new.cursor store.new.bytes.items)) }
 {
     if request.align == 0 || !gives_up_live(live, request) {
         return Ok(None);

@@ -5,7 +5,7 @@ ghost use Rattle.std.specs.declared.option.Option.{Option as an_option};
 ghost use Rattle.fact_types.specs.Signatures.{address};
 ghost use Rattle.fact_machine.specs.Typed.{IsValue};
 ghost use Rattle.fact_machine.specs.Typing.{address_operand};
-ghost use Rattle.fact_moves.specs.Calls.{nth_number};
+ghost use Rattle.fact_actions.specs.Calls.{nth_number};
 ghost use Rattle.fact_values.specs.Lift.{bits_of};
 ghost use Rattle.fact_values.specs.declared.value.Value.{Value as a_value};
 ghost use Rattle.fact_host.specs.declared.known.Known.{Known as what_is_known};
@@ -229,14 +229,15 @@ fn transcodes(
 ) -> Result<Answer, OutOfMemory>
     ensures { IfOk result (λ answer. (func : ℕ) (k : what_is_known) → TranscodesBy k op from.0 from.1 to.0 to.1 (event_by func args.now state.now answer) k) }
 {
-    let told = told_of(args);
+    let asked = told_of(args);
     let destination = memory_at(state, to.0);
-    let Some(made) = transcode(alloc, op, memory_at(state, from.0), destination, &told)? else {
+    let Some(transcoded) = transcode(alloc, op, memory_at(state, from.0), destination, &asked)?
+    else {
         return Ok(Answer::Traps);
     };
-    let results = numbers_of(alloc, &made, from.1, to.1)?;
+    let results = numbers_of(alloc, &transcoded, from.1, to.1)?;
     let mut store = Store::of_memory(alloc, destination, 0)?;
-    store.put(told.to, made.bytes.as_slice());
+    store.put(asked.to, transcoded.bytes.as_slice());
     let state = with_memory(state, to.0, store.bytes)?;
     Ok(Answer::Returns { results, state })
 }

@@ -28,6 +28,20 @@ pub enum HostError {
     NoResults,
 }
 
+impl HostError {
+    /// The number of an error, which is never 0: by it a callee tells of its last call.
+    pub fn number(self) -> u32
+        ensures { result ≡ number_of_error self }
+    {
+        match self {
+            HostError::OutOfMemory => 1,
+            HostError::Unsuited => 2,
+            HostError::OverLimit => 3,
+            HostError::NoResults => 4,
+        }
+    }
+}
+
 impl From<OutOfMemory> for HostError {
     ghost from_gives = { λ _ e. e ≡ OutOfMemory };
 

@@ -1,4 +1,4 @@
-//! Calls of adapters: what is called, and what came of it.
+//! The data of calls: what is called, and what came of it.
 
 use fact_abi::{SideAbi, Value};
 use fact_machine::Outcome;

@@ -1,4 +1,4 @@
-//! Calls of adapters by values.
+//! The call of an adapter with values: [`call`].
 
 ghost use Rattle.std.specs.Prelude.{◌≡◌, ◌≢◌, ◌++◌, ℕ, List, IfErr, IfOk};
 ghost use Rattle.fact_machine.specs.Causes.{answers_of};

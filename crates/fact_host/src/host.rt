@@ -6,7 +6,7 @@ ghost use Rattle.fact_types.specs.Functions.{HaveShapes};
 ghost use Rattle.fact_types.specs.Shapes.{Shape};
 ghost use Rattle.fact_machine.specs.declared.types.Answer.{Answer as an_answer};
 ghost use Rattle.fact_lowering.specs.Lowered.{AreAllLive};
-ghost use Rattle.fact_host.specs.Lawful.{GoesOnBy, HostStays, IsHosting, IsLawfulHost, IsSameHost, IsSound, RoleAt, WasAsked, told_by};
+ghost use Rattle.fact_host.specs.Lawful.{GoesOnBy, HostStays, IsHosting, IsLawfulHost, IsSameHost, IsSoundCall, RoleAt, WasAsked, told_by};
 ghost use Rattle.fact_host.specs.Rules.{params_of};
 
 use crate::answers::{answered, memory_of};
@@ -83,7 +83,7 @@ impl<C: Callee> Host<'_, C> {
         params: Seq<Value>,
         state: &MachineState,
     ) -> Result<Answer, OutOfMemory>
-        requires sound { IsSound self.old.types.now self.old.call.now }
+        requires sound { IsSoundCall self.old.types.now self.old.call.now }
         requires no_error { self.old.kept.now.error ≡ None }
         requires ready { C.ready self.old.callee.now }
         ensures ready { C.ready self.new.callee.now }

@@ -6,7 +6,7 @@ ghost use Rattle.fact_types.specs.Shapes.{Shape};
 ghost use Rattle.fact_lowering.specs.Lowered.{AreAllLive};
 ghost use Rattle.fact_host.specs.Contract.{AreOfTypes, AnsweredTooMuch, AnsweredUnsuited};
 ghost use Rattle.fact_host.specs.Describes.{HasCallShapes};
-ghost use Rattle.fact_host.specs.Lawful.{IsAnswerOf, IsRefusal, IsSound, called_known};
+ghost use Rattle.fact_host.specs.Lawful.{IsAnswerOf, IsRefusal, IsSoundCall, called_known};
 ghost use Rattle.fact_host.specs.Hosts.{cursor_in, left_known, left_state};
 ghost use Rattle.fact_host.specs.Rules.{AreBytes, CallShapes, bytes_of_memory};
 ghost use Rattle.fact_host.specs.declared.known.Known.{Known as what_is_known};
@@ -50,7 +50,7 @@ pub fn refusal(
     call: &HostCall,
     values: &[Value],
 ) -> Result<Option<HostError>, OutOfMemory>
-    requires { IsSound types.now call.now }
+    requires { IsSoundCall types.now call.now }
     ensures why { IfOk result (λ o. (s : CallShapes) → HasCallShapes types.now call.now s → MatchOption o ((AnsweredUnsuited s (Some values.now) → ⊥) × (AnsweredTooMuch s (Some values.now) → ⊥)) (λ error. IsRefusal s values.now error)) }
     ensures suited { IfOk result (λ o. IsNone o → (s : CallShapes) → HasCallShapes types.now call.now s → AreOfTypes s.lift_results values.now) }
 {
@@ -90,7 +90,7 @@ pub fn answer_of(
     values: &[Value],
     state: &MachineState,
 ) -> Result<Answer, OutOfMemory>
-    requires sound { IsSound types.now call.now }
+    requires sound { IsSoundCall types.now call.now }
     requires suited { (s : CallShapes) → HasCallShapes types.now call.now s → AreOfTypes s.lift_results values.now }
     ensures { IfOk result (λ answer. (s : CallShapes) (k : what_is_known) → HasCallShapes types.now call.now s → k.returned ≡ false → known.old ≡ called_known k → IsAnswerOf k call.now s values.now state.now answer known.new) }
 {

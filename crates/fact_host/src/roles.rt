@@ -3,7 +3,7 @@
 ghost use Rattle.std.specs.Prelude.{◌≡◌, ℕ, Bool, Some, None, IfOk, MatchOption};
 ghost use Rattle.fact_types.specs.declared.outside.Transcode.{Transcode as an_operation};
 ghost use Rattle.fact_machine.specs.Machine.{memory_import};
-ghost use Rattle.fact_host.specs.Roles.{HaveRoles, IsByName, IsRole, IsTranscoder, has_names, imported_functions, is_place, is_slot, is_told, is_transfer, operation_name, role_by_place};
+ghost use Rattle.fact_host.specs.Roles.{HaveRoles, IsNamedRole, IsRole, IsTranscoder, has_names, function_imports, is_place, is_slot, is_told, is_transfer, operation_name, role_by_place};
 ghost use Rattle.std.specs.declared.option.Option.{Option as an_option};
 
 use crate::calling::HostCall;
@@ -45,7 +45,7 @@ pub fn roles_of(
     module: &WasmModule,
     call: &HostCall,
 ) -> Result<Seq<Role>, OutOfMemory>
-    ensures { IfOk result (λ roles. HaveRoles «module».now call.now 0 (imported_functions «module».now) roles) }
+    ensures { IfOk result (λ roles. HaveRoles «module».now call.now 0 (function_imports «module».now) roles) }
 {
     let mut roles = Seq::new(alloc);
     for import in module.imports.as_slice() {
@@ -131,7 +131,7 @@ fn is_told(import: &WasmImport) -> bool
 
 /// The role of an imported function that is at no place that a call names.
 fn role_by_name(module: &WasmModule, import: &WasmImport) -> Role
-    ensures { IsByName «module».now import.now result }
+    ensures { IsNamedRole «module».now import.now result }
 {
     if is_transfer(import) {
         Role::Transfer
@@ -149,7 +149,7 @@ fn role_by_name(module: &WasmModule, import: &WasmImport) -> Role
 
 /// The transcoder that an import is: its name is `{op} (mem{from} => mem{to})`.
 fn transcoder_of(module: &WasmModule, import: &WasmImport) -> Option<Role>
-    ensures { MatchOption result ((o : an_operation) (from : ℕ) (from64 : Bool) (to : ℕ) (to64 : Bool) → IsTranscoder «module».now import.now o from from64 to to64 → ⊥) (λ role. IsByName «module».now import.now role) }
+    ensures { MatchOption result ((o : an_operation) (from : ℕ) (from64 : Bool) (to : ℕ) (to64 : Bool) → IsTranscoder «module».now import.now o from from64 to to64 → ⊥) (λ role. IsNamedRole «module».now import.now role) }
 {
     if import.module.as_str() != "transcode" {
         return None;

@@ -3,9 +3,9 @@
 ghost use Rattle.std.specs.Prelude.{◌≡◌, ◌≢◌, ◌⊎◌, ℕ, List, [], ◌+◌, ◌*◌, ◌^◌, ◌<◌, ◌≤◌, All, length, drop, get_or, take as first, IfOk, IfSome, IsNone, Some, bit_or, if◌then◌else◌};
 ghost use Rattle.fact_types.specs.declared.outside.FixedEncoding.TheVariants as fixed;
 ghost use Rattle.fact_values.specs.Texts.{AreSpelled, char_spelling, decoded as decoded_text, spelled_text, unit_bytes as bytes_of_unit, units_of_text};
-ghost use Rattle.fact_moves.specs.Transcoders.{AllUnits, Counted, Fitting, Narrow, Tagged, Widening, from_encoding, to_encoding, transcode_kind, widened};
+ghost use Rattle.fact_actions.specs.Transcoders.{AllUnits, Counted, Fitting, Narrow, Tagged, Widening, from_encoding, to_encoding, transcode_kind, widened};
 ghost use Rattle.fact_host.specs.declared.transcoders.Told.{Told as what_is_told};
-ghost use Rattle.fact_host.specs.Hosts.{IsMade, IsMadeOf, IsWithin, both_listed};
+ghost use Rattle.fact_host.specs.Hosts.{IsTranscoded, IsMadeOf, FitsDestination, both_listed};
 ghost use Rattle.fact_host.specs.Rules.{MustStop, units_read};
 
 use fact_abi::decoded;
@@ -120,7 +120,7 @@ pub fn transcode(
     told: &Told,
 ) -> Result<Option<Transcoded>, OutOfMemory>
     ensures stops { IfOk result (λ o. IsNone o → MustStop op source.now destination.now told.now) }
-    ensures makes { IfOk result (λ o. IfSome o (λ made. IsMade op source.now destination.now told.now made.bytes.items (both_listed made.first made.second))) }
+    ensures makes { IfOk result (λ o. IfSome o (λ made. IsTranscoded op source.now destination.now told.now made.bytes.items (both_listed made.first made.second))) }
 {
     let Some(text) = text_read(alloc, op, source, told)? else {
         return Ok(None);
@@ -148,9 +148,9 @@ fn made_of(
     requires { AreSpelled (from_encoding op) text.now }
     ensures none { IfOk result (λ o. IsNone o → (transcode_kind op ≡ Widening) × ((length destination.now < told.now.to + told.now.latin1) ⊎ (told.now.room < told.now.latin1 + units_of_text fixed.Utf16 text.now))) }
     ensures made { IfOk result (λ o. IfSome o (λ made. IsMadeOf op text.now destination.now told.now made.bytes.items (both_listed made.first made.second))) }
-    ensures within { IfOk result (λ o. IfSome o (λ made. IsWithin op destination.now told.now)) }
+    ensures within { IfOk result (λ o. IfSome o (λ made. FitsDestination op destination.now told.now)) }
 {
-    let made = match op {
+    let transcoded = match op {
         Transcode::Copy(_) | Transcode::Latin1ToUtf16 => all_units(alloc, op, text)?,
         Transcode::Utf8ToUtf16 => counted(alloc, op, text)?,
         Transcode::Latin1ToUtf8 | Transcode::Utf16ToUtf8 => fitting(alloc, op, text, told.room)?,
@@ -160,7 +160,7 @@ fn made_of(
             return widening(alloc, op, text, destination, told);
         }
     };
-    Ok(Some(made))
+    Ok(Some(transcoded))
 }
 
 /// All of a text, unit by unit; nothing is answered.

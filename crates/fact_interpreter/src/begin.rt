@@ -1,4 +1,4 @@
-//! The instruction table.
+//! The instruction table: how each instruction begins.
 
 ghost use Rattle.std.specs.Prelude.{◌≡◌, ◌≢◌, List, [], ◌∷◌, Option, true, false, IfOk};
 ghost use Rattle.fact_wasm.specs.declared.module.WasmModule.{WasmModule};

@@ -14,7 +14,7 @@ use Rattle.fact_types.specs.declared.widths.MemoryWidth.TheVariants.{Memory32, M
 use Rattle.fact_types.specs.Layout.{extent, extents, payloads, greatest_align, discriminant_bytes, flags_extent}
 use Rattle.fact_types.specs.Shapes.{Kind, k_record, k_variant, k_list, k_tuple, k_map, k_flags, k_enum, k_option, k_result, k_fixed, k_future, k_stream, Shape, s_plain, s_node, Members, no_members, bare, typed, plain_layout, repeated_layout, layout_by, layout_of, layouts_of}
 use Rattle.fact_types.proofs.PlaceLaws.{sound_in}
-use Rattle.fact_pieces.proofs.Aligned.{Aligns, aligns_one, aligns_two, aligns_four, aligns_eight}
+use Rattle.fact_code_laws.proofs.Aligned.{Aligns, aligns_one, aligns_two, aligns_four, aligns_eight}
 
 -- ---- at most 8
 

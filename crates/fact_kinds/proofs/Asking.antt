@@ -8,7 +8,7 @@ use Rattle.fact_wasm.specs.declared.types.ValType.{ValType}
 use Rattle.fact_wasm.specs.declared.instr.Instr.{Instr}
 use Rattle.fact_wasm.specs.declared.module.WasmModule.{WasmModule}
 use Rattle.fact_types.specs.Tables.{Tables}
-use Rattle.fact_moves.specs.Running.{ImportPlaces}
+use Rattle.fact_actions.specs.Running.{ImportPlaces}
 use Rattle.fact_emit.specs.declared.places.Sides.{Sides}
 use Rattle.fact_emit.specs.declared.writer.Writer.{Writer}
 use Rattle.fact_emit.specs.Asked.{AskedHelper}

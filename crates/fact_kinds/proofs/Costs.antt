@@ -18,7 +18,7 @@ use Rattle.fact_types.specs.declared.kinds.TypeRecord.{TypeRecord}
 use Rattle.fact_types.specs.Ordered.{FlagsType, EnumType, VariantType}
 use Rattle.fact_types.specs.Shapes.{k_record, k_variant, k_tuple, k_flags, k_enum, Shape, Members, no_members, bare, typed}
 use Rattle.fact_types.specs.Tables.{Tables, record_node, variant_node, tuple_node, flags_node, enum_node, placed, HasShape, HasMembers}
-use Rattle.fact_moves.specs.Outlining.{cost, cost_of_flags}
+use Rattle.fact_actions.specs.Outlining.{cost, cost_of_flags}
 use Rattle.fact_kinds.proofs.TypeKinds.{record_kind, tuple_kind, list_kind, map_kind, fixed_kind, flags_kind, enum_kind, variant_kind, option_kind, result_kind, future_kind, stream_kind, node_members, fixed_size}
 
 mapped : {A B : Type 0} (f : A → B) (xs : List A) → length (map f xs) ≡ length xs

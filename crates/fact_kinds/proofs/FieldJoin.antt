@@ -14,13 +14,13 @@ use Rattle.fact_types.specs.Shapes.{Shape, Members, typed, place_of, next_of, en
 use Rattle.fact_types.specs.Signatures.{width}
 use Rattle.fact_types.proofs.PlaceLaws.{ends_grow}
 use Rattle.fact_values.specs.Limits.{place_in}
-use Rattle.fact_moves.specs.Actions.{Action}
-use Rattle.fact_moves.specs.Moves.{flat_length}
-use Rattle.fact_moves.specs.Running.{ImportPlaces}
-use Rattle.fact_moves.specs.Sides.{LiftLowerOptions, Source, Target, width_of_side}
-use Rattle.fact_pieces.specs.Places.{Slot, From, InLocals, InMemory, To, ToLocals, ToMemory, FromUsed, ToUsed, Setting, Moves, to_past}
-use Rattle.fact_pieces.proofs.FieldMoves.{from_part, to_spot, with_to, IsApartAt, moves_member}
-use Rattle.fact_pieces.proofs.Rules.{within}
+use Rattle.fact_actions.specs.Actions.{Action}
+use Rattle.fact_actions.specs.Moves.{flat_length}
+use Rattle.fact_actions.specs.Running.{ImportPlaces}
+use Rattle.fact_actions.specs.Sides.{LiftLowerOptions, Source, Target, width_of_side}
+use Rattle.fact_code_laws.specs.Places.{Slot, From, InLocals, InMemory, To, ToLocals, ToMemory, FromUsed, ToUsed, Setting, Moves, to_past}
+use Rattle.fact_code_laws.proofs.FieldMoves.{from_part, to_spot, with_to, IsApartAt, moves_member}
+use Rattle.fact_code_laws.proofs.Rules.{within}
 use Rattle.fact_emit.specs.declared.places.Sides.{Sides}
 use Rattle.fact_emit.specs.Fitting.{SlotsFit, CanRead, CanWrite, bytes_of_shape, AreWithin, FitsShapes, FitsFields, MovesFields}
 use Rattle.fact_emit.specs.Parts.{offset_on, from_behind, to_behind, bytes_by}

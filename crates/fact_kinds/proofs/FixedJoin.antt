@@ -16,17 +16,17 @@ use Rattle.fact_types.specs.Layout.{extent}
 use Rattle.fact_types.specs.Shapes.{Shape, layout_of, ends_of}
 use Rattle.fact_types.specs.Signatures.{width}
 use Rattle.fact_machine.specs.declared.types.CoreValue.{CoreValue}
-use Rattle.fact_moves.specs.Actions.{Action}
-use Rattle.fact_moves.specs.Moves.{entry_extent, move_fields}
-use Rattle.fact_moves.specs.Running.{ImportPlaces}
-use Rattle.fact_moves.specs.Sides.{LiftLowerOptions, Source, Target, width_of_side}
-use Rattle.fact_moves.proofs.ValidTypes.{single_extent}
-use Rattle.fact_pieces.specs.FixedLists.{FixedMove, again_code, countdown_code, offset_code}
-use Rattle.fact_pieces.specs.Lists.{add_code, bump_code, const_code}
-use Rattle.fact_pieces.specs.Places.{From, InMemory, To, ToMemory, Rooms, Setting, transfer, AreLocals}
-use Rattle.fact_pieces.proofs.FixedLoops.{IsFixedMove, with_fixed}
-use Rattle.fact_pieces.proofs.FixedMoves.{moves_fixed_in_memory}
-use Rattle.fact_pieces.proofs.UsedLocals.{with_local, local_here, local_more}
+use Rattle.fact_actions.specs.Actions.{Action}
+use Rattle.fact_actions.specs.Moves.{entry_extent, move_fields}
+use Rattle.fact_actions.specs.Running.{ImportPlaces}
+use Rattle.fact_actions.specs.Sides.{LiftLowerOptions, Source, Target, width_of_side}
+use Rattle.fact_actions.proofs.ValidTypes.{single_extent}
+use Rattle.fact_code_laws.specs.FixedLists.{FixedMove, again_code, countdown_code, offset_code}
+use Rattle.fact_code_laws.specs.Lists.{add_code, bump_code, const_code}
+use Rattle.fact_code_laws.specs.Places.{From, InMemory, To, ToMemory, Rooms, Setting, transfer, AreLocals}
+use Rattle.fact_code_laws.proofs.FixedLoops.{IsFixedMove, with_fixed}
+use Rattle.fact_code_laws.proofs.FixedMoves.{moves_fixed_in_memory}
+use Rattle.fact_code_laws.proofs.UsedLocals.{with_local, local_here, local_more}
 use Rattle.fact_emit.specs.declared.places.Address.{Address}
 use Rattle.fact_emit.specs.declared.places.Sides.{Sides}
 use Rattle.fact_emit.specs.declared.writer.Writer.{Writer}
@@ -37,7 +37,7 @@ use Rattle.fact_emit.specs.Imports.{AreOnce}
 use Rattle.fact_emit.specs.NamedFunctions.{defined_place, functions_named}
 use Rattle.fact_emit.specs.Pieces.{Is, Both}
 use Rattle.fact_emit.specs.Places.{AreDistinctSlots, setting_of, Using}
-use Rattle.fact_emit.specs.Writers.{Began, Ended, TookAll, FreedAll, Wrote, taken_in}
+use Rattle.fact_emit.specs.Writers.{Began, EndedBody, TookAll, FreedAll, Wrote, taken_in}
 use Rattle.fact_emit.proofs.BroughtLaws.{brought_as, brought_between}
 use Rattle.fact_emit.proofs.Emitting.{body_is, emits_both, emits_wrote, grew_on, grew_wrote, same_locals, same_still, same_types, sooner, still_numbers}
 use Rattle.fact_emit.proofs.ImportLaws.{extended_none, extended_on, grows_on}
@@ -304,7 +304,7 @@ fixed_taken {sides = sides} {a} {b} {c} {d} {e} {f} {x} {l} from to took opened 
     all_taken b f (fixed_slots sides.from.memory64 sides.to.memory64 l) (λ i. same_still e f closed.locals i ∙ moved.still i ∙ same_still c d began.locals i ∙ begun.still i) took.taken
 
 -- the end of a loop that was written
-pub fixed_closed : {a b c d : Writer} {sides : Sides} {x : FixedElements} {l : FixedLocals} {outer body : List Instr} → Wrote a b (fixed_end_code sides.from.memory64 sides.to.memory64 x l) → Ended b c outer body → Wrote c d (countdown_code l.left body) → ClosesFixed sides x l outer a d
+pub fixed_closed : {a b c d : Writer} {sides : Sides} {x : FixedElements} {l : FixedLocals} {outer body : List Instr} → Wrote a b (fixed_end_code sides.from.memory64 sides.to.memory64 x l) → EndedBody b c outer body → Wrote c d (countdown_code l.left body) → ClosesFixed sides x l outer a d
 fixed_closed {l = l} {outer} {body} t ended counted = record {
   code = counted.code ∙ ap (λ c. c ++ countdown_code l.left body) ended.code ∙ ap (λ c. outer ++ countdown_code l.left c) (ended.body ∙ t.code);
   locals = counted.locals ∙ ended.locals ∙ t.locals;

@@ -21,11 +21,11 @@ use Rattle.fact_types.specs.Ordered.{FlagsType, EnumType}
 use Rattle.fact_types.specs.Shapes.{k_flags, k_enum, Shape, s_plain, s_node, Members}
 use Rattle.fact_types.specs.Tables.{Tables, HasShape}
 use Rattle.fact_values.specs.Places.{count_of_members, case_bytes, flags_bytes}
-use Rattle.fact_moves.specs.Actions.{Visit, unless}
-use Rattle.fact_moves.specs.Moves.{move_number, bits_named}
-use Rattle.fact_moves.specs.Sides.{read_number, write_number}
+use Rattle.fact_actions.specs.Actions.{Visit, unless}
+use Rattle.fact_actions.specs.Moves.{move_number, bits_named}
+use Rattle.fact_actions.specs.Sides.{read_number, write_number}
 use Rattle.fact_types.specs.declared.outside.Trap.TheVariants.{InvalidDiscriminant}
-use Rattle.fact_pieces.specs.Places.{From, To, Number, N8, N16, N32, N64, MayHold, size_of, transfer}
+use Rattle.fact_code_laws.specs.Places.{From, To, Number, N8, N16, N32, N64, MayHold, size_of, transfer}
 use Rattle.fact_emit.specs.declared.places.Sides.{Sides}
 use Rattle.fact_emit.specs.declared.scalars.Canonical.TheVariants.{Low}
 use Rattle.fact_emit.specs.declared.scalars.NumberTest.TheVariants.{CaseBelow}

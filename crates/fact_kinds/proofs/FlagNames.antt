@@ -14,7 +14,7 @@ use Rattle.fact_types.specs.Shapes.{Members, no_members, bare, typed}
 use Rattle.fact_types.specs.Valid.{AreDistinct}
 use Rattle.fact_values.specs.Places.{count_of_members}
 use Rattle.fact_values.proofs.IsALaws.{bytes_same}
-use Rattle.fact_moves.specs.Moves.{bit_named, bits_named}
+use Rattle.fact_actions.specs.Moves.{bit_named, bits_named}
 use Rattle.fact_emit.specs.PlacedBits.{placed_bit, placed_bits, IsBitPlace, AreBitPlaces}
 use Rattle.fact_kinds.specs.FlagPlaces.{below_32, bit_place_of, bit_places_of}
 

@@ -8,8 +8,8 @@ use Rattle.fact_types.specs.FlatShapes.{flat}
 use Rattle.fact_types.specs.Shapes.{Shape, s_plain, s_node, k_future, k_stream, Members}
 use Rattle.fact_types.specs.Tables.{Tables, HasShape}
 use Rattle.fact_types.proofs.ShapeLaws.{same_some, none_some}
-use Rattle.fact_moves.specs.Sides.{Source, Target, Transfer}
-use Rattle.fact_pieces.specs.Places.{From, To, N32, transfer}
+use Rattle.fact_actions.specs.Sides.{Source, Target, Transfer}
+use Rattle.fact_code_laws.specs.Places.{From, To, N32, transfer}
 use Rattle.fact_emit.specs.declared.handles.HandleTransfer.{HandleTransfer}
 use Rattle.fact_emit.specs.declared.imported.RuntimeFunction.TheVariants as runtime
 use Rattle.fact_emit.specs.declared.places.Sides.{Sides}

@@ -30,16 +30,16 @@ use Rattle.fact_values.specs.Limits.{CaseType, Where}
 use Rattle.fact_machine.specs.declared.types.CoreValue.{CoreValue}
 use Rattle.fact_machine.specs.Exits.{entry_locals}
 use Rattle.fact_values.specs.Places.{count_of_members}
-use Rattle.fact_moves.specs.Actions.{Action}
-use Rattle.fact_moves.specs.Alike.{source_as_i64, CanFill, CanFillFields, CanFillCase, CanFillPlain, CanFillNode}
-use Rattle.fact_moves.specs.Moves.{move}
-use Rattle.fact_moves.specs.Running.{ImportPlaces}
-use Rattle.fact_moves.specs.Sides.{Source, Target, Slots, Into, width_of_side}
-use Rattle.fact_pieces.specs.Helpers.{AreRoomFor, IsRoomFor, AreNumberSlots, AreValues, args_of_source, args_of_target, flat_target, given_out, AreGiven, params_of_source, params_of_target, IsSourceOf, IsTargetOf, SourceHasRoom, TargetHasRoom, IsHelper, IsCallSource, IsCallTarget, helper_code}
-use Rattle.fact_pieces.specs.Does.{Onward, Does}
-use Rattle.fact_pieces.specs.Places.{Slot, From, InLocals, InMemory, To, ToLocals, ToMemory, Setting, transfer, Moves}
-use Rattle.fact_pieces.proofs.HelperMoves.{helper_calls_move}
-use Rattle.fact_pieces.proofs.Rules.{within}
+use Rattle.fact_actions.specs.Actions.{Action}
+use Rattle.fact_actions.specs.Alike.{source_as_i64, CanFill, CanFillFields, CanFillCase, CanFillPlain, CanFillNode}
+use Rattle.fact_actions.specs.Moves.{move}
+use Rattle.fact_actions.specs.Running.{ImportPlaces}
+use Rattle.fact_actions.specs.Sides.{Source, Target, Slots, Into, width_of_side}
+use Rattle.fact_code_laws.specs.Helpers.{AreRoomFor, IsRoomFor, AreNumberSlots, AreValues, args_of_source, args_of_target, flat_target, given_out, AreGiven, params_of_source, params_of_target, IsSourceOf, IsTargetOf, SourceHasRoom, TargetHasRoom, IsHelper, IsCallSource, IsCallTarget, helper_code}
+use Rattle.fact_code_laws.specs.Does.{Onward, Does}
+use Rattle.fact_code_laws.specs.Places.{Slot, From, InLocals, InMemory, To, ToLocals, ToMemory, Setting, transfer, Moves}
+use Rattle.fact_code_laws.proofs.HelperMoves.{helper_calls_move}
+use Rattle.fact_code_laws.proofs.Rules.{within}
 use Rattle.fact_emit.specs.declared.helpers.Helper.{Helper}
 use Rattle.fact_emit.specs.declared.places.LinearMemory.{LinearMemory}
 use Rattle.fact_emit.specs.declared.places.Sides.{Sides}
@@ -319,8 +319,8 @@ call_moves {t} {sides} {from} {to} {src} {dst} {number} {taken} s u told is is' 
 -- ---- as it is written
 
 -- A helper was asked for, and then its call was put behind the code.
-pub call_asked : {t : Tables} {sides : Sides} {from to : InterfaceType} {src : From} {dst : To} {number : ℕ} {key : Helper} {a b c : Writer} → AreSidesTold sides → IsFromOf sides.from src → IsToOf sides.to dst → AreSidesImported sides a.imports → IsLive t from → IsLive t to
-    → key ≡ helper_key sides from to src dst → b.code.items ≡ a.code.items → b.locals ≡ a.locals → IsHelperAsked a.imports b.imports key number → Extended a.imports b.imports → (AreOnce a.imports → AreOnce b.imports)
+pub call_asked : {t : Tables} {sides : Sides} {from to : InterfaceType} {src : From} {dst : To} {number : ℕ} {key : Helper} {a b c : Writer} → AreSidesTold sides → IsFromOf sides.from src → IsToOf sides.to dst → AreSidesImported sides a.sections → IsLive t from → IsLive t to
+    → key ≡ helper_key sides from to src dst → b.code.items ≡ a.code.items → b.locals ≡ a.locals → IsHelperAsked a.sections b.sections key number → Extended a.sections b.sections → (AreOnce a.sections → AreOnce b.sections)
     → WroteCall t sides to number src dst b c → CalledHelper t from to sides src dst a c
 call_asked {t} {sides} {from} {to} {src} {dst} {number} {key} {a} {b} {c} told is is' imported from_live to_live key_is code locals is_asked more once w =
     let names = call_named sides.from.memory64 sides.to.memory64 src dst w.flats number in
@@ -329,7 +329,7 @@ call_asked {t} {sides} {from} {to} {src} {dst} {number} {key} {a} {b} {c} told i
     let calls : defined_named (helper_code sides.from.memory64 sides.to.memory64 src dst w.flats number) ≡ number ∷ [] = ap (filter_map defined_place) names in
     let grew : GrewAsking (one ∷ []) a c = grew_naming code locals more once (brought_helper names ranged is_asked) w.wrote {asks = one ∷ []} calls in
     let same : sides ≡ sides_of_helper one = λ i. record { from = told.from i; to = told.to i; debug = sides.debug; concurrency = sides.concurrency } in
-    let there : Contains b.imports.helpers (one.key, number) = subst (λ k. Contains b.imports.helpers (k, number)) key_is is_asked.there in
+    let there : Contains b.sections.helpers (one.key, number) = subst (λ k. Contains b.sections.helpers (k, number)) key_is is_asked.there in
     record {
       helper = one;
       key = refl;
@@ -343,7 +343,7 @@ call_asked {t} {sides} {from} {to} {src} {dst} {number} {key} {a} {b} {c} told i
             from_live = from_live;
             to_live = to_live;
             low = omega arith;
-            imported = subst (λ s. AreSidesImported s c.imports) same (sides_later grew.imports imported);
+            imported = subst (λ s. AreSidesImported s c.sections) same (sides_later grew.imports imported);
             there = subst (λ (s : ModuleSoFar). Contains s.helpers (one.key, number)) (sym w.wrote.imports) there;
           },
           tt,

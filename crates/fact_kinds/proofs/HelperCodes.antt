@@ -13,7 +13,7 @@ use Rattle.fact_wasm.specs.Ranges.{Named, AreRanged, body_points}
 use Rattle.fact_types.specs.declared.interface.InterfaceType.{InterfaceType}
 use Rattle.fact_types.specs.Shapes.{Shape}
 use Rattle.fact_types.specs.Tables.{Tables, HasShape}
-use Rattle.fact_pieces.specs.Places.{Slot, From, InLocals, InMemory, To, ToLocals, ToMemory}
+use Rattle.fact_code_laws.specs.Places.{Slot, From, InLocals, InMemory, To, ToLocals, ToMemory}
 use Rattle.fact_emit.specs.declared.places.LinearMemory.{LinearMemory}
 use Rattle.fact_emit.specs.declared.places.Sides.{Sides}
 use Rattle.fact_emit.specs.declared.places.TypedLocal.{TypedLocal}
@@ -23,7 +23,7 @@ use Rattle.fact_emit.specs.Places.{slots_of_locals}
 use Rattle.fact_emit.specs.Writers.{Wrote}
 use Rattle.fact_emit.proofs.Emitting.{wrote_then, wrote_none}
 use Rattle.fact_emit.proofs.NamedLaws.{points_append, ranged_append, ranged_none}
-use Rattle.fact_pieces.specs.Helpers.{based_code, bits_as_i64, helper_code, push_as_i64, push_from, push_to, set_code, take_code, take_to, to_slot}
+use Rattle.fact_code_laws.specs.Helpers.{based_code, bits_as_i64, helper_code, push_as_i64, push_from, push_to, set_code, take_code, take_to, to_slot}
 use Rattle.fact_emit.specs.Asked.{flats_given}
 use Rattle.fact_kinds.specs.Asks.{TookGiven, WroteCall}
 

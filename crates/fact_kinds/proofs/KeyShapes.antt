@@ -13,7 +13,7 @@ use Rattle.fact_types.specs.FlatShapes.{AreCounted, IsCounted, flat, flat_any, f
 use Rattle.fact_types.specs.PointerPairs.{has_pointer_pair, have_pointer_pair}
 use Rattle.fact_types.specs.Shapes.{Kind, k_record, k_variant, k_list, k_tuple, k_map, k_flags, k_enum, k_fixed, k_option, k_result, k_future, k_stream, Shape, s_plain, s_node, Members, no_members, bare, typed}
 use Rattle.fact_values.specs.Canonical.{ThereIs}
-use Rattle.fact_moves.specs.Outlining.{HelperKey, Route, Translated, Translating, Stack, Memory, cost, in_memories, translates, translates_case, translates_cases, translates_fields, translates_none, translates_then, translates_times, turns_of}
+use Rattle.fact_actions.specs.Outlining.{HelperKey, Route, Translated, Translating, Stack, Memory, cost, in_memories, translates, translates_case, translates_cases, translates_fields, translates_none, translates_then, translates_times, turns_of}
 use Rattle.fact_emit.specs.Movable.{CanMove, CanMoveCase, CanMoveFields, CanMoveMember, EachCaseOf}
 use Rattle.fact_kinds.specs.Translations.{FitsKey, translates_inside}
 use Rattle.fact_kinds.proofs.Found.{among, holds_found}

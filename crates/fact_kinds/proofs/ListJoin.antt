@@ -21,23 +21,23 @@ use Rattle.fact_types.specs.Sound.{TakesBytes}
 use Rattle.fact_types.proofs.PlaceLaws.{ends_within}
 use Rattle.fact_machine.specs.declared.types.CoreValue.{CoreValue}
 use Rattle.fact_types.specs.Adapters.{is_wide}
-use Rattle.fact_moves.specs.Actions.{Action, Visit}
-use Rattle.fact_moves.specs.Moves.{move_fields, move_list, entry_extent}
-use Rattle.fact_moves.specs.Running.{ImportPlaces}
-use Rattle.fact_moves.specs.Sides.{LiftLowerOptions, Source, AtAddress, Target, Into, width_of_side}
-use Rattle.fact_pieces.specs.Code.{counted_code}
-use Rattle.fact_pieces.specs.Lists.{is_few, few_guard, bytes_code, bump_code, count_code, left_code, address_code, put_code}
-use Rattle.fact_pieces.specs.Places.{From, InMemory, To, ToMemory, DebugChecks, Rooms, Setting, transfer, AreLocals, Moves, size_of, widen}
-use Rattle.fact_pieces.specs.Tests.{HasUnaligned, pointer, read_into, region_code}
-use Rattle.fact_pieces.proofs.Blocks.{weaker}
-use Rattle.fact_pieces.proofs.Keeping.{room_at}
-use Rattle.fact_pieces.proofs.ListCode.{realloc_code}
-use Rattle.fact_pieces.proofs.ListMoves.{list_code, slots_of}
-use Rattle.fact_pieces.proofs.ListNodes.{ListPlaces, IsList, listed, moves_elements}
-use Rattle.fact_pieces.proofs.ListTurns.{list_type}
-use Rattle.fact_pieces.proofs.Pairs.{PairFrom, PairTo, all_from, second_from, all_to}
-use Rattle.fact_pieces.proofs.Temporaries.{Temporaries}
-use Rattle.fact_pieces.proofs.UsedLocals.{with_temps, temps_here}
+use Rattle.fact_actions.specs.Actions.{Action, Visit}
+use Rattle.fact_actions.specs.Moves.{move_fields, move_list, entry_extent}
+use Rattle.fact_actions.specs.Running.{ImportPlaces}
+use Rattle.fact_actions.specs.Sides.{LiftLowerOptions, Source, AtAddress, Target, Into, width_of_side}
+use Rattle.fact_code_laws.specs.Code.{counted_code}
+use Rattle.fact_code_laws.specs.Lists.{is_few, few_guard, bytes_code, bump_code, count_code, left_code, address_code, put_code}
+use Rattle.fact_code_laws.specs.Places.{From, InMemory, To, ToMemory, DebugChecks, Rooms, Setting, transfer, AreLocals, Moves, size_of, widen}
+use Rattle.fact_code_laws.specs.Tests.{HasUnaligned, pointer_of_width, read_into, region_code}
+use Rattle.fact_code_laws.proofs.Blocks.{weaker}
+use Rattle.fact_code_laws.proofs.Keeping.{room_at}
+use Rattle.fact_code_laws.proofs.ListCode.{realloc_code}
+use Rattle.fact_code_laws.proofs.ListMoves.{list_code, slots_of}
+use Rattle.fact_code_laws.proofs.ListNodes.{ListPlaces, IsList, listed, moves_elements}
+use Rattle.fact_code_laws.proofs.ListTurns.{list_type}
+use Rattle.fact_code_laws.proofs.Pairs.{PairFrom, PairTo, all_from, second_from, all_to}
+use Rattle.fact_code_laws.proofs.Temporaries.{Temporaries}
+use Rattle.fact_code_laws.proofs.UsedLocals.{with_temps, temps_here}
 use Rattle.fact_emit.specs.declared.places.Sides.{Sides}
 use Rattle.fact_emit.specs.declared.writer.Writer.{Writer}
 use Rattle.fact_emit.specs.Asked.{AskedHelper}
@@ -125,7 +125,7 @@ some_bytes Memory64 c h = h.memory64
 written_is : {sides : Sides} {x : Elements} {l : ListLocals} {src : From} {dst : To} {inner : ℕ → Bool} {ms ns : Members} (M : WasmModule) (p : ImportPlaces) (locals : List ValType) (c k : List Instr)
     → OpensList sides x l src M p locals c → (loop : LoopsList sides x l inner ms ns dst M p locals k)
     → c ++ k ≡ parts_code (read_into (checks_at sides.debug p) sides.from.memory64 src l.pointer) (read_into (checks_at sides.debug p) sides.from.memory64 (length_from sides.from.memory64 src) l.number)
-    (request_code sides.concurrency (slots_at_of p (list_context l)) sides.to.realloc sides.to.memory64 x.to_align l.bytes ++ (widen (pointer sides.to.memory64) val.I64 ++ I.LocalSet l.address ∷ []))
+    (request_code sides.concurrency (slots_at_of p (list_context l)) sides.to.realloc sides.to.memory64 x.to_align l.bytes ++ (widen (pointer_of_width sides.to.memory64) val.I64 ++ I.LocalSet l.address ∷ []))
     (put_pair_code sides.to.memory64 l.address l.number dst)
     sides.from.memory64 sides.to.memory64 x.from_size x.from_align x.to_size x.to_align sides.from.page_size_log2 sides.to.page_size_log2 sides.from.memory sides.to.memory (p.function (import.Trap UnalignedPointer)) (p.function (import.Trap ListOutOfBounds)) l loop.body
 written_is {sides} {x} {l} {src} {dst} M p locals c k opened loop =
@@ -140,7 +140,7 @@ written_is {sides} {x} {l} {src} {dst} M p locals c k opened loop =
     let g1 : List Instr = region_code sides.from.memory from64 sides.from.page_size_log2 x.from_align l.pointer l.bytes l.length unaligned outside in
     let g2 : List Instr = region_code sides.to.memory to64 sides.to.page_size_log2 x.to_align l.address l.bytes l.length unaligned outside in
     let request : List Instr = request_code sides.concurrency (slots_at_of p (list_context l)) sides.to.realloc to64 x.to_align l.bytes in
-    let keep : List Instr = widen (pointer to64) val.I64 ++ I.LocalSet l.address ∷ [] in
+    let keep : List Instr = widen (pointer_of_width to64) val.I64 ++ I.LocalSet l.address ∷ [] in
     let asks : List Instr = asks_code sides.concurrency p sides.to x.to_size x.to_align l in
     let begin : List Instr = begin_code from64 to64 l in
     let last : List Instr = asks ++ begin in
@@ -241,13 +241,13 @@ module _ {sides : Sides} {x : Elements} {l : ListLocals} {taken inner : ℕ → 
     align2_is : x.to_align ≡ (entry_extent b ns).align
     align2_is = h.to_align ∙ ap (λ m. (extent (width m) (entry_layout ns)).align) (sym to_wide)
 
-    second_is : length_from sides.from.memory64 (all_from from) ≡ second_from (size_of (pointer sides.from.memory64)) from
+    second_is : length_from sides.from.memory64 (all_from from) ≡ second_from (size_of (pointer_of_width sides.from.memory64)) from
     second_is = second_from_is M p locals checks a sides.from.memory64 from reads
 
     is_list : IsList S used places ms ns loop.body act
     is_list =
         let moves = loop.moves.moves a b element_rooms (with_temps used temp 10) (element_using using.within) (element_fits from_wide to_wide serves) in
-        let from_uses = from_used used (size_of (pointer sides.from.memory64)) from using.from in
+        let from_uses = from_used used (size_of (pointer_of_width sides.from.memory64)) from using.from in
         record {
           some1 = some_bytes (width_of_side a) (entry_layout ms) h.from_takes;
           some2 = some_bytes (width_of_side b) (entry_layout ns) h.to_takes;
@@ -263,7 +263,7 @@ module _ {sides : Sides} {x : Elements} {l : ListLocals} {taken inner : ℕ → 
           reallocs = serves.realloc.knows;
           slots = opened.slots;
           readable1 = first_readable M p locals checks a sides.from.memory64 from reads opened.has_pointer;
-          readable2 = second_readable M p locals checks a sides.from.memory64 from reads (subst (HasUpperAt M p checks (pointer sides.from.memory64)) second_is opened.has_number);
+          readable2 = second_readable M p locals checks a sides.from.memory64 from reads (subst (HasUpperAt M p checks (pointer_of_width sides.from.memory64)) second_is opened.has_number);
           from_used1 = from_uses.0;
           from_used2 = from_uses.1;
           from_typed1 = first_from_typed M p locals checks a sides.from.memory64 from reads;
@@ -281,10 +281,10 @@ module _ {sides : Sides} {x : Elements} {l : ListLocals} {taken inner : ℕ → 
           element_typed = moves.typed;
         }
 
-    request_is : (request_code sides.concurrency (slots_at_of p (list_context l)) sides.to.realloc sides.to.memory64 x.to_align l.bytes ++ (widen (pointer sides.to.memory64) val.I64 ++ I.LocalSet l.address ∷ []))
+    request_is : (request_code sides.concurrency (slots_at_of p (list_context l)) sides.to.realloc sides.to.memory64 x.to_align l.bytes ++ (widen (pointer_of_width sides.to.memory64) val.I64 ++ I.LocalSet l.address ∷ []))
         ≡ realloc_code sides.concurrency (slots_of (listed S used places ms ns loop.body act)) sides.to.memory64 (entry_extent b ns).align l.bytes l.address serves.realloc.place
     request_is =
-        let keep : List Instr = widen (pointer sides.to.memory64) val.I64 ++ I.LocalSet l.address ∷ [] in
+        let keep : List Instr = widen (pointer_of_width sides.to.memory64) val.I64 ++ I.LocalSet l.address ∷ [] in
         ap (λ o. request_code sides.concurrency (slots_at_of p (list_context l)) o sides.to.memory64 x.to_align l.bytes ++ keep) serves.realloc.is
         ∙ ap (λ n. request_code sides.concurrency (slots_at_of p (list_context l)) (Some serves.realloc.place) sides.to.memory64 n l.bytes ++ keep) align2_is
 

@@ -21,10 +21,10 @@ use Rattle.fact_types.specs.Shapes.{k_list, k_map, Shape, s_plain, s_node, Membe
 use Rattle.fact_types.specs.Signatures.{width}
 use Rattle.fact_types.specs.Sound.{TakesBytes}
 use Rattle.fact_types.specs.Tables.{Tables, HasShape, HasMembers}
-use Rattle.fact_moves.specs.Running.{ImportPlaces}
-use Rattle.fact_moves.specs.Outlining.{in_memories}
-use Rattle.fact_moves.proofs.ValidTypes.{single_extent}
-use Rattle.fact_pieces.specs.Places.{From, InMemory, To, ToMemory}
+use Rattle.fact_actions.specs.Running.{ImportPlaces}
+use Rattle.fact_actions.specs.Outlining.{in_memories}
+use Rattle.fact_actions.proofs.ValidTypes.{single_extent}
+use Rattle.fact_code_laws.specs.Places.{From, InMemory, To, ToMemory}
 use Rattle.fact_emit.specs.declared.places.Sides.{Sides}
 use Rattle.fact_emit.specs.declared.writer.Writer.{Writer}
 use Rattle.fact_emit.specs.Asked.{AskedHelper}

@@ -5,10 +5,10 @@ use Rattle.fact_wasm.specs.declared.instr.Instr.{Instr}
 use Rattle.fact_wasm.specs.declared.instr.Instr.TheVariants as I
 use Rattle.fact_types.specs.declared.import.Import.TheVariants as import
 use Rattle.fact_types.specs.declared.outside.Trap.TheVariants.{UnalignedPointer, ListOutOfBounds}
-use Rattle.fact_pieces.specs.Code.{counted_code}
-use Rattle.fact_pieces.specs.Lists.{is_few, few_guard, few_code, bytes_code, left_code}
-use Rattle.fact_pieces.specs.Places.{From, To}
-use Rattle.fact_pieces.specs.Tests.{read_into, region_code}
+use Rattle.fact_code_laws.specs.Code.{counted_code}
+use Rattle.fact_code_laws.specs.Lists.{is_few, few_guard, few_code, bytes_code, left_code}
+use Rattle.fact_code_laws.specs.Places.{From, To}
+use Rattle.fact_code_laws.specs.Tests.{read_into, region_code}
 use Rattle.fact_emit.specs.declared.places.LinearMemory.{LinearMemory}
 use Rattle.fact_emit.specs.declared.places.Sides.{Sides}
 use Rattle.fact_emit.specs.declared.writer.Writer.{Writer}
@@ -18,7 +18,7 @@ use Rattle.fact_emit.specs.Pairs.{ReadsPair, length_from, put_pair_code}
 use Rattle.fact_emit.specs.Pieces.{Is}
 use Rattle.fact_emit.specs.Places.{checks_at}
 use Rattle.fact_emit.specs.Requests.{AsksRegion}
-use Rattle.fact_emit.specs.Writers.{Wrote, Ended}
+use Rattle.fact_emit.specs.Writers.{Wrote, EndedBody}
 use Rattle.fact_emit.proofs.CheckMoves.{guard_is, guarded_as}
 use Rattle.fact_emit.proofs.Emitting.{emits_then, emits_as, emits_wrote, emits_nothing, emits_both}
 use Rattle.fact_emit.proofs.RequestMoves.{region_at}
@@ -101,7 +101,7 @@ list_opened {sides = sides} {x} {l} {src} u v w y z o =
 -- ---- the loop, and the new list
 
 pub list_closed : {a b c d e : Writer} {sides : Sides} {x : Elements} {l : ListLocals} {dst : To} {outer body test : List Instr} → test ≡ left_code l.left
-    → Wrote a b (turn_end_code sides.from.memory64 sides.to.memory64 x l) → Ended b c outer body → Wrote c d (counted_code test body)
+    → Wrote a b (turn_end_code sides.from.memory64 sides.to.memory64 x l) → EndedBody b c outer body → Wrote c d (counted_code test body)
     → Wrote d e (put_pair_code sides.to.memory64 l.address l.number dst)
     → ClosesList sides x l outer dst a e
 list_closed {a} {sides = sides} {x} {l} {dst} {outer} {body} {test} e t ended counted pair =

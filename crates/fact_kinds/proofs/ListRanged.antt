@@ -4,10 +4,10 @@ use Rattle.fact_wasm.specs.declared.instr.BlockType.TheVariants.{Empty}
 use Rattle.fact_wasm.specs.declared.instr.Instr.{Instr, the_lemmas}
 use Rattle.fact_wasm.specs.declared.instr.Instr.TheVariants as I
 use Rattle.fact_wasm.specs.Ranges.{AreRanged}
-use Rattle.fact_pieces.specs.Code.{counted_code, scaled_code, turn_code}
-use Rattle.fact_pieces.specs.Lists.{address_code, bump_code, bytes_code, count_code, few_code, left_code, put_code}
-use Rattle.fact_pieces.specs.Places.{To, code_before, code_behind}
-use Rattle.fact_pieces.specs.Tests.{pointer}
+use Rattle.fact_code_laws.specs.Code.{counted_code, scaled_code, turn_code}
+use Rattle.fact_code_laws.specs.Lists.{address_code, bump_code, bytes_code, count_code, few_code, left_code, put_code}
+use Rattle.fact_code_laws.specs.Places.{To, code_before, code_behind}
+use Rattle.fact_code_laws.specs.Tests.{pointer_of_width}
 use Rattle.fact_emit.specs.NamedFunctions.{functions_named}
 use Rattle.fact_emit.proofs.NamedLaws.{named_append, named_block, named_loop, names_none, ranged_append, ranged_block, ranged_in, ranged_loop, ranged_none}
 use Rattle.fact_emit.proofs.RangedCode.{before_ranged, behind_ranged, get_ranged, scaled_ranged, set_ranged}
@@ -52,7 +52,7 @@ turn_end_ranged from64 to64 e l =
 
 pub put_ranged : (memory64 : Bool) (local : ℕ) (dst : To) → AreRanged 0 0 (put_code memory64 local dst)
 put_ranged memory64 local dst =
-    ranged_append 0 0 (code_before dst) _ (before_ranged dst) (ranged_append 0 0 (address_code memory64 local) (code_behind (pointer memory64) dst) (address_ranged memory64 local) (behind_ranged (pointer memory64) dst))
+    ranged_append 0 0 (code_before dst) _ (before_ranged dst) (ranged_append 0 0 (address_code memory64 local) (code_behind (pointer_of_width memory64) dst) (address_ranged memory64 local) (behind_ranged (pointer_of_width memory64) dst))
 
 -- ---- loops
 

@@ -20,7 +20,7 @@ use Rattle.fact_types.specs.Tables.{Tables, node_of, record_node, tuple_node, pl
 use Rattle.fact_types.proofs.FindLaws.{of_fields}
 use Rattle.fact_types.proofs.HeightLaws.{record_within, tuple_within}
 use Rattle.fact_types.proofs.ShapeLaws.{same_some, none_some}
-use Rattle.fact_pieces.specs.Places.{From, To}
+use Rattle.fact_code_laws.specs.Places.{From, To}
 use Rattle.fact_emit.specs.declared.places.Sides.{Sides}
 use Rattle.fact_emit.specs.declared.writer.Writer.{Writer}
 use Rattle.fact_emit.specs.Emits.{EmitsAsking}
@@ -37,7 +37,7 @@ use Rattle.fact_kinds.proofs.MemberRuns.{IsAt, member_at}
 use Rattle.fact_kinds.proofs.NodeMoves.{found_live, record_moved, tuple_moved}
 use Rattle.fact_kinds.proofs.SourceMembers.{MembersAhead, IsPlaceFrom, opened, goes_on, is_there, not_there, stays, same_place, from_here, from_later, later_places}
 use Rattle.fact_kinds.proofs.TypeKinds.{record_kind, tuple_kind}
-use Rattle.fact_moves.specs.Outlining.{translates_fields}
+use Rattle.fact_actions.specs.Outlining.{translates_fields}
 
 -- ---- the members of a type and of its shapes
 

@@ -22,15 +22,15 @@ use Rattle.fact_types.proofs.ShapeLaws.{same_some, none_some}
 use Rattle.fact_wasm.specs.declared.types.ValType.{ValType}
 use Rattle.fact_wasm.specs.declared.module.WasmModule.{WasmModule}
 use Rattle.fact_values.specs.Canonical.{ThereIs}
-use Rattle.fact_moves.specs.Moves.{move_fields}
-use Rattle.fact_moves.specs.Running.{ImportPlaces}
-use Rattle.fact_moves.specs.Sides.{LiftLowerOptions}
-use Rattle.fact_moves.specs.Outlining.{translates, translates_fields}
-use Rattle.fact_pieces.specs.Does.{Locals}
-use Rattle.fact_pieces.specs.Places.{From, To, ToLocals, ToMemory, Stood, to_past}
-use Rattle.fact_pieces.proofs.Keeping.{keeps_all}
-use Rattle.fact_pieces.proofs.Rules.{done}
-use Rattle.fact_pieces.proofs.TypingLaws.{typed_done}
+use Rattle.fact_actions.specs.Moves.{move_fields}
+use Rattle.fact_actions.specs.Running.{ImportPlaces}
+use Rattle.fact_actions.specs.Sides.{LiftLowerOptions}
+use Rattle.fact_actions.specs.Outlining.{translates, translates_fields}
+use Rattle.fact_code_laws.specs.Does.{Locals}
+use Rattle.fact_code_laws.specs.Places.{From, To, ToLocals, ToMemory, Stood, to_past}
+use Rattle.fact_code_laws.proofs.Keeping.{keeps_all}
+use Rattle.fact_code_laws.proofs.Rules.{done}
+use Rattle.fact_code_laws.proofs.TypingLaws.{typed_done}
 use Rattle.fact_emit.specs.declared.places.Sides.{Sides}
 use Rattle.fact_emit.specs.declared.writer.Writer.{Writer}
 use Rattle.fact_emit.specs.Asked.{AskedHelper}
@@ -115,7 +115,7 @@ pub record MembersGoOn (asks : List AskedHelper) (sides : Sides) (src : From) (d
 pub record MembersRun (t : Tables) (to : InterfaceType) (pairs : List MemberPair) (i end : ℕ) (sides : Sides) (src : From) (dst spots : To) (before between : Fuel) (first now : Writer) : Type 0 where
   pub asks : List AskedHelper
   pub grew : GrewAsking asks first now
-  pub asked : AreAsked t sides (height t to) now.imports asks
+  pub asked : AreAsked t sides (height t to) now.sections asks
   pub left : (ns : Members) → HasMembers t (members_at t to) ns → MembersLeft t (members_at t to) ns i (width sides.to.memory64) end
   pub going : (ms ns : Members) (h : HasMembers t (members_at t to) ns) → FindsEach t ms to pairs → AreCounted ms → AreCounted ns → CanMoveFields ms ns → MembersGoOn asks sides src dst spots first now ms ns (left ns h).rest end
   pub place : place_of_target spots ≡ place_of_target dst

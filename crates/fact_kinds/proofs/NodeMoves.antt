@@ -29,13 +29,13 @@ use Rattle.fact_types.specs.Shapes.{k_record, k_variant, k_list, k_tuple, k_map,
 use Rattle.fact_types.specs.Signatures.{width}
 use Rattle.fact_types.specs.Tables.{Tables, HasShape}
 use Rattle.fact_types.proofs.PlaceLaws.{ends_within}
-use Rattle.fact_moves.specs.Moves.{move, aligned_node}
-use Rattle.fact_moves.specs.Running.{ImportPlaces}
-use Rattle.fact_moves.specs.Sides.{LiftLowerOptions, Transfer, Source, Target, width_of_side}
-use Rattle.fact_moves.specs.Outlining.{translates_fields}
-use Rattle.fact_pieces.specs.Places.{From, InLocals, InMemory, To, ToLocals, ToMemory, FromTyped, ToTyped, transfer}
-use Rattle.fact_pieces.proofs.Aligned.{moves_checked}
-use Rattle.fact_pieces.proofs.FieldMoves.{moves_less, moves_same, moves_unpaid, moves_visited}
+use Rattle.fact_actions.specs.Moves.{move, aligned_node}
+use Rattle.fact_actions.specs.Running.{ImportPlaces}
+use Rattle.fact_actions.specs.Sides.{LiftLowerOptions, Transfer, Source, Target, width_of_side}
+use Rattle.fact_actions.specs.Outlining.{translates_fields}
+use Rattle.fact_code_laws.specs.Places.{From, InLocals, InMemory, To, ToLocals, ToMemory, FromTyped, ToTyped, transfer}
+use Rattle.fact_code_laws.proofs.Aligned.{moves_checked}
+use Rattle.fact_code_laws.proofs.FieldMoves.{moves_less, moves_same, moves_unpaid, moves_visited}
 use Rattle.fact_emit.specs.declared.places.Sides.{Sides}
 use Rattle.fact_emit.specs.declared.writer.Writer.{Writer}
 use Rattle.fact_emit.specs.Checks.{ChecksFrom, ChecksTo, ChecksPlaces}
@@ -176,7 +176,7 @@ pub tuple_as_node : {t : Tables} {from to kind kind' : InterfaceType} {sides : S
 tuple_as_node {t} {sides = sides} {last = last} is is' m = record {
   grew = m.grew;
   asks = m.asks;
-  asked = subst (λ y. AreAsked t sides (height t y) last.imports m.asks) (sym is') m.asked;
+  asked = subst (λ y. AreAsked t sides (height t y) last.sections m.asks) (sym is') m.asked;
   emits = λ s u hs hu cs cu can.
       emits_as (λ M p locals code x. record { moves = λ a b rooms used using fit. moves_less (x.moves a b rooms used using fit) })
       (m.emits s u (subst (λ y. HasShape t y s) is hs) (subst (λ y. HasShape t y u) is' hu) cs cu can);
@@ -185,7 +185,7 @@ tuple_as_node {t} {sides = sides} {last = last} is is' m = record {
 
 -- two types whose shapes are of a kind, and can be moved
 module _ {t : Tables} {sides : Sides} {src : From} {dst : To} {first last : Writer} {asks : List AskedHelper} (grew : GrewAsking asks first last) {before after : Fuel} where
-  pub record_moved : (i j : Id TypeRecords) → AreAsked t sides (height t (ty.Record j)) last.imports asks
+  pub record_moved : (i j : Id TypeRecords) → AreAsked t sides (height t (ty.Record j)) last.sections asks
       → ((ms ns : Members) → HasShape t (ty.Record i) (s_node k_record ms) → HasShape t (ty.Record j) (s_node k_record ns) → AreCounted ms → AreCounted ns → CanMoveFields ms ns → EmitsAsking asks first last (MovesFields sides src dst (taken_in first) ms ns 0))
       → ((ms ns : Members) → HasShape t (ty.Record i) (s_node k_record ms) → HasShape t (ty.Record j) (s_node k_record ns) → AreCounted ms → AreCounted ns → CanMoveFields ms ns → TranslatesAs t sides src dst before after asks (λ i r. translates_fields i r ms ns))
       → MovedNode t (ty.Record i) (ty.Record j) sides src dst before after first last
@@ -207,7 +207,7 @@ module _ {t : Tables} {sides : Sides} {src : From} {dst : To} {first last : Writ
         translated_shapes is_s is_u (translates ms ns (subst (HasShape t (ty.Record i)) is_s hs) (subst (HasShape t (ty.Record j)) is_u hu) (subst IsCounted is_s cs).1 (subst IsCounted is_u cu).1 can');
   }
 
-  pub tuple_moved : (i j : Id TypeTuples) → AreAsked t sides (height t (ty.Tuple j)) last.imports asks
+  pub tuple_moved : (i j : Id TypeTuples) → AreAsked t sides (height t (ty.Tuple j)) last.sections asks
       → ((ms ns : Members) → HasShape t (ty.Tuple i) (s_node k_tuple ms) → HasShape t (ty.Tuple j) (s_node k_tuple ns) → AreCounted ms → AreCounted ns → CanMoveFields ms ns → EmitsAsking asks first last (MovesFields sides src dst (taken_in first) ms ns 0))
       → ((ms ns : Members) → HasShape t (ty.Tuple i) (s_node k_tuple ms) → HasShape t (ty.Tuple j) (s_node k_tuple ns) → AreCounted ms → AreCounted ns → CanMoveFields ms ns → TranslatesAs t sides src dst before after asks (λ i r. translates_fields i r ms ns))
       → MovedTuple t (ty.Tuple i) (ty.Tuple j) sides src dst before after first last

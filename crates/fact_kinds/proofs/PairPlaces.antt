@@ -8,12 +8,12 @@ use Rattle.fact_types.specs.declared.flats.FlatType.TheVariants as flat_type
 use Rattle.fact_types.specs.FlatShapes.{pointer as flat_pointer}
 use Rattle.fact_types.specs.Layout.{extent, pointer_pair_layout}
 use Rattle.fact_types.specs.Signatures.{width}
-use Rattle.fact_moves.specs.Running.{ImportPlaces}
-use Rattle.fact_moves.specs.Sides.{LiftLowerOptions}
-use Rattle.fact_pieces.specs.Lists.{put_code}
-use Rattle.fact_pieces.specs.Places.{From, InLocals, InMemory, To, ToLocals, ToMemory, DebugChecks, Readable, Writable, FromUsed, FromTyped, ToTyped, MayHold, size_of}
-use Rattle.fact_pieces.specs.Tests.{pointer, read_into}
-use Rattle.fact_pieces.proofs.Pairs.{PairFrom, PairInLocals, PairInMemory, PairTo, PairToLocals, PairToMemory, all_from, first_from, second_from, all_to, first_to, second_to, IsApart}
+use Rattle.fact_actions.specs.Running.{ImportPlaces}
+use Rattle.fact_actions.specs.Sides.{LiftLowerOptions}
+use Rattle.fact_code_laws.specs.Lists.{put_code}
+use Rattle.fact_code_laws.specs.Places.{From, InLocals, InMemory, To, ToLocals, ToMemory, DebugChecks, Readable, Writable, FromUsed, FromTyped, ToTyped, MayHold, size_of}
+use Rattle.fact_code_laws.specs.Tests.{pointer_of_width, read_into}
+use Rattle.fact_code_laws.proofs.Pairs.{PairFrom, PairInLocals, PairInMemory, PairTo, PairToLocals, PairToMemory, all_from, first_from, second_from, all_to, first_to, second_to, IsApart}
 use Rattle.fact_emit.specs.Fitting.{CanRead, CanWrite, IsSlotFor}
 use Rattle.fact_emit.specs.Numbers.{HasUpperAt}
 use Rattle.fact_emit.specs.Pairs.{length_from, length_to}
@@ -36,14 +36,14 @@ pair_to M p locals o memory64 t bytes (ToLocals (a ∷ b ∷ x ∷ ss)) c = absu
 pair_to M p locals o memory64 t bytes (ToMemory memory base offset) c = (PairToMemory memory base offset, refl)
 
 -- a slot for a pointer may hold one
-holds_pointer : (memory64 : Bool) (t : ValType) → IsSlotFor (flat_pointer (width memory64)) t → MayHold (pointer memory64) t
+holds_pointer : (memory64 : Bool) (t : ValType) → IsSlotFor (flat_pointer (width memory64)) t → MayHold (pointer_of_width memory64) t
 holds_pointer true t h = slot_holds flat_type.I64 t h
 holds_pointer false t h = slot_holds flat_type.I32 t h
 
 abbrev pair_bytes : (memory64 : Bool) → ℕ
 pair_bytes memory64 = (extent (width memory64) pointer_pair_layout).size
 
-second_reach : (memory64 : Bool) (offset : ℕ) → offset + pair_bytes memory64 ≤ 4294967295 → offset + size_of (pointer memory64) ≤ 4294967295
+second_reach : (memory64 : Bool) (offset : ℕ) → offset + pair_bytes memory64 ≤ 4294967295 → offset + size_of (pointer_of_width memory64) ≤ 4294967295
 second_reach true offset h = omega (arith, h)
 second_reach false offset h = omega (arith, h)
 
@@ -54,19 +54,19 @@ module _ (M : WasmModule) (p : ImportPlaces) (locals : List ValType) (checks : D
   abbrev pub PairWrites : PairTo → Type 0
   PairWrites b = CanWrite M p locals o memory64 (all_to b) (flat_pointer (width memory64) ∷ flat_pointer (width memory64) ∷ []) (pair_bytes memory64)
 
-  pub second_from_is : (b : PairFrom) → PairReads b → length_from memory64 (all_from b) ≡ second_from (size_of (pointer memory64)) b
+  pub second_from_is : (b : PairFrom) → PairReads b → length_from memory64 (all_from b) ≡ second_from (size_of (pointer_of_width memory64)) b
   second_from_is (PairInLocals x y) c = refl
-  second_from_is (PairInMemory memory base offset) c = ap (InMemory memory base) (exact offset (size_of (pointer memory64)) (second_reach memory64 offset c.reach))
+  second_from_is (PairInMemory memory base offset) c = ap (InMemory memory base) (exact offset (size_of (pointer_of_width memory64)) (second_reach memory64 offset c.reach))
 
-  pub second_to_is : (b : PairTo) → PairWrites b → length_to memory64 (all_to b) ≡ second_to (size_of (pointer memory64)) b
+  pub second_to_is : (b : PairTo) → PairWrites b → length_to memory64 (all_to b) ≡ second_to (size_of (pointer_of_width memory64)) b
   second_to_is (PairToLocals x y) c = refl
-  second_to_is (PairToMemory memory base offset) c = ap (ToMemory memory base) (exact offset (size_of (pointer memory64)) (second_reach memory64 offset c.reach))
+  second_to_is (PairToMemory memory base offset) c = ap (ToMemory memory base) (exact offset (size_of (pointer_of_width memory64)) (second_reach memory64 offset c.reach))
 
-  pub first_readable : (b : PairFrom) → PairReads b → HasUpperAt M p checks (pointer memory64) (all_from b) → Readable M p checks o memory64 (pointer memory64) (first_from b)
+  pub first_readable : (b : PairFrom) → PairReads b → HasUpperAt M p checks (pointer_of_width memory64) (all_from b) → Readable M p checks o memory64 (pointer_of_width memory64) (first_from b)
   first_readable (PairInLocals x y) c h = (holds_pointer memory64 x.1 c.room.0, h)
   first_readable (PairInMemory memory base offset) c h = c.side
 
-  pub second_readable : (b : PairFrom) → PairReads b → HasUpperAt M p checks (pointer memory64) (second_from (size_of (pointer memory64)) b) → Readable M p checks o memory64 (pointer memory64) (second_from (size_of (pointer memory64)) b)
+  pub second_readable : (b : PairFrom) → PairReads b → HasUpperAt M p checks (pointer_of_width memory64) (second_from (size_of (pointer_of_width memory64)) b) → Readable M p checks o memory64 (pointer_of_width memory64) (second_from (size_of (pointer_of_width memory64)) b)
   second_readable (PairInLocals x y) c h = (holds_pointer memory64 y.1 c.room.1.0, h)
   second_readable (PairInMemory memory base offset) c h = c.side
 
@@ -74,15 +74,15 @@ module _ (M : WasmModule) (p : ImportPlaces) (locals : List ValType) (checks : D
   first_from_typed (PairInLocals x y) c = (c.typed.0, tt)
   first_from_typed (PairInMemory memory base offset) c = record { local = c.local; reached = reached memory64 offset (pair_bytes memory64) c.reach }
 
-  pub second_from_typed : (b : PairFrom) → PairReads b → FromTyped locals memory64 (second_from (size_of (pointer memory64)) b)
+  pub second_from_typed : (b : PairFrom) → PairReads b → FromTyped locals memory64 (second_from (size_of (pointer_of_width memory64)) b)
   second_from_typed (PairInLocals x y) c = (c.typed.1.0, tt)
-  second_from_typed (PairInMemory memory base offset) c = record { local = c.local; reached = reached memory64 (offset + size_of (pointer memory64)) 0 (omega (arith, second_reach memory64 offset c.reach)) }
+  second_from_typed (PairInMemory memory base offset) c = record { local = c.local; reached = reached memory64 (offset + size_of (pointer_of_width memory64)) 0 (omega (arith, second_reach memory64 offset c.reach)) }
 
-  pub first_writable : (b : PairTo) → PairWrites b → Writable M p o memory64 (pointer memory64) (first_to b)
+  pub first_writable : (b : PairTo) → PairWrites b → Writable M p o memory64 (pointer_of_width memory64) (first_to b)
   first_writable (PairToLocals x y) c = holds_pointer memory64 x.1 c.room.0
   first_writable (PairToMemory memory base offset) c = c.side
 
-  pub second_writable : (b : PairTo) → PairWrites b → Writable M p o memory64 (pointer memory64) (second_to (size_of (pointer memory64)) b)
+  pub second_writable : (b : PairTo) → PairWrites b → Writable M p o memory64 (pointer_of_width memory64) (second_to (size_of (pointer_of_width memory64)) b)
   second_writable (PairToLocals x y) c = holds_pointer memory64 y.1 c.room.1.0
   second_writable (PairToMemory memory base offset) c = c.side
 
@@ -90,9 +90,9 @@ module _ (M : WasmModule) (p : ImportPlaces) (locals : List ValType) (checks : D
   first_to_typed (PairToLocals x y) c = (c.typed.0, tt)
   first_to_typed (PairToMemory memory base offset) c = record { local = c.local; reached = reached memory64 offset (pair_bytes memory64) c.reach }
 
-  pub second_to_typed : (b : PairTo) → PairWrites b → ToTyped locals memory64 (second_to (size_of (pointer memory64)) b)
+  pub second_to_typed : (b : PairTo) → PairWrites b → ToTyped locals memory64 (second_to (size_of (pointer_of_width memory64)) b)
   second_to_typed (PairToLocals x y) c = (c.typed.1.0, tt)
-  second_to_typed (PairToMemory memory base offset) c = record { local = c.local; reached = reached memory64 (offset + size_of (pointer memory64)) 0 (omega (arith, second_reach memory64 offset c.reach)) }
+  second_to_typed (PairToMemory memory base offset) c = record { local = c.local; reached = reached memory64 (offset + size_of (pointer_of_width memory64)) 0 (omega (arith, second_reach memory64 offset c.reach)) }
 
 pub from_used : (used : ℕ → Bool) (n : ℕ) (b : PairFrom) → FromUsed used (all_from b) → FromUsed used (first_from b) × FromUsed used (second_from n b)
 from_used used n (PairInLocals x y) u = ((u.0, tt), (u.1.0, tt))

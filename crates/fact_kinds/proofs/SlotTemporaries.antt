@@ -5,8 +5,8 @@ use Rattle.std.specs.List.{AllByRecursion}
 use Rattle.std.proofs.lemmas.Bool.{eqb-true, eqb-false}
 use Rattle.fact_wasm.specs.declared.types.ValType.{ValType}
 use Rattle.fact_wasm.specs.declared.types.ValType.TheVariants as val
-use Rattle.fact_pieces.specs.Places.{Slot, AreLocals, IsNone}
-use Rattle.fact_pieces.proofs.UsedLocals.{with_temps}
+use Rattle.fact_code_laws.specs.Places.{Slot, AreLocals, IsNone}
+use Rattle.fact_code_laws.proofs.UsedLocals.{with_temps}
 use Rattle.fact_emit.specs.Places.{AreDistinctSlots}
 
 abbrev pub slot_at : List Slot → ℕ → Slot

@@ -19,19 +19,19 @@ use Rattle.fact_types.specs.Shapes.{Shape, s_plain, s_node}
 use Rattle.fact_types.specs.Signatures.{width}
 use Rattle.fact_types.specs.Tables.{Tables, HasShape}
 use Rattle.fact_machine.specs.declared.types.CoreValue.{CoreValue}
-use Rattle.fact_moves.specs.Actions.{Action, Visit}
-use Rattle.fact_moves.specs.Running.{ImportPlaces}
-use Rattle.fact_moves.specs.Sides.{LiftLowerOptions, Source, Target, width_of_side}
-use Rattle.fact_moves.specs.Strings.{move_string}
-use Rattle.fact_pieces.specs.Lists.{put_code}
-use Rattle.fact_pieces.specs.Places.{From, To, DebugChecks, Rooms, Setting, transfer, AreLocals, Moves, size_of}
-use Rattle.fact_pieces.specs.StringCode.{StringMove, encoded_code, string_code}
-use Rattle.fact_pieces.specs.StringNeeds.{NeedsEncoded}
-use Rattle.fact_pieces.specs.Tests.{pointer, read_into}
-use Rattle.fact_pieces.proofs.Pairs.{PairFrom, PairTo, all_from, first_from, second_from, all_to, first_to, second_to}
-use Rattle.fact_pieces.proofs.StringMoves.{StringPlaces, IsString, string_at, moves_string}
-use Rattle.fact_pieces.proofs.StringPoints.{string_type}
-use Rattle.fact_pieces.proofs.Temporaries.{Temporaries}
+use Rattle.fact_actions.specs.Actions.{Action, Visit}
+use Rattle.fact_actions.specs.Running.{ImportPlaces}
+use Rattle.fact_actions.specs.Sides.{LiftLowerOptions, Source, Target, width_of_side}
+use Rattle.fact_actions.specs.Strings.{move_string}
+use Rattle.fact_code_laws.specs.Lists.{put_code}
+use Rattle.fact_code_laws.specs.Places.{From, To, DebugChecks, Rooms, Setting, transfer, AreLocals, Moves, size_of}
+use Rattle.fact_code_laws.specs.StringCode.{StringMove, encoded_code, string_code}
+use Rattle.fact_code_laws.specs.StringNeeds.{NeedsEncoded}
+use Rattle.fact_code_laws.specs.Tests.{pointer_of_width, read_into}
+use Rattle.fact_code_laws.proofs.Pairs.{PairFrom, PairTo, all_from, first_from, second_from, all_to, first_to, second_to}
+use Rattle.fact_code_laws.proofs.StringMoves.{StringPlaces, IsString, string_at, moves_string}
+use Rattle.fact_code_laws.proofs.StringPoints.{string_type}
+use Rattle.fact_code_laws.proofs.Temporaries.{Temporaries}
 use Rattle.fact_emit.specs.declared.places.Sides.{Sides}
 use Rattle.fact_emit.specs.declared.string_locals.StringLocals.{StringLocals}
 use Rattle.fact_emit.specs.declared.writer.Writer.{Writer}
@@ -131,7 +131,7 @@ module _ (sides : Sides) (l : StringLocals) (taken : ℕ → Bool) (free : AllBy
         let realloc = serves.realloc.is in
         λ i. record moved { from_log2 = log1 i; to_log2 = log2 i; realloc = realloc i }
 
-    second_is : length_from sides.from.memory64 (all_from from) ≡ second_from (size_of (pointer sides.from.memory64)) from
+    second_is : length_from sides.from.memory64 (all_from from) ≡ second_from (size_of (pointer_of_width sides.from.memory64)) from
     second_is = second_from_is M p locals checks a sides.from.memory64 from reads
 
     needs : NeedsEncoded a.encoding b.encoding moved M p d e
@@ -142,7 +142,7 @@ module _ (sides : Sides) (l : StringLocals) (taken : ℕ → Bool) (free : AllBy
 
     is_string : IsString S used places
     is_string =
-        let from_uses = from_used used (size_of (pointer sides.from.memory64)) from using.from in
+        let from_uses = from_used used (size_of (pointer_of_width sides.from.memory64)) from using.from in
         record {
           temps = temporaries using.within;
           side1 = serves.from_memory.side;
@@ -151,7 +151,7 @@ module _ (sides : Sides) (l : StringLocals) (taken : ℕ → Bool) (free : AllBy
           reallocs = serves.realloc.knows;
           needs = needs;
           readable1 = first_readable M p locals checks a sides.from.memory64 from reads wrote.has_pointer;
-          readable2 = second_readable M p locals checks a sides.from.memory64 from reads (subst (HasUpperAt M p checks (pointer sides.from.memory64)) second_is wrote.has_length);
+          readable2 = second_readable M p locals checks a sides.from.memory64 from reads (subst (HasUpperAt M p checks (pointer_of_width sides.from.memory64)) second_is wrote.has_length);
           from_used1 = from_uses.0;
           from_used2 = from_uses.1;
           from_typed1 = first_from_typed M p locals checks a sides.from.memory64 from reads;
@@ -164,7 +164,7 @@ module _ (sides : Sides) (l : StringLocals) (taken : ℕ → Bool) (free : AllBy
           apart = apart_of l.written free.1.1.1.1.0 to using;
         }
 
-    code_is : code ≡ string_code moved a.encoding b.encoding (first_from from) (second_from (size_of (pointer sides.from.memory64)) from) (first_to to) (second_to (size_of (pointer sides.to.memory64)) to)
+    code_is : code ≡ string_code moved a.encoding b.encoding (first_from from) (second_from (size_of (pointer_of_width sides.from.memory64)) from) (first_to to) (second_to (size_of (pointer_of_width sides.to.memory64)) to)
     code_is =
         let reads1 = read_first_is checks sides.from.memory64 l.source from in
         let reads2 = ap (λ f. read_into checks sides.from.memory64 f l.units) second_is in
@@ -174,7 +174,7 @@ module _ (sides : Sides) (l : StringLocals) (taken : ℕ → Bool) (free : AllBy
         let encoding2 = sym serves.to_memory.encoding in
         wrote.is d e have
         ∙ (λ i. reads1 i ++ (reads2 i ++ (encoded_code (string_move sides l p d e) sides.from.encoding sides.to.encoding ++ (puts1 i ++ puts2 i))))
-        ∙ (λ i. string_code (move_is i) (encoding1 i) (encoding2 i) (first_from from) (second_from (size_of (pointer sides.from.memory64)) from) (first_to to) (second_to (size_of (pointer sides.to.memory64)) to))
+        ∙ (λ i. string_code (move_is i) (encoding1 i) (encoding2 i) (first_from from) (second_from (size_of (pointer_of_width sides.from.memory64)) from) (first_to to) (second_to (size_of (pointer_of_width sides.to.memory64)) to))
 
     pair_moves : Moves S used 0 516 (all_from from) (all_to to) (λ s d. Visit 1 (move_string (transfer S) s d)) code
     unfolding is_string

@@ -12,8 +12,8 @@ use Rattle.fact_types.specs.Tables.{Tables}
 use Rattle.fact_types.proofs.ShapeLaws.{same_some}
 use Rattle.fact_values.specs.Limits.{CaseType, case_type}
 use Rattle.fact_values.specs.Places.{count_of_members}
-use Rattle.fact_moves.specs.Outlining.{Route, Translating, asked_before, translates, translates_cases, translates_fields, translates_if, translates_none, translates_then, translates_times}
-use Rattle.fact_pieces.specs.Places.{From, To}
+use Rattle.fact_actions.specs.Outlining.{Route, Translating, asked_before, translates, translates_cases, translates_fields, translates_if, translates_none, translates_then, translates_times}
+use Rattle.fact_code_laws.specs.Places.{From, To}
 use Rattle.fact_emit.specs.declared.places.Sides.{Sides}
 use Rattle.fact_emit.specs.Asked.{AskedHelper}
 use Rattle.fact_kinds.specs.declared.fuel.Fuel.{Fuel}

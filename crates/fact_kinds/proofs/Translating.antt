@@ -7,8 +7,8 @@ use Rattle.fact_types.specs.declared.interface.InterfaceType.{InterfaceType}
 use Rattle.fact_types.specs.FlatShapes.{IsCounted}
 use Rattle.fact_types.specs.Shapes.{Shape, s_plain, s_node}
 use Rattle.fact_types.specs.Tables.{Tables, HasShape}
-use Rattle.fact_moves.specs.Outlining.{HelperKey, Route, RouteEnd, Translated, Translating, ValuePlace, Stack, Memory, cost, in_memories, is_in_memory, translates, translates_none, translates_pair, translates_then, turns_of}
-use Rattle.fact_pieces.specs.Places.{From, InLocals, InMemory, To, ToLocals, ToMemory, to_past}
+use Rattle.fact_actions.specs.Outlining.{HelperKey, Route, RouteEnd, Translated, Translating, ValuePlace, Stack, Memory, cost, in_memories, is_in_memory, translates, translates_none, translates_pair, translates_then, turns_of}
+use Rattle.fact_code_laws.specs.Places.{From, InLocals, InMemory, To, ToLocals, ToMemory, to_past}
 use Rattle.fact_emit.specs.declared.places.Sides.{Sides}
 use Rattle.fact_emit.specs.Asked.{AskedHelper}
 use Rattle.fact_emit.specs.Movable.{CanMoveMember}

@@ -1,7 +1,7 @@
 -- Parts of places are within the room behind the addresses that they are found by.
 use Rattle.std.proofs.Common.{ℕ, ◌+◌, ◌≤◌, arith}
-use Rattle.fact_pieces.specs.Places.{From, InLocals, InMemory, To, ToLocals, ToMemory, Rooms, to_past}
-use Rattle.fact_pieces.proofs.FieldMoves.{from_part, to_spot}
+use Rattle.fact_code_laws.specs.Places.{From, InLocals, InMemory, To, ToLocals, ToMemory, Rooms, to_past}
+use Rattle.fact_code_laws.proofs.FieldMoves.{from_part, to_spot}
 use Rattle.fact_emit.specs.Fitting.{FromWithin, ToWithin, AreWithin}
 
 module _ (room n m : ℕ) where

@@ -3,7 +3,7 @@ use Rattle.std.proofs.Common.{◌≡◌, ℕ, ◌+◌, ◌<◌, ◌≤◌, List,
 use Rattle.std.proofs.Math.Seq.{drop-cons}
 use Rattle.std.proofs.lemmas.List.{drop_all}
 use Rattle.fact_wasm.specs.declared.instr.Instr.TheVariants as I
-use Rattle.fact_pieces.specs.Cases.{zero_const, zero_slots}
+use Rattle.fact_code_laws.specs.Cases.{zero_const, zero_slots}
 use Rattle.fact_emit.specs.declared.places.TypedLocal.{TypedLocal}
 use Rattle.fact_emit.specs.declared.writer.Writer.{Writer}
 use Rattle.fact_emit.specs.Places.{slots_of_locals}

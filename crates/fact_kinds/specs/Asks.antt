@@ -8,8 +8,8 @@ use Rattle.fact_types.specs.Heights.{height}
 use Rattle.fact_types.specs.Shapes.{Shape, Members}
 use Rattle.fact_types.specs.Tables.{Tables, HasShape, IsLive}
 use Rattle.fact_types.specs.declared.interface.InterfaceType.{InterfaceType}
-use Rattle.fact_pieces.specs.Helpers.{helper_code, take_to}
-use Rattle.fact_pieces.specs.Places.{From, InLocals, InMemory, To, ToLocals, ToMemory}
+use Rattle.fact_code_laws.specs.Helpers.{helper_code, take_to}
+use Rattle.fact_code_laws.specs.Places.{From, InLocals, InMemory, To, ToLocals, ToMemory}
 use Rattle.fact_emit.specs.declared.helpers.Helper.{Helper}
 use Rattle.fact_emit.specs.declared.helpers.HelperLocation.{HelperLocation}
 use Rattle.fact_emit.specs.declared.helpers.HelperType.{HelperType}

@@ -4,9 +4,9 @@ use Rattle.fact_wasm.specs.declared.types.ValType.TheVariants as val
 use Rattle.fact_wasm.specs.declared.instr.Instr.{Instr}
 use Rattle.fact_wasm.specs.declared.instr.Instr.TheVariants as I
 use Rattle.fact_machine.specs.Typing.{address_type}
-use Rattle.fact_pieces.specs.FixedLists.{offset_code, countdown_code}
-use Rattle.fact_pieces.specs.Lists.{bump_code}
-use Rattle.fact_pieces.specs.Places.{Slot, From, To}
+use Rattle.fact_code_laws.specs.FixedLists.{offset_code, countdown_code}
+use Rattle.fact_code_laws.specs.Lists.{bump_code}
+use Rattle.fact_code_laws.specs.Places.{Slot, From, To}
 use Rattle.fact_emit.specs.declared.places.Address.{Address}
 use Rattle.fact_emit.specs.declared.places.Sides.{Sides}
 use Rattle.fact_emit.specs.declared.writer.Writer.{Writer}
@@ -38,7 +38,7 @@ fixed_end_code from64 to64 e l = bump_code from64 l.source e.from_size ++ bump_c
 pub record ClosesFixed (sides : Sides) (e : FixedElements) (l : FixedLocals) (outer : List Instr) (old new : Writer) : Type 0 where
   pub code : new.code.items ≡ outer ++ countdown_code l.left (old.code.items ++ fixed_end_code sides.from.memory64 sides.to.memory64 e l)
   pub locals : new.locals ≡ old.locals
-  pub imports : new.imports ≡ old.imports
+  pub imports : new.sections ≡ old.sections
 
 -- ---- one by one
 

@@ -5,7 +5,7 @@ use Rattle.fact_types.specs.declared.sizes.DiscriminantSize.{DiscriminantSize}
 use Rattle.fact_types.specs.declared.sizes.DiscriminantSize.TheVariants.{Size1, Size2, Size4}
 use Rattle.fact_types.specs.Shapes.{k_flags, k_enum, k_future, k_stream, Shape, s_plain, s_node}
 use Rattle.fact_types.specs.Tables.{Tables, HasShape}
-use Rattle.fact_pieces.specs.Places.{Number, N8, N16, N32}
+use Rattle.fact_code_laws.specs.Places.{Number, N8, N16, N32}
 
 abbrev pub flags_number_of : (names : ℕ) → Number
 flags_number_of names = if nat_le names 8 then N8 else (if nat_le names 16 then N16 else N32)

@@ -11,13 +11,13 @@ use Rattle.fact_types.specs.declared.outside.Trap.TheVariants.{UnalignedPointer,
 use Rattle.fact_types.specs.declared.import.Import.TheVariants as import
 use Rattle.fact_types.specs.Layout.{extent}
 use Rattle.fact_types.specs.Signatures.{width}
-use Rattle.fact_moves.specs.Running.{ImportPlaces}
-use Rattle.fact_pieces.specs.Code.{counted_code}
-use Rattle.fact_pieces.specs.Context.{HasSlotsIf}
-use Rattle.fact_pieces.specs.Knows.{KnowsFunction}
-use Rattle.fact_pieces.specs.Lists.{is_few, few_guard, bytes_code, bump_code, count_code, left_code, address_code}
-use Rattle.fact_pieces.specs.Places.{Slot, From, To, widen}
-use Rattle.fact_pieces.specs.Tests.{HasUnaligned, pointer, read_into, region_code}
+use Rattle.fact_actions.specs.Running.{ImportPlaces}
+use Rattle.fact_code_laws.specs.Code.{counted_code}
+use Rattle.fact_code_laws.specs.Context.{HasSlotsIf}
+use Rattle.fact_code_laws.specs.Knows.{KnowsFunction}
+use Rattle.fact_code_laws.specs.Lists.{is_few, few_guard, bytes_code, bump_code, count_code, left_code, address_code}
+use Rattle.fact_code_laws.specs.Places.{Slot, From, To, widen}
+use Rattle.fact_code_laws.specs.Tests.{HasUnaligned, pointer_of_width, read_into, region_code}
 use Rattle.fact_emit.specs.declared.context.ContextLocals.{ContextLocals}
 use Rattle.fact_emit.specs.declared.places.LinearMemory.{LinearMemory}
 use Rattle.fact_emit.specs.declared.places.Sides.{Sides}
@@ -68,7 +68,7 @@ pub record ChecksBytes (m : LinearMemory) (size align : ℕ) (l : ListLocals) (M
 -- a new region is asked for and checked
 abbrev pub asks_code : (concurrency : Bool) → ImportPlaces → LinearMemory → (size align : ℕ) → ListLocals → List Instr
 asks_code concurrency p m size align l =
-    bytes_code l.number size ++ (I.LocalSet l.bytes ∷ (request_code concurrency (slots_of p (list_context l)) m.realloc m.memory64 align l.bytes ++ ((widen (pointer m.memory64) val.I64 ++ I.LocalSet l.address ∷ [])
+    bytes_code l.number size ++ (I.LocalSet l.bytes ∷ (request_code concurrency (slots_of p (list_context l)) m.realloc m.memory64 align l.bytes ++ ((widen (pointer_of_width m.memory64) val.I64 ++ I.LocalSet l.address ∷ [])
     ++ region_code m.memory m.memory64 m.page_size_log2 align l.address l.bytes l.length (p.function (import.Trap UnalignedPointer)) (p.function (import.Trap ListOutOfBounds)))))
 
 pub record AsksList (concurrency : Bool) (m : LinearMemory) (size align : ℕ) (l : ListLocals) (M : WasmModule) (p : ImportPlaces) (locals : List ValType) (code : List Instr) : Type 0 where
@@ -84,8 +84,8 @@ begin_code from64 to64 l =
 -- All that stands in front of the elements: what is read, the tests of the lengths in both layouts, the source's region, and the new
 -- one. The functions of the traps and of the slots are there.
 pub record OpensList (sides : Sides) (e : Elements) (l : ListLocals) (src : From) (M : WasmModule) (p : ImportPlaces) (locals : List ValType) (code : List Instr) : Type 0 where
-  pub has_pointer : HasUpperAt M p (checks_at sides.debug p) (pointer sides.from.memory64) src
-  pub has_number : HasUpperAt M p (checks_at sides.debug p) (pointer sides.from.memory64) (length_from sides.from.memory64 src)
+  pub has_pointer : HasUpperAt M p (checks_at sides.debug p) (pointer_of_width sides.from.memory64) src
+  pub has_number : HasUpperAt M p (checks_at sides.debug p) (pointer_of_width sides.from.memory64) (length_from sides.from.memory64 src)
   pub from_unaligned : HasUnaligned (nat_eq e.from_align 1) M p (p.function (import.Trap UnalignedPointer))
   pub to_unaligned : HasUnaligned (nat_eq e.to_align 1) M p (p.function (import.Trap UnalignedPointer))
   pub outside : KnowsFunction M p (import.Trap ListOutOfBounds) (p.function (import.Trap ListOutOfBounds)) [] []
@@ -106,4 +106,4 @@ turn_end_code from64 to64 e l = bump_code from64 l.source e.from_size ++ (bump_c
 pub record ClosesList (sides : Sides) (e : Elements) (l : ListLocals) (outer : List Instr) (dst : To) (old new : Writer) : Type 0 where
   pub code : new.code.items ≡ outer ++ (counted_code (left_code l.left) (old.code.items ++ turn_end_code sides.from.memory64 sides.to.memory64 e l) ++ put_pair_code sides.to.memory64 l.address l.number dst)
   pub locals : new.locals ≡ old.locals
-  pub imports : new.imports ≡ old.imports
+  pub imports : new.sections ≡ old.sections

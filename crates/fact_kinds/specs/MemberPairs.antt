@@ -10,12 +10,12 @@ use Rattle.fact_types.specs.declared.kinds.RecordField.{RecordField}
 use Rattle.fact_types.specs.Fields.{field_of, Finds}
 use Rattle.fact_types.specs.Flat.{add_flat}
 use Rattle.fact_types.specs.FlatShapes.{AreCounted}
-use Rattle.fact_types.specs.Heights.{Within, height}
+use Rattle.fact_types.specs.Heights.{IsMemberOf, height}
 use Rattle.fact_types.specs.Layout.{aligned}
 use Rattle.fact_types.specs.Shapes.{Kind, k_record, s_node, Members, layout_of, IsWithin}
 use Rattle.fact_types.specs.Tables.{Tables, Node, node_of, HasShape, HasMembers}
-use Rattle.fact_moves.specs.Outlining.{translates_fields}
-use Rattle.fact_pieces.specs.Places.{From, To}
+use Rattle.fact_actions.specs.Outlining.{translates_fields}
+use Rattle.fact_code_laws.specs.Places.{From, To}
 use Rattle.fact_emit.specs.declared.places.Sides.{Sides}
 use Rattle.fact_emit.specs.declared.writer.Writer.{Writer}
 use Rattle.fact_emit.specs.Asked.{AskedHelper}
@@ -79,7 +79,7 @@ pub record EachPair (R : Member → MemberPair → Type 0) (xs : List Member) (p
 -- A pair of a member of a destination: it has the member's type, and what was found has a live type.
 pub record IsPair (t : Tables) (to : InterfaceType) (x : Member) (p : MemberPair) : Type 0 where
   pub has_type : x.1 ≡ Some p.ty
-  pub within : Within t p.ty to
+  pub within : IsMemberOf t p.ty to
   pub found_live : IsLiveFound t p.found
 
 -- The pairs of a destination, which takes at most 4,294,967,295 bytes.
@@ -102,7 +102,7 @@ pub record ArePairsOf (t : Tables) (from to : InterfaceType) (kind : Kind) (pair
 pub record MovedPairs (t : Tables) (to : InterfaceType) (pairs : List MemberPair) (sides : Sides) (src : From) (dst : To) (before after : Fuel) (old new : Writer) : Type 0 where
   pub asks : List AskedHelper
   pub grew : GrewAsking asks old new
-  pub asked : AreAsked t sides (height t to) new.imports asks
+  pub asked : AreAsked t sides (height t to) new.sections asks
   pub emits : (ms ns : Members) → FindsEach t ms to pairs → HasMembers t (members_at t to) ns → AreCounted ms → AreCounted ns → CanMoveFields ms ns
       → EmitsAsking asks old new (MovesFields sides src dst (taken_in old) ms ns 0)
   pub translated : (ms ns : Members) → FindsEach t ms to pairs → HasMembers t (members_at t to) ns → AreCounted ms → AreCounted ns → CanMoveFields ms ns

@@ -10,8 +10,8 @@ use Rattle.fact_types.specs.Layout.{extent}
 use Rattle.fact_types.specs.Shapes.{Shape, Members, layout_of}
 use Rattle.fact_types.specs.Signatures.{width}
 use Rattle.fact_types.specs.Tables.{Tables, HasShape, IsLive}
-use Rattle.fact_moves.specs.Outlining.{translates}
-use Rattle.fact_pieces.specs.Places.{From, To}
+use Rattle.fact_actions.specs.Outlining.{translates}
+use Rattle.fact_code_laws.specs.Places.{From, To}
 use Rattle.fact_emit.specs.declared.places.Sides.{Sides}
 use Rattle.fact_emit.specs.declared.writer.Writer.{Writer}
 use Rattle.fact_emit.specs.Asked.{AskedHelper}
@@ -40,7 +40,7 @@ pub record MovedBetween (t : Tables) (from to : InterfaceType) (sides : Sides) (
 pub record MovedNode (t : Tables) (from to : InterfaceType) (sides : Sides) (src : From) (dst : To) (before after : Fuel) (old new : Writer) : Type 0 where
   pub asks : List AskedHelper
   pub grew : GrewAsking asks old new
-  pub asked : AreAsked t sides (height t to) new.imports asks
+  pub asked : AreAsked t sides (height t to) new.sections asks
   pub emits : (s u : Shape) → HasShape t from s → HasShape t to u → IsCounted s → IsCounted u → CanMove s u → EmitsAsking asks old new (MovesNode sides src dst (taken_in old) s u)
   pub translated : (s u : Shape) → HasShape t from s → HasShape t to u → IsCounted s → IsCounted u → CanMove s u → TranslatesAs t sides src dst before after asks (λ i r. translates_inside i r s u)
 
@@ -48,7 +48,7 @@ pub record MovedNode (t : Tables) (from to : InterfaceType) (sides : Sides) (src
 pub record MovedTuple (t : Tables) (from to : InterfaceType) (sides : Sides) (src : From) (dst : To) (before after : Fuel) (old new : Writer) : Type 0 where
   pub asks : List AskedHelper
   pub grew : GrewAsking asks old new
-  pub asked : AreAsked t sides (height t to) new.imports asks
+  pub asked : AreAsked t sides (height t to) new.sections asks
   pub emits : (s u : Shape) → HasShape t from s → HasShape t to u → IsCounted s → IsCounted u → CanMove s u → EmitsAsking asks old new (MovesTuple sides src dst (taken_in old) s u)
   pub translated : (s u : Shape) → HasShape t from s → HasShape t to u → IsCounted s → IsCounted u → CanMove s u → TranslatesAs t sides src dst before after asks (λ i r. translates_inside i r s u)
 
@@ -60,7 +60,7 @@ AreSmall t y memory64 = (s : Shape) → HasShape t y s → (extent (width memory
 pub record MovedInPlace (t : Tables) (from to : InterfaceType) (sides : Sides) (src : From) (dst : To) (before after : Fuel) (old new : Writer) : Type 0 where
   pub asks : List AskedHelper
   pub grew : GrewAsking asks old new
-  pub asked : AreAsked t sides (height t to) new.imports asks
+  pub asked : AreAsked t sides (height t to) new.sections asks
   pub emits : (s u : Shape) → HasShape t from s → HasShape t to u → IsCounted s → IsCounted u → CanMove s u → EmitsAsking asks old new (MovesShape sides src dst (taken_in old) s u)
   pub translated : (s u : Shape) → HasShape t from s → HasShape t to u → IsCounted s → IsCounted u → CanMove s u → TranslatesAs t sides src dst before after asks (λ i r. translates_in_place i r s u)
   pub from_small : AreSmall t from sides.from.memory64
@@ -70,7 +70,7 @@ pub record MovedInPlace (t : Tables) (from to : InterfaceType) (sides : Sides) (
 pub record MovedValue (t : Tables) (from to : InterfaceType) (sides : Sides) (src : From) (dst : To) (before after : Fuel) (old new : Writer) : Type 0 where
   pub asks : List AskedHelper
   pub grew : GrewAsking asks old new
-  pub asked : AreAsked t sides (suc (height t to)) new.imports asks
+  pub asked : AreAsked t sides (suc (height t to)) new.sections asks
   pub emits : (s u : Shape) → HasShape t from s → HasShape t to u → IsCounted s → IsCounted u → CanMoveMember s u → EmitsAsking asks old new (MovesHelped sides src dst (taken_in old) s u)
   pub translated : (s u : Shape) → HasShape t from s → HasShape t to u → IsCounted s → IsCounted u → CanMoveMember s u → TranslatesAs t sides src dst before after asks (λ i r. translates i r s u)
 
@@ -79,7 +79,7 @@ pub record CalledHelper (t : Tables) (from to : InterfaceType) (sides : Sides) (
   pub helper : AskedHelper
   pub key : helper.key ≡ helper_key sides from to src dst
   pub grew : GrewAsking (helper ∷ []) old new
-  pub asked : AreAsked t sides (suc (height t to)) new.imports (helper ∷ [])
+  pub asked : AreAsked t sides (suc (height t to)) new.sections (helper ∷ [])
   pub emits : (s u : Shape) → HasShape t from s → HasShape t to u → IsCounted s → IsCounted u → CanMoveMember s u → EmitsAsking (helper ∷ []) old new (MovesHelped sides src dst (taken_in old) s u)
 
 -- The checks were written.
@@ -110,7 +110,7 @@ pub record EmitsField (asks : List AskedHelper) (sides : Sides) (f : Field) (u :
 pub record MovedMember (t : Tables) (found : Option FieldPlace) (to : InterfaceType) (sides : Sides) (src : From) (dst : To) (before after : Fuel) (old new : Writer) : Type 0 where
   pub asks : List AskedHelper
   pub grew : GrewAsking asks old new
-  pub asked : AreAsked t sides (suc (height t to)) new.imports asks
+  pub asked : AreAsked t sides (suc (height t to)) new.sections asks
   pub emits : (ms : Members) (f : Field) (u : Shape) → Finds t ms found (Some f) → HasShape t to u → AreCounted ms → IsCounted f.shape → IsCounted u → CanMoveMember f.shape u
       → EmitsField asks sides f u src dst old new
   pub translated : (ms : Members) (f : Field) (u : Shape) → Finds t ms found (Some f) → HasShape t to u → AreCounted ms → IsCounted f.shape → IsCounted u → CanMoveMember f.shape u

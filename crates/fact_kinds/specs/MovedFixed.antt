@@ -7,8 +7,8 @@ use Rattle.fact_types.specs.Layout.{extent}
 use Rattle.fact_types.specs.Shapes.{k_fixed, Shape, s_node, no_members, typed, layout_of}
 use Rattle.fact_types.specs.Signatures.{width}
 use Rattle.fact_types.specs.Tables.{Tables, HasShape}
-use Rattle.fact_moves.specs.Outlining.{translates, translates_times}
-use Rattle.fact_pieces.specs.Places.{From, To}
+use Rattle.fact_actions.specs.Outlining.{translates, translates_times}
+use Rattle.fact_code_laws.specs.Places.{From, To}
 use Rattle.fact_emit.specs.declared.places.Sides.{Sides}
 use Rattle.fact_emit.specs.declared.writer.Writer.{Writer}
 use Rattle.fact_emit.specs.Asked.{AskedHelper}
@@ -38,7 +38,7 @@ fixed_of n s = s_node (k_fixed n) (typed [] s no_members)
 pub record MovedElements (t : Tables) (from to : InterfaceType) (e : FixedElements) (turns : ℕ) (sides : Sides) (src : From) (dst : To) (before after : Fuel) (old new : Writer) : Type 0 where
   pub asks : List AskedHelper
   pub grew : GrewAsking asks old new
-  pub asked : AreAsked t sides (suc (height t to)) new.imports asks
+  pub asked : AreAsked t sides (suc (height t to)) new.sections asks
   pub emits : (s u : Shape) → HasShape t from s → HasShape t to u → IsCounted s → IsCounted u → CanMoveMember s u → AreFixedElements sides e s u
       → EmitsAsking asks old new (MovesNode sides src dst (taken_in old) (fixed_of e.count s) (fixed_of e.count u))
   pub translated : (s u : Shape) → HasShape t from s → HasShape t to u → IsCounted s → IsCounted u → CanMoveMember s u

@@ -1,4 +1,4 @@
--- What code asks for, and what it takes of the fuel of its function: what the translation of its types says (`translates` of fact_moves).
+-- What code asks for, and what it takes of the fuel of its function: what the translation of its types says (`translates` of fact_actions).
 use Rattle.std.specs.Prelude.{◌≡◌, ℕ, zero, suc, ◌≤◌, ◌-◌, Bool, true, List, length}
 use Rattle.std.specs.List.{AllZip}
 use Rattle.fact_types.specs.declared.widths.MemoryWidth.{MemoryWidth}
@@ -6,8 +6,8 @@ use Rattle.fact_types.specs.FlatShapes.{flat, IsCounted}
 use Rattle.fact_types.specs.PointerPairs.{has_pointer_pair}
 use Rattle.fact_types.specs.Shapes.{Shape, s_plain, s_node, Members, no_members, bare, typed}
 use Rattle.fact_types.specs.Tables.{Tables, HasShape}
-use Rattle.fact_moves.specs.Outlining.{HelperKey, Route, Translated, Translating, ValuePlace, Stack, Memory, cost, translates_case, translates_fields, translates_members, translates_none, translates_then}
-use Rattle.fact_pieces.specs.Places.{From, InLocals, InMemory, To, ToLocals, ToMemory}
+use Rattle.fact_actions.specs.Outlining.{HelperKey, Route, Translated, Translating, ValuePlace, Stack, Memory, cost, translates_case, translates_fields, translates_members, translates_none, translates_then}
+use Rattle.fact_code_laws.specs.Places.{From, InLocals, InMemory, To, ToLocals, ToMemory}
 use Rattle.fact_emit.specs.declared.helpers.HelperLocation.{HelperLocation}
 use Rattle.fact_emit.specs.declared.helpers.HelperLocation.TheVariants as location
 use Rattle.fact_emit.specs.declared.places.Sides.{Sides}

@@ -3,17 +3,15 @@
 ghost use Rattle.std.specs.Prelude.{IfOk, OnOk, ◌≡◌, true};
 ghost use Rattle.std.specs.List.{AllByRecursion};
 ghost use Rattle.fact_emit.specs.declared.places.LinearMemory as linear;
-ghost use Rattle.fact_pieces.specs.FixedLists.{offset_code};
+ghost use Rattle.fact_code_laws.specs.FixedLists.{offset_code};
 ghost use Rattle.fact_emit.specs.Places.{from_of, to_of};
 ghost use Rattle.fact_emit.specs.Writers.{AreDistinctNumbers, Wrote, TookAll, FreedAll, taken_in};
 ghost use Rattle.fact_kinds.specs.FixedLists.{ClosesFixed, fixed_begin_code, fixed_slots, fixed_numbers, fixed_end_code, nth_from, nth_to};
 
 use crate::lists::{address_type, bump, put_add};
-use fact_emit::freed_locals::free_locals;
-use fact_emit::loops::put_countdown;
-use fact_emit::places::{Address, Sides, SourcePlace, TargetPlace};
-use fact_emit::requests::put_const;
-use fact_emit::writer::Writer;
+use fact_emit::{
+    Address, Sides, SourcePlace, TargetPlace, Writer, free_locals, put_const, put_countdown,
+};
 use fact_wasm::{Instr, OutOfMemory, ValType};
 
 /// The elements of a list of fixed length: how many there are, at least one, and the bytes from one to the next on both sides.

@@ -9,11 +9,10 @@ ghost use Rattle.fact_kinds.specs.FlagPlaces.{bit_place_of, bit_places_of};
 ghost use Rattle.fact_kinds.specs.Kinds.{flags_number_of, discriminant_number_of};
 ghost use Rattle.fact_kinds.specs.Moved.{MovedBetween, MovedFrom};
 
-use fact_emit::bits::move_bits;
-use fact_emit::numbers::NumberSize;
-use fact_emit::places::{Sides, SourcePlace, TargetPlace};
-use fact_emit::scalars::{Canonical, NumberTest, move_number, move_tested};
-use fact_emit::writer::Writer;
+use fact_emit::{
+    Canonical, NumberSize, NumberTest, Sides, SourcePlace, TargetPlace, Writer, move_bits,
+    move_number, move_tested,
+};
 use fact_entity::{TypeEnumIndex, TypeFlagsIndex};
 use fact_types::{ComponentTypes, DiscriminantSize};
 use fact_wasm::{OutOfMemory, Text};

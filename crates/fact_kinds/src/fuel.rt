@@ -3,7 +3,7 @@
 ghost use Rattle.std.specs.Prelude.{◌≡◌, ◌≤◌, ◌-◌, ◌||◌, nat_eq, nat_le, min};
 ghost use Rattle.fact_types.specs.Shapes.{Shape};
 ghost use Rattle.fact_types.specs.Tables.{IsLive, HasShape};
-ghost use Rattle.fact_moves.specs.Outlining.{cost_of_flags, cost as cost_of};
+ghost use Rattle.fact_actions.specs.Outlining.{cost_of_flags, cost as cost_of};
 
 use fact_types::{ComponentTypes, InterfaceType};
 
@@ -71,7 +71,7 @@ fn elements_cost(elements: u32) -> u32
     elements
 }
 
-/// What the translation of a live type takes from the fuel of a function, its members aside, or 4,294,967,295 where it takes more.
+/// What the translation of a live type takes from the fuel of a function, but for its members, or 4,294,967,295 where it takes more.
 pub fn cost(types: &ComponentTypes, ty: InterfaceType) -> u32
     requires { IsLive types.now ty }
     ensures { (s : Shape) → HasShape types.now ty s → result ≡ min (cost_of s) 4294967295 }

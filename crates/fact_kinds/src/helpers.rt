@@ -6,7 +6,7 @@ ghost use Rattle.std.specs.Prelude.{IfOk, OnOk, ◌≡◌, ◌∷◌, unwrap_or}
 ghost use Rattle.fact_wasm.specs.declared.instr.Instr.TheVariants as I;
 ghost use Rattle.fact_types.specs.Shapes.{Shape, layout_of};
 ghost use Rattle.fact_types.specs.Tables.{IsLive, HasShape};
-ghost use Rattle.fact_pieces.specs.Helpers.{bits_as_i64, push_as_i64, set_code, take_code, based_code, push_from, push_to};
+ghost use Rattle.fact_code_laws.specs.Helpers.{bits_as_i64, push_as_i64, set_code, take_code, based_code, push_from, push_to};
 ghost use Rattle.fact_emit.specs.Asked.{flats_given};
 ghost use Rattle.fact_emit.specs.Places.{slots_of_locals, from_of, to_of};
 ghost use Rattle.fact_emit.specs.StringPieces.{AreSidesImported};
@@ -18,10 +18,10 @@ ghost use Rattle.fact_kinds.specs.Moved.{CalledHelper};
 use crate::layouts::flat_length;
 use crate::lists::{address_type, put_add};
 use fact_builder::ComponentTypesBuilder;
-use fact_emit::helpers::{Helper, HelperLocation, HelperType};
-use fact_emit::places::{Address, LinearMemory, Sides, SourcePlace, TargetPlace, TypedLocal};
-use fact_emit::requests::put_const;
-use fact_emit::writer::Writer;
+use fact_emit::{
+    Address, Helper, HelperLocation, HelperType, LinearMemory, Sides, SourcePlace, TargetPlace,
+    TypedLocal, Writer, put_const,
+};
 use fact_types::{ComponentTypes, InterfaceType};
 use fact_wasm::{FuncName, Instr, OutOfMemory, Seq, ValType};
 use std::alloc::Global;
@@ -238,12 +238,12 @@ pub fn call_helper(
 ) -> Result<(), OutOfMemory>
     requires from_live { IsLive types.now.tables from }
     requires to_live { IsLive types.now.tables to }
-    requires sides { AreSidesImported sides w.old.imports }
+    requires sides { AreSidesImported sides w.old.sections }
     requires told { AreSidesTold sides }
     ensures { OnOk result (CalledHelper types.now.tables from to sides (from_of sides.from source.entry) (to_of sides.to target.entry) w.old w.new) }
 {
     let key = helper_between(sides, from, to, source, target);
-    let number = w.imports.helper(key)?;
+    let number = w.sections.helper(key)?;
     put_helper_call(types, w, sides, to, source, target, number)
 }
 

@@ -1,4 +1,4 @@
-//! Values without members: flags, enums, strings and scalars.
+//! Values without members: flags, enums, strings and scalars, each by its own move.
 
 ghost use Rattle.std.specs.Prelude.{None, OnOk, ◌≡◌};
 ghost use Rattle.fact_types.specs.Tables.{IsLive};
@@ -10,9 +10,7 @@ ghost use Rattle.fact_kinds.specs.Moved.{MovedBetween};
 
 use crate::flags::{move_enum, move_flags};
 use crate::strings::move_string;
-use fact_emit::places::{Sides, SourcePlace, TargetPlace};
-use fact_emit::scalars::move_scalar;
-use fact_emit::writer::Writer;
+use fact_emit::{Sides, SourcePlace, TargetPlace, Writer, move_scalar};
 use fact_types::{ComponentTypes, InterfaceType};
 use fact_wasm::{Instr, OutOfMemory};
 
@@ -30,7 +28,7 @@ pub fn move_leaf(
     requires to_live { IsLive types.now to }
     requires leaf { AreLeaves types.now from }
     requires no_handle { transfer_of from to ≡ None }
-    requires sides { AreSidesImported sides w.old.imports }
+    requires sides { AreSidesImported sides w.old.sections }
     ensures { OnOk result (MovedBetween types.now from to sides (from_of sides.from source.entry) (to_of sides.to target.entry) w.old w.new) }
 {
     match from {

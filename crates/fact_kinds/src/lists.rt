@@ -4,22 +4,18 @@ ghost use Rattle.std.specs.Prelude.{IfOk, OnOk, ◌≡◌, ◌∷◌, [], ◌++�
 ghost use Rattle.std.specs.List.{AllByRecursion};
 ghost use Rattle.fact_wasm.specs.declared.instr.Instr.TheVariants as I;
 ghost use Rattle.fact_machine.specs.Typing.{address_type as address_type_of};
-ghost use Rattle.fact_pieces.specs.Lists.{is_few, add_code, few_code, bump_code, count_code, left_code, put_code};
+ghost use Rattle.fact_code_laws.specs.Lists.{is_few, add_code, few_code, bump_code, count_code, left_code, put_code};
 ghost use Rattle.fact_emit.specs.Emits.{Emits};
 ghost use Rattle.fact_emit.specs.Places.{from_of, to_of};
 ghost use Rattle.fact_emit.specs.Requests.{IsReallocImported};
 ghost use Rattle.fact_emit.specs.Writers.{AreDistinctNumbers, Wrote, TookAll, FreedAll, taken_in};
 ghost use Rattle.fact_kinds.specs.Lists.{ChecksFew, ChecksBytes, OpensList, ClosesList, AsksList, begin_code, turn_end_code, list_slots, list_numbers};
 
-use fact_emit::checks::put_guard;
-use fact_emit::context::ContextLocals;
-use fact_emit::freed_locals::free_locals;
-use fact_emit::loops::put_counted;
-use fact_emit::pairs::{read_pair, write_pair};
-use fact_emit::places::{LinearMemory, Sides, SourcePlace, TargetPlace};
-use fact_emit::pointers::check_region;
-use fact_emit::requests::{NewRegion, put_address, put_bytes, put_const, reallocate};
-use fact_emit::writer::Writer;
+use fact_emit::{
+    ContextLocals, LinearMemory, NewRegion, Sides, SourcePlace, TargetPlace, Writer, check_region,
+    free_locals, put_address, put_bytes, put_const, put_counted, put_guard, read_pair, reallocate,
+    write_pair,
+};
 use fact_types::Trap;
 use fact_wasm::{Instr, OutOfMemory, ValType};
 
@@ -158,7 +154,7 @@ fn ask_list(
     l: ListLocals,
 ) -> Result<(), OutOfMemory>
     requires aligned { 0 < align }
-    requires realloc { IsReallocImported linear w.old.imports }
+    requires realloc { IsReallocImported linear w.old.sections }
     ensures { OnOk result (Emits w.old w.new (AsksList concurrency linear size align l)) }
 {
     put_bytes(w, l.number, size, l.bytes)?;
@@ -201,7 +197,7 @@ pub fn open_list(
     requires to_size { 0 < e.to_size }
     requires from_align { 0 < e.from_align }
     requires to_align { 0 < e.to_align }
-    requires realloc { IsReallocImported sides.to w.old.imports }
+    requires realloc { IsReallocImported sides.to w.old.sections }
     ensures { OnOk result (Emits w.old w.new (OpensList sides e l (from_of sides.from source.entry))) }
 {
     read_pair(w, sides.debug, sides.from, source, l.pointer, l.number)?;

@@ -7,7 +7,7 @@ ghost use Rattle.fact_emit.specs.Parts.{bytes_by};
 ghost use Rattle.fact_kinds.specs.Lists.{IsEntryOf};
 
 use crate::lists::Elements;
-use fact_emit::places::Sides;
+use fact_emit::Sides;
 use fact_types::{CanonicalAbiInfo, TypeMap};
 
 /// The bytes of an entry in a width of memory, or 1 where there are none: entries of a valid type take as many.

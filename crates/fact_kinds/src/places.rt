@@ -6,9 +6,7 @@ ghost use Rattle.fact_emit.specs.Places.{from_of, to_of};
 ghost use Rattle.fact_kinds.specs.Moved.{CheckedPlaces};
 
 use crate::layouts::alignment;
-use fact_emit::checks::{check_source, check_target};
-use fact_emit::places::{Sides, SourcePlace, TargetPlace};
-use fact_emit::writer::Writer;
+use fact_emit::{Sides, SourcePlace, TargetPlace, Writer, check_source, check_target};
 use fact_types::{ComponentTypes, InterfaceType};
 use fact_wasm::OutOfMemory;
 

@@ -4,16 +4,14 @@ ghost use Rattle.std.specs.Prelude.{IfOk, OnOk, Some, [], ◌∷◌, ◌≡◌, 
 ghost use Rattle.fact_types.specs.Signatures.{width};
 ghost use Rattle.fact_types.specs.declared.interface.InterfaceType.TheVariants as ty;
 ghost use Rattle.fact_wasm.specs.declared.instr.Instr.TheVariants as I;
-ghost use Rattle.fact_pieces.specs.Cases.{tag_code, zero_const, zero_slots, zero_code};
+ghost use Rattle.fact_code_laws.specs.Cases.{tag_code, zero_const, zero_slots, zero_code};
 ghost use Rattle.fact_emit.specs.Numbers.{number_sized};
 ghost use Rattle.fact_emit.specs.Parts.{bytes_by};
 ghost use Rattle.fact_emit.specs.Places.{slots_of_locals, to_of};
 ghost use Rattle.fact_emit.specs.Writers.{Wrote};
 ghost use Rattle.fact_kinds.specs.Sums.{case_at_name, paired_cases, IsSumOf};
 
-use fact_emit::numbers::{NumberSize, open, write_number};
-use fact_emit::places::{LinearMemory, TargetPlace, TypedLocal};
-use fact_emit::writer::Writer;
+use fact_emit::{LinearMemory, NumberSize, TargetPlace, TypedLocal, Writer, open, write_number};
 use fact_entity::{TypeOptionIndex, TypeResultIndex, TypeVariantIndex};
 use fact_types::{ComponentTypes, InterfaceType, VariantInfo};
 use fact_wasm::{Instr, OutOfMemory, Text, ValType};

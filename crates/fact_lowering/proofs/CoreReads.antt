@@ -13,7 +13,7 @@ use Rattle.fact_types.specs.Flat.{join}
 use Rattle.fact_types.specs.FlatShapes.{pointer, flat, flat_plain}
 use Rattle.fact_types.specs.Layout.{flags_size, flags_flat}
 use Rattle.fact_types.specs.Shapes.{Kind, k_record, k_variant, k_list, k_tuple, k_map, k_flags, k_enum, k_option, k_result, k_fixed, k_future, k_stream, Shape, s_plain, s_node, Members, no_members, bare, typed}
-use Rattle.fact_types.specs.Steps.{◌>>=◌}
+use Rattle.fact_types.specs.Options.{◌>>=◌}
 use Rattle.fact_types.proofs.ShapeLaws.{none_some}
 use Rattle.fact_values.specs.declared.side.SideAbi.{SideAbi}
 use Rattle.fact_values.specs.declared.value.HandleKind.TheVariants.{Future, Stream}

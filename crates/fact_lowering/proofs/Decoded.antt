@@ -12,7 +12,7 @@ use Rattle.std.specs.Str.{is_utf8}
 use Rattle.fact_types.specs.declared.outside.FixedEncoding.{FixedEncoding}
 use Rattle.fact_types.specs.declared.outside.FixedEncoding.TheVariants.{Utf8, Utf16, Latin1}
 use Rattle.fact_values.specs.Texts.{AreSpelled, spelled_text, low_first, two_byte_units, all_there, decoded}
-use Rattle.fact_types.specs.Steps.{◌>>=◌}
+use Rattle.fact_types.specs.Options.{◌>>=◌}
 
 same_bytes : (t : List ℕ) → spelled_text Utf8 t ≡ encodes t
 same_bytes [] = refl

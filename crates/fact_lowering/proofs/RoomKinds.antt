@@ -28,7 +28,7 @@ use Rattle.fact_abi.specs.Nodes.{kind_of, AreOf, HasNode, IsNodeOf}
 use Rattle.fact_abi.proofs.NodeWalkLaws.{record_alone}
 use Rattle.fact_abi.proofs.LoadLaws.{of_kind}
 use Rattle.fact_lowering.specs.declared.room.Asked.{Asked}
-use Rattle.fact_lowering.specs.Counted.{AsksBy, AsksFor, stopped}
+use Rattle.fact_lowering.specs.Counted.{AsksBy, CountsFor, stopped}
 use Rattle.fact_lowering.specs.Room.{Measure, each_once, greatest_bytes, inner_room, measured, measured_element, measured_fields, measured_node, measured_payload, measured_places, measured_plain, MeasuredParts, members_there, same_kind, shape_named, text_in, where_there}
 use Rattle.fact_lowering.proofs.RoomLaws.{Adds, asks_as}
 
@@ -117,7 +117,7 @@ module _ (t : Tables) (y : InterfaceType) (z : Node) (d : Shape) (node : HasNode
 
 -- ---- something of no room put in front
 
-added : (f : Measure → ℕ) {w h : ℕ} {a b c : Asked} → AsksFor 0 0 h a → AsksFor (f inner_room) (f each_once) w b → Adds a b c → AsksFor (f inner_room) (f each_once) (h + w) c
+added : (f : Measure → ℕ) {w h : ℕ} {a b c : Asked} → CountsFor 0 0 h a → CountsFor (f inner_room) (f each_once) w b → Adds a b c → CountsFor (f inner_room) (f each_once) (h + w) c
 added f {w} {h} {a} {b} {c} one asks adds =
     let r = adds 0 (f inner_room) 0 (f each_once) h w one asks in
     let room : 0 + f inner_room ≡ f inner_room = omega arith in
@@ -261,14 +261,14 @@ bare_payload m (bare y ms) n vs p b = one (bytes_eq y n) (bare_payload m ms n vs
 bare_payload m (typed y s ms) n vs p b = absurd b
 
 module _ (t : Tables) (from : InterfaceType) (x : Node) (v : Value) (a : Asked) (node : HasNode t from x) where
-  pub flags_ask : x.kind ≡ is.Flags → AsksFor 0 0 1 a → (s d : Shape) → HasShape t from s → Asks s d v a
+  pub flags_ask : x.kind ≡ is.Flags → CountsFor 0 0 1 a → (s d : Shape) → HasShape t from s → Asks s d v a
   unfolding measured weight
   flags_ask at asks s d h = let p = of_kind t from x is.Flags s node at h in asks_along {d' = d} v a p.is refl (go p.members)
     where
       go : (ms : Members) → Asks (s_node k_flags ms) d v a
       go ms = record { room_is = asks.room_is; pieces_are = asks.pieces_are; weight_is = asks.weight_is }
 
-  pub enum_ask : x.kind ≡ is.Enum → AsksFor 0 0 1 a → (s d : Shape) → HasShape t from s → Asks s d v a
+  pub enum_ask : x.kind ≡ is.Enum → CountsFor 0 0 1 a → (s d : Shape) → HasShape t from s → Asks s d v a
   unfolding measured weight
   enum_ask at asks s d h =
       let p = of_kind t from x is.Enum s node at h in
@@ -287,14 +287,14 @@ module _ (t : Tables) (from : InterfaceType) (x : Node) (v : Value) (a : Asked) 
       go : (ms : Members) → AreBare ms → Asks (s_node k_enum ms) d v a
       go ms b = asks_as (λ m. 0) (λ m. measured m (s_node k_enum ms) d v) (λ m. nothing m ms b) (light ms) asks
 
-  pub future_asks : (table instance : ℕ) → x.kind ≡ is.Future table instance → AsksFor 0 1 1 a → (s d : Shape) → HasShape t from s → Asks s d v a
+  pub future_asks : (table instance : ℕ) → x.kind ≡ is.Future table instance → CountsFor 0 1 1 a → (s d : Shape) → HasShape t from s → Asks s d v a
   unfolding measured weight
   future_asks table instance at asks s d h = let p = of_kind t from x (is.Future table instance) s node at h in asks_along {d' = d} v a p.is refl (go p.members)
     where
       go : (ms : Members) → Asks (s_node (k_future table instance) ms) d v a
       go ms = record { room_is = asks.room_is; pieces_are = asks.pieces_are; weight_is = asks.weight_is }
 
-  pub stream_asks : (table instance : ℕ) → x.kind ≡ is.Stream table instance → AsksFor 0 1 1 a → (s d : Shape) → HasShape t from s → Asks s d v a
+  pub stream_asks : (table instance : ℕ) → x.kind ≡ is.Stream table instance → CountsFor 0 1 1 a → (s d : Shape) → HasShape t from s → Asks s d v a
   unfolding measured weight
   stream_asks table instance at asks s d h = let p = of_kind t from x (is.Stream table instance) s node at h in asks_along {d' = d} v a p.is refl (go p.members)
     where
@@ -324,16 +324,16 @@ PlainAsks y v a = AsksBy (λ m. measured_plain m (plain_of y) v) 1 a
 pub string_asks : (y : InterfaceType) (v : Value) (a : Asked) → y ≡ ty.String → AsksBy (λ m. measured_plain m text v) 1 a → PlainAsks y v a
 string_asks y v a e h = subst (λ y. PlainAsks y v a) (sym e) h
 
-pub own_asks : (y : InterfaceType) (v : Value) (a : Asked) (i : Id TypeResourceTables) → y ≡ ty.Own i → AsksFor 0 1 1 a → PlainAsks y v a
+pub own_asks : (y : InterfaceType) (v : Value) (a : Asked) (i : Id TypeResourceTables) → y ≡ ty.Own i → CountsFor 0 1 1 a → PlainAsks y v a
 own_asks y v a i e h = subst (λ y. PlainAsks y v a) (sym e) h
 
-pub borrow_asks : (y : InterfaceType) (v : Value) (a : Asked) (i : Id TypeResourceTables) → y ≡ ty.Borrow i → AsksFor 0 1 1 a → PlainAsks y v a
+pub borrow_asks : (y : InterfaceType) (v : Value) (a : Asked) (i : Id TypeResourceTables) → y ≡ ty.Borrow i → CountsFor 0 1 1 a → PlainAsks y v a
 borrow_asks y v a i e h = subst (λ y. PlainAsks y v a) (sym e) h
 
-pub error_context_asks : (y : InterfaceType) (v : Value) (a : Asked) (i : Id TypeComponentLocalErrorContextTables) → y ≡ ty.ErrorContext i → AsksFor 0 1 1 a → PlainAsks y v a
+pub error_context_asks : (y : InterfaceType) (v : Value) (a : Asked) (i : Id TypeComponentLocalErrorContextTables) → y ≡ ty.ErrorContext i → CountsFor 0 1 1 a → PlainAsks y v a
 error_context_asks y v a i e h = subst (λ y. PlainAsks y v a) (sym e) h
 
-pub others_ask : (y : InterfaceType) (v : Value) (a : Asked) → (y ≡ ty.String → ⊥) → ((i : Id TypeResourceTables) → y ≡ ty.Own i → ⊥) → ((i : Id TypeResourceTables) → y ≡ ty.Borrow i → ⊥) → ((i : Id TypeComponentLocalErrorContextTables) → y ≡ ty.ErrorContext i → ⊥) → AsksFor 0 0 1 a
+pub others_ask : (y : InterfaceType) (v : Value) (a : Asked) → (y ≡ ty.String → ⊥) → ((i : Id TypeResourceTables) → y ≡ ty.Own i → ⊥) → ((i : Id TypeResourceTables) → y ≡ ty.Borrow i → ⊥) → ((i : Id TypeComponentLocalErrorContextTables) → y ≡ ty.ErrorContext i → ⊥) → CountsFor 0 0 1 a
     → PlainAsks y v a
 others_ask ty.String v a b c d e h = absurd (b refl)
 others_ask (ty.Own i) v a b c d e h = absurd (c i refl)
@@ -341,7 +341,7 @@ others_ask (ty.Borrow i) v a b c d e h = absurd (d i refl)
 others_ask (ty.ErrorContext i) v a b c d e h = absurd (e i refl)
 others_ask _ v a b c d e h = h
 
-pub text_asks : (v : Value) (a : Asked) (cs : List ℕ) (n : ℕ) → v ≡ value.Str cs → n ≡ length cs → AsksFor (8 + 16 * n) 1 1 a → AsksBy (λ m. measured_plain m text v) 1 a
+pub text_asks : (v : Value) (a : Asked) (cs : List ℕ) (n : ℕ) → v ≡ value.Str cs → n ≡ length cs → CountsFor (8 + 16 * n) 1 1 a → AsksBy (λ m. measured_plain m text v) 1 a
 text_asks v a cs n e f h = asks_as (λ m. m.of_text n) (λ m. measured_plain m text v) (λ m. ap m.of_text f ∙ ap (λ w. where_there (text_in w) (λ cs. m.of_text (length cs))) (sym (ap out-Value e ∙ value.outs-Str cs))) refl h
 
 -- ---- values of other forms
@@ -382,37 +382,37 @@ no_case_in v never = go (out-Value v) (sym (roll-out-Value v))
     go _ e = refl
 
 module _ (ms ns : Members) (v : Value) (a : Asked) where
-  pub no_record_counts : ((fs : List (List ℕ × Value)) → v ≡ value.Record fs → ⊥) → AsksFor 0 0 1 a → Asks (s_node k_record ms) (s_node k_record ns) v a
+  pub no_record_counts : ((fs : List (List ℕ × Value)) → v ≡ value.Record fs → ⊥) → CountsFor 0 0 1 a → Asks (s_node k_record ms) (s_node k_record ns) v a
   unfolding measured weight
   no_record_counts never h =
       let e = no_fields_in v never in
       asks_as (λ m. 0) (λ m. measured m (s_node k_record ms) (s_node k_record ns) v) (λ m. ap (λ r. where_there r (λ fs. measured_fields m ms fs ns)) (sym e)) (ap (λ r. 1 + weight_in (λ fs. weight_members ms (map (λ f. f.1) fs)) r) (sym e)) h
 
-  pub no_tuple_counts : ((vs : List Value) → v ≡ value.Tuple vs → ⊥) → AsksFor 0 0 1 a → Asks (s_node k_tuple ms) (s_node k_tuple ns) v a
+  pub no_tuple_counts : ((vs : List Value) → v ≡ value.Tuple vs → ⊥) → CountsFor 0 0 1 a → Asks (s_node k_tuple ms) (s_node k_tuple ns) v a
   unfolding measured weight
   no_tuple_counts never h =
       let e = no_members_in v never in
       asks_as (λ m. 0) (λ m. measured m (s_node k_tuple ms) (s_node k_tuple ns) v) (λ m. ap (λ r. where_there r (λ vs. measured_places m ms vs ns)) (sym e)) (ap (λ r. 1 + weight_in (λ vs. weight_members ms vs) r) (sym e)) h
 
-  pub no_fixed_list_counts : (j k : ℕ) → ((vs : List Value) → v ≡ value.List vs → ⊥) → AsksFor 0 0 1 a → Asks (s_node (k_fixed j) ms) (s_node (k_fixed k) ns) v a
+  pub no_fixed_list_counts : (j k : ℕ) → ((vs : List Value) → v ≡ value.List vs → ⊥) → CountsFor 0 0 1 a → Asks (s_node (k_fixed j) ms) (s_node (k_fixed k) ns) v a
   unfolding measured weight
   no_fixed_list_counts j k never h =
       let e = no_elements_in v never in
       asks_as (λ m. 0) (λ m. measured m (s_node (k_fixed j) ms) (s_node (k_fixed k) ns) v) (λ m. ap (λ r. where_there r (sum_by (λ w. measured_element m ms w ns))) (sym e)) (ap (λ r. 1 + weight_in (sum_by (λ w. weight_element ms w)) r) (sym e)) h
 
-  pub no_list_counts : ((vs : List Value) → v ≡ value.List vs → ⊥) → AsksFor 0 0 1 a → Asks (s_node k_list ms) (s_node k_list ns) v a
+  pub no_list_counts : ((vs : List Value) → v ≡ value.List vs → ⊥) → CountsFor 0 0 1 a → Asks (s_node k_list ms) (s_node k_list ns) v a
   unfolding measured weight
   no_list_counts never h =
       let e = no_elements_in v never in
       asks_as (λ m. 0) (λ m. measured m (s_node k_list ms) (s_node k_list ns) v) (λ m. ap (λ r. where_there r (λ vs. m.of_list (length vs) (element_layout k_list ms) (element_layout k_list ns) + sum_by (λ w. measured_element m ms w ns) vs)) (sym e)) (ap (λ r. 1 + weight_in (sum_by (λ w. weight_element ms w)) r) (sym e)) h
 
-  pub no_map_counts : ((es : List (Value × Value)) → v ≡ value.Map es → ⊥) → AsksFor 0 0 1 a → Asks (s_node k_map ms) (s_node k_map ns) v a
+  pub no_map_counts : ((es : List (Value × Value)) → v ≡ value.Map es → ⊥) → CountsFor 0 0 1 a → Asks (s_node k_map ms) (s_node k_map ns) v a
   unfolding measured weight
   no_map_counts never h =
       let e = no_entries_in v never in
       asks_as (λ m. 0) (λ m. measured m (s_node k_map ms) (s_node k_map ns) v) (λ m. ap (λ r. where_there r (λ es. m.of_list (length es) (element_layout k_map ms) (element_layout k_map ns) + sum_by (λ e. measured_places m ms (e.0 ∷ e.1 ∷ []) ns) es)) (sym e)) (ap (λ r. 1 + weight_in (sum_by (λ e. weight_members ms (e.0 ∷ e.1 ∷ []))) r) (sym e)) h
 
-  pub no_case_counts : ((n : List ℕ) (vs : List Value) → v ≡ value.Case n vs → ⊥) → AsksFor 0 0 (1 + count_of_members ms) a → Asks (s_node k_variant ms) (s_node k_variant ns) v a
+  pub no_case_counts : ((n : List ℕ) (vs : List Value) → v ≡ value.Case n vs → ⊥) → CountsFor 0 0 (1 + count_of_members ms) a → Asks (s_node k_variant ms) (s_node k_variant ns) v a
   unfolding measured weight
   no_case_counts never h =
       let e = no_case_in v never in
@@ -422,7 +422,7 @@ module _ (ms ns : Members) (v : Value) (a : Asked) where
 -- ---- values by their forms
 
 module _ (ms ns : Members) (v : Value) (a b c : Asked) where
-  pub tuple_counts : (vs : List Value) → v ≡ value.Tuple vs → AsksFor 0 0 1 a → AsksBy (λ m. measured_places m ms vs ns) (weight_members ms vs) b → Adds a b c → Asks (s_node k_tuple ms) (s_node k_tuple ns) v c
+  pub tuple_counts : (vs : List Value) → v ≡ value.Tuple vs → CountsFor 0 0 1 a → AsksBy (λ m. measured_places m ms vs ns) (weight_members ms vs) b → Adds a b c → Asks (s_node k_tuple ms) (s_node k_tuple ns) v c
   unfolding measured weight
   tuple_counts vs e one asks adds =
       asks_as (λ m. measured_places m ms vs ns) (λ m. measured m (s_node k_tuple ms) (s_node k_tuple ns) v) (λ m. ap (λ w. where_there (members_in w) (λ vs. measured_places m ms vs ns)) (sym at)) (ap (λ w. 1 + weight_in (λ vs. weight_members ms vs) (members_in w)) (sym at))
@@ -431,7 +431,7 @@ module _ (ms ns : Members) (v : Value) (a b c : Asked) where
       at : out-Value v ≡ o.Tuple vs
       at = ap out-Value e ∙ value.outs-Tuple vs
 
-  pub record_counts : (fs : List (List ℕ × Value)) → v ≡ value.Record fs → AsksFor 0 0 1 a → AsksBy (λ m. measured_fields m ms fs ns) (weight_members ms (map (λ f. f.1) fs)) b → Adds a b c → Asks (s_node k_record ms) (s_node k_record ns) v c
+  pub record_counts : (fs : List (List ℕ × Value)) → v ≡ value.Record fs → CountsFor 0 0 1 a → AsksBy (λ m. measured_fields m ms fs ns) (weight_members ms (map (λ f. f.1) fs)) b → Adds a b c → Asks (s_node k_record ms) (s_node k_record ns) v c
   unfolding measured weight
   record_counts fs e one asks adds =
       asks_as (λ m. measured_fields m ms fs ns) (λ m. measured m (s_node k_record ms) (s_node k_record ns) v) (λ m. ap (λ w. where_there (fields_in w) (λ fs. measured_fields m ms fs ns)) (sym at)) (ap (λ w. 1 + weight_in (λ fs. weight_members ms (map (λ f. f.1) fs)) (fields_in w)) (sym at))
@@ -440,7 +440,7 @@ module _ (ms ns : Members) (v : Value) (a b c : Asked) where
       at : out-Value v ≡ o.Record fs
       at = ap out-Value e ∙ value.outs-Record fs
 
-  pub fixed_list_counts : (j k : ℕ) (vs : List Value) → v ≡ value.List vs → AsksFor 0 0 1 a → AsksBy (λ m. sum_by (λ w. measured_element m ms w ns) vs) (sum_by (λ w. weight_element ms w) vs) b → Adds a b c → Asks (s_node (k_fixed j) ms) (s_node (k_fixed k) ns) v c
+  pub fixed_list_counts : (j k : ℕ) (vs : List Value) → v ≡ value.List vs → CountsFor 0 0 1 a → AsksBy (λ m. sum_by (λ w. measured_element m ms w ns) vs) (sum_by (λ w. weight_element ms w) vs) b → Adds a b c → Asks (s_node (k_fixed j) ms) (s_node (k_fixed k) ns) v c
   unfolding measured weight
   fixed_list_counts j k vs e one asks adds =
       asks_as (λ m. sum_by (λ w. measured_element m ms w ns) vs) (λ m. measured m (s_node (k_fixed j) ms) (s_node (k_fixed k) ns) v) (λ m. ap (λ w. where_there (elements_in w) (sum_by (λ w. measured_element m ms w ns))) (sym at)) (ap (λ w. 1 + weight_in (sum_by (λ w. weight_element ms w)) (elements_in w)) (sym at))
@@ -449,7 +449,7 @@ module _ (ms ns : Members) (v : Value) (a b c : Asked) where
       at : out-Value v ≡ o.List vs
       at = ap out-Value e ∙ value.outs-List vs
 
-  pub list_counts : (vs : List Value) (n each : ℕ) → v ≡ value.List vs → n ≡ length vs → each ≡ greatest_bytes (element_layout k_list ms) (element_layout k_list ns) → AsksFor (8 + n * each) 1 1 a → AsksBy (λ m. sum_by (λ w. measured_element m ms w ns) vs) (sum_by (λ w. weight_element ms w) vs) b → Adds a b c
+  pub list_counts : (vs : List Value) (n each : ℕ) → v ≡ value.List vs → n ≡ length vs → each ≡ greatest_bytes (element_layout k_list ms) (element_layout k_list ns) → CountsFor (8 + n * each) 1 1 a → AsksBy (λ m. sum_by (λ w. measured_element m ms w ns) vs) (sum_by (λ w. weight_element ms w) vs) b → Adds a b c
       → Asks (s_node k_list ms) (s_node k_list ns) v c
   unfolding measured weight
   list_counts vs n each e long wide one asks adds =
@@ -459,10 +459,10 @@ module _ (ms ns : Members) (v : Value) (a b c : Asked) where
       at : out-Value v ≡ o.List vs
       at = ap out-Value e ∙ value.outs-List vs
 
-      own : AsksFor (8 + n * each) 1 1 a → AsksFor (8 + length vs * greatest_bytes (element_layout k_list ms) (element_layout k_list ns)) 1 1 a
+      own : CountsFor (8 + n * each) 1 1 a → CountsFor (8 + length vs * greatest_bytes (element_layout k_list ms) (element_layout k_list ns)) 1 1 a
       own h = record { room_is = h.room_is ∙ (λ i. stopped (8 + long i * wide i)); pieces_are = h.pieces_are; weight_is = h.weight_is }
 
-  pub map_counts : (es : List (Value × Value)) (n each : ℕ) → v ≡ value.Map es → n ≡ length es → each ≡ greatest_bytes (element_layout k_map ms) (element_layout k_map ns) → AsksFor (8 + n * each) 1 1 a
+  pub map_counts : (es : List (Value × Value)) (n each : ℕ) → v ≡ value.Map es → n ≡ length es → each ≡ greatest_bytes (element_layout k_map ms) (element_layout k_map ns) → CountsFor (8 + n * each) 1 1 a
       → AsksBy (λ m. sum_by (λ e. measured_places m ms (e.0 ∷ e.1 ∷ []) ns) es) (sum_by (λ e. weight_members ms (e.0 ∷ e.1 ∷ [])) es) b → Adds a b c → Asks (s_node k_map ms) (s_node k_map ns) v c
   unfolding measured weight
   map_counts es n each e long wide one asks adds =
@@ -472,10 +472,10 @@ module _ (ms ns : Members) (v : Value) (a b c : Asked) where
       at : out-Value v ≡ o.Map es
       at = ap out-Value e ∙ value.outs-Map es
 
-      own : AsksFor (8 + n * each) 1 1 a → AsksFor (8 + length es * greatest_bytes (element_layout k_map ms) (element_layout k_map ns)) 1 1 a
+      own : CountsFor (8 + n * each) 1 1 a → CountsFor (8 + length es * greatest_bytes (element_layout k_map ms) (element_layout k_map ns)) 1 1 a
       own h = record { room_is = h.room_is ∙ (λ i. stopped (8 + long i * wide i)); pieces_are = h.pieces_are; weight_is = h.weight_is }
 
-  pub case_counts : (y : List ℕ) (vs : List Value) → v ≡ value.Case y vs → AsksFor 0 0 (1 + count_of_members ms) a → AsksBy (λ m. measured_payload m ms y vs (shape_named y ns)) (weight_case ms y vs) b → Adds a b c → Asks (s_node k_variant ms) (s_node k_variant ns) v c
+  pub case_counts : (y : List ℕ) (vs : List Value) → v ≡ value.Case y vs → CountsFor 0 0 (1 + count_of_members ms) a → AsksBy (λ m. measured_payload m ms y vs (shape_named y ns)) (weight_case ms y vs) b → Adds a b c → Asks (s_node k_variant ms) (s_node k_variant ns) v c
   unfolding measured weight
   case_counts y vs e one asks adds =
       asks_as (λ m. measured_payload m ms y vs (shape_named y ns)) (λ m. measured m (s_node k_variant ms) (s_node k_variant ns) v) (λ m. ap (λ w. where_there (case_in w) (λ c. measured_payload m ms c.name c.payload (shape_named c.name ns))) (sym at))

@@ -8,7 +8,7 @@ use Rattle.std.proofs.lemmas.List.Sums.{sum_by-cons}
 use Rattle.fact_types.specs.declared.interface.InterfaceType.{InterfaceType}
 use Rattle.fact_types.specs.Agrees.{names_of}
 use Rattle.fact_types.specs.Functions.{HaveShapes}
-use Rattle.fact_types.specs.Heights.{Within}
+use Rattle.fact_types.specs.Heights.{IsMemberOf}
 use Rattle.fact_types.specs.Shapes.{Shape, Members, no_members, bare, typed, layout_of}
 use Rattle.fact_types.specs.Tables.{Tables, HasShape, IsLiveMember}
 use Rattle.fact_types.specs.Tuples.{members_from, tuple_members, tuple_of}
@@ -23,7 +23,7 @@ use Rattle.fact_abi.specs.Finding.{IsFirstNamed, IsIndexOf, IsNowhere, IsTypeOf,
 use Rattle.fact_abi.specs.Nodes.{AreLower, AreOf}
 use Rattle.fact_abi.proofs.BelongLaws.{place_found, place_within, slice_front, slice_past}
 use Rattle.fact_lowering.specs.declared.room.Asked.{Asked}
-use Rattle.fact_lowering.specs.Counted.{AsksBy, AsksFor, measured_at, shape_of_name, stopped, weight_at, weights_of}
+use Rattle.fact_lowering.specs.Counted.{AsksBy, CountsFor, measured_at, shape_of_name, stopped, weight_at, weights_of}
 use Rattle.fact_lowering.specs.Room.{Measure, behind_first, each_once, first_shape, fits, greatest_bytes, inner_room, measured, measured_element, measured_fields, measured_payload, measured_places, or_own, shape_named, where_there}
 
 -- ---- counts that are put together
@@ -36,12 +36,12 @@ pub record Counting (total left : Measure → ℕ) (whole behind : ℕ) (all : A
   pub same : (m : Measure) → total m ≡ done m + left m
   pub weighs : whole ≡ heavy + behind
 
-pub counting_starts : (total : Measure → ℕ) (whole : ℕ) (all : Asked) → AsksFor 0 0 0 all → Counting total total whole whole all
+pub counting_starts : (total : Measure → ℕ) (whole : ℕ) (all : Asked) → CountsFor 0 0 0 all → Counting total total whole whole all
 counting_starts total whole all a = record { done = λ m. 0; heavy = 0; asks = a; same = λ m. omega arith; weighs = omega arith }
 
 -- what two put together ask for
 abbrev pub Adds : Asked → Asked → Asked → Type 0
-Adds a b c = (m n p q v w : ℕ) → AsksFor m p v a → AsksFor n q w b → AsksFor (m + n) (p + q) (v + w) c
+Adds a b c = (m n p q v w : ℕ) → CountsFor m p v a → CountsFor n q w b → CountsFor (m + n) (p + q) (v + w) c
 
 pub counting_on : {total left : Measure → ℕ} {whole behind : ℕ} {all : Asked} → Counting total left whole behind all → (here left' : Measure → ℕ) (w behind' : ℕ) (a all' : Asked) → ((m : Measure) → left m ≡ here m + left' m) → behind ≡ w + behind' → AsksBy here w a → Adds all a all'
     → Counting total left' whole behind' all'
@@ -53,7 +53,7 @@ counting_on {total} {left} {whole} {behind} {all} g here left' w behind' a all' 
   weighs = omega (arith, g.weighs, heavy);
 }
 
-asks_same : {m n p q v w : ℕ} {a : Asked} → m ≡ n → p ≡ q → v ≡ w → AsksFor m p v a → AsksFor n q w a
+asks_same : {m n p q v w : ℕ} {a : Asked} → m ≡ n → p ≡ q → v ≡ w → CountsFor m p v a → CountsFor n q w a
 asks_same {m} {n} {p} {q} {v} {w} {a} e f g h = record { room_is = h.room_is ∙ ap stopped e; pieces_are = h.pieces_are ∙ ap stopped f; weight_is = h.weight_is ∙ ap stopped g }
 
 pub counting_ends : {total left : Measure → ℕ} {whole behind : ℕ} {all : Asked} → Counting total left whole behind all → ((m : Measure) → left m ≡ 0) → behind ≡ 0 → AsksBy total whole all
@@ -63,7 +63,7 @@ counting_ends {total} {left} {whole} {behind} {all} g none light = asks_same (sy
     same m = omega (arith, g.same m, none m)
 
 -- the same counts, told in another way
-pub asks_as : (f g : Measure → ℕ) {v w : ℕ} {a : Asked} → ((m : Measure) → f m ≡ g m) → v ≡ w → AsksFor (f inner_room) (f each_once) v a → AsksFor (g inner_room) (g each_once) w a
+pub asks_as : (f g : Measure → ℕ) {v w : ℕ} {a : Asked} → ((m : Measure) → f m ≡ g m) → v ≡ w → CountsFor (f inner_room) (f each_once) v a → CountsFor (g inner_room) (g each_once) w a
 asks_as f g {v} {w} {a} e h asks = asks_same (e inner_room) (e each_once) h asks
 
 -- ---- places
@@ -204,7 +204,7 @@ pub record PlacesLeft (t : Tables) (ms ns : Members) (sources targets : List (Op
   pub other_has : AreOf t (drop i targets) other
   pub counts : Counting (λ m. measured_places m ms vs ns) (λ m. measured_places m rest (drop at vs) other) (weight_members ms vs) (weight_members rest (drop at vs)) all
 
-pub places_start : (t : Tables) (ms ns : Members) (sources targets : List (Option InterfaceType)) (vs : List Value) (all : Asked) → AreOf t sources ms → AreOf t targets ns → AsksFor 0 0 0 all → PlacesLeft t ms ns sources targets 0 0 vs all
+pub places_start : (t : Tables) (ms ns : Members) (sources targets : List (Option InterfaceType)) (vs : List Value) (all : Asked) → AreOf t sources ms → AreOf t targets ns → CountsFor 0 0 0 all → PlacesLeft t ms ns sources targets 0 0 vs all
 places_start t ms ns sources targets vs all h g a = record { rest = ms; other = ns; has = h; other_has = g; counts = counting_starts (λ m. measured_places m ms vs ns) (weight_members ms vs) all a }
 
 pub places_on : {t : Tables} {ms ns : Members} {sources targets : List (Option InterfaceType)} {i at : ℕ} {vs : List Value} {all : Asked} → PlacesLeft t ms ns sources targets i at vs all → (y z : Option InterfaceType) (v : Option Value) (a all' : Asked) (k at' : ℕ)
@@ -307,7 +307,7 @@ pub record FieldsLeft (t : Tables) (ms ns : Members) (sources : List (Option Int
   pub named : drop at names ≡ typed_names rest
   pub counts : Counting (λ m. measured_fields m ms fs ns) (λ m. measured_fields m rest (drop at fs) ns) (weight_members ms (values_of fs)) (weight_members rest (drop at (values_of fs))) all
 
-pub fields_start : (t : Tables) (ms ns : Members) (sources : List (Option InterfaceType)) (names : List (List ℕ)) (fs : Fields) (all : Asked) → AreOf t sources ms → names ≡ typed_names ms → AsksFor 0 0 0 all → FieldsLeft t ms ns sources names 0 0 fs all
+pub fields_start : (t : Tables) (ms ns : Members) (sources : List (Option InterfaceType)) (names : List (List ℕ)) (fs : Fields) (all : Asked) → AreOf t sources ms → names ≡ typed_names ms → CountsFor 0 0 0 all → FieldsLeft t ms ns sources names 0 0 fs all
 fields_start t ms ns sources names fs all h n a = record { rest = ms; has = h; named = n; counts = counting_starts (λ m. measured_fields m ms fs ns) (weight_members ms (values_of fs)) all a }
 
 names_on : (r : Members) (names : List (List ℕ)) (at : ℕ) → drop at names ≡ typed_names r → drop (at + taken_by (first_shape r)) names ≡ typed_names (behind_first r)
@@ -347,7 +347,7 @@ fields_end {t} {ms} {ns} {sources} {names} {i} {at} {fs} {all} ge g =
 abbrev pub SumsLeft : {X : Type 0} → (Measure → X → ℕ) → (X → ℕ) → List X → ℕ → Asked → Type 0
 SumsLeft f h xs i all = Counting (λ m. sum_by (f m) xs) (λ m. sum_by (f m) (drop i xs)) (sum_by h xs) (sum_by h (drop i xs)) all
 
-pub sums_start : {X : Type 0} (f : Measure → X → ℕ) (h : X → ℕ) (xs : List X) (all : Asked) → AsksFor 0 0 0 all → SumsLeft f h xs 0 all
+pub sums_start : {X : Type 0} (f : Measure → X → ℕ) (h : X → ℕ) (xs : List X) (all : Asked) → CountsFor 0 0 0 all → SumsLeft f h xs 0 all
 sums_start f h xs all a = counting_starts (λ m. sum_by (f m) xs) (sum_by h xs) all a
 
 sum_step : {X : Type 0} (f : X → ℕ) (xs : List X) (i : ℕ) (x : X) → slice_get xs i ≡ Some x → sum_by f (drop i xs) ≡ f x + sum_by f (drop (i + 1) xs)
@@ -363,13 +363,13 @@ sums_end f h xs i all ge g = counting_ends g (λ m. ap (sum_by (f m)) (drop_all 
 abbrev pub WeightsLeft : Option Shape → List Value → ℕ → Asked → Type 0
 WeightsLeft x vs i all = Counting (λ m. 0) (λ m. 0) (weights_of x vs) (weights_of x (drop i vs)) all
 
-pub weights_start : (x : Option Shape) (vs : List Value) (all : Asked) → AsksFor 0 0 0 all → WeightsLeft x vs 0 all
+pub weights_start : (x : Option Shape) (vs : List Value) (all : Asked) → CountsFor 0 0 0 all → WeightsLeft x vs 0 all
 weights_start x vs all a = counting_starts (λ m. 0) (weights_of x vs) all a
 
-pub weights_on : (x : Option Shape) (vs : List Value) (i : ℕ) (v : Value) (all a all' : Asked) → slice_get vs i ≡ Some v → AsksFor 0 0 (weight_at x (Some v)) a → Adds all a all' → WeightsLeft x vs i all → WeightsLeft x vs (i + 1) all'
+pub weights_on : (x : Option Shape) (vs : List Value) (i : ℕ) (v : Value) (all a all' : Asked) → slice_get vs i ≡ Some v → CountsFor 0 0 (weight_at x (Some v)) a → Adds all a all' → WeightsLeft x vs i all → WeightsLeft x vs (i + 1) all'
 weights_on x vs i v all a all' there asks adds g = counting_on g (λ m. 0) (λ m. 0) (weight_at x (Some v)) (weights_of x (drop (i + 1) vs)) a all' (λ m. refl) (sum_step (λ v. weight_at x (Some v)) vs i v there) asks adds
 
-pub weights_end : (x : Option Shape) (vs : List Value) (i : ℕ) (all : Asked) → length vs ≤ i → WeightsLeft x vs i all → AsksFor 0 0 (weights_of x vs) all
+pub weights_end : (x : Option Shape) (vs : List Value) (i : ℕ) (all : Asked) → length vs ≤ i → WeightsLeft x vs i all → CountsFor 0 0 (weights_of x vs) all
 weights_end x vs i all ge g = counting_ends g (λ m. refl) (ap (weights_of x) (drop_all i vs ge))
 
 -- an element is a value of the first member
@@ -441,7 +441,7 @@ payload_weights (typed n s ms) x vs = go (bytes_eq n x) (payload_weights ms x vs
     go false h = h
 
 pub weights_here : (x : Option Shape) (p : Option Shape) (t : Tables) (y z : Option InterfaceType) (vs : List Value) (i : ℕ) (all a b all' : Asked) (v : Option Value) → i < length vs → IsTypeOf t y x → IsTypeOf t z p → v ≡ slice_get vs i → TellsAt t y z v a
-    → ((m p w : ℕ) → AsksFor m p w a → AsksFor 0 0 w b) → Adds all b all' → WeightsLeft x vs i all → WeightsLeft x vs (i + 1) all'
+    → ((m p w : ℕ) → CountsFor m p w a → CountsFor 0 0 w b) → Adds all b all' → WeightsLeft x vs i all → WeightsLeft x vs (i + 1) all'
 weights_here x p t y z vs i all a b all' v lt h g value tells alone adds left = go (slice_get vs i) refl
   where
     go : (u : Option Value) → slice_get vs i ≡ u → WeightsLeft x vs (i + 1) all'
@@ -458,16 +458,16 @@ payload_one x p (w ∷ []) v a e h =
     asks_as (λ m. measured_at m x p (Some v)) (λ m. measured_at m x p (Some w)) (λ m. ap (λ v. measured_at m x p (Some v)) (sym is)) one h
 payload_one x p (w ∷ u ∷ vs) v a e h = absurd (none_some None v refl e)
 
-pub payload_many : (x p : Option Shape) (vs : List Value) (a : Asked) → only vs ≡ None → AsksFor 0 0 (weights_of x vs) a → AsksBy (λ m. measured_at m x p (only vs)) (weights_of x vs) a
+pub payload_many : (x p : Option Shape) (vs : List Value) (a : Asked) → only vs ≡ None → CountsFor 0 0 (weights_of x vs) a → AsksBy (λ m. measured_at m x p (only vs)) (weights_of x vs) a
 payload_many x p vs a e h = asks_as (λ m. 0) (λ m. measured_at m x p (only vs)) (λ m. none m x ∙ ap (measured_at m x p) (sym e)) refl h
   where
     none : (m : Measure) (x : Option Shape) → 0 ≡ measured_at m x p None
     none m None = refl
     none m (Some s) = refl
 
-pub within_there : (t : Tables) (owner : InterfaceType) (types : List (Option InterfaceType)) (z : Option InterfaceType) → AreLower t owner types → IfSome z (λ y. (i : ℕ) × (slice_get types i ≡ Some (Some y))) → (y : InterfaceType) → z ≡ Some y → Within t y owner
+pub within_there : (t : Tables) (owner : InterfaceType) (types : List (Option InterfaceType)) (z : Option InterfaceType) → AreLower t owner types → IfSome z (λ y. (i : ℕ) × (slice_get types i ≡ Some (Some y))) → (y : InterfaceType) → z ≡ Some y → IsMemberOf t y owner
 within_there t owner types None w h y e = absurd (none_some None y refl e)
-within_there t owner types (Some u) w h y e = subst (λ y. Within t y owner) (same_some (Some u) u y refl e) (w.each h.0 u h.1)
+within_there t owner types (Some u) w h y e = subst (λ y. IsMemberOf t y owner) (same_some (Some u) u y refl e) (w.each h.0 u h.1)
 
 pub count_members : (t : Tables) (types : List (Option InterfaceType)) (ms : Members) → AreOf t types ms → length types ≡ count_of_members ms
 count_members t [] no_members h = refl
@@ -543,7 +543,7 @@ pub record ValuesLeft (t : Tables) (ts us : List Shape) (sources targets : List 
   pub other_has : HaveShapes t (drop i targets) other
   pub counts : Counting (λ m. measured_places m (tuple_members ts) vs (tuple_members us)) (λ m. measured_places m (members_from place rest) (drop i vs) (members_from place other)) (weight_members (tuple_members ts) vs) (weight_members (members_from place rest) (drop i vs)) all
 
-pub values_start : (t : Tables) (ts us : List Shape) (sources targets : List InterfaceType) (vs : List Value) (all : Asked) → HaveShapes t sources ts → HaveShapes t targets us → AsksFor 0 0 0 all → ValuesLeft t ts us sources targets 0 vs all
+pub values_start : (t : Tables) (ts us : List Shape) (sources targets : List InterfaceType) (vs : List Value) (all : Asked) → HaveShapes t sources ts → HaveShapes t targets us → CountsFor 0 0 0 all → ValuesLeft t ts us sources targets 0 vs all
 values_start t ts us sources targets vs all h g a = record { rest = ts; other = us; place = 0; has = h; other_has = g; counts = counting_starts (λ m. measured_places m (tuple_members ts) vs (tuple_members us)) (weight_members (tuple_members ts) vs) all a }
 
 abbrev shape_behind : Shape → List Shape → Shape

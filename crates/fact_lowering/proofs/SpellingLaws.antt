@@ -10,7 +10,7 @@ use Rattle.fact_types.specs.declared.outside.FixedEncoding.TheVariants.{Utf8, Ut
 use Rattle.fact_types.specs.declared.outside.StringEncoding.{StringEncoding}
 use Rattle.fact_types.specs.declared.outside.StringEncoding.TheVariants as of_side
 use Rattle.fact_values.specs.Texts.{AreSpelled, char_spelling, low_first, spelled_text, unit_bytes, units, units_of_text}
-use Rattle.fact_moves.specs.Transcoders.{all_latin1}
+use Rattle.fact_actions.specs.Transcoders.{all_latin1}
 use Rattle.fact_lowering.specs.TextForms.{stored_in}
 
 char_units : (e : FixedEncoding) (c : ℕ) → length (char_spelling e c) ≡ units e c * unit_bytes e

@@ -12,7 +12,7 @@ use Rattle.fact_types.specs.declared.widths.MemoryWidth.TheVariants.{Memory32, M
 use Rattle.fact_types.specs.Agrees.{chosen, names_of}
 use Rattle.fact_types.specs.Layout.{extent, extents, aligned, greatest_align, greatest_size, payloads, payload_offset, variant_layout, variant_extent, discriminant_size, discriminant_bytes}
 use Rattle.fact_types.specs.Shapes.{Kind, k_record, k_variant, k_list, k_tuple, k_map, k_flags, k_enum, k_option, k_result, k_fixed, k_future, k_stream, Shape, s_node, Members, no_members, bare, typed, layout_of, layouts_of}
-use Rattle.fact_types.specs.Steps.{◌>>=◌}
+use Rattle.fact_types.specs.Options.{◌>>=◌}
 use Rattle.fact_types.specs.Tables.{Tables, HasShape}
 use Rattle.fact_types.proofs.AlignLaws.{aligned_bounds}
 use Rattle.fact_types.proofs.FieldLaws.{greatest_align_pos}

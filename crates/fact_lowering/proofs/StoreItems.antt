@@ -13,7 +13,7 @@ use Rattle.fact_values.specs.declared.value.Value.{Value}
 use Rattle.fact_values.specs.IsA.{IsA, AreMembers}
 use Rattle.fact_values.specs.Places.{extent_on, width_of}
 use Rattle.fact_lowering.specs.Lowered.{own_room}
-use Rattle.fact_lowering.specs.Storings.{AreElements, AreEntries, AreEntryMembers, AreStorable, HasRoom, IsStorable}
+use Rattle.fact_lowering.specs.Storings.{AreElements, AreEntries, AreEntryMembers, AreStorable, HasSpace, IsStorable}
 use Rattle.fact_lowering.proofs.StoreWalks.{Itemwise, can_still, element_reads, element_forms, entry_reads, entry_forms, entry_room, one_of_all}
 
 same_shape : (t : Tables) (x : Option InterfaceType) (s z : Shape) → ((y : InterfaceType) × (x ≡ Some y) × HasShape t y s) → ((y : InterfaceType) × (x ≡ Some y) × HasShape t y z) → s ≡ z

@@ -23,7 +23,7 @@ use Rattle.fact_values.specs.IsA.{IsA, IsRecord, IsTuple, IsListOf, IsFixedList,
 use Rattle.fact_values.specs.Places.{width_of, extent_on, element_extent, typed_names, Pair}
 use Rattle.fact_lowering.specs.Lowered.{CanStore, IsPut, IsStored, IsWritten, LacksRoom, ReadsAt, ReadsBehind, ReadsEach, ReadsEntries, ReadsMembers, own_room, own_rooms}
 use Rattle.fact_lowering.specs.Lowerings.{own_entries}
-use Rattle.fact_lowering.specs.Storings.{AreElements, AreEntries, AreEntryMembers, AreStorable, HasRoom, IsNodeStorable}
+use Rattle.fact_lowering.specs.Storings.{AreElements, AreEntries, AreEntryMembers, AreStorable, HasSpace, IsNodeStorable}
 use Rattle.fact_lowering.proofs.Agreeing.{written_also, written_taken, written_wider}
 use Rattle.fact_lowering.proofs.OwnRooms.{record_room, tuple_room, fixed_room, list_room, map_room}
 use Rattle.fact_lowering.proofs.SmallAlignments.{small, all_small}

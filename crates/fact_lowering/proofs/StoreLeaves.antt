@@ -10,16 +10,17 @@ use Rattle.fact_types.proofs.AlignLaws.{aligned_bounds, aligned_multiple}
 use Rattle.fact_types.specs.Shapes.{k_flags, s_node, Members, no_members, bare, typed}
 use Rattle.fact_machine.specs.World.{number_of, number_at, put_at, with_number}
 use Rattle.fact_abi.proofs.BelongLaws.{length_mapped}
+use Rattle.fact_types.specs.Signatures.{pointer_bytes}
 use Rattle.fact_values.specs.declared.side.SideAbi.{SideAbi}
 use Rattle.fact_values.specs.declared.value.HandleKind.{HandleKind}
 use Rattle.fact_values.specs.declared.value.Value.{Value, out-Value}
 use Rattle.fact_values.specs.declared.value.Value.TheVariants as value
 use Rattle.fact_values.specs.IsA.{IsFlags, IsHandle}
 use Rattle.fact_values.specs.Numbers.{number_in, flags_of_number}
-use Rattle.fact_values.specs.Places.{Pair, pair_at, width_of, extent_on, pointer_bytes, flags_bytes, count_of_members}
+use Rattle.fact_values.specs.Places.{Pair, pair_at, width_of, extent_on, flags_bytes, count_of_members}
 use Rattle.fact_lowering.specs.Lowered.{CanStore, IsStored, IsWritten, ReadsAt, own_room}
 use Rattle.fact_lowering.specs.Lowerings.{AreFlagBytes}
-use Rattle.fact_lowering.specs.Storings.{HasRoom, text_align}
+use Rattle.fact_lowering.specs.Storings.{HasSpace, text_align}
 use Rattle.fact_lowering.proofs.Agreeing.{bytes_written, number_within, number_written, written_also, written_wider}
 use Rattle.fact_lowering.proofs.Stored.{pair_written, reads_flags}
 use Rattle.fact_lowering.proofs.StoreNodes.{flags_size_is}
@@ -29,7 +30,7 @@ on_ok (Ok a) f h = f h
 on_ok (Err e) f h = tt
 
 -- a pointer and a length, one behind the other
-pub pair_put : (side : SideAbi) (m m' m'' : List ℕ) (a p n low size : ℕ) → size ≡ pointer_bytes (width_of side) → HasRoom (pointer_bytes (width_of side) + pointer_bytes (width_of side)) a low m → p < 2 ^ 32 → n < 2 ^ 32
+pub pair_put : (side : SideAbi) (m m' m'' : List ℕ) (a p n low size : ℕ) → size ≡ pointer_bytes (width_of side) → HasSpace (pointer_bytes (width_of side) + pointer_bytes (width_of side)) a low m → p < 2 ^ 32 → n < 2 ^ 32
     → m' ≡ with_number size m a p → m'' ≡ with_number size m' (a + size) n
     → IsWritten (λ b. pair_at side b a ≡ Some (record { pointer = p; count = n })) a (pointer_bytes (width_of side) + pointer_bytes (width_of side)) low low 0 m m''
 pair_put side m m' m'' a p n low size is room lp ln first second =
@@ -50,10 +51,10 @@ names_count (typed n s ms) = ap suc (names_count ms)
 flags_long : (ms : Members) (v : Value) (fs : List (List ℕ × Bool)) (bs : List ℕ) → v ≡ value.Flags fs → IsFlags ms (out-Value v) → AreFlagBytes fs bs → length bs ≡ flags_bytes ms
 flags_long ms v fs bs e h f = f.0 ∙ ap (λ n. (flags_extent (flags_size n)).size) (sym (length_mapped (λ f. f.0) fs) ∙ ap length (flags_is ms v fs e h) ∙ names_count ms)
 
-pub flags_fit : (v : Value) (fs : List (List ℕ × Bool)) (bs : List ℕ) (a low : ℕ) (m : List ℕ) → v ≡ value.Flags fs → AreFlagBytes fs bs → ((ms : Members) × IsFlags ms (out-Value v) × HasRoom (flags_bytes ms) a low m) → a + length bs ≤ length m
+pub flags_fit : (v : Value) (fs : List (List ℕ × Bool)) (bs : List ℕ) (a low : ℕ) (m : List ℕ) → v ≡ value.Flags fs → AreFlagBytes fs bs → ((ms : Members) × IsFlags ms (out-Value v) × HasSpace (flags_bytes ms) a low m) → a + length bs ≤ length m
 flags_fit v fs bs a low m e f (ms, h, room) = omega (arith, flags_long ms v fs bs e h f, room.below, room.can.inside)
 
-pub flags_stored : (side : SideAbi) (v : Value) (fs : List (List ℕ × Bool)) (bs : List ℕ) (a low high : ℕ) (m m' : List ℕ) → v ≡ value.Flags fs → AreFlagBytes fs bs → ((ms : Members) × IsFlags ms (out-Value v) × HasRoom (flags_bytes ms) a low m) → m' ≡ put_at m a bs → high ≡ low
+pub flags_stored : (side : SideAbi) (v : Value) (fs : List (List ℕ × Bool)) (bs : List ℕ) (a low high : ℕ) (m m' : List ℕ) → v ≡ value.Flags fs → AreFlagBytes fs bs → ((ms : Members) × IsFlags ms (out-Value v) × HasSpace (flags_bytes ms) a low m) → m' ≡ put_at m a bs → high ≡ low
     → (ms : Members) → IsFlags ms (out-Value v) → IsStored side (s_node k_flags ms) v a low high m m'
 flags_stored side v fs bs a low high m m' e f (ns, k, room) put same ms h =
     let fits : a + length bs ≤ low = omega (arith, flags_long ns v fs bs e k f, room.below) in
@@ -71,7 +72,7 @@ flags_stored side v fs bs a low high m m' e f (ns, k, room) put same ms h =
 handle_is : (kind k : HandleKind) (table t n : ℕ) (v : Value) → v ≡ value.Handle k t n → IsHandle kind table (out-Value v) → (k ≡ kind) × (t ≡ table) × (n < 2 ^ 32)
 handle_is kind k table t n v e h = subst (IsHandle kind table) (ap out-Value e ∙ value.outs-Handle k t n) h
 
-pub handle_stored : (v : Value) (k : HandleKind) (t n x a low high : ℕ) (m m' : List ℕ) → v ≡ value.Handle k t n → x ≡ n → HasRoom 4 a low m → m' ≡ with_number 4 m a x → high ≡ low
+pub handle_stored : (v : Value) (k : HandleKind) (t n x a low high : ℕ) (m m' : List ℕ) → v ≡ value.Handle k t n → x ≡ n → HasSpace 4 a low m → m' ≡ with_number 4 m a x → high ≡ low
     → (kind : HandleKind) (table : ℕ) → IsHandle kind table (out-Value v) → (y : ℕ) × (v ≡ value.Handle kind table y) × IsWritten (λ b. number_in b 4 a ≡ Some y) a 4 low high 0 m m'
 handle_stored v k t n x a low high m m' e is room put same kind table h =
     let q = handle_is kind k table t n v e h in

@@ -6,7 +6,7 @@ use Rattle.fact_types.specs.declared.interface.InterfaceType.{InterfaceType}
 use Rattle.fact_types.specs.declared.widths.MemoryWidth.{MemoryWidth}
 use Rattle.fact_types.specs.declared.widths.MemoryWidth.TheVariants.{Memory32, Memory64}
 use Rattle.fact_types.specs.Agrees.{chosen, names_of}
-use Rattle.fact_types.specs.Heights.{Within}
+use Rattle.fact_types.specs.Heights.{IsMemberOf}
 use Rattle.fact_types.specs.Layout.{extent}
 use Rattle.fact_types.specs.Shapes.{Kind, k_record, k_variant, k_list, k_tuple, k_map, k_flags, k_enum, k_option, k_result, k_fixed, k_future, k_stream, Shape, s_plain, s_node, Members, layout_of, IsWithin}
 use Rattle.fact_types.specs.Tables.{Tables, IsLive, HasShape}
@@ -16,6 +16,7 @@ use Rattle.fact_abi.specs.declared.nodes.NodeKind.{NodeKind}
 use Rattle.fact_abi.specs.declared.nodes.NodeKind.TheVariants as is
 use Rattle.fact_abi.specs.Nodes.{AreOf, AreTold, HasNode, IsNodeOf, IsOfKind, kind_of}
 use Rattle.fact_abi.proofs.LoadLaws.{of_kind}
+use Rattle.fact_types.specs.Signatures.{pointer_bytes}
 use Rattle.fact_values.specs.declared.side.SideAbi.{SideAbi}
 use Rattle.fact_values.specs.declared.value.HandleKind.{HandleKind}
 use Rattle.fact_values.specs.declared.value.HandleKind.TheVariants.{Future, Stream}
@@ -25,10 +26,10 @@ use Rattle.fact_values.specs.Formed.{IsFormed}
 use Rattle.fact_values.proofs.FormedLaws.{formed}
 use Rattle.fact_values.specs.IsA.{IsA, IsCase, IsFlags, IsHandle, IsPlainValue, HasCase}
 use Rattle.fact_values.specs.Numbers.{plain_of, number_in}
-use Rattle.fact_values.specs.Places.{Pair, pair_at, pointer_bytes, width_of, extent_on, flags_bytes}
+use Rattle.fact_values.specs.Places.{Pair, pair_at, width_of, extent_on, flags_bytes}
 use Rattle.fact_lowering.specs.declared.places.Pair.{Pair as PointerPair}
 use Rattle.fact_lowering.specs.Lowered.{IsPut, IsStored, IsWritten, LacksRoom, ReadsAt, own_room}
-use Rattle.fact_lowering.specs.Storings.{HasRoom, IsBehindPair, IsCaseStorable, IsNodeStorable, IsStorable, PutOr, pair_of}
+use Rattle.fact_lowering.specs.Storings.{HasSpace, IsBehindPair, IsCaseStorable, IsNodeStorable, IsStorable, PutOr, pair_of}
 use Rattle.fact_lowering.proofs.Agreeing.{written_also, written_wider}
 use Rattle.fact_lowering.proofs.OwnRooms.{IsCaseKind}
 use Rattle.fact_lowering.proofs.Stored.{reads_future, reads_stream}
@@ -110,7 +111,7 @@ module _ (t : Tables) (side : SideAbi) (y : InterfaceType) (x : Node) (v : Value
         are = has q.members q.told;
         is = subst (λ s. IsA s v) q.is st.is;
         few = subst (λ s. (extent_on side s).size ≤ 4294967295) q.is few;
-        room = subst (λ s. HasRoom (extent_on side s).size a low m) q.is st.room;
+        room = subst (λ s. HasSpace (extent_on side s).size a low m) q.is st.room;
       }
 
   -- and what is answered of each shape of the type
@@ -125,36 +126,36 @@ module _ (t : Tables) (side : SideAbi) (y : InterfaceType) (x : Node) (v : Value
       let q = told_of k kind in
       let n = has q.members q.told in
       let s = s_node (kind_of k) q.members in
-      let room : HasRoom (extent_on side s).size a low m = subst (λ s. HasRoom (extent_on side s).size a low m) q.is st.room in
+      let room : HasSpace (extent_on side s).size a low m = subst (λ s. HasSpace (extent_on side s).size a low m) q.is st.room in
       record {
         members = q.members;
         named = n.0;
         are = n.1;
         is = case_of (kind_of k) q.members v c (subst (λ s. IsA s v) q.is st.is);
-        room = subst (λ n. HasRoom n a low m) (variant_size side (kind_of k) q.members v c (subst IsFormed q.is (formed t y st.shape st.shaped))) room;
+        room = subst (λ n. HasSpace n a low m) (variant_size side (kind_of k) q.members v c (subst IsFormed q.is (formed t y st.shape st.shaped))) room;
       }
 
-  pub flags_storable : x.kind ≡ is.Flags → (ms : Members) × IsFlags ms (out-Value v) × HasRoom (flags_bytes ms) a low m
+  pub flags_storable : x.kind ≡ is.Flags → (ms : Members) × IsFlags ms (out-Value v) × HasSpace (flags_bytes ms) a low m
   flags_storable kind =
       let q = told_of is.Flags kind in
-      (q.members, flags_of q.members v (subst (λ s. IsA s v) q.is st.is), subst (λ n. HasRoom n a low m) (flags_size_is side q.members) (subst (λ s. HasRoom (extent_on side s).size a low m) q.is st.room))
+      (q.members, flags_of q.members v (subst (λ s. IsA s v) q.is st.is), subst (λ n. HasSpace n a low m) (flags_size_is side q.members) (subst (λ s. HasSpace (extent_on side s).size a low m) q.is st.room))
 
-  pub future_storable : (table instance : ℕ) → x.kind ≡ is.Future table instance → ((kind : HandleKind) × (table : ℕ) × IsHandle kind table (out-Value v)) × HasRoom 4 a low m
+  pub future_storable : (table instance : ℕ) → x.kind ≡ is.Future table instance → ((kind : HandleKind) × (table : ℕ) × IsHandle kind table (out-Value v)) × HasSpace 4 a low m
   future_storable table instance kind =
       let q = told_of (is.Future table instance) kind in
-      ((Future, table, future_of table instance q.members v (subst (λ s. IsA s v) q.is st.is)), subst (λ n. HasRoom n a low m) (future_size side table instance q.members) (subst (λ s. HasRoom (extent_on side s).size a low m) q.is st.room))
+      ((Future, table, future_of table instance q.members v (subst (λ s. IsA s v) q.is st.is)), subst (λ n. HasSpace n a low m) (future_size side table instance q.members) (subst (λ s. HasSpace (extent_on side s).size a low m) q.is st.room))
 
-  pub stream_storable : (table instance : ℕ) → x.kind ≡ is.Stream table instance → ((kind : HandleKind) × (table : ℕ) × IsHandle kind table (out-Value v)) × HasRoom 4 a low m
+  pub stream_storable : (table instance : ℕ) → x.kind ≡ is.Stream table instance → ((kind : HandleKind) × (table : ℕ) × IsHandle kind table (out-Value v)) × HasSpace 4 a low m
   stream_storable table instance kind =
       let q = told_of (is.Stream table instance) kind in
-      ((Stream, table, stream_of table instance q.members v (subst (λ s. IsA s v) q.is st.is)), subst (λ n. HasRoom n a low m) (stream_size side table instance q.members) (subst (λ s. HasRoom (extent_on side s).size a low m) q.is st.room))
+      ((Stream, table, stream_of table instance q.members v (subst (λ s. IsA s v) q.is st.is)), subst (λ n. HasSpace n a low m) (stream_size side table instance q.members) (subst (λ s. HasSpace (extent_on side s).size a low m) q.is st.room))
 
 -- ---- types without members
 
-pub plain_storable : (t : Tables) (side : SideAbi) (y : InterfaceType) (v : Value) (a low : ℕ) (m : List ℕ) → ((s : Shape) → HasShape t y s → s ≡ s_plain y) → IsStorable t side y v a low m → IsPlainValue (plain_of y) (out-Value v) × HasRoom (extent_on side (s_plain y)).size a low m
+pub plain_storable : (t : Tables) (side : SideAbi) (y : InterfaceType) (v : Value) (a low : ℕ) (m : List ℕ) → ((s : Shape) → HasShape t y s → s ≡ s_plain y) → IsStorable t side y v a low m → IsPlainValue (plain_of y) (out-Value v) × HasSpace (extent_on side (s_plain y)).size a low m
 plain_storable t side y v a low m none st =
     let q = none st.shape st.shaped in
-    (plain_is y v (subst (λ s. IsA s v) q st.is), subst (λ s. HasRoom (extent_on side s).size a low m) q st.room)
+    (plain_is y v (subst (λ s. IsA s v) q st.is), subst (λ s. HasSpace (extent_on side s).size a low m) q st.room)
 
 -- ---- handles
 
@@ -201,7 +202,7 @@ pub behind_shape : (t : Tables) (y : InterfaceType) (x : Node) (s : Shape) → H
 behind_shape t y x s node kind h = subst IsBehind (sym (node.shaped s h).is) kind
 
 -- room for a pointer and a length
-pub pair_room : (t : Tables) (side : SideAbi) (y : InterfaceType) (v : Value) (p : Pair) (a low high : ℕ) (m m' : List ℕ) (st : IsStorable t side y v a low m) → IsBehind st.shape → IsPut side st.shape v p low high m m' → HasRoom (pointer_bytes (width_of side) + pointer_bytes (width_of side)) a high m'
+pub pair_room : (t : Tables) (side : SideAbi) (y : InterfaceType) (v : Value) (p : Pair) (a low high : ℕ) (m m' : List ℕ) (st : IsStorable t side y v a low m) → IsBehind st.shape → IsPut side st.shape v p low high m m' → HasSpace (pointer_bytes (width_of side) + pointer_bytes (width_of side)) a high m'
 pair_room t side y v p a low high m m' st behind put =
     record { below = omega (arith, behind_size side st.shape behind, st.room.below, put.written.rises.up); can = can_still st.room.can put.written }
 

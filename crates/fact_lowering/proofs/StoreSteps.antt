@@ -7,20 +7,21 @@ use Rattle.fact_types.specs.declared.interface.InterfaceType.TheVariants as ty
 use Rattle.fact_types.specs.declared.widths.MemoryWidth.{MemoryWidth}
 use Rattle.fact_types.specs.declared.widths.MemoryWidth.TheVariants.{Memory32, Memory64}
 use Rattle.fact_types.specs.Agrees.{chosen}
-use Rattle.fact_types.specs.Heights.{height, Within}
+use Rattle.fact_types.specs.Heights.{height, IsMemberOf}
 use Rattle.fact_types.specs.Layout.{extent}
 use Rattle.fact_types.specs.Shapes.{Kind, k_record, k_variant, k_list, k_tuple, k_map, k_flags, k_enum, k_option, k_result, k_fixed, k_future, k_stream, Shape, s_plain, s_node, Members, layout_of}
 use Rattle.fact_types.specs.Tables.{Tables, IsLive, HasShape}
 use Rattle.fact_types.proofs.ShapeLaws.{same_some, none_some, one_shape}
 use Rattle.fact_abi.specs.Nodes.{AreLower}
+use Rattle.fact_types.specs.Signatures.{pointer_bytes}
 use Rattle.fact_values.specs.declared.side.SideAbi.{SideAbi}
 use Rattle.fact_values.specs.declared.value.Value.{Value, out-Value}
 use Rattle.fact_values.specs.declared.value.Value.TheVariants as value
 use Rattle.fact_values.specs.IsA.{IsA}
 use Rattle.fact_values.specs.Numbers.{Plain, text, plain_of, number_in}
-use Rattle.fact_values.specs.Places.{width_of, extent_on, pointer_bytes, Pair, pair_at}
+use Rattle.fact_values.specs.Places.{width_of, extent_on, Pair, pair_at}
 use Rattle.fact_lowering.specs.Lowered.{CanStore, IsPut, IsStored, IsWritten, LacksRoom, ReadsAt, ReadsBehind, own_room}
-use Rattle.fact_lowering.specs.Storings.{AreLiveMembers, HasRoom, IsBehindPair, IsStorable, height_over}
+use Rattle.fact_lowering.specs.Storings.{AreLiveMembers, HasSpace, IsBehindPair, IsStorable, height_over}
 use Rattle.fact_lowering.proofs.Agreeing.{written_also, written_both, written_elsewhere, written_wider}
 use Rattle.fact_lowering.proofs.Stored.{reads_list, reads_map, reads_text}
 
@@ -48,7 +49,7 @@ member_below t (Some z ∷ xs) (suc i) y e = omega (arith, member_below t xs i y
 pub all_below : (t : Tables) (owner : InterfaceType) (types : List (Option InterfaceType)) → AreLower t owner types → height_over t types ≤ height t owner
 all_below t owner types w = go types w.each
   where
-    go : (xs : List (Option InterfaceType)) → ((i : ℕ) (m : InterfaceType) → slice_get xs i ≡ Some (Some m) → Within t m owner) → height_over t xs ≤ height t owner
+    go : (xs : List (Option InterfaceType)) → ((i : ℕ) (m : InterfaceType) → slice_get xs i ≡ Some (Some m) → IsMemberOf t m owner) → height_over t xs ≤ height t owner
     go [] f = omega arith
     go (None ∷ xs) f = go xs (λ i m e. f (suc i) m e)
     go (Some y ∷ xs) f = omega (arith, (f 0 y refl).lower, go xs (λ i m e. f (suc i) m e))

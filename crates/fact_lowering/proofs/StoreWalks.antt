@@ -7,7 +7,7 @@ use Rattle.std.proofs.lemmas.List.Sums.{sum_by-cons}
 use Rattle.fact_types.specs.declared.interface.InterfaceType.{InterfaceType}
 use Rattle.fact_types.specs.Shapes.{Shape, Members, no_members, bare, typed, layout_of, place_of, next_of, ends_of}
 use Rattle.fact_types.specs.Layout.{extent}
-use Rattle.fact_types.specs.Steps.{◌>>=◌}
+use Rattle.fact_types.specs.Options.{◌>>=◌}
 use Rattle.fact_types.specs.Tables.{Tables, HasShape}
 use Rattle.fact_types.proofs.AlignLaws.{aligned_bounds}
 use Rattle.fact_types.proofs.PlaceLaws.{align_pos, ends_grow}
@@ -22,7 +22,7 @@ use Rattle.fact_values.specs.IsA.{IsA, AreMembers}
 use Rattle.fact_values.specs.Load.{load, load_members, entry_of}
 use Rattle.fact_values.specs.Places.{width_of, extent_on, each_at}
 use Rattle.fact_lowering.specs.Lowered.{CanStore, IsStored, IsWritten, LacksRoom, ReadsAt, ReadsMembers, Rises, own_room, own_rooms}
-use Rattle.fact_lowering.specs.Storings.{HasRoom, IsStorable}
+use Rattle.fact_lowering.specs.Storings.{HasSpace, IsStorable}
 use Rattle.fact_lowering.specs.Stores.{IsShort}
 use Rattle.fact_lowering.specs.TextForms.{IsByFormAt, AreByFormAt}
 use Rattle.fact_lowering.proofs.Agreeing.{written_nothing, written_also, written_both, written_wider}
@@ -135,7 +135,7 @@ module _ {t : Tables} {side : SideAbi} {ms : Members} {types : List (Option Inte
         pub here_room : own_sum side ms vs ≡ h.spent + (own_room side h.shape v + own_sum side h.rest (drop (suc at) vs))
         here_room = h.room ∙ ap (λ l. h.spent + own_sum side (typed h.name h.shape h.rest) l) (slice_front vs at v there)
 
-        pub storable_here : (place : ℕ) → place ≡ a + place_of (width_of side) h.shape n → HasRoom (ends_of (width_of side) ms 0) a low m → IsStorable t side y v place high m'
+        pub storable_here : (place : ℕ) → place ≡ a + place_of (width_of side) h.shape n → HasSpace (ends_of (width_of side) ms 0) a low m → IsStorable t side y v place high m'
         storable_here place is room = record {
           shape = h.shape;
           shaped = h.shaped;

@@ -9,8 +9,9 @@ use Rattle.fact_types.specs.declared.widths.MemoryWidth.{MemoryWidth}
 use Rattle.fact_types.specs.declared.widths.MemoryWidth.TheVariants.{Memory32, Memory64}
 use Rattle.fact_types.specs.Agrees.{names_of}
 use Rattle.fact_types.specs.Shapes.{Kind, k_record, k_variant, k_list, k_tuple, k_map, k_flags, k_enum, k_option, k_result, k_fixed, k_future, k_stream, Shape, s_plain, s_node, Members, no_members, bare, typed}
-use Rattle.fact_types.specs.Steps.{◌>>=◌}
+use Rattle.fact_types.specs.Options.{◌>>=◌}
 use Rattle.fact_machine.specs.World.{with_number}
+use Rattle.fact_types.specs.Signatures.{pointer_bytes}
 use Rattle.fact_values.specs.declared.side.SideAbi.{SideAbi}
 use Rattle.fact_values.specs.declared.value.HandleKind.TheVariants.{Future, Stream}
 use Rattle.fact_values.specs.declared.value.Value.{Value}
@@ -18,9 +19,9 @@ use Rattle.fact_values.specs.declared.value.Value.TheVariants as value
 use Rattle.fact_values.specs.Canonical.{ThereIs, EachAt}
 use Rattle.fact_values.specs.Load.{load, load_plain, load_members, load_case, load_element, load_node, load_variant, entry_of, text_value, list_value, map_value}
 use Rattle.fact_values.specs.Numbers.{Plain, boolean, unsigned, signed, float32, float64, character, text, handle, nothing, plain_of, value_of_number, flags_of_number, number_in}
-use Rattle.fact_values.specs.Places.{width_of, extent_on, pointer_bytes, flags_bytes, element_extent, typed_names, Pair, pair_at, each_at}
+use Rattle.fact_values.specs.Places.{width_of, extent_on, flags_bytes, element_extent, typed_names, Pair, pair_at, each_at}
 use Rattle.fact_values.specs.Texts.{lies_aligned}
-use Rattle.fact_lowering.specs.Lowered.{Agree, IsWritten, ReadsAt, ReadsMembers, ReadsEach, ReadsEntries, ReadsBehind}
+use Rattle.fact_lowering.specs.Lowered.{AgreeOutside, IsWritten, ReadsAt, ReadsMembers, ReadsEach, ReadsEntries, ReadsBehind}
 use Rattle.fact_lowering.specs.Lowerings.{ReadsCase}
 use Rattle.fact_lowering.specs.TextForms.{IsByFormAt, AreByFormAt, IsElementByFormAt, IsPlainByForm, StandsByForm, AreElementsByForm}
 use Rattle.fact_lowering.proofs.Agreeing.{written_both, written_also, number_written}

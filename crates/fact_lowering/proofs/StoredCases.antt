@@ -23,7 +23,7 @@ use Rattle.fact_values.specs.Places.{width_of, extent_on, count_of_members, case
 use Rattle.fact_lowering.specs.Lowered.{CanStore, IsStored, IsWritten, LacksRoom, ReadsAt, own_room}
 use Rattle.fact_lowering.specs.Lowerings.{ReadsCase, own_case}
 use Rattle.fact_lowering.specs.Room.{shape_named, where_there}
-use Rattle.fact_lowering.specs.Storings.{HasRoom, IsCaseStorable, IsCaseStored, IsStorable, own_case_of, variant_bytes}
+use Rattle.fact_lowering.specs.Storings.{HasSpace, IsCaseStorable, IsCaseStored, IsStorable, own_case_of, variant_bytes}
 use Rattle.fact_lowering.proofs.Agreeing.{number_written, written_also, written_both, written_wider}
 use Rattle.fact_lowering.proofs.OwnRooms.{IsCaseKind, case_room, case_rooms}
 use Rattle.fact_lowering.proofs.Stored.{reads_case}

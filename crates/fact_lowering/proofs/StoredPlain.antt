@@ -9,16 +9,17 @@ use Rattle.fact_types.specs.Layout.{extent}
 use Rattle.fact_types.specs.Shapes.{s_plain, plain_layout}
 use Rattle.fact_types.proofs.ShapeLaws.{none_some}
 use Rattle.fact_machine.specs.World.{with_number}
+use Rattle.fact_types.specs.Signatures.{pointer_bytes}
 use Rattle.fact_values.specs.declared.side.SideAbi.{SideAbi}
 use Rattle.fact_values.specs.declared.value.Value.{Value, out-Value}
 use Rattle.fact_values.specs.declared.value.Value.TheOpen as o
 use Rattle.fact_values.specs.declared.value.Value.TheVariants as value
 use Rattle.fact_values.specs.IsA.{IsPlainValue}
 use Rattle.fact_values.specs.Numbers.{Plain, boolean, unsigned, signed, float32, float64, character, text, handle, nothing, plain_of, number_in, value_of_number}
-use Rattle.fact_values.specs.Places.{width_of, extent_on, pointer_bytes, Pair, pair_at}
+use Rattle.fact_values.specs.Places.{width_of, extent_on, Pair, pair_at}
 use Rattle.fact_lowering.specs.Lowered.{CanStore, IsPut, IsStored, IsWritten, ReadsAt, own_room}
 use Rattle.fact_lowering.specs.Lowerings.{IsNumberOf, IsNumberFor}
-use Rattle.fact_lowering.specs.Storings.{HasRoom}
+use Rattle.fact_lowering.specs.Storings.{HasSpace}
 use Rattle.fact_lowering.proofs.Agreeing.{number_put, written_also, written_wider}
 use Rattle.fact_lowering.proofs.Stored.{IsNoText, reads_number}
 use Rattle.fact_lowering.proofs.StoreSteps.{behind_size, pair_stored}
@@ -61,10 +62,10 @@ text_is y v cs e h =
     (text_type y q.0, q.1)
 
 -- a text's pointer and length have room where the text has
-pub text_room_is : (side : SideAbi) (y : InterfaceType) (a low : ℕ) (m : List ℕ) → y ≡ ty.String → HasRoom (extent_on side (s_plain y)).size a low m → a + (pointer_bytes (width_of side) + pointer_bytes (width_of side)) ≤ low
+pub text_room_is : (side : SideAbi) (y : InterfaceType) (a low : ℕ) (m : List ℕ) → y ≡ ty.String → HasSpace (extent_on side (s_plain y)).size a low m → a + (pointer_bytes (width_of side) + pointer_bytes (width_of side)) ≤ low
 text_room_is side y a low m e h = omega (arith, behind_size side (s_plain y) e, h.below)
 
-pub text_stored : (side : SideAbi) (y : InterfaceType) (v : Value) (cs : List ℕ) (p : Pair) (a low high : ℕ) (m m' m'' : List ℕ) → v ≡ value.Str cs → y ≡ ty.String → HasRoom (extent_on side (s_plain y)).size a low m → IsPut side (s_plain ty.String) (value.Str cs) p low high m m'
+pub text_stored : (side : SideAbi) (y : InterfaceType) (v : Value) (cs : List ℕ) (p : Pair) (a low high : ℕ) (m m' m'' : List ℕ) → v ≡ value.Str cs → y ≡ ty.String → HasSpace (extent_on side (s_plain y)).size a low m → IsPut side (s_plain ty.String) (value.Str cs) p low high m m'
     → IsWritten (λ b. pair_at side b a ≡ Some p) a (pointer_bytes (width_of side) + pointer_bytes (width_of side)) high high 0 m' m'' → IsStored side (s_plain y) v a low high m m''
 text_stored side y v cs p a low high m m' m'' e is room put w =
     pair_stored side (s_plain y) v p a low high m m' m'' is room.below (subst (λ v. IsPut side (s_plain y) v p low high m m') (sym e) (subst (λ y. IsPut side (s_plain y) (value.Str cs) p low high m m') (sym is) put)) w
@@ -83,7 +84,7 @@ pub never_text : (y : InterfaceType) (v : Value) (q : Option ℕ) (n : ℕ) → 
 never_text y v q n e h is = none_some (value_of_number text n) v refl (subst (λ k. value_of_number k n ≡ Some v) is (number_of_some y v q n e h).whole)
 
 pub number_stored : (side : SideAbi) (y : InterfaceType) (v : Value) (q : Option ℕ) (n size a low : ℕ) (m : List ℕ) → q ≡ Some n → IsNumberFor y v q → (plain_of y ≡ text → ⊥) → ((w : MemoryWidth) → (plain_of y ≡ text → ⊥) → size ≡ (extent w (plain_layout y)).size)
-    → HasRoom (extent_on side (s_plain y)).size a low m → IsStored side (s_plain y) v a low low m (with_number size m a n)
+    → HasSpace (extent_on side (s_plain y)).size a low m → IsStored side (s_plain y) v a low low m (with_number size m a n)
 number_stored side y v q n size a low m e h never sized room =
     let is : size ≡ (extent_on side (s_plain y)).size = sized (width_of side) never in
     let num = number_of_some y v q n e h in

@@ -12,7 +12,7 @@ use Rattle.fact_types.specs.declared.outside.StringEncoding.{StringEncoding}
 use Rattle.fact_types.specs.declared.outside.StringEncoding.TheVariants as of_side
 use Rattle.fact_types.specs.Shapes.{s_plain}
 use Rattle.fact_machine.specs.World.{put_at}
-use Rattle.fact_moves.specs.Transcoders.{all_latin1}
+use Rattle.fact_actions.specs.Transcoders.{all_latin1}
 use Rattle.fact_values.specs.declared.side.SideAbi.{SideAbi}
 use Rattle.fact_values.specs.declared.value.Value.{Value}
 use Rattle.fact_values.specs.declared.value.Value.TheVariants as value

@@ -10,7 +10,7 @@ use Rattle.fact_types.specs.declared.interface.InterfaceType.{InterfaceType}
 use Rattle.fact_types.specs.FlatShapes.{flat, flat_all, flat_types, pointer, upto}
 use Rattle.fact_types.specs.Functions.{HaveShapes}
 use Rattle.fact_types.specs.Shapes.{Shape, ends_of, next_of, place_of}
-use Rattle.fact_types.specs.Steps.{◌>>=◌}
+use Rattle.fact_types.specs.Options.{◌>>=◌}
 use Rattle.fact_types.specs.Tables.{Tables}
 use Rattle.fact_types.specs.Tuples.{members_from, tuple_members, tuple_of}
 use Rattle.fact_types.proofs.PlaceLaws.{ends_grow}

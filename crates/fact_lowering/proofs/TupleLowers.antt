@@ -16,7 +16,7 @@ use Rattle.fact_types.specs.Flat.{value_type}
 use Rattle.fact_types.specs.FlatShapes.{after_flat, flat, flat_each, flat_types}
 use Rattle.fact_types.specs.Functions.{HaveShapes}
 use Rattle.fact_types.specs.Shapes.{Shape}
-use Rattle.fact_types.specs.Steps.{◌>>=◌}
+use Rattle.fact_types.specs.Options.{◌>>=◌}
 use Rattle.fact_types.specs.Tables.{Tables}
 use Rattle.fact_types.specs.Tuples.{members_from, tuple_members}
 use Rattle.fact_types.proofs.JoinLaws.{joined_same}

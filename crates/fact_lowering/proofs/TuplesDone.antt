@@ -22,8 +22,8 @@ use Rattle.fact_values.specs.declared.value.Value.{Value}
 use Rattle.fact_values.specs.Lift.{bits_of, can_stand, number_as}
 use Rattle.fact_values.specs.Places.{extent_on, width_of}
 use Rattle.fact_values.specs.Tuples.{behind_only, lift_all, load_tuple, where_flat}
-use Rattle.fact_moves.specs.Adapters.{last_bits}
-use Rattle.fact_lowering.specs.Lowered.{Agree, AreLowered, IsLoweredTo, IsTakenFor, LacksRoom, Rises, own_rooms, tuple_room}
+use Rattle.fact_actions.specs.Adapters.{last_bits}
+use Rattle.fact_lowering.specs.Lowered.{AgreeOutside, AreLowered, IsLoweredTo, IsTakenFor, LacksRoom, Rises, own_rooms, tuple_room}
 use Rattle.fact_lowering.specs.Lowerings.{core_of}
 use Rattle.fact_lowering.specs.TextForms.{AreByForm, AreByFormAt}
 use Rattle.fact_lowering.specs.TupleSteps.{BehindLoweredOr, FlatLoweredOr, ReadsTuple, StandsBehind, TakenOr, TupleLoweredOr}
@@ -73,7 +73,7 @@ first_same n (x ∷ xs) [] e f = absurd (omega (arith, e))
 first_same zero (x ∷ xs) (y ∷ ys) e f = refl
 first_same (suc n) (x ∷ xs) (y ∷ ys) e f = (λ i. f 0 (let h : 0 < suc n = omega arith in h) i ∷ first_same n xs ys (let h : length xs ≡ length ys = omega (arith, e) in h) (λ j h. f (suc j) (let k : suc j < suc n = omega (arith, h) in k)) i)
 
-agree_itself : (low high : ℕ) (x : List ℕ) → Agree low high x x
+agree_itself : (low high : ℕ) (x : List ℕ) → AgreeOutside low high x x
 agree_itself low high x = record { same_length = refl; each = λ j p q. refl }
 
 -- ---- flat

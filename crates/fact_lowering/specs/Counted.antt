@@ -11,14 +11,14 @@ abbrev pub stopped : ℕ → ℕ
 stopped n = min n 2000000
 
 -- so much room, so many texts, lists, maps and handles, and so heavy
-pub record AsksFor (room pieces weight : ℕ) (a : Asked) : Type 0 where
+pub record CountsFor (room pieces weight : ℕ) (a : Asked) : Type 0 where
   pub room_is : a.room ≡ stopped room
   pub pieces_are : a.pieces ≡ stopped pieces
   pub weight_is : a.weight ≡ stopped weight
 
 -- what is counted, by a measure, and so heavy
 abbrev pub AsksBy : (Measure → ℕ) → ℕ → Asked → Type 0
-AsksBy count weight a = AsksFor (count inner_room) (count each_once) weight a
+AsksBy count weight a = CountsFor (count inner_room) (count each_once) weight a
 
 -- What is counted of a value of a type, carried to another one or, where there is none, to its own; and its weight. It is nothing where the
 -- type or the value is missing.

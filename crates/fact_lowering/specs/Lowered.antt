@@ -10,7 +10,7 @@ use Rattle.fact_types.specs.declared.widths.Extent.{Extent}
 use Rattle.fact_types.specs.Layout.{extent, payloads, record_layout}
 use Rattle.fact_types.specs.Shapes.{Kind, k_list, k_map, Shape, s_plain, s_node, Members, layouts_of}
 use Rattle.fact_types.specs.Signatures.{flat_params}
-use Rattle.fact_types.specs.Steps.{◌>>=◌}
+use Rattle.fact_types.specs.Options.{◌>>=◌}
 use Rattle.fact_types.specs.Tables.{Tables, IsLive}
 use Rattle.fact_types.specs.Tuples.{tuple_members, tuple_of}
 use Rattle.fact_types.specs.declared.interface.InterfaceType.{InterfaceType}
@@ -28,7 +28,7 @@ use Rattle.fact_lowering.specs.TextForms.{AreByForm, AreByFormAt, AreElementsByF
 -- ---- memories that agree
 
 -- two memories of one length are the same from one place up to another
-pub record Agree (low high : ℕ) (a b : List ℕ) : Type 0 where
+pub record AgreeOutside (low high : ℕ) (a b : List ℕ) : Type 0 where
   pub same_length : length a ≡ length b
   pub each : (j : ℕ) → low ≤ j → j < high → get_or a j 0 ≡ get_or b j 0
 
@@ -128,7 +128,7 @@ own_rooms side ms vs = measured_places (own_measure side) ms vs ms
 -- Something was written to a place and between two cursors: it is read in every memory that agrees there, nothing else changed, and the cursor rose
 -- by no more than so much.
 pub record IsWritten (Reads : List ℕ → Type 0) (place size low high most : ℕ) (before after : List ℕ) : Type 0 where
-  pub reads : (other : List ℕ) → Agree place (place + size) after other → Agree low high after other → Reads other
+  pub reads : (other : List ℕ) → AgreeOutside place (place + size) after other → AgreeOutside low high after other → Reads other
   pub changed : IsChanged place size low high before after
   pub rises : Rises low high most after
 

@@ -26,7 +26,7 @@ use Rattle.fact_lowering.specs.Lowerings.{ReadsCase, own_case}
 use Rattle.fact_lowering.specs.Room.{where_there}
 
 -- so many bytes at a place lie before the cursor of a memory that is stored to
-pub record HasRoom (size place cursor : ℕ) (bytes : List ℕ) : Type 0 where
+pub record HasSpace (size place cursor : ℕ) (bytes : List ℕ) : Type 0 where
   pub below : place + size ≤ cursor
   pub can : CanStore cursor bytes
 
@@ -35,7 +35,7 @@ pub record IsStorable (t : Tables) (side : SideAbi) (ty : InterfaceType) (v : Va
   pub shape : Shape
   pub shaped : HasShape t ty shape
   pub is : IsA shape v
-  pub room : HasRoom (extent_on side shape).size place cursor bytes
+  pub room : HasSpace (extent_on side shape).size place cursor bytes
 
 -- A value of a kind of type with members has room at a place.
 pub record IsNodeStorable (t : Tables) (side : SideAbi) (k : Kind) (types : List (Option InterfaceType)) (v : Value) (place cursor : ℕ) (bytes : List ℕ) : Type 0 where
@@ -43,7 +43,7 @@ pub record IsNodeStorable (t : Tables) (side : SideAbi) (k : Kind) (types : List
   pub are : AreOf t types members
   pub is : IsA (s_node k members) v
   pub few : (extent_on side (s_node k members)).size ≤ 4294967295
-  pub room : HasRoom (extent_on side (s_node k members)).size place cursor bytes
+  pub room : HasSpace (extent_on side (s_node k members)).size place cursor bytes
 
 -- Values of members have room at a place, one behind the other.
 pub record AreStorable (t : Tables) (side : SideAbi) (types : List (Option InterfaceType)) (vs : List Value) (place cursor : ℕ) (bytes : List ℕ) : Type 0 where
@@ -51,7 +51,7 @@ pub record AreStorable (t : Tables) (side : SideAbi) (types : List (Option Inter
   pub are : AreOf t types members
   pub values : AreMembers members vs
   pub few : ends_of (width_of side) members 0 ≤ 4294967295
-  pub room : HasRoom (ends_of (width_of side) members 0) place cursor bytes
+  pub room : HasSpace (ends_of (width_of side) members 0) place cursor bytes
 
 -- Values of one type have room at a place, each of so many bytes.
 pub record AreElements (t : Tables) (side : SideAbi) (ty : InterfaceType) (vs : List Value) (stride place cursor : ℕ) (bytes : List ℕ) : Type 0 where
@@ -59,7 +59,7 @@ pub record AreElements (t : Tables) (side : SideAbi) (ty : InterfaceType) (vs : 
   pub shaped : HasShape t ty shape
   pub are : AllByRecursion (λ v. IsA shape v) vs
   pub stride_is : stride ≡ (extent_on side shape).size
-  pub room : HasRoom (length vs * stride) place cursor bytes
+  pub room : HasSpace (length vs * stride) place cursor bytes
 
 -- The members of entries of a map.
 abbrev pub AreEntryMembers : Tables → (key item : InterfaceType) → Members → Type 0
@@ -71,7 +71,7 @@ pub record AreEntries (t : Tables) (side : SideAbi) (key item : InterfaceType) (
   pub has : AreEntryMembers t key item members
   pub are : AllByRecursion (λ e. AreMembers members (e.0 ∷ e.1 ∷ [])) es
   pub few : ends_of (width_of side) members 0 ≤ stride
-  pub room : HasRoom (length es * stride) place cursor bytes
+  pub room : HasSpace (length es * stride) place cursor bytes
 
 -- Lists and maps stand behind a pointer and a length.
 abbrev pub IsBehindPair : Kind → Type 0
@@ -121,7 +121,7 @@ pub record IsCaseStorable (t : Tables) (side : SideAbi) (names : List (List ℕ)
   pub named : names ≡ names_of members
   pub are : AreOf t types members
   pub is : IsCase (λ x vs. HasCase members x vs) (out-Value v)
-  pub room : HasRoom (variant_bytes side members) place cursor bytes
+  pub room : HasSpace (variant_bytes side members) place cursor bytes
 
 -- the room behind pointers of a case
 abbrev pub own_case_of : SideAbi → Members → Value → ℕ

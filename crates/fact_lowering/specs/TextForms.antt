@@ -15,8 +15,8 @@ use Rattle.fact_values.specs.Lift.{number_as, leading_pair, element_count}
 use Rattle.fact_values.specs.Numbers.{Plain, text, plain_of, number_in}
 use Rattle.fact_values.specs.Places.{width_of, case_bytes, payload_place, element_extent, Pair, pair_at}
 use Rattle.fact_values.specs.Texts.{form_of, text_at}
-use Rattle.fact_moves.specs.Adapters.{last_bits}
-use Rattle.fact_moves.specs.Transcoders.{all_latin1}
+use Rattle.fact_actions.specs.Adapters.{last_bits}
+use Rattle.fact_actions.specs.Transcoders.{all_latin1}
 
 -- the form in which a text is stored for a side
 abbrev pub stored_in : StringEncoding → List ℕ → FixedEncoding

@@ -3,7 +3,7 @@
 ghost use Rattle.std.specs.Prelude.{◌≡◌, [], ◌∷◌, List, Some, None, replicate, slice_get, IfOk};
 ghost use Rattle.fact_types.specs.FlatShapes.{flat, flat_all as all_flat, flat_any, flat_members as members_flat, flat_plain as plain_flat, flat_types as flat_there, joined as joined_lists, pointer, times, upto};
 ghost use Rattle.fact_types.specs.Functions.{HaveShapes};
-ghost use Rattle.fact_types.specs.Heights.{Within};
+ghost use Rattle.fact_types.specs.Heights.{IsMemberOf};
 ghost use Rattle.fact_types.specs.Layout.{flags_flat, flags_size};
 ghost use Rattle.fact_types.specs.Shapes.{Shape, Members};
 ghost use Rattle.fact_types.specs.Signatures.{width};
@@ -181,7 +181,7 @@ fn flat_member(
     member: &Option<InterfaceType>,
     memory64: bool,
 ) -> Result<Option<Seq<FlatType>>, OutOfMemory>
-    requires { (y : InterfaceType) → member.now ≡ Some y → Within types.now y owner.now }
+    requires { (y : InterfaceType) → member.now ≡ Some y → IsMemberOf types.now y owner.now }
     ensures none { member.now ≡ None → IfOk result (λ o. o ≡ Some []) }
     ensures some { (y : InterfaceType) → member.now ≡ Some y → IfOk result (λ o. (s : Shape) → HasShape types.now y s → o ≡ flat_there (width memory64) s) }
 {
@@ -201,7 +201,7 @@ fn flat_elements(
     count: u32,
     memory64: bool,
 ) -> Result<Option<Seq<FlatType>>, OutOfMemory>
-    requires { Within types.now element.now owner.now }
+    requires { IsMemberOf types.now element.now owner.now }
     ensures { IfOk result (λ o. (s : Shape) → HasShape types.now element.now s → o ≡ upto 16 (times count (flat (width memory64) s))) }
 {
     if count == 0 {

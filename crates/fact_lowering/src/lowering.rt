@@ -2,7 +2,7 @@
 
 ghost use Rattle.std.specs.Prelude.{◌≡◌, ◌++◌, ◌≤◌, ℕ, Bool, List, None, length, IfOk, OnOk};
 ghost use Rattle.fact_types.specs.FlatShapes.{pointer};
-ghost use Rattle.fact_types.specs.Heights.{Within};
+ghost use Rattle.fact_types.specs.Heights.{IsMemberOf};
 ghost use Rattle.fact_types.specs.Shapes.{Shape, s_plain};
 ghost use Rattle.fact_types.specs.Tables.{IsLive, HasShape};
 ghost use Rattle.fact_abi.specs.Finding.{member_type_at};
@@ -296,7 +296,7 @@ fn lower_elements(
     out: &mut Seq<CoreValue>,
 ) -> Result<bool, OutOfMemory>
     requires node { (count : ℕ) × IsNodeOfKind to.now.types.now ty.now node.now (kinds.FixedList count element.now) }
-    requires within { Within to.now.types.now element.now ty.now }
+    requires within { IsMemberOf to.now.types.now element.now ty.now }
     requires lowerable { IsLowerable to.now.types.now to.now.side ty.now value.now slots.now store.old.cursor store.old.bytes.items }
     ensures { IfOk result (λ done. LoweredOr to.now.types.now to.now.side ty.now value.now slots.now done store.old.cursor store.new.cursor store.old.bytes.items store.new.bytes.items out.old out.new) }
 {

@@ -1,12 +1,13 @@
 //! Where types stand in the memory of a side (canonical ABI, "Alignment" and "Element Size").
 
 ghost use Rattle.std.specs.Prelude.{◌≡◌, ◌≤◌, IfOk};
-ghost use Rattle.fact_types.specs.Layout.{discriminant_size, discriminant_bytes, extent, extents, payloads, payload_offset as offset_of_payload};
+ghost use Rattle.fact_types.specs.Layout.{extent, extents, payloads, payload_offset as offset_of_payload};
 ghost use Rattle.fact_types.specs.Shapes.{k_map, Shape, s_node, Members, layouts_of, place_of, next_of};
 ghost use Rattle.fact_types.specs.Tables.{IsLive, HasShape, abi_at};
 ghost use Rattle.fact_abi.specs.Finding.{IsIndexOf};
 ghost use Rattle.fact_abi.specs.Nodes.{AreOf};
-ghost use Rattle.fact_values.specs.Places.{element_extent, extent_on, pointer_bytes, width_of};
+ghost use Rattle.fact_types.specs.Signatures.{pointer_bytes};
+ghost use Rattle.fact_values.specs.Places.{element_extent, extent_on, width_of};
 ghost use Rattle.fact_lowering.specs.Storings.{AreLiveMembers};
 
 use fact_abi::{Node, SideAbi, index_of_name};
@@ -101,20 +102,6 @@ impl Lowering<'_> {
             }
         }
         (size as u64).next_multiple_of(u64::from(greatest))
-    }
-}
-
-/// The bytes of the discriminant of so many cases.
-pub(crate) fn case_bytes(count: usize) -> usize
-    ensures value { result ≡ discriminant_bytes (discriminant_size count) }
-    ensures few { result ≤ 4 }
-{
-    if count <= 0x100 {
-        1
-    } else if count <= 0x1_0000 {
-        2
-    } else {
-        4
     }
 }
 

@@ -4,7 +4,7 @@ ghost use Rattle.std.specs.Prelude.{◌≡◌, ◌+◌, ◌*◌, ◌^◌, ◌<�
 ghost use Rattle.std.specs.Option.{option_copied};
 ghost use Rattle.fact_types.specs.Agrees.{names_of};
 ghost use Rattle.fact_types.specs.Functions.{HaveShapes};
-ghost use Rattle.fact_types.specs.Heights.{Within};
+ghost use Rattle.fact_types.specs.Heights.{IsMemberOf};
 ghost use Rattle.fact_types.specs.Layout.{aligned as next_aligned, extent};
 ghost use Rattle.fact_types.specs.Shapes.{k_fixed, k_list, k_map, k_record, k_tuple, k_variant, layout_of, Shape, s_node, Members};
 ghost use Rattle.fact_types.specs.Signatures.{width};
@@ -16,7 +16,7 @@ ghost use Rattle.fact_values.specs.Places.{element_layout, typed_names};
 ghost use Rattle.fact_values.specs.Weight.{weight, weight_element, weight_members};
 ghost use Rattle.fact_abi.specs.Finding.{IsTypeOf};
 ghost use Rattle.fact_abi.specs.Nodes.{kind_of, AreLower, AreOf, HasNode};
-ghost use Rattle.fact_lowering.specs.Counted.{AsksBy, AsksFor, measured_at, shape_of_name, stopped, weight_at, weights_of as weights_there};
+ghost use Rattle.fact_lowering.specs.Counted.{AsksBy, CountsFor, measured_at, shape_of_name, stopped, weight_at, weights_of as weights_there};
 ghost use Rattle.fact_lowering.specs.Lowered.{AreAllLive};
 ghost use Rattle.fact_lowering.specs.Room.{fits as values_fit, greatest_bytes as more_bytes, measured, measured_element, measured_fields, measured_places, measured_plain, same_kind, shape_named};
 
@@ -51,7 +51,7 @@ fn capped(a: u64, b: u64) -> u64
 
 impl Asked {
     fn and(self, other: Asked) -> Asked
-        ensures { (m n p q v w : ℕ) → AsksFor m p v self → AsksFor n q w other → AsksFor (m + n) (p + q) (v + w) result }
+        ensures { (m n p q v w : ℕ) → CountsFor m p v self → CountsFor n q w other → CountsFor (m + n) (p + q) (v + w) result }
     {
         Asked {
             room: capped(self.room, other.room),
@@ -63,7 +63,7 @@ impl Asked {
 
 /// What has no room of its own.
 fn weighs(weight: usize) -> Asked
-    ensures { AsksFor 0 0 weight result }
+    ensures { CountsFor 0 0 weight result }
 {
     Asked {
         room: 0,
@@ -74,7 +74,7 @@ fn weighs(weight: usize) -> Asked
 
 /// A handle.
 fn handle() -> Asked
-    ensures { AsksFor 0 1 1 result }
+    ensures { CountsFor 0 1 1 result }
 {
     Asked {
         room: 0,
@@ -85,7 +85,7 @@ fn handle() -> Asked
 
 /// A text, a list or a map, with so many parts of so many bytes.
 fn piece(count: u64, each: u64) -> Asked
-    ensures { AsksFor (8 + count * each) 1 1 result }
+    ensures { CountsFor (8 + count * each) 1 1 result }
 {
     Asked {
         room: capped(8, count.saturating_mul(each)),
@@ -391,7 +391,7 @@ fn asked_at(
     to: Option<InterfaceType>,
     value: Option<&Value>,
 ) -> Result<Asked, OutOfMemory>
-    requires within { (y : InterfaceType) → from ≡ Some y → Within types.now y owner.now }
+    requires within { (y : InterfaceType) → from ≡ Some y → IsMemberOf types.now y owner.now }
     requires live { IsLiveMember types.now to }
     ensures { IfOk result (λ a. (x p : Option Shape) → IsTypeOf types.now from x → IsTypeOf types.now to p → AsksBy (λ m. measured_at m x p (option_copied value.entry)) (weight_at x (option_copied value.entry)) a) }
 {
@@ -753,7 +753,7 @@ fn asked_by_payload(
     to: Option<InterfaceType>,
     payload: &Seq<Value>,
 ) -> Result<Asked, OutOfMemory>
-    requires within { (y : InterfaceType) → from ≡ Some y → Within types.now y owner.now }
+    requires within { (y : InterfaceType) → from ≡ Some y → IsMemberOf types.now y owner.now }
     requires live { IsLiveMember types.now to }
     ensures { IfOk result (λ a. (x p : Option Shape) → IsTypeOf types.now from x → IsTypeOf types.now to p → AsksBy (λ m. measured_at m x p (only_one payload.now)) (weights_there x payload.now) a) }
 {
@@ -773,9 +773,9 @@ fn weights_of(
     to: Option<InterfaceType>,
     values: &[Value],
 ) -> Result<Asked, OutOfMemory>
-    requires within { (y : InterfaceType) → from ≡ Some y → Within types.now y owner.now }
+    requires within { (y : InterfaceType) → from ≡ Some y → IsMemberOf types.now y owner.now }
     requires live { IsLiveMember types.now to }
-    ensures { IfOk result (λ a. (x p : Option Shape) → IsTypeOf types.now from x → IsTypeOf types.now to p → AsksFor 0 0 (weights_there x values.now) a) }
+    ensures { IfOk result (λ a. (x p : Option Shape) → IsTypeOf types.now from x → IsTypeOf types.now to p → CountsFor 0 0 (weights_there x values.now) a) }
 {
     let mut all = weighs(0);
     for place in 0..values.len() {
@@ -787,7 +787,7 @@ fn weights_of(
 }
 
 fn without_room(asked: Asked) -> Asked
-    ensures { (m p w : ℕ) → AsksFor m p w asked → AsksFor 0 0 w result }
+    ensures { (m p w : ℕ) → CountsFor m p w asked → CountsFor 0 0 w result }
 {
     Asked {
         room: 0,

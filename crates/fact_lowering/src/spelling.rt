@@ -4,7 +4,7 @@ ghost use Rattle.std.specs.Prelude.{◌≡◌, ◌≤◌, ◌%◌, ◌/◌, ◌+
 ghost use Rattle.std.specs.Char.Escape.{encode_utf16};
 ghost use Rattle.fact_types.specs.declared.outside.FixedEncoding.TheVariants as fixed;
 ghost use Rattle.fact_values.specs.Texts.{AreSpelled, low_first, spelled_text, unit_bytes as bytes_of_unit, units as units_there};
-ghost use Rattle.fact_moves.specs.Transcoders.{all_latin1};
+ghost use Rattle.fact_actions.specs.Transcoders.{all_latin1};
 ghost use Rattle.fact_lowering.specs.TextForms.{stored_in};
 
 use fact_types::{FixedEncoding, StringEncoding};

@@ -10,21 +10,22 @@ ghost use Rattle.fact_types.specs.Layout.{flags_extent, flags_size};
 ghost use Rattle.fact_types.specs.Shapes.{k_fixed, k_flags, k_list, k_map, k_record, k_tuple, Shape, s_plain, s_node, Members, ends_of};
 ghost use Rattle.fact_types.specs.Tables.{IsLive, HasShape};
 ghost use Rattle.fact_abi.specs.Nodes.{AreOf, HasNode, kind_of};
+ghost use Rattle.fact_types.specs.Signatures.{pointer_bytes};
 ghost use Rattle.fact_values.specs.declared.value.HandleKind.{HandleKind};
 ghost use Rattle.fact_values.specs.declared.value.Value.{out-Value};
 ghost use Rattle.fact_values.specs.declared.value.Value.TheVariants as a_value;
 ghost use Rattle.fact_values.specs.IsA.{IsA, IsRecord, IsTuple, IsListOf, IsFixedList, IsMap, IsCase, IsFlags, IsHandle, IsPlainValue, AreMembers, HasCase, IsElement};
 ghost use Rattle.fact_values.specs.Numbers.{plain_of, number_in};
-ghost use Rattle.fact_values.specs.Places.{extent_on, flags_bytes, pair_at, pointer_bytes, width_of};
+ghost use Rattle.fact_values.specs.Places.{extent_on, flags_bytes, pair_at, width_of};
 ghost use Rattle.fact_lowering.specs.Lowered.{CanStore, IsPut, IsStored, IsWritten, LacksRoom, ReadsEach, ReadsEntries, ReadsMembers, own_room, own_rooms};
 ghost use Rattle.fact_lowering.specs.Lowerings.{AreFlagBytes, own_entries};
-ghost use Rattle.fact_lowering.specs.Storings.{AreBits, AreElements, AreEntries, AreEntryMembers, AreLiveMembers, AreStorable, HasRoom, IsBehindPair, IsCaseStorable, IsCaseStored, IsNodeStorable, IsStorable, PutOr, own_case_of, pair_of, set_at, tagged_count, text_align};
+ghost use Rattle.fact_lowering.specs.Storings.{AreBits, AreElements, AreEntries, AreEntryMembers, AreLiveMembers, AreStorable, HasSpace, IsBehindPair, IsCaseStorable, IsCaseStored, IsNodeStorable, IsStorable, PutOr, own_case_of, pair_of, set_at, tagged_count, text_align};
 
 use crate::numbers::{number_of_value, plain_size};
-use crate::places::{Lowering, Pair, case_bytes, case_number};
+use crate::places::{Lowering, Pair, case_number};
 use crate::spelling::{spelled, stored_encoding, unit_bytes};
 use crate::store::Store;
-use fact_abi::{Node, NodeKind, Value, member_type, node_of_type};
+use fact_abi::{Node, NodeKind, Value, case_bytes, member_type, node_of_type};
 use fact_types::{FixedEncoding, InterfaceType, StringEncoding};
 use fact_wasm::{OutOfMemory, Text};
 use std::alloc::{AllocError, Global};
@@ -81,7 +82,7 @@ fn put_pair(
     address: u64,
     pair: Pair,
 ) -> Result<(), OutOfMemory>
-    requires room { HasRoom (pointer_bytes (width_of to.now.side) + pointer_bytes (width_of to.now.side)) address store.old.cursor store.old.bytes.items }
+    requires room { HasSpace (pointer_bytes (width_of to.now.side) + pointer_bytes (width_of to.now.side)) address store.old.cursor store.old.bytes.items }
     requires pointer { pair.pointer < 2 ^ 32 }
     requires count { pair.count < 2 ^ 32 }
     ensures written { OnOk result (IsWritten (λ b. pair_at to.now.side b address ≡ Some (pair_of pair)) address (pointer_bytes (width_of to.now.side) + pointer_bytes (width_of to.now.side)) store.old.cursor store.old.cursor 0 store.old.bytes.items store.new.bytes.items) }
@@ -101,7 +102,7 @@ fn store_plain(
     address: u64,
 ) -> Result<bool, OutOfMemory>
     requires value { IsPlainValue (plain_of ty.now) (out-Value value.now) }
-    requires room { HasRoom (extent_on to.now.side (s_plain ty.now)).size address store.old.cursor store.old.bytes.items }
+    requires room { HasSpace (extent_on to.now.side (s_plain ty.now)).size address store.old.cursor store.old.bytes.items }
     ensures { IfOk result (λ done. chosen done (IsStored to.now.side (s_plain ty.now) value.now address store.old.cursor store.new.cursor store.old.bytes.items store.new.bytes.items) (LacksRoom store.old.cursor (own_room to.now.side (s_plain ty.now) value.now) store.old.bytes.items)) }
 {
     if let Value::Str(text) = value {
@@ -359,7 +360,7 @@ fn store_flags(
     value: &Value,
     address: u64,
 ) -> Result<bool, OutOfMemory>
-    requires { (ms : Members) × IsFlags ms (out-Value value.now) × HasRoom (flags_bytes ms) address store.old.cursor store.old.bytes.items }
+    requires { (ms : Members) × IsFlags ms (out-Value value.now) × HasSpace (flags_bytes ms) address store.old.cursor store.old.bytes.items }
     ensures { IfOk result (λ done. (ms : Members) → IsFlags ms (out-Value value.now) → chosen done (IsStored to.now.side (s_node k_flags ms) value.now address store.old.cursor store.new.cursor store.old.bytes.items store.new.bytes.items) (LacksRoom store.old.cursor (own_room to.now.side (s_node k_flags ms) value.now) store.old.bytes.items)) }
 {
     let Value::Flags(flags) = value else {
@@ -431,7 +432,7 @@ fn store_handle(
     address: u64,
 ) -> Result<bool, OutOfMemory>
     requires handle { (kind : HandleKind) × (table : ℕ) × IsHandle kind table (out-Value value.now) }
-    requires room { HasRoom 4 address store.old.cursor store.old.bytes.items }
+    requires room { HasSpace 4 address store.old.cursor store.old.bytes.items }
     ensures { IfOk result (λ done. (kind : HandleKind) (table : ℕ) → IsHandle kind table (out-Value value.now) → chosen done ((n : ℕ) × (value.now ≡ a_value.Handle kind table n) × IsWritten (λ b. number_in b 4 address ≡ Some n) address 4 store.old.cursor store.new.cursor 0 store.old.bytes.items store.new.bytes.items) ⊥) }
 {
     let Value::Handle { number, .. } = value else {

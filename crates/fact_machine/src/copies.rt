@@ -4,15 +4,7 @@ ghost use Rattle.std.specs.Prelude.{◌≡◌, IfOk};
 
 use crate::OutOfMemory;
 use crate::types::{Answer, MachineState};
-use fact_wasm::Seq;
-
-fn copy_items<T: Copy>(items: &Seq<T>) -> Result<Seq<T>, OutOfMemory>
-    ensures { IfOk result (λ copy. copy ≡ items.now) }
-{
-    let mut copy = items.empty_like().into_vec();
-    copy.extend_from_slice(items.as_slice())?;
-    Ok(Seq::from_vec(copy))
-}
+use fact_wasm::{Seq, copy_items};
 
 fn copy_memories(memories: &Seq<Seq<u8>>) -> Result<Seq<Seq<u8>>, OutOfMemory>
     ensures { IfOk result (λ copy. copy ≡ memories.now) }

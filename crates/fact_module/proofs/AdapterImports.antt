@@ -25,7 +25,7 @@ use Rattle.fact_types.specs.declared.outside.Trap.{Trap}
 use Rattle.fact_types.specs.declared.outside.Trap.TheVariants as trap
 use Rattle.fact_types.specs.declared.outside.UnsafeIntrinsic.TheVariants as slot
 use Rattle.fact_types.proofs.ShapeLaws.{none_some, same_some}
-use Rattle.fact_pieces.specs.StringCode.{transcoder_type}
+use Rattle.fact_code_laws.specs.StringCode.{transcoder_type}
 use Rattle.fact_emit.specs.declared.imported.RuntimeFunction.{RuntimeFunction}
 use Rattle.fact_emit.specs.declared.imported.RuntimeFunction.TheVariants as runtime
 use Rattle.fact_emit.specs.ImportSection.{AreNamed, Callback, Callee, Flags, IsImportedFunction, IsNamed, IsPrepareNamed, IsRuntime, IsStartNamed, IsTranscoderNamed, Mention, NamesImports, PostReturn, Realloc, Role, StandsFor, Storage, a_function, a_memory, custom_page_size, if_prepare, imported_type, imports_of, is_awaited, is_of, mentions, prepares_in, same_sort, sort_of}
@@ -41,8 +41,8 @@ use Rattle.fact_check.specs.declared.imports.Origin.TheVariants as origin
 use Rattle.fact_check.specs.declared.imports.Signature.{Signature}
 use Rattle.fact_check.specs.declared.imports.Signature.TheVariants as signature
 use Rattle.fact_plan.specs.declared.plan.FusePlan.{FusePlan}
-use Rattle.fact_checks.specs.Adapters.{adapters_of}
-use Rattle.fact_checks.specs.FirstFault.{IsFaultlessPlan}
+use Rattle.fact_adapter_rules.specs.Adapters.{adapters_of}
+use Rattle.fact_adapter_rules.specs.FirstFault.{IsFaultlessPlan}
 use Rattle.fact_module.specs.Checked.{FusedAreAccepted}
 use Rattle.fact_module.specs.declared.fusion.Fused.{Fused}
 use Rattle.fact_module.specs.Fused.{IsFused}

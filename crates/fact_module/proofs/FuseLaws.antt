@@ -18,16 +18,16 @@ use Rattle.fact_plan_types.specs.Faults.{Fault, too_large}
 use Rattle.fact_plan_types.specs.TypeRules.{most_entries}
 use Rattle.fact_plan_types.specs.declared.error.Place.{Place}
 use Rattle.fact_plan_types.specs.declared.error.Place.TheVariants.{Adapter as at_adapter}
-use Rattle.fact_checks.specs.declared.sides.Candidate.{Candidate}
-use Rattle.fact_checks.specs.Adapters.{adapter_of, adapters_before, adapters_of}
-use Rattle.fact_checks.specs.AdapterRules.{AdapterHas, AdapterLacks, HasAdapterFault, LinkedHas}
-use Rattle.fact_checks.specs.FirstFault.{IsFaultlessPlan, IsFirstAt}
-use Rattle.fact_checks.specs.Linked.{HasSides, IsLinked, NamesTypesOf}
-use Rattle.fact_checks.specs.Links.{IsFirstHere, LinksAdapter}
-use Rattle.fact_checks.proofs.LinkLaws.{sides-typed, some_and}
-use Rattle.fact_checks.proofs.PlanLaws.{before-next, first-linked, none-here}
-use Rattle.fact_forms.specs.Sound.{HasValidSides}
-use Rattle.fact_forms.proofs.RulesValid.{looked_up_valid}
+use Rattle.fact_adapter_rules.specs.declared.sides.Candidate.{Candidate}
+use Rattle.fact_adapter_rules.specs.Adapters.{adapter_of, adapters_before, adapters_of}
+use Rattle.fact_adapter_rules.specs.AdapterRules.{AdapterHas, AdapterLacks, HasAdapterFault, LinkedHas}
+use Rattle.fact_adapter_rules.specs.FirstFault.{IsFaultlessPlan, IsFirstAt}
+use Rattle.fact_adapter_rules.specs.Linked.{HasSides, IsLinked, NamesTypesOf}
+use Rattle.fact_adapter_rules.specs.Links.{IsFirstHere, LinksAdapter}
+use Rattle.fact_adapter_rules.proofs.LinkLaws.{sides-typed, some_and}
+use Rattle.fact_adapter_rules.proofs.PlanLaws.{before-next, first-linked, none-here}
+use Rattle.fact_assembly.specs.Sound.{HasValidSides}
+use Rattle.fact_assembly.proofs.RulesValid.{looked_up_valid}
 use Rattle.fact_types.specs.Tables.{Tables}
 use Rattle.fact_plan_types.proofs.HandleLaws.{there as get-within}
 use Rattle.fact_emit.specs.declared.tunables.Tunables.{Tunables}
@@ -38,7 +38,7 @@ use Rattle.fact_compound.specs.Entries.{tuple_of_results}
 use Rattle.fact_assembly.specs.declared.taken.TakenAdapter.{TakenAdapter}
 use Rattle.fact_assembly.specs.Collected.{AreTaken, Collected, HasTaken, IsTakenAs, KeepsSettings, result_tuple_of, taken_of}
 use Rattle.fact_assembly.specs.Taking.{IsFirstBehind, IsSoundBehind}
-use Rattle.fact_promises.specs.AsyncRuns.{HandsOver}
+use Rattle.fact_function_laws.specs.AsyncRuns.{HandsOver}
 use Rattle.fact_assembly.specs.Faithful.{Promised}
 use Rattle.fact_module.specs.declared.fusion.Fused.{Fused}
 use Rattle.fact_module.specs.Fused.{IsFused, features_of, result_tuple, tunables_of}

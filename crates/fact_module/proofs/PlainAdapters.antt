@@ -14,7 +14,7 @@ use Rattle.fact_types.specs.declared.signature.Signature.{Signature}
 use Rattle.fact_types.specs.Adapters.{LinkedAdapter, Side, is_wide}
 use Rattle.fact_types.specs.Shapes.{Shape}
 use Rattle.fact_types.specs.Signatures.{address, flat_params, flat_values, lift_by, lower_by, return_pointer, unless_flat}
-use Rattle.fact_types.specs.Steps.{◌>>=◌}
+use Rattle.fact_types.specs.Options.{◌>>=◌}
 use Rattle.fact_types.proofs.ShapeLaws.{none_some, same_some}
 use Rattle.fact_plan.specs.declared.plan.FusePlan.{FusePlan}
 use Rattle.fact_plan.specs.declared.plan.PlanAdapter.{PlanAdapter}
@@ -22,15 +22,15 @@ use Rattle.fact_plan.specs.declared.plan.PlanFunc.{PlanFunc}
 use Rattle.fact_plan.specs.declared.plan.PlanSide.{PlanSide}
 use Rattle.fact_plan_types.specs.Faults.{Fault, bad_memory, bad_signature, too_large}
 use Rattle.fact_plan_types.specs.TypeRules.{param_shapes, result_shapes}
-use Rattle.fact_checks.specs.Adapters.{adapter_of, adapters_before, adapters_of, named_def, named_memory, side_of}
-use Rattle.fact_checks.specs.AdapterRules.{AdapterHas, CannotUseMemory, Differs, HasAdapterFault, lift_side_signature, lower_side_signature, most_instance}
-use Rattle.fact_checks.specs.FirstFault.{IsFaultlessPlan}
+use Rattle.fact_adapter_rules.specs.Adapters.{adapter_of, adapters_before, adapters_of, named_def, named_memory, side_of}
+use Rattle.fact_adapter_rules.specs.AdapterRules.{AdapterHas, CannotUseMemory, Differs, HasAdapterFault, lift_side_signature, lower_side_signature, most_instance}
+use Rattle.fact_adapter_rules.specs.FirstFault.{IsFaultlessPlan}
 use Rattle.fact_compound.proofs.Runs.{numbers_append}
 use Rattle.fact_compound.proofs.WholeFunctions.{address_numbers, flats_numbers, unless_numbers}
 use Rattle.fact_emit.specs.ImportSection.{Callback, Callee, Flags, Mention, PostReturn, Realloc, Role, Storage, adapter_mentions, is_awaited, memory_mention, mention, mentions, side_mentions}
 use Rattle.fact_emit.proofs.Mentions.{giver, in-mentions}
-use Rattle.fact_forms.specs.Sound.{HasUsualPages}
-use Rattle.fact_forms.proofs.Memories.{lift_pages as lift_usual, lower_pages as lower_usual}
+use Rattle.fact_assembly.specs.Sound.{HasUsualPages}
+use Rattle.fact_assembly.proofs.Memories.{lift_pages as lift_usual, lower_pages as lower_usual}
 use Rattle.fact_check.specs.Imports.{AreNumbers}
 
 -- ---- an adapter

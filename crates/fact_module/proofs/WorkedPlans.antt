@@ -6,11 +6,11 @@ use Rattle.fact_wasm.specs.declared.module.WasmModule.{WasmModule}
 use Rattle.fact_types.specs.declared.import.Import.{Import}
 use Rattle.fact_types.specs.Adapters.{LinkedAdapter, is_async, is_crossing}
 use Rattle.fact_plan.specs.declared.plan.FusePlan.{FusePlan}
-use Rattle.fact_checks.specs.Adapters.{adapters_of}
-use Rattle.fact_moves.specs.Adapters.{AdapterTunables}
-use Rattle.fact_promises.specs.Runs.{Behaves}
-use Rattle.fact_promises.specs.Worked.{u32_adapter, u32_imports, u32_module}
-use Rattle.fact_promises.specs.WorkedTexts.{texts_adapter, texts_imports, texts_module}
+use Rattle.fact_adapter_rules.specs.Adapters.{adapters_of}
+use Rattle.fact_actions.specs.Adapters.{AdapterTunables}
+use Rattle.fact_function_laws.specs.Runs.{Behaves}
+use Rattle.fact_function_laws.specs.Worked.{u32_adapter, u32_imports, u32_module}
+use Rattle.fact_function_laws.specs.WorkedTexts.{texts_adapter, texts_imports, texts_module}
 use Rattle.fact_module.specs.declared.fusion.Fused.{Fused}
 use Rattle.fact_assembly.specs.Exports.{exported_as}
 use Rattle.fact_assembly.specs.Faithful.{adapter_tunables}

@@ -1,6 +1,6 @@
 -- What the check of bytes makes of the module of a plan.
 use Rattle.fact_plan.specs.declared.plan.FusePlan.{FusePlan}
-use Rattle.fact_checks.specs.FirstFault.{IsFaultlessPlan}
+use Rattle.fact_adapter_rules.specs.FirstFault.{IsFaultlessPlan}
 use Rattle.fact_check.specs.Accepted.{IsAccepted}
 use Rattle.fact_module.specs.declared.fusion.Fused.{Fused}
 use Rattle.fact_module.specs.Fused.{IsFused}

@@ -1,9 +1,9 @@
--- The module of a plan, with its bytes and its imports.
+-- The module of a plan, with its bytes and its imports, and all that it promises of the plan's adapters (`Promised`).
 use Rattle.std.specs.Prelude.{ℕ, None, Some, slice_get}
 use Rattle.fact_wasm.specs.Ranges.{InRange}
 use Rattle.fact_binary.specs.Spelling.{Spells}
 use Rattle.fact_plan.specs.declared.plan.FusePlan.{FusePlan}
-use Rattle.fact_checks.specs.Adapters.{adapters_of}
+use Rattle.fact_adapter_rules.specs.Adapters.{adapters_of}
 use Rattle.fact_plan_types.specs.PlanTypes.{tuple_number}
 use Rattle.fact_module.specs.declared.fusion.Fused.{Fused}
 use Rattle.fact_emit.specs.declared.tunables.Tunables.{Tunables}

@@ -5,8 +5,8 @@ use Rattle.fact_builder.specs.Builder.{Builder}
 use Rattle.fact_plan.specs.declared.plan.FusePlan.{FusePlan}
 use Rattle.fact_plan_types.specs.Faults.{Fault}
 use Rattle.fact_plan_types.specs.TypeRules.{most_entries}
-use Rattle.fact_checks.specs.Adapters.{adapters_before, adapters_of}
-use Rattle.fact_checks.specs.AdapterRules.{HasAdapterFault}
+use Rattle.fact_adapter_rules.specs.Adapters.{adapters_before, adapters_of}
+use Rattle.fact_adapter_rules.specs.AdapterRules.{HasAdapterFault}
 use Rattle.fact_assembly.specs.Collected.{AreTaken, Collected, result_tuple_of}
 use Rattle.fact_module.specs.Fused.{features_of, result_tuple, tunables_of}
 

@@ -1,4 +1,4 @@
--- The plans of worked modules (`OneNumberArrives` and `OneTextArrives` of `fact_promises`), and that the promise is of the runs that are
+-- The plans of worked modules (`OneNumberArrives` and `OneTextArrives` of `fact_function_laws`), and that the promise is of the runs that are
 -- worked there.
 use Rattle.std.specs.Prelude.{◌≡◌, ℕ, false, List, [], ◌∷◌, Option, None, Some, codes}
 use Rattle.fact_wasm.specs.declared.module.WasmModule.{WasmModule}
@@ -12,10 +12,10 @@ use Rattle.fact_plan.specs.declared.plan.PlanMemory.{PlanMemory}
 use Rattle.fact_plan.specs.declared.plan.PlanRef.TheVariants.{Entry, Word}
 use Rattle.fact_plan.specs.declared.plan.PlanSide.{PlanSide}
 use Rattle.fact_plan.specs.declared.plan.PlanType.TheVariants as entry
-use Rattle.fact_checks.specs.Adapters.{adapters_of}
-use Rattle.fact_promises.specs.Runs.{Behaves}
-use Rattle.fact_promises.specs.Worked.{takes_i32, u32_adapter, u32_imports, u32_module}
-use Rattle.fact_promises.specs.WorkedTexts.{pointer_and_length, texts_adapter, texts_callee, texts_export, texts_imports, texts_module, texts_realloc}
+use Rattle.fact_adapter_rules.specs.Adapters.{adapters_of}
+use Rattle.fact_function_laws.specs.Runs.{Behaves}
+use Rattle.fact_function_laws.specs.Worked.{takes_i32, u32_adapter, u32_imports, u32_module}
+use Rattle.fact_function_laws.specs.WorkedTexts.{pointer_and_length, texts_adapter, texts_callee, texts_export, texts_imports, texts_module, texts_realloc}
 use Rattle.fact_module.specs.declared.fusion.Fused.{Fused}
 use Rattle.fact_assembly.specs.Faithful.{adapter_tunables}
 use Rattle.fact_module.specs.Fused.{IsFused, features_of, tunables_of}

@@ -1,19 +1,19 @@
-//! The fused module of a plan.
+//! The fused module of a plan: [`fuse`].
 
 ghost use Rattle.std.specs.Prelude.{◌≡◌, ◌≤◌, ◌+◌, Some, slice_get, IfErr, IfOk, IfSome, OnOk};
 ghost use Rattle.fact_plan_types.specs.PlanTypes.{AreFaultless, AreTypesOf, told};
 ghost use Rattle.fact_check.specs.Accepted.{IsAccepted};
-ghost use Rattle.fact_checks.specs.FirstFault.{IsFaultlessPlan, IsFirstAt};
-ghost use Rattle.fact_checks.specs.Links.{IsFirstHere};
+ghost use Rattle.fact_adapter_rules.specs.FirstFault.{IsFaultlessPlan, IsFirstAt};
+ghost use Rattle.fact_adapter_rules.specs.Links.{IsFirstHere};
 ghost use Rattle.fact_module.specs.Fusing.{HasTakenAll, HasTakenTo};
 ghost use Rattle.fact_module.specs.Fused.{IsFused};
 ghost use Rattle.fact_wasm.specs.Ranges.{InRange};
 ghost use Rattle.fact_binary.specs.Spelling.{Spells};
 
+use fact_adapter_rules::{FuseError, candidate_of, linked_adapter};
 use fact_assembly::Module;
 use fact_binary::encode;
-use fact_checks::{FuseError, candidate_of, linked_adapter};
-use fact_emit::tunables::{Tunables, WasmFeatures};
+use fact_emit::{Tunables, WasmFeatures};
 use fact_plan::{FusePlan, PlanAdapter};
 use fact_plan_types::PlanTypes;
 use fact_types::Import;
@@ -99,13 +99,13 @@ fn fuse_over(alloc: Global, plan: &FusePlan, types: &PlanTypes) -> Result<Fused,
     let features = WasmFeatures {
         exceptions: plan.tunables.exceptions,
     };
-    let mut made = Module::new(alloc, &types.builder, &tunables, features);
-    if let Err(error) = take_adapters(&mut made, plan, types) {
+    let mut module_so_far = Module::new(alloc, &types.builder, &tunables, features);
+    if let Err(error) = take_adapters(&mut module_so_far, plan, types) {
         // A call that drops the module has a short proof, the end of its scope a long one.
-        drop(made);
+        drop(module_so_far);
         return Err(error);
     }
-    let (module, imports) = made.into_parts()?;
+    let (module, imports) = module_so_far.into_parts()?;
     Ok(spelled(alloc, module, imports)?)
 }
 

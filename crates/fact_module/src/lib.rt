@@ -7,9 +7,11 @@ mod fusion;
 mod worked;
 
 pub use checked::fused_modules_are_accepted;
+pub use fact_adapter_rules::{
+    Adapter, AdapterOptionsDfg, FuseError, MemoryOption, Place, check_plan,
+};
 pub use fact_assembly::{ComponentDfg, Module};
-pub use fact_checks::{Adapter, AdapterOptionsDfg, FuseError, MemoryOption, Place, check_plan};
-pub use fact_emit::tunables::{Tunables, WasmFeatures};
+pub use fact_emit::{Tunables, WasmFeatures};
 pub use fact_plan::{
     FusePlan, PlanAdapter, PlanFunc, PlanMemory, PlanRef, PlanSide, PlanTunables, PlanType,
     PrimitiveValType,

@@ -31,8 +31,8 @@ impl From<AllocError> for PlanFault {
 }
 
 impl PlanFault {
-    /// The fault of a value itself: its path has no step yet.
-    pub(crate) fn wrong_kind(alloc: Global) -> PlanFault
+    /// The fault of a value of another JSON kind, or of a list of another length: its path has no step yet.
+    pub fn wrong_kind(alloc: Global) -> PlanFault
         ensures { result ≡ PlanFault.WrongKind [] }
     {
         PlanFault::WrongKind {
@@ -40,8 +40,8 @@ impl PlanFault {
         }
     }
 
-    /// The fault of a value itself: its path has no step yet.
-    pub(crate) fn out_of_range(alloc: Global) -> PlanFault
+    /// The fault of a number above its range, or of a text that is none of the words: its path has no step yet.
+    pub fn out_of_range(alloc: Global) -> PlanFault
         ensures { result ≡ PlanFault.OutOfRange [] }
     {
         PlanFault::OutOfRange {
@@ -58,14 +58,16 @@ impl PlanFault {
         }
     }
 
-    pub(crate) fn missing(alloc: Global, key: &str) -> Result<PlanFault, OutOfMemory>
+    /// The fault of an object without a key that it must have: its path is a dot and the key.
+    pub fn missing(alloc: Global, key: &str) -> Result<PlanFault, OutOfMemory>
         ensures { IfOk result (λ fault. fault ≡ PlanFault.Missing (key_step key.now)) }
     {
         let path = Text::from_string(format!(in alloc; ".{key}")?);
         Ok(PlanFault::Missing { path })
     }
 
-    pub(crate) fn unknown_key(alloc: Global, key: &str) -> Result<PlanFault, OutOfMemory>
+    /// The fault of an object with a key that it may not have: its path is a dot and the key.
+    pub fn unknown_key(alloc: Global, key: &str) -> Result<PlanFault, OutOfMemory>
         ensures { IfOk result (λ fault. fault ≡ PlanFault.UnknownKey (key_step key.now)) }
     {
         let path = Text::from_string(format!(in alloc; ".{key}")?);
@@ -73,7 +75,7 @@ impl PlanFault {
     }
 
     /// The same fault, with a path that begins with `front`.
-    pub(crate) fn under(self, alloc: Global, front: &str) -> Result<PlanFault, OutOfMemory>
+    pub fn under(self, alloc: Global, front: &str) -> Result<PlanFault, OutOfMemory>
         ensures { IfOk result (λ fault. fault ≡ under front.now self) }
     {
         Ok(match self {
@@ -107,12 +109,8 @@ fn path_under(alloc: Global, front: &str, path: &Text) -> Result<Text, OutOfMemo
     Ok(Text::from_string(format!(in alloc; "{front}{path}")?))
 }
 
-/// What was read in the value of a key, seen from its object.
-pub(crate) fn at_key<T>(
-    alloc: Global,
-    key: &str,
-    inner: Result<T, PlanFault>,
-) -> Result<T, PlanFault>
+/// What was read in the value of a key, seen from its object: the path to a fault begins with a dot and the key.
+pub fn at_key<T>(alloc: Global, key: &str, inner: Result<T, PlanFault>) -> Result<T, PlanFault>
     ensures { Gives (at_step (key_step key.now) inner) result }
 {
     match inner {
@@ -124,12 +122,8 @@ pub(crate) fn at_key<T>(
     }
 }
 
-/// What was read in the item at a place, seen from its list.
-pub(crate) fn at_place<T>(
-    alloc: Global,
-    place: usize,
-    inner: Result<T, PlanFault>,
-) -> Result<T, PlanFault>
+/// What was read in the item at a place, counted from 0, seen from its list: the path to a fault begins with a dot and the place in decimal.
+pub fn at_place<T>(alloc: Global, place: usize, inner: Result<T, PlanFault>) -> Result<T, PlanFault>
     ensures { Gives (at_step (place_step place) inner) result }
 {
     match inner {

@@ -2,6 +2,7 @@
 ghost use Rattle.serde_json.specs.View.{view};
 ghost use Rattle.fact_plan.specs.Fault.{Gives};
 ghost use Rattle.fact_plan.specs.Plan.{adapter_in, core_type_in, func_in, memory_in, plan_in, plan_of, rest_of_plan, side_in, tunables_in};
+ghost use Rattle.fact_plan.specs.Read.{field as field_in};
 
 use crate::fault::PlanFault;
 use crate::parts::{FromJson, check_known, check_required, field, field_or};
@@ -247,4 +248,11 @@ pub fn plan_of(alloc: Global, value: &Value) -> Result<FusePlan, PlanFault>
         Ok(plan) => Ok(plan),
         Err(fault) => Err(fault.under(alloc, "plan")?),
     }
+}
+
+/// The plan that stands at a key of an object, which has to be there, or the first fault in it; the path to a fault begins with a dot and the key.
+pub fn plan_at(alloc: Global, object: &Value, key: &str) -> Result<FusePlan, PlanFault>
+    ensures { Gives (field_in plan_in key.now (view object.now)) result }
+{
+    field(alloc, object, key)
 }

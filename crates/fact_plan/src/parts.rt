@@ -163,7 +163,7 @@ pub(crate) fn field_or<T: FromJson>(
 }
 
 /// Refuses the least key that is none of these, and what is no object.
-pub(crate) fn check_known(alloc: Global, object: &Value, known: &[&str]) -> Result<(), PlanFault>
+pub fn check_known(alloc: Global, object: &Value, known: &[&str]) -> Result<(), PlanFault>
     ensures { Gives (known_keys (map (λ k. k.now) known.now) (view object.now)) result }
 {
     let Some(members) = object.as_object() else {
@@ -190,7 +190,7 @@ fn is_known(known: &[&str], key: &str) -> bool
 }
 
 /// Refuses an object that lacks one of these keys, for the first of them that it lacks.
-pub(crate) fn check_required(alloc: Global, object: &Value, keys: &[&str]) -> Result<(), PlanFault>
+pub fn check_required(alloc: Global, object: &Value, keys: &[&str]) -> Result<(), PlanFault>
     ensures { Gives (required_keys (map (λ k. k.now) keys.now) (view object.now)) result }
 {
     for key in keys {

@@ -18,7 +18,7 @@ use Rattle.fact_types.specs.Valid.{IsEntryWithin}
 use Rattle.fact_builder.specs.Builder.{Builder}
 use Rattle.fact_builder.specs.Keeps.{Keeps}
 use Rattle.fact_builder.specs.Kinds.{count_of}
-use Rattle.fact_making.specs.Makes.{AreFew, FitsBytes, Makes, with_table_of}
+use Rattle.fact_builder.specs.Makes.{AreFew, FitsBytes, Makes, with_table_of}
 use Rattle.fact_plan.specs.declared.plan.PlanType.{PlanType}
 use Rattle.fact_plan_types.specs.Adding.{AddsEntry, IsFilled, IsTooWide}
 use Rattle.fact_plan_types.specs.PlanShapes.{HandleTable, HandleTables, entry_shape, tables_with, with_tuple}

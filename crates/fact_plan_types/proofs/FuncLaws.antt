@@ -22,7 +22,7 @@ use Rattle.fact_types.proofs.ShapeLaws.{shaped_members}
 use Rattle.fact_builder.specs.Builder.{Builder}
 use Rattle.fact_types.specs.Handles.{has_borrow}
 use Rattle.fact_builder.specs.Keeps.{Keeps}
-use Rattle.fact_making.specs.Makes.{Makes}
+use Rattle.fact_builder.specs.Makes.{Makes}
 use Rattle.fact_plan.specs.declared.plan.PlanFunc.{PlanFunc}
 use Rattle.fact_plan.specs.declared.plan.PlanRef.{PlanRef}
 use Rattle.fact_plan.specs.declared.plan.FusePlan.{FusePlan}

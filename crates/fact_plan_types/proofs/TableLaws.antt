@@ -133,7 +133,7 @@ future_numbered : (old mid new : Builder) (p : Option InterfaceType) (ty : Id Ty
 future_numbered old mid new p ty table instance a x h i ys z =
     let v : TypeFutureTable = record { ty = ty; instance = instance } in
     let tables : mid.tables.future_tables ≡ old.tables.future_tables = ap (λ (b : Builder). b.tables.future_tables) a.type_rest in
-    let linked : All (λ (e : TypeFutureTable). future_type e < length old.tables.futures) old.tables.future_tables = a.sound.linked of_future_tables in
+    let linked : All (λ (e : TypeFutureTable). future_type e < length old.tables.futures) old.tables.future_tables = a.sound.held_live of_future_tables in
     let kept = all_kept future_table_eq.ghosts.eq future_type future_instance future_payload old.tables mid.tables a.type_keeps.shapes old.tables.futures mid.tables.futures a.type_interned.keeps old.tables.future_tables ys linked z in
     let longer = interned_longer future_eq.ghosts.eq old.tables.futures mid.tables.futures _ ty.number a.type_interned in
     let payload : payload_in future_payload (slice_get mid.tables.futures ty.number) ≡ p = ap (payload_in future_payload) a.type_entry in
@@ -247,7 +247,7 @@ stream_numbered : (old mid new : Builder) (p : Option InterfaceType) (ty : Id Ty
 stream_numbered old mid new p ty table instance a x h i ys z =
     let v : TypeStreamTable = record { ty = ty; instance = instance } in
     let tables : mid.tables.stream_tables ≡ old.tables.stream_tables = ap (λ (b : Builder). b.tables.stream_tables) a.type_rest in
-    let linked : All (λ (e : TypeStreamTable). stream_type e < length old.tables.streams) old.tables.stream_tables = a.sound.linked of_stream_tables in
+    let linked : All (λ (e : TypeStreamTable). stream_type e < length old.tables.streams) old.tables.stream_tables = a.sound.held_live of_stream_tables in
     let kept = all_kept stream_table_eq.ghosts.eq stream_type stream_instance stream_payload old.tables mid.tables a.type_keeps.shapes old.tables.streams mid.tables.streams a.type_interned.keeps old.tables.stream_tables ys linked z in
     let longer = interned_longer stream_eq.ghosts.eq old.tables.streams mid.tables.streams _ ty.number a.type_interned in
     let payload : payload_in stream_payload (slice_get mid.tables.streams ty.number) ≡ p = ap (payload_in stream_payload) a.type_entry in

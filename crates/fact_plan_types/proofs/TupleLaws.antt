@@ -22,7 +22,7 @@ use Rattle.fact_types.specs.Tables.{Tables, HasMembers, HasShape, tuple_node}
 use Rattle.fact_types.proofs.ShapeLaws.{one_shape, same_some}
 use Rattle.fact_builder.specs.Builder.{Builder}
 use Rattle.fact_builder.specs.Keeps.{Keeps}
-use Rattle.fact_making.specs.Makes.{Makes}
+use Rattle.fact_builder.specs.Makes.{Makes}
 use Rattle.fact_plan.specs.declared.plan.PlanFunc.{PlanFunc}
 use Rattle.fact_plan.specs.declared.plan.PlanRef.{PlanRef}
 use Rattle.fact_plan.specs.declared.plan.FusePlan.{FusePlan}

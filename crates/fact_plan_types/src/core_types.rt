@@ -15,12 +15,12 @@ pub(crate) fn intern_all(
 ) -> Result<Vec<ModuleInternedTypeIndex>, OutOfMemory>
     ensures { IfOk result (λ found. AllZip (λ i ty. slice_get interned.new i.number ≡ Some ty) found.items types.now) }
 {
-    let mut found = Vec::new(alloc);
+    let mut indices = Vec::new(alloc);
     for ty in types {
         match interned.intern(ty.try_clone()?) {
-            Ok(index) => found.push(index)?,
+            Ok(index) => indices.push(index)?,
             Err(_) => return Err(AllocError),
         }
     }
-    Ok(found)
+    Ok(indices)
 }

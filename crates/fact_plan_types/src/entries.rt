@@ -5,12 +5,11 @@ ghost use Rattle.fact_plan_types.specs.Adding.{AddsEntry, IsReady};
 
 use crate::handles::{add_error_context, add_future, add_stream};
 use crate::members::{cases_of, fields_of, payload_of, set_of_names, type_of, types_of};
-use fact_builder::ComponentTypesBuilder;
-use fact_entity::{EntityRef, PushError};
-use fact_making::{
-    make_enum, make_fixed_length_list, make_flags, make_list, make_map, make_option, make_record,
-    make_result, make_tuple, make_variant,
+use fact_builder::{
+    ComponentTypesBuilder, make_enum, make_fixed_length_list, make_flags, make_list, make_map,
+    make_option, make_record, make_result, make_tuple, make_variant,
 };
+use fact_entity::{EntityRef, PushError};
 use fact_plan::{PlanRef, PlanType};
 use fact_types::{InterfaceType, TypeResourceTableIndex};
 use fact_wasm::{Seq, Text};
@@ -83,9 +82,9 @@ fn add_tuple(
     ensures { AddsEntry builder.old builder.new types.now (entry.Tuple members.now) result }
 {
     let members = types_of(alloc, types, members)?;
-    let made = make_tuple(alloc, builder, Seq::from_vec(members))?;
+    let tuple = make_tuple(alloc, builder, Seq::from_vec(members))?;
     builder.reveal();
-    Ok(made)
+    Ok(tuple)
 }
 
 fn add_list(

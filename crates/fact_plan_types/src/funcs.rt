@@ -15,9 +15,8 @@ ghost use Rattle.fact_plan_types.specs.TypeRules.{IsFrom, NamesNoType, result_sh
 use crate::error::{FuseError, Place};
 use crate::members::{names_of_params, type_of, types_of};
 use crate::rules::{Rule, broken_func_rule, types_of_fields};
-use fact_builder::ComponentTypesBuilder;
+use fact_builder::{ComponentTypesBuilder, make_tuple};
 use fact_entity::PushError;
-use fact_making::make_tuple;
 use fact_plan::{FusePlan, PlanFunc, PlanRef};
 use fact_types::{InterfaceType, TypeFunc, TypeFuncIndex, TypeTupleIndex};
 use fact_wasm::{OutOfMemory, Seq};
@@ -153,9 +152,9 @@ fn add_tuple(
 {
     builder.reveal();
     let members = types_of(alloc, types, refs)?;
-    let made = make_tuple(alloc, builder, Seq::from_vec(members))?;
+    let tuple = make_tuple(alloc, builder, Seq::from_vec(members))?;
     builder.reveal();
-    match made {
+    match tuple {
         InterfaceType::Tuple(index) => Ok(index),
         _ => unreachable!(),
     }

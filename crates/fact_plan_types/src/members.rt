@@ -57,11 +57,11 @@ pub(crate) fn types_of(
     ensures shaped { IfOk result (λ found. (t : Tables) (ss : List Shape) → HaveShapes t types.now ss → HaveShapes t found.items (shapes_of ss refs.now)) }
     ensures live { IfOk result (λ found. (t : Tables) → All (IsLive t) types.now → All (IsLive t) found.items) }
 {
-    let mut found = Vec::new(alloc);
+    let mut member_types = Vec::new(alloc);
     for ty in refs {
-        found.push(type_of(types, *ty))?;
+        member_types.push(type_of(types, *ty))?;
     }
-    Ok(found)
+    Ok(member_types)
 }
 
 /// The type that stands for a payload, where there is one.
@@ -86,14 +86,14 @@ pub(crate) fn fields_of(
     ensures shaped { IfOk result (λ found. (t : Tables) (ss : List Shape) → HaveShapes t types.now ss → HasMembers t (map (λ f. (f.name, Some f.ty)) found) (fields_of ss fields.now)) }
     ensures live { IfOk result (λ found. (t : Tables) → All (IsLive t) types.now → All (λ f. IsLive t f.ty) found) }
 {
-    let mut found = Seq::new(alloc);
+    let mut record_fields = Seq::new(alloc);
     for (name, ty) in fields {
-        found.push(RecordField {
+        record_fields.push(RecordField {
             name: name.try_clone()?,
             ty: type_of(types, *ty),
         })?;
     }
-    Ok(found)
+    Ok(record_fields)
 }
 
 /// The cases of a variant, in order.
@@ -107,11 +107,11 @@ pub(crate) fn cases_of(
     ensures shaped { IfOk result (λ found. (t : Tables) (ss : List Shape) → HaveShapes t types.now ss → HasMembers t found.entries (cases_of ss cases.now)) }
     ensures live { IfOk result (λ found. (t : Tables) → All (IsLive t) types.now → All (λ c. IsLiveMember t c.1) found.entries) }
 {
-    let mut found = IndexMap::new(alloc);
+    let mut variant_cases = IndexMap::new(alloc);
     for (name, payload) in cases {
-        found.insert(name.try_clone()?, payload_of(types, *payload))?;
+        variant_cases.insert(name.try_clone()?, payload_of(types, *payload))?;
     }
-    Ok(found)
+    Ok(variant_cases)
 }
 
 /// Names that are distinct, in order.
@@ -119,11 +119,11 @@ pub(crate) fn set_of_names(alloc: Global, names: &[Text]) -> Result<IndexSet<Tex
     requires { IsRepeated names.now → ⊥ }
     ensures { IfOk result (λ found. found.keys ≡ names.now) }
 {
-    let mut found = IndexSet::new(alloc);
+    let mut distinct = IndexSet::new(alloc);
     for name in names {
-        found.insert(name.try_clone()?)?;
+        distinct.insert(name.try_clone()?)?;
     }
-    Ok(found)
+    Ok(distinct)
 }
 
 /// The names of parameters, in order.

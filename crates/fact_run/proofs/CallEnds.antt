@@ -12,16 +12,16 @@ use Rattle.fact_plan.specs.declared.fault.PlanFault.{PlanFault}
 use Rattle.fact_plan.specs.Reading.{value_in}
 use Rattle.fact_plan_types.specs.declared.error.Place.{Place}
 use Rattle.fact_plan_types.specs.Faults.{Fault}
-use Rattle.fact_checks.specs.Adapters.{adapters_of}
-use Rattle.fact_checks.specs.FirstFault.{IsFaultlessPlan, IsFirstAt}
-use Rattle.fact_checks.proofs.FaultLaws.{faultless-first}
+use Rattle.fact_adapter_rules.specs.Adapters.{adapters_of}
+use Rattle.fact_adapter_rules.specs.FirstFault.{IsFaultlessPlan, IsFirstAt}
+use Rattle.fact_adapter_rules.proofs.FaultLaws.{faultless-first}
 use Rattle.fact_values.specs.declared.value.Value.{Value}
 use Rattle.fact_value_json.specs.Lines.{bad_value_line}
-use Rattle.fact_calls.specs.declared.reply.CallReply.{CallReply}
-use Rattle.fact_calls.specs.declared.reply.CallReply.TheVariants as call_reply
-use Rattle.fact_calls.specs.Calls.{AreFaulty, AreOver, HasBadValue, HasCall, HasInput, HoldsFaultyInput, HoldsInput, HoldsNoJson, IsNotCallable, IsOverLimit, NamesCallable, args_of, callable_named, fits_args, fits_results, results_of}
-use Rattle.fact_calls.specs.Inputs.{CallInput, call_input}
-use Rattle.fact_calls.specs.Replies.{IsReplyToCall}
+use Rattle.fact_call_mode.specs.declared.reply.CallReply.{CallReply}
+use Rattle.fact_call_mode.specs.declared.reply.CallReply.TheVariants as call_reply
+use Rattle.fact_call_mode.specs.Calls.{AreFaulty, AreOver, HasBadValue, HasCall, HasInput, HoldsFaultyInput, HoldsInput, HoldsNoJson, IsNotCallable, IsOverLimit, NamesCallable, args_of, callable_named, fits_args, fits_results, results_of}
+use Rattle.fact_call_mode.specs.Inputs.{CallInput, call_input}
+use Rattle.fact_call_mode.specs.Replies.{IsReplyToCall}
 use Rattle.fact_command.specs.declared.command.CommandOptions.{CommandOptions}
 use Rattle.fact_command.specs.declared.status.Status.{Status}
 use Rattle.fact_command.specs.declared.status.Status.TheVariants as status
@@ -35,7 +35,7 @@ use Rattle.fact_run.proofs.Ends.{fault-by, over-by, over-in, past, refusal-by, r
 -- ---- from what was read to a reply
 
 -- the line of a fault in the input
-told-bad : (fuel : ℕ) (name bytes : List ℕ) (f : PlanFault) (r : Reply) → HoldsFaultyInput bytes f → IsReplyToFault f r → IsReplyToCalled fuel name bytes r
+told-bad : (fuel : ℕ) (name bytes : List ℕ) (f : PlanFault) (r : Reply) → HoldsFaultyInput call_input bytes f → IsReplyToFault f r → IsReplyToCalled fuel name bytes r
 told-bad fuel name bytes f (reply.BadPlan line) h e = record { fault = f; holds = h; is_line = e.1 }
 told-bad fuel name bytes f reply.OutOfMemory h e = tt
 told-bad fuel name bytes f (reply.Page text) h e = absurd e
@@ -51,7 +51,7 @@ told-bad fuel name bytes f (reply.BadValue line) h e = absurd e
 told-bad fuel name bytes f reply.OverLimit h e = absurd e
 
 -- of the plan in it
-told-refused : (fuel : ℕ) (name bytes : List ℕ) (f : Fault) (place : Place) (r : Reply) → HasInput bytes (λ i. IsFirstAt i.plan f place) → IsReplyToRefusal (Some (f, place)) r → IsReplyToCalled fuel name bytes r
+told-refused : (fuel : ℕ) (name bytes : List ℕ) (f : Fault) (place : Place) (r : Reply) → HasInput call_input bytes (λ i. IsFirstAt i.plan f place) → IsReplyToRefusal (Some (f, place)) r → IsReplyToCalled fuel name bytes r
 told-refused fuel name bytes f place (reply.Refused line) h e = record { fault = f; place = place; holds = h; is_line = e }
 told-refused fuel name bytes f place reply.OutOfMemory h e = tt
 told-refused fuel name bytes f place (reply.Page text) h e = absurd e
@@ -67,7 +67,7 @@ told-refused fuel name bytes f place (reply.BadValue line) h e = absurd e
 told-refused fuel name bytes f place reply.OverLimit h e = absurd e
 
 -- and of its values
-told-value : (fuel : ℕ) (name bytes : List ℕ) (f : PlanFault) (r : Reply) → HasInput bytes (λ i. HasBadValue name i f) → IsReplyToValue f r → IsReplyToCalled fuel name bytes r
+told-value : (fuel : ℕ) (name bytes : List ℕ) (f : PlanFault) (r : Reply) → HasInput call_input bytes (λ i. HasBadValue name i f) → IsReplyToValue f r → IsReplyToCalled fuel name bytes r
 told-value fuel name bytes f (reply.BadValue line) h e = record { fault = f; holds = h; is_line = e.1 }
 told-value fuel name bytes f reply.OutOfMemory h e = tt
 told-value fuel name bytes f (reply.Page text) h e = absurd e
@@ -90,7 +90,7 @@ told-call fuel name bytes (call_reply.Refused error) r h e =
     let t = h.is_so in
     told-refused fuel name bytes t.fault t.place r (record { input = h.input; holds = h.holds; is_so = t.is_first }) (subst (λ o. IsReplyToRefusal o r) t.is_told e)
 told-call fuel name bytes call_reply.NotCallable r h e = subst (IsReplyToCalled fuel name bytes) (sym e) h
-told-call fuel name bytes (call_reply.BadValue f) r h e = told-value fuel name bytes f r h.1 e
+told-call fuel name bytes (call_reply.BadValue f) r h e = told-value fuel name bytes f r (record { input = h.input; holds = h.holds; is_so = h.is_so.1 }) e
 told-call fuel name bytes call_reply.OverLimit r h e = subst (IsReplyToCalled fuel name bytes) (sym e) h
 told-call fuel name bytes (call_reply.Page text) r h e =
     subst (IsReplyToCalled fuel name bytes) (sym e) (record { input = h.input; holds = h.holds; text = string_bytes text; tells = h.is_so; sent = refl })
@@ -164,17 +164,17 @@ sent-called words o name left left' Sent e asks h =
 abbrev pub IsOfCall : (name : List ℕ) → Status → List ℕ → Type 0
 IsOfCall name status.TooLong bytes = IsTooLong bytes
 IsOfCall name status.NotJson bytes = HoldsNoJson bytes
-IsOfCall name status.BadPlan bytes = (f : PlanFault) × HoldsFaultyInput bytes f
-IsOfCall name status.Refused bytes = (f : Fault) × (place : Place) × HasInput bytes (λ i. IsFirstAt i.plan f place)
-IsOfCall name status.NotCallable bytes = HasInput bytes (IsNotCallable name)
-IsOfCall name status.BadValue bytes = (f : PlanFault) × HasInput bytes (λ i. HasBadValue name i f)
-IsOfCall name status.OverLimit bytes = HasInput bytes (IsOverLimit name)
-IsOfCall name status.Done bytes = HasInput bytes (HasCall name)
-IsOfCall name status.WriteFault bytes = HasInput bytes (HasCall name)
+IsOfCall name status.BadPlan bytes = (f : PlanFault) × HoldsFaultyInput call_input bytes f
+IsOfCall name status.Refused bytes = (f : Fault) × (place : Place) × HasInput call_input bytes (λ i. IsFirstAt i.plan f place)
+IsOfCall name status.NotCallable bytes = HasInput call_input bytes (IsNotCallable name)
+IsOfCall name status.BadValue bytes = (f : PlanFault) × HasInput call_input bytes (λ i. HasBadValue name i f)
+IsOfCall name status.OverLimit bytes = HasInput call_input bytes (IsOverLimit name)
+IsOfCall name status.Done bytes = HasInput call_input bytes (HasCall name)
+IsOfCall name status.WriteFault bytes = HasInput call_input bytes (HasCall name)
 IsOfCall name _ bytes = ⊥
 
 -- an input of which a call was told is one with a call
-with-call : (fuel : ℕ) (name bytes : List ℕ) (Sent : List ℕ → Type 0) → SendsCall fuel name bytes Sent → HasInput bytes (HasCall name)
+with-call : (fuel : ℕ) (name bytes : List ℕ) (Sent : List ℕ → Type 0) → SendsCall fuel name bytes Sent → HasInput call_input bytes (HasCall name)
 with-call fuel name bytes Sent a = record { input = a.input; holds = a.holds; is_so = a.tells.called }
 
 -- an end without a fault, of a run that calls an adapter, tells what the bytes hold
@@ -201,8 +201,8 @@ call-end-of words name bytes left' read old new write status.Refused line h give
 call-end-of words name bytes left' read old new write status.NotHex line h given none = absurd (false≢true (sym (options-call words h.0 name h.1 given).not_checked ∙ h.2.0))
 call-end-of words name bytes left' read old new write status.Rejected line h given none = absurd (false≢true (sym (options-call words h.0 name h.1 given).not_checked ∙ h.2.0))
 call-end-of words name bytes left' read old new write status.NotCallable line h given none =
-    let P : List ℕ → Type 0 = λ x. HasInput bytes (IsNotCallable x) in
-    inl (subst P (same-name h.0 h.2.0 name h.2.1 (options-call words h.0 name h.1 given)) (so bytes left' (λ b. HasInput b (IsNotCallable h.2.0)) h.2.2))
+    let P : List ℕ → Type 0 = λ x. HasInput call_input bytes (IsNotCallable x) in
+    inl (subst P (same-name h.0 h.2.0 name h.2.1 (options-call words h.0 name h.1 given)) (so bytes left' (λ b. HasInput call_input b (IsNotCallable h.2.0)) h.2.2))
 call-end-of words name bytes left' read old new write status.NotChained line h given none = absurd (false≢true (sym (options-call words h.0 name h.1 given).not_chained ∙ h.2.0.chained))
 call-end-of words name bytes left' read old new write status.BadValue line h given none =
     let t = so bytes left' (λ b. TellsBadValue h.0.chain h.0.call b line) h.2.1 in
@@ -264,23 +264,23 @@ module _ (name bytes : List ℕ) where
   stage-json : HoldsNoJson bytes → stage_of name bytes ≡ 1
   stage-json h = stage-value None h.within h.no_json
 
-  stage-fault : (f : PlanFault) → HoldsFaultyInput bytes f → stage_of name bytes ≡ 2
+  stage-fault : (f : PlanFault) → HoldsFaultyInput call_input bytes f → stage_of name bytes ≡ 2
   stage-fault f h = stage-value (Some h.value) h.within h.is_json ∙ ap (input_stage name) h.is_fault
 
-  stage-input : (i : CallInput) → HoldsInput bytes i → stage_of name bytes ≡ adapter_stage i (callable_named name (adapters_of i.plan))
+  stage-input : (i : CallInput) → HoldsInput call_input bytes i → stage_of name bytes ≡ adapter_stage i (callable_named name (adapters_of i.plan))
   stage-input i h = stage-value (Some h.value) h.within h.is_json ∙ ap (input_stage name) h.is_input
 
-  stage-none : HasInput bytes (IsNotCallable name) → stage_of name bytes ≡ 3
+  stage-none : HasInput call_input bytes (IsNotCallable name) → stage_of name bytes ≡ 3
   stage-none h = stage-input h.input h.holds ∙ ap (adapter_stage h.input) h.is_so.none
 
-  stage-callable : (i : CallInput) (a : LinkedAdapter) → HoldsInput bytes i → NamesCallable name i a → stage_of name bytes ≡ values_stage a (args_of a i) (results_of a i)
+  stage-callable : (i : CallInput) (a : LinkedAdapter) → HoldsInput call_input bytes i → NamesCallable name i a → stage_of name bytes ≡ values_stage a (args_of a i) (results_of a i)
   stage-callable i a h c = stage-input i h ∙ ap (adapter_stage i) c.named
 
   faulty : (i : CallInput) (a : LinkedAdapter) (f : PlanFault) → AreFaulty a i f → values_stage a (args_of a i) (results_of a i) ≡ 4
   faulty i a f (inl e) = ap (λ r. values_stage a r (results_of a i)) e
   faulty i a f (inr e) = ap (λ r. values_stage a r (results_of a i)) e.1 ∙ ap (values_stage a (Ok e.0)) e.2
 
-  stage-bad : (f : PlanFault) → HasInput bytes (λ i. HasBadValue name i f) → stage_of name bytes ≡ 4
+  stage-bad : (f : PlanFault) → HasInput call_input bytes (λ i. HasBadValue name i f) → stage_of name bytes ≡ 4
   stage-bad f h = stage-callable h.input h.is_so.adapter h.holds h.is_so.callable ∙ faulty h.input h.is_so.adapter f h.is_so.faulty
 
   over : (i : CallInput) (a : LinkedAdapter) (o : AreOver a i) → values_stage a (args_of a i) (results_of a i) ≡ 5
@@ -292,26 +292,26 @@ module _ (name bytes : List ℕ) where
       by false y (inr e) = refl
       by true y (inr e) = ap (fit_stage true) e
 
-  stage-over : HasInput bytes (IsOverLimit name) → stage_of name bytes ≡ 5
+  stage-over : HasInput call_input bytes (IsOverLimit name) → stage_of name bytes ≡ 5
   stage-over h = stage-callable h.input h.is_so.adapter h.holds h.is_so.callable ∙ over h.input h.is_so.adapter h.is_so.over
 
-  stage-call : HasInput bytes (HasCall name) → stage_of name bytes ≡ 6
+  stage-call : HasInput call_input bytes (HasCall name) → stage_of name bytes ≡ 6
   stage-call h =
       let c = h.is_so in
       stage-callable h.input c.adapter h.holds c.callable ∙ ap (λ r. values_stage c.adapter r (results_of c.adapter h.input)) c.fitting.values.args_are ∙ ap (values_stage c.adapter (Ok c.args)) c.fitting.values.results_are
       ∙ ap (λ b. fit_stage b (fits_results c.adapter c.results)) c.fitting.args_fit ∙ ap (fit_stage true) c.fitting.results_fit
 
   -- the bytes hold one input
-  one-input : (i j : CallInput) → HoldsInput bytes i → HoldsInput bytes j → i ≡ j
+  one-input : (i j : CallInput) → HoldsInput call_input bytes i → HoldsInput call_input bytes j → i ≡ j
   one-input i j h k =
       let values : h.value ≡ k.value = cc (h.is_json, k.is_json) in
       cc (h.is_input, k.is_input, ap call_input values)
 
   abbrev Refusal : Type 0
-  Refusal = (f : Fault) × (place : Place) × HasInput bytes (λ i. IsFirstAt i.plan f place)
+  Refusal = (f : Fault) × (place : Place) × HasInput call_input bytes (λ i. IsFirstAt i.plan f place)
 
   -- an input whose plan has no fault has no first one
-  not-refused : (i : CallInput) → HoldsInput bytes i → IsFaultlessPlan i.plan → Refusal → ⊥
+  not-refused : (i : CallInput) → HoldsInput call_input bytes i → IsFaultlessPlan i.plan → Refusal → ⊥
   not-refused i h sound r =
       let q = r.2 in
       faultless-first i.plan r.0 r.1 sound (subst (λ (x : CallInput). IsFirstAt x.plan r.0 r.1) (one-input q.input i q.holds h) q.is_so)
@@ -323,7 +323,7 @@ module _ (name bytes : List ℕ) where
   no-input : HoldsNoJson bytes → Refusal → ⊥
   no-input h r = none_some (value_in bytes) r.2.holds.value h.no_json r.2.holds.is_json
 
-  faulty-input : (f : PlanFault) → HoldsFaultyInput bytes f → Refusal → ⊥
+  faulty-input : (f : PlanFault) → HoldsFaultyInput call_input bytes f → Refusal → ⊥
   faulty-input f h r =
       let values : h.value ≡ r.2.holds.value = cc (h.is_json, r.2.holds.is_json) in
       absurd (cc (h.is_fault, r.2.holds.is_input, ap call_input values))
@@ -391,7 +391,7 @@ module _ (name bytes : List ℕ) where
     over_limit = λ p. decided 5 s (stage-over p) (not-refused p.input p.holds p.is_so.callable.faultless) (λ w e. absurd (omega (arith, e))) h;
   }
 
-  called-end : (s : Status) → (s ≡ status.WriteFault → ⊥) → HasInput bytes (HasCall name) → IsOfCall name s bytes ⊎ (s ≡ status.OutOfMemory) → IsOrMemory status.Done s
+  called-end : (s : Status) → (s ≡ status.WriteFault → ⊥) → HasInput call_input bytes (HasCall name) → IsOfCall name s bytes ⊎ (s ≡ status.OutOfMemory) → IsOrMemory status.Done s
   called-end s clean p h = decided 6 s (stage-call p) (not-refused p.input p.holds p.is_so.callable.faultless) (λ w e. clean w) h
 
 -- Where an adapter is called, what a source's bytes hold decides the end.
@@ -402,7 +402,7 @@ exactly-called words name (Some bytes) left' before now old new write s line h c
     ends name bytes s (call-end-of words name bytes left' (Rose before now) old new write s line h calm.asks calm.no_fault)
 
 pub complete-call : (words : List (List ℕ)) (name : List ℕ) (left left' : Option (List ℕ)) (before now : ℕ) (old new : Option (List ℕ)) (write : Type 0) (s : Status) (line : List ℕ) → (s ≡ status.WriteFault → ⊥)
-    → IsEnding words left left' (Rose before now) old new write s line → IsUndisturbedCall words name before now → IfSome left (λ bytes. HasInput bytes (HasCall name) → IsOrMemory status.Done s)
+    → IsEnding words left left' (Rose before now) old new write s line → IsUndisturbedCall words name before now → IfSome left (λ bytes. HasInput call_input bytes (HasCall name) → IsOrMemory status.Done s)
 complete-call words name None left' before now old new write s line clean h calm = tt
 complete-call words name (Some bytes) left' before now old new write s line clean h calm =
     λ p. called-end name bytes s clean p (call-end-of words name bytes left' (Rose before now) old new write s line h calm.asks calm.no_fault)

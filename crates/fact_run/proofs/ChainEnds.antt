@@ -13,20 +13,20 @@ use Rattle.fact_plan.specs.declared.fault.PlanFault.{PlanFault}
 use Rattle.fact_plan.specs.Reading.{value_in}
 use Rattle.fact_plan_types.specs.declared.error.Place.{Place}
 use Rattle.fact_plan_types.specs.Faults.{Fault}
-use Rattle.fact_checks.specs.Adapters.{adapters_of}
-use Rattle.fact_checks.specs.FirstFault.{IsFaultlessPlan, IsFirstAt}
-use Rattle.fact_checks.proofs.FaultLaws.{faultless-first}
+use Rattle.fact_adapter_rules.specs.Adapters.{adapters_of}
+use Rattle.fact_adapter_rules.specs.FirstFault.{IsFaultlessPlan, IsFirstAt}
+use Rattle.fact_adapter_rules.proofs.FaultLaws.{faultless-first}
 use Rattle.fact_values.specs.declared.value.Value.{Value}
 use Rattle.fact_lowering.specs.Room.{fits}
 use Rattle.fact_host.specs.Rules.{CallShapes}
-use Rattle.fact_chaining.specs.Chains.{FitBothWays, IsOverOneWay, passed_back, passed_on}
-use Rattle.fact_calls.specs.Calls.{callable_named}
-use Rattle.fact_calls.specs.Replies.{shapes_of}
-use Rattle.fact_chains.specs.declared.reply.ChainReply.{ChainReply}
-use Rattle.fact_chains.specs.declared.reply.ChainReply.TheVariants as chain_reply
-use Rattle.fact_chains.specs.ChainInputs.{ChainInput, chain_input}
-use Rattle.fact_chains.specs.ChainReplies.{IsReplyToChain}
-use Rattle.fact_chains.specs.ChainTexts.{AreBadChainValues, HasBadChainValue, HasChain, HasChainInput, HasChainValues, HoldsChain, HoldsFaultyChain, IsChainOverLimit, IsNotChained, LeadsNowhere, NamesChained, chain_args, chain_results, leads_to}
+use Rattle.fact_chain_laws.specs.Chains.{FitBothWays, IsOverOneWay, passed_back, passed_on}
+use Rattle.fact_call_mode.specs.declared.reply.CallReply.{CallReply}
+use Rattle.fact_call_mode.specs.declared.reply.CallReply.TheVariants as call_reply
+use Rattle.fact_call_mode.specs.Calls.{HasInput, HoldsFaultyInput, HoldsInput, callable_named}
+use Rattle.fact_call_mode.specs.Replies.{shapes_of}
+use Rattle.fact_chain_mode.specs.ChainInputs.{ChainInput, chain_input}
+use Rattle.fact_chain_mode.specs.ChainReplies.{IsReplyToChain}
+use Rattle.fact_chain_mode.specs.ChainTexts.{AreBadChainValues, HasBadChainValue, HasChain, HasChainValues, IsChainOverLimit, IsNotChained, LeadsNowhere, NamesChained, chain_args, chain_results, leads_to}
 use Rattle.fact_command.specs.declared.command.CommandOptions.{CommandOptions}
 use Rattle.fact_command.specs.declared.status.Status.{Status}
 use Rattle.fact_command.specs.declared.status.Status.TheVariants as status
@@ -40,7 +40,7 @@ use Rattle.fact_run.proofs.Ends.{fault-by, over-by, over-in, past, refusal-by, r
 -- ---- from what was read to a reply
 
 -- the line of a fault in the input
-told-bad : (fuel : ℕ) (bytes : List ℕ) (f : PlanFault) (r : Reply) → HoldsFaultyChain bytes f → IsReplyToFault f r → IsReplyToChained fuel bytes r
+told-bad : (fuel : ℕ) (bytes : List ℕ) (f : PlanFault) (r : Reply) → HoldsFaultyInput chain_input bytes f → IsReplyToFault f r → IsReplyToChained fuel bytes r
 told-bad fuel bytes f (reply.BadPlan line) h e = record { fault = f; holds = h; is_line = e.1 }
 told-bad fuel bytes f reply.OutOfMemory h e = tt
 told-bad fuel bytes f (reply.Page text) h e = absurd e
@@ -56,7 +56,7 @@ told-bad fuel bytes f (reply.BadValue line) h e = absurd e
 told-bad fuel bytes f reply.OverLimit h e = absurd e
 
 -- of the plan in it
-told-refused : (fuel : ℕ) (bytes : List ℕ) (f : Fault) (place : Place) (r : Reply) → HasChainInput bytes (λ i. IsFirstAt i.plan f place) → IsReplyToRefusal (Some (f, place)) r → IsReplyToChained fuel bytes r
+told-refused : (fuel : ℕ) (bytes : List ℕ) (f : Fault) (place : Place) (r : Reply) → HasInput chain_input bytes (λ i. IsFirstAt i.plan f place) → IsReplyToRefusal (Some (f, place)) r → IsReplyToChained fuel bytes r
 told-refused fuel bytes f place (reply.Refused line) h e = record { fault = f; place = place; holds = h; is_line = e }
 told-refused fuel bytes f place reply.OutOfMemory h e = tt
 told-refused fuel bytes f place (reply.Page text) h e = absurd e
@@ -72,7 +72,7 @@ told-refused fuel bytes f place (reply.BadValue line) h e = absurd e
 told-refused fuel bytes f place reply.OverLimit h e = absurd e
 
 -- and of its values
-told-value : (fuel : ℕ) (bytes : List ℕ) (f : PlanFault) (r : Reply) → HasChainInput bytes (λ i. HasBadChainValue i f) → IsReplyToValue f r → IsReplyToChained fuel bytes r
+told-value : (fuel : ℕ) (bytes : List ℕ) (f : PlanFault) (r : Reply) → HasInput chain_input bytes (λ i. HasBadChainValue i f) → IsReplyToValue f r → IsReplyToChained fuel bytes r
 told-value fuel bytes f (reply.BadValue line) h e = record { fault = f; holds = h; is_line = e.1 }
 told-value fuel bytes f reply.OutOfMemory h e = tt
 told-value fuel bytes f (reply.Page text) h e = absurd e
@@ -88,18 +88,18 @@ told-value fuel bytes f reply.NotChained h e = absurd e
 told-value fuel bytes f reply.OverLimit h e = absurd e
 
 -- the line of each reply to a chain
-pub told-chain : (fuel : ℕ) (bytes : List ℕ) (c : ChainReply) (r : Reply) → IsReplyToChain fuel bytes c → IsToldChainReply c r → IsReplyToChained fuel bytes r
-told-chain fuel bytes chain_reply.NotJson r h e = subst (IsReplyToChained fuel bytes) (sym e) h
-told-chain fuel bytes (chain_reply.BadPlan f) r h e = told-bad fuel bytes f r h.1 e
-told-chain fuel bytes (chain_reply.Refused error) r h e =
+pub told-chain : (fuel : ℕ) (bytes : List ℕ) (c : CallReply) (r : Reply) → IsReplyToChain fuel bytes c → IsToldChainReply c r → IsReplyToChained fuel bytes r
+told-chain fuel bytes call_reply.NotJson r h e = subst (IsReplyToChained fuel bytes) (sym e) h
+told-chain fuel bytes (call_reply.BadPlan f) r h e = told-bad fuel bytes f r h.1 e
+told-chain fuel bytes (call_reply.Refused error) r h e =
     let t = h.is_so in
     told-refused fuel bytes t.fault t.place r (record { input = h.input; holds = h.holds; is_so = t.is_first }) (subst (λ o. IsReplyToRefusal o r) t.is_told e)
-told-chain fuel bytes chain_reply.NotChained r h e = subst (IsReplyToChained fuel bytes) (sym e) h
-told-chain fuel bytes (chain_reply.BadValue f) r h e = told-value fuel bytes f r h.1 e
-told-chain fuel bytes chain_reply.OverLimit r h e = subst (IsReplyToChained fuel bytes) (sym e) h
-told-chain fuel bytes (chain_reply.Page text) r h e =
+told-chain fuel bytes call_reply.NotCallable r h e = subst (IsReplyToChained fuel bytes) (sym e) h
+told-chain fuel bytes (call_reply.BadValue f) r h e = told-value fuel bytes f r (record { input = h.input; holds = h.holds; is_so = h.is_so.1 }) e
+told-chain fuel bytes call_reply.OverLimit r h e = subst (IsReplyToChained fuel bytes) (sym e) h
+told-chain fuel bytes (call_reply.Page text) r h e =
     subst (IsReplyToChained fuel bytes) (sym e) (record { input = h.input; holds = h.holds; text = string_bytes text; tells = h.is_so; sent = refl })
-told-chain fuel bytes chain_reply.OutOfMemory r h e = subst (IsReplyToChained fuel bytes) (sym e) tt
+told-chain fuel bytes call_reply.OutOfMemory r h e = subst (IsReplyToChained fuel bytes) (sym e) tt
 
 -- all the bytes of a source
 pub replied-chain : (fuel : ℕ) (left left' : Option (List ℕ)) (fault : Type 0) (bytes : List ℕ) (r : Reply) → TakesAll left left' bytes → IsReplyToChained fuel bytes r → IsChainReply fuel left left' fault r
@@ -164,17 +164,17 @@ sent-chained words o left left' Sent e asks h =
 abbrev pub IsOfChain : Status → List ℕ → Type 0
 IsOfChain status.TooLong bytes = IsTooLong bytes
 IsOfChain status.NotJson bytes = HoldsNoJson bytes
-IsOfChain status.BadPlan bytes = (f : PlanFault) × HoldsFaultyChain bytes f
-IsOfChain status.Refused bytes = (f : Fault) × (place : Place) × HasChainInput bytes (λ i. IsFirstAt i.plan f place)
-IsOfChain status.NotChained bytes = HasChainInput bytes IsNotChained
-IsOfChain status.BadValue bytes = (f : PlanFault) × HasChainInput bytes (λ i. HasBadChainValue i f)
-IsOfChain status.OverLimit bytes = HasChainInput bytes IsChainOverLimit
-IsOfChain status.Done bytes = HasChainInput bytes HasChain
-IsOfChain status.WriteFault bytes = HasChainInput bytes HasChain
+IsOfChain status.BadPlan bytes = (f : PlanFault) × HoldsFaultyInput chain_input bytes f
+IsOfChain status.Refused bytes = (f : Fault) × (place : Place) × HasInput chain_input bytes (λ i. IsFirstAt i.plan f place)
+IsOfChain status.NotChained bytes = HasInput chain_input bytes IsNotChained
+IsOfChain status.BadValue bytes = (f : PlanFault) × HasInput chain_input bytes (λ i. HasBadChainValue i f)
+IsOfChain status.OverLimit bytes = HasInput chain_input bytes IsChainOverLimit
+IsOfChain status.Done bytes = HasInput chain_input bytes HasChain
+IsOfChain status.WriteFault bytes = HasInput chain_input bytes HasChain
 IsOfChain _ bytes = ⊥
 
 -- an input of which a chain was told is one with a chain
-with-chain : (fuel : ℕ) (bytes : List ℕ) (Sent : List ℕ → Type 0) → SendsChain fuel bytes Sent → HasChainInput bytes HasChain
+with-chain : (fuel : ℕ) (bytes : List ℕ) (Sent : List ℕ → Type 0) → SendsChain fuel bytes Sent → HasInput chain_input bytes HasChain
 with-chain fuel bytes Sent a = record { input = a.input; holds = a.holds; is_so = a.tells.has }
 
 -- an end without a fault, of a run that chains two adapters, tells what the bytes hold
@@ -201,7 +201,7 @@ chain-end-of words bytes left' read old new write status.Refused line h given no
 chain-end-of words bytes left' read old new write status.NotHex line h given none = absurd (false≢true (sym (options-chain words h.0 h.1 given).not_checked ∙ h.2.0))
 chain-end-of words bytes left' read old new write status.Rejected line h given none = absurd (false≢true (sym (options-chain words h.0 h.1 given).not_checked ∙ h.2.0))
 chain-end-of words bytes left' read old new write status.NotCallable line h given none = absurd (false≢true (sym h.2.1.not_chained ∙ (options-chain words h.0 h.1 given).chained))
-chain-end-of words bytes left' read old new write status.NotChained line h given none = inl (so bytes left' (λ b. HasChainInput b IsNotChained) h.2.1)
+chain-end-of words bytes left' read old new write status.NotChained line h given none = inl (so bytes left' (λ b. HasInput chain_input b IsNotChained) h.2.1)
 chain-end-of words bytes left' read old new write status.BadValue line h given none =
     let t = so bytes left' (λ b. TellsBadValue h.0.chain h.0.call b line) h.2.1 in
     let mode = options-chain words h.0 h.1 given in
@@ -309,10 +309,10 @@ module _ (bytes : List ℕ) where
   stage-json : HoldsNoJson bytes → stage_of bytes ≡ 1
   stage-json h = stage-value None h.within h.no_json
 
-  stage-fault : (f : PlanFault) → HoldsFaultyChain bytes f → stage_of bytes ≡ 2
+  stage-fault : (f : PlanFault) → HoldsFaultyInput chain_input bytes f → stage_of bytes ≡ 2
   stage-fault f h = stage-value (Some h.value) h.within h.is_json ∙ ap input_stage h.is_fault
 
-  stage-input : (i : ChainInput) → HoldsChain bytes i → stage_of bytes ≡ names_stage i (callable_named i.first (adapters_of i.plan)) (callable_named i.second (adapters_of i.plan))
+  stage-input : (i : ChainInput) → HoldsInput chain_input bytes i → stage_of bytes ≡ names_stage i (callable_named i.first (adapters_of i.plan)) (callable_named i.second (adapters_of i.plan))
   stage-input i h = stage-value (Some h.value) h.within h.is_json ∙ ap input_stage h.is_input
 
   nowhere : (i : ChainInput) (first second : Option LinkedAdapter) → LeadsNowhere first second → names_stage i first second ≡ 3
@@ -320,10 +320,10 @@ module _ (bytes : List ℕ) where
   nowhere i (Some a) None h = refl
   nowhere i (Some a) (Some b) h = ap (led_stage i a b) h
 
-  stage-none : HasChainInput bytes IsNotChained → stage_of bytes ≡ 3
+  stage-none : HasInput chain_input bytes IsNotChained → stage_of bytes ≡ 3
   stage-none h = stage-input h.input h.holds ∙ nowhere h.input (callable_named h.input.first (adapters_of h.input.plan)) (callable_named h.input.second (adapters_of h.input.plan)) h.is_so.nowhere
 
-  stage-chained : (i : ChainInput) (a b : LinkedAdapter) → HoldsChain bytes i → NamesChained i a b → stage_of bytes ≡ values_stage (chain_args a i) (chain_results b i)
+  stage-chained : (i : ChainInput) (a b : LinkedAdapter) → HoldsInput chain_input bytes i → NamesChained i a b → stage_of bytes ≡ values_stage (chain_args a i) (chain_results b i)
   stage-chained i a b h c =
       stage-input i h ∙ ap (λ o. names_stage i o (callable_named i.second (adapters_of i.plan))) c.first ∙ ap (names_stage i (Some a)) c.second ∙ ap (led_stage i a b) c.leads
 
@@ -331,33 +331,33 @@ module _ (bytes : List ℕ) where
   faulty i a b f (inl e) = ap (λ r. values_stage r (chain_results b i)) e
   faulty i a b f (inr e) = ap (λ r. values_stage r (chain_results b i)) e.1 ∙ ap (values_stage (Ok e.0)) e.2
 
-  stage-bad : (f : PlanFault) → HasChainInput bytes (λ i. HasBadChainValue i f) → stage_of bytes ≡ 4
+  stage-bad : (f : PlanFault) → HasInput chain_input bytes (λ i. HasBadChainValue i f) → stage_of bytes ≡ 4
   stage-bad f h = stage-chained h.input h.is_so.first h.is_so.second h.holds h.is_so.names ∙ faulty h.input h.is_so.first h.is_so.second f h.is_so.fault
 
-  stage-values : (i : ChainInput) (a b : LinkedAdapter) (args results : List Value) → HoldsChain bytes i → HasChainValues i a b args results → stage_of bytes ≡ 5
+  stage-values : (i : ChainInput) (a b : LinkedAdapter) (args results : List Value) → HoldsInput chain_input bytes i → HasChainValues i a b args results → stage_of bytes ≡ 5
   stage-values i a b args results h v =
       stage-chained i a b h v.names ∙ ap (λ r. values_stage r (chain_results b i)) v.values.args_are ∙ ap (values_stage (Ok args)) v.values.results_are
 
-  stage-over : HasChainInput bytes IsChainOverLimit → stage_of bytes ≡ 5
+  stage-over : HasInput chain_input bytes IsChainOverLimit → stage_of bytes ≡ 5
   stage-over h = stage-values h.input h.is_so.first h.is_so.second h.is_so.args h.is_so.results h.holds h.is_so.values
 
-  stage-chain : HasChainInput bytes HasChain → stage_of bytes ≡ 5
+  stage-chain : HasInput chain_input bytes HasChain → stage_of bytes ≡ 5
   stage-chain h = stage-values h.input h.is_so.first h.is_so.second h.is_so.args h.is_so.results h.holds h.is_so.values
 
   -- the bytes hold one input
-  one-input : (i j : ChainInput) → HoldsChain bytes i → HoldsChain bytes j → i ≡ j
+  one-input : (i j : ChainInput) → HoldsInput chain_input bytes i → HoldsInput chain_input bytes j → i ≡ j
   one-input i j h k =
       let values : h.value ≡ k.value = cc (h.is_json, k.is_json) in
       cc (h.is_input, k.is_input, ap chain_input values)
 
-  over-and-fit : HasChainInput bytes IsChainOverLimit → HasChainInput bytes HasChain → ⊥
+  over-and-fit : HasInput chain_input bytes IsChainOverLimit → HasInput chain_input bytes HasChain → ⊥
   over-and-fit o h = not-both h.input (subst IsChainOverLimit (one-input o.input h.input o.holds h.holds) o.is_so) h.is_so
 
   abbrev Refusal : Type 0
-  Refusal = (f : Fault) × (place : Place) × HasChainInput bytes (λ i. IsFirstAt i.plan f place)
+  Refusal = (f : Fault) × (place : Place) × HasInput chain_input bytes (λ i. IsFirstAt i.plan f place)
 
   -- an input whose plan has no fault has no first one
-  not-refused : (i : ChainInput) → HoldsChain bytes i → IsFaultlessPlan i.plan → Refusal → ⊥
+  not-refused : (i : ChainInput) → HoldsInput chain_input bytes i → IsFaultlessPlan i.plan → Refusal → ⊥
   not-refused i h sound r =
       let q = r.2 in
       faultless-first i.plan r.0 r.1 sound (subst (λ (x : ChainInput). IsFirstAt x.plan r.0 r.1) (one-input q.input i q.holds h) q.is_so)
@@ -369,7 +369,7 @@ module _ (bytes : List ℕ) where
   no-input : HoldsNoJson bytes → Refusal → ⊥
   no-input h r = none_some (value_in bytes) r.2.holds.value h.no_json r.2.holds.is_json
 
-  faulty-input : (f : PlanFault) → HoldsFaultyChain bytes f → Refusal → ⊥
+  faulty-input : (f : PlanFault) → HoldsFaultyInput chain_input bytes f → Refusal → ⊥
   faulty-input f h r =
       let values : h.value ≡ r.2.holds.value = cc (h.is_json, r.2.holds.is_json) in
       absurd (cc (h.is_fault, r.2.holds.is_input, ap chain_input values))
@@ -377,8 +377,8 @@ module _ (bytes : List ℕ) where
   -- an end is that of its stage, but for that of a refusal, and where the values are of their types
   data At (s : Status) : Type 0 where
     Refuses : Refusal → At s
-    Over : s ≡ status.OverLimit → HasChainInput bytes IsChainOverLimit → At s
-    Chains : (s ≡ status.Done) ⊎ (s ≡ status.WriteFault) → HasChainInput bytes HasChain → At s
+    Over : s ≡ status.OverLimit → HasInput chain_input bytes IsChainOverLimit → At s
+    Chains : (s ≡ status.Done) ⊎ (s ≡ status.WriteFault) → HasInput chain_input bytes HasChain → At s
     Ends : stage_of bytes < 5 → s ≡ end_at (stage_of bytes) → At s
 
   early : (n : ℕ) (s : Status) → n < 5 → stage_of bytes ≡ n → s ≡ end_at n → At s
@@ -412,7 +412,7 @@ module _ (bytes : List ℕ) where
       by (Chains is c) = absurd (omega (arith, few, e, stage-chain c))
       by (Ends below same) = inl (same ∙ ap end_at e)
 
-  over-decides : (s : Status) → HasChainInput bytes IsChainOverLimit → IsOfChain s bytes ⊎ (s ≡ status.OutOfMemory) → IsOrMemory status.OverLimit s
+  over-decides : (s : Status) → HasInput chain_input bytes IsChainOverLimit → IsOfChain s bytes ⊎ (s ≡ status.OutOfMemory) → IsOrMemory status.OverLimit s
   over-decides s o (inr memory) = inr memory
   over-decides s o (inl h) = by (at s h)
     where
@@ -422,7 +422,7 @@ module _ (bytes : List ℕ) where
       by (Chains is c) = absurd (over-and-fit o c)
       by (Ends below same) = absurd (omega (arith, below, stage-over o))
 
-  pub chain-decides : (s : Status) → (s ≡ status.WriteFault → ⊥) → HasChainInput bytes HasChain → IsOfChain s bytes ⊎ (s ≡ status.OutOfMemory) → IsOrMemory status.Done s
+  pub chain-decides : (s : Status) → (s ≡ status.WriteFault → ⊥) → HasInput chain_input bytes HasChain → IsOfChain s bytes ⊎ (s ≡ status.OutOfMemory) → IsOrMemory status.Done s
   chain-decides s clean c (inr memory) = inr memory
   chain-decides s clean c (inl h) = by (at s h)
     where
@@ -474,7 +474,7 @@ exactly-chained words (Some bytes) left' before now old new write s line h calm 
     ends bytes s (chain-end-of words bytes left' (Rose before now) old new write s line h calm.asks calm.no_fault)
 
 pub complete-chain : (words : List (List ℕ)) (left left' : Option (List ℕ)) (before now : ℕ) (old new : Option (List ℕ)) (write : Type 0) (s : Status) (line : List ℕ) → (s ≡ status.WriteFault → ⊥)
-    → IsEnding words left left' (Rose before now) old new write s line → IsUndisturbedChain words before now → IfSome left (λ bytes. HasChainInput bytes HasChain → IsOrMemory status.Done s)
+    → IsEnding words left left' (Rose before now) old new write s line → IsUndisturbedChain words before now → IfSome left (λ bytes. HasInput chain_input bytes HasChain → IsOrMemory status.Done s)
 complete-chain words None left' before now old new write s line clean h calm = tt
 complete-chain words (Some bytes) left' before now old new write s line clean h calm =
     λ p. chain-decides bytes s clean p (chain-end-of words bytes left' (Rose before now) old new write s line h calm.asks calm.no_fault)

@@ -15,8 +15,8 @@ use Rattle.fact_plan.specs.Plan.{plan_of}
 use Rattle.fact_plan.specs.Reading.{value_in}
 use Rattle.fact_plan_types.specs.declared.error.Place.{Place}
 use Rattle.fact_plan_types.specs.Faults.{Fault}
-use Rattle.fact_checks.specs.FirstFault.{IsFaultlessPlan, IsFirstAt}
-use Rattle.fact_checks.proofs.FaultLaws.{faultless-first}
+use Rattle.fact_adapter_rules.specs.FirstFault.{IsFaultlessPlan, IsFirstAt}
+use Rattle.fact_adapter_rules.proofs.FaultLaws.{faultless-first}
 use Rattle.fact_command.specs.declared.status.Status.{Status}
 use Rattle.fact_command.specs.declared.status.Status.TheVariants as status
 use Rattle.fact_run.specs.declared.answer.Reply.{Reply}
@@ -287,13 +287,13 @@ stage-fault : (bytes : List ℕ) (f : PlanFault) → HoldsFault bytes f → stag
 stage-fault bytes f h = stage-value bytes (Some h.value) h.within h.is_json ∙ ap plan_stage h.is_fault
 
 stage-plan : (bytes : List ℕ) (p : FusePlan) → HoldsPlan bytes p → stage_of bytes ≡ 3
-stage-plan bytes p h = stage-value bytes (Some h.value) h.within h.is_json ∙ ap plan_stage h.is_plan
+stage-plan bytes p h = stage-value bytes (Some h.value) h.within h.is_json ∙ ap plan_stage h.is_input
 
 -- the bytes hold one plan
 one-plan : (bytes : List ℕ) (p q : FusePlan) → HoldsPlan bytes p → HoldsPlan bytes q → p ≡ q
 one-plan bytes p q h k =
     let values : h.value ≡ k.value = cc (h.is_json, k.is_json) in
-    cc (h.is_plan, k.is_plan, ap plan_of values)
+    cc (h.is_input, k.is_input, ap plan_of values)
 
 -- what the bytes of an input hold at an end
 abbrev pub IsOf : Status → List ℕ → Type 0

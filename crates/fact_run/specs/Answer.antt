@@ -14,7 +14,7 @@ use Rattle.fact_run.specs.declared.answer.Reply.TheVariants as reply
 use Rattle.fact_run.specs.declared.ending.Ending.{Ending}
 use Rattle.fact_plan_types.specs.declared.error.Place.{Place}
 use Rattle.fact_plan_types.specs.Faults.{Fault}
-use Rattle.fact_checks.specs.FirstFault.{IsFaultlessPlan, IsFirstAt}
+use Rattle.fact_adapter_rules.specs.FirstFault.{IsFaultlessPlan, IsFirstAt}
 use Rattle.fact_command.specs.Command.{reading}
 use Rattle.fact_command.specs.Refusal.{refusal_line}
 use Rattle.fact_wasm.specs.declared.module.WasmModule.{WasmModule}
@@ -24,12 +24,12 @@ use Rattle.fact_check.specs.declared.error.CheckError.TheVariants as error
 use Rattle.fact_run.specs.Check.{HoldsNoHex, HoldsRejected, accepted_line, rejected_line}
 use Rattle.fact_value_json.specs.Lines.{bad_value_line}
 use Rattle.fact_plan_types.specs.PlanTypes.{told as told_fault}
-use Rattle.fact_calls.specs.declared.reply.CallReply.{CallReply}
-use Rattle.fact_calls.specs.declared.reply.CallReply.TheVariants as call_reply
-use Rattle.fact_calls.specs.Calls.{HasInput, IsNotCallable, IsOverLimit}
-use Rattle.fact_chains.specs.declared.reply.ChainReply.{ChainReply}
-use Rattle.fact_chains.specs.declared.reply.ChainReply.TheVariants as chain_reply
-use Rattle.fact_chains.specs.ChainTexts.{HasChainInput, IsChainOverLimit, IsNotChained}
+use Rattle.fact_call_mode.specs.declared.reply.CallReply.{CallReply}
+use Rattle.fact_call_mode.specs.declared.reply.CallReply.TheVariants as call_reply
+use Rattle.fact_call_mode.specs.Calls.{HasInput, IsNotCallable, IsOverLimit}
+use Rattle.fact_call_mode.specs.Inputs.{call_input}
+use Rattle.fact_chain_mode.specs.ChainInputs.{chain_input}
+use Rattle.fact_chain_mode.specs.ChainTexts.{IsChainOverLimit, IsNotChained}
 use Rattle.fact_run.specs.Run.{HoldsBadValueBy, HoldsFaultBy, HoldsNoJson, HoldsOverLimitBy, HoldsRefusalBy, IsCallMode, IsChainMode, IsJsonMode, Prints, Read, Sends, SendsAccepted, SendsCall, SendsChain, SendsPage, limit}
 use Rattle.fact_command.specs.Status.{line_of}
 
@@ -124,9 +124,9 @@ IsReplyToCalled fuel name bytes (reply.Page text) = SendsCall fuel name bytes (�
 IsReplyToCalled fuel name bytes reply.NotJson = HoldsNoJson bytes
 IsReplyToCalled fuel name bytes (reply.BadPlan line) = TellsFault false (Some name) bytes (string_bytes line)
 IsReplyToCalled fuel name bytes (reply.Refused line) = TellsRefusalIn false (Some name) bytes (string_bytes line)
-IsReplyToCalled fuel name bytes reply.NotCallable = HasInput bytes (IsNotCallable name)
+IsReplyToCalled fuel name bytes reply.NotCallable = HasInput call_input bytes (IsNotCallable name)
 IsReplyToCalled fuel name bytes (reply.BadValue line) = TellsBadValue false (Some name) bytes (string_bytes line)
-IsReplyToCalled fuel name bytes reply.OverLimit = HasInput bytes (IsOverLimit name)
+IsReplyToCalled fuel name bytes reply.OverLimit = HasInput call_input bytes (IsOverLimit name)
 IsReplyToCalled fuel name bytes reply.OutOfMemory = Unit {0}
 IsReplyToCalled fuel name bytes _ = ⊥
 
@@ -137,16 +137,10 @@ IsCallReply fuel name left left' fault reply.TooLong = TakesPast left left' limi
 IsCallReply fuel name left left' fault reply.OutOfMemory = Unit {0}
 IsCallReply fuel name left left' fault r = Read left left' (λ bytes. IsReplyToCalled fuel name bytes r)
 
--- what the reply to a chain comes to
-abbrev pub IsToldChainReply : ChainReply → Reply → Type 0
-IsToldChainReply chain_reply.NotJson r = r ≡ reply.NotJson
-IsToldChainReply (chain_reply.BadPlan f) r = IsReplyToFault f r
-IsToldChainReply (chain_reply.Refused e) r = IsReplyToRefusal (told_fault e) r
-IsToldChainReply chain_reply.NotChained r = r ≡ reply.NotChained
-IsToldChainReply (chain_reply.BadValue f) r = IsReplyToValue f r
-IsToldChainReply chain_reply.OverLimit r = r ≡ reply.OverLimit
-IsToldChainReply (chain_reply.Page text) r = r ≡ reply.Page text
-IsToldChainReply chain_reply.OutOfMemory r = r ≡ reply.OutOfMemory
+-- and the reply to a chain: no names of adapters that lead to one another
+abbrev pub IsToldChainReply : CallReply → Reply → Type 0
+IsToldChainReply call_reply.NotCallable r = r ≡ reply.NotChained
+IsToldChainReply c r = IsToldReply c r
 
 -- what the bytes of the input of a chain come to, no more than an input may have
 abbrev pub IsReplyToChained : (fuel : ℕ) → (bytes : List ℕ) → Reply → Type 0
@@ -154,9 +148,9 @@ IsReplyToChained fuel bytes (reply.Page text) = SendsChain fuel bytes (λ sent. 
 IsReplyToChained fuel bytes reply.NotJson = HoldsNoJson bytes
 IsReplyToChained fuel bytes (reply.BadPlan line) = TellsFault true None bytes (string_bytes line)
 IsReplyToChained fuel bytes (reply.Refused line) = TellsRefusalIn true None bytes (string_bytes line)
-IsReplyToChained fuel bytes reply.NotChained = HasChainInput bytes IsNotChained
+IsReplyToChained fuel bytes reply.NotChained = HasInput chain_input bytes IsNotChained
 IsReplyToChained fuel bytes (reply.BadValue line) = TellsBadValue true None bytes (string_bytes line)
-IsReplyToChained fuel bytes reply.OverLimit = HasChainInput bytes IsChainOverLimit
+IsReplyToChained fuel bytes reply.OverLimit = HasInput chain_input bytes IsChainOverLimit
 IsReplyToChained fuel bytes reply.OutOfMemory = Unit {0}
 IsReplyToChained fuel bytes _ = ⊥
 
@@ -211,8 +205,8 @@ IsReplyUnder o left left' fault (reply.BadPlan line) = IsJsonMode o × Read left
 IsReplyUnder o left left' fault (reply.Refused line) = IsJsonMode o × Read left left' (λ bytes. TellsRefusalIn o.chain o.call bytes (string_bytes line))
 IsReplyUnder o left left' fault reply.NotHex = (o.check ≡ true) × Read left left' HoldsNoHex
 IsReplyUnder o left left' fault (reply.Rejected line) = (o.check ≡ true) × Read left left' (λ input. TellsRejection input (string_bytes line))
-IsReplyUnder o left left' fault reply.NotCallable = (name : List ℕ) × IsCallMode o name × Read left left' (λ bytes. HasInput bytes (IsNotCallable name))
-IsReplyUnder o left left' fault reply.NotChained = IsChainMode o × Read left left' (λ bytes. HasChainInput bytes IsNotChained)
+IsReplyUnder o left left' fault reply.NotCallable = (name : List ℕ) × IsCallMode o name × Read left left' (λ bytes. HasInput call_input bytes (IsNotCallable name))
+IsReplyUnder o left left' fault reply.NotChained = IsChainMode o × Read left left' (λ bytes. HasInput chain_input bytes IsNotChained)
 IsReplyUnder o left left' fault (reply.BadValue line) = IsJsonMode o × Read left left' (λ bytes. TellsBadValue o.chain o.call bytes (string_bytes line))
 IsReplyUnder o left left' fault reply.OverLimit = IsJsonMode o × Read left left' (λ bytes. HoldsOverLimitBy o.chain o.call bytes)
 IsReplyUnder o left left' fault reply.OutOfMemory = Unit {0}
@@ -256,8 +250,8 @@ IsEndUnder o left left' read old new write status.BadPlan line = IsJsonMode o ×
 IsEndUnder o left left' read old new write status.Refused line = IsJsonMode o × Read left left' (λ bytes. TellsRefusalIn o.chain o.call bytes line) × Keeps old new
 IsEndUnder o left left' read old new write status.NotHex line = (o.check ≡ true) × Read left left' HoldsNoHex × Keeps old new × (line ≡ line_of status.NotHex)
 IsEndUnder o left left' read old new write status.Rejected line = (o.check ≡ true) × Read left left' (λ input. TellsRejection input line) × Keeps old new
-IsEndUnder o left left' read old new write status.NotCallable line = (name : List ℕ) × IsCallMode o name × Read left left' (λ bytes. HasInput bytes (IsNotCallable name)) × Keeps old new × (line ≡ line_of status.NotCallable)
-IsEndUnder o left left' read old new write status.NotChained line = IsChainMode o × Read left left' (λ bytes. HasChainInput bytes IsNotChained) × Keeps old new × (line ≡ line_of status.NotChained)
+IsEndUnder o left left' read old new write status.NotCallable line = (name : List ℕ) × IsCallMode o name × Read left left' (λ bytes. HasInput call_input bytes (IsNotCallable name)) × Keeps old new × (line ≡ line_of status.NotCallable)
+IsEndUnder o left left' read old new write status.NotChained line = IsChainMode o × Read left left' (λ bytes. HasInput chain_input bytes IsNotChained) × Keeps old new × (line ≡ line_of status.NotChained)
 IsEndUnder o left left' read old new write status.BadValue line = IsJsonMode o × Read left left' (λ bytes. TellsBadValue o.chain o.call bytes line) × Keeps old new
 IsEndUnder o left left' read old new write status.OverLimit line = IsJsonMode o × Read left left' (λ bytes. HoldsOverLimitBy o.chain o.call bytes) × Keeps old new × (line ≡ line_of status.OverLimit)
 IsEndUnder o left left' read old new write status.OutOfMemory line = Keeps old new × (line ≡ line_of status.OutOfMemory)

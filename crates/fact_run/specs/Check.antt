@@ -8,7 +8,7 @@ use Rattle.fact_check.specs.declared.error.CheckError.{CheckError}
 use Rattle.fact_check.specs.declared.error.CheckError.TheVariants as error
 use Rattle.fact_check.specs.declared.error.CheckPlace.{CheckPlace}
 use Rattle.fact_check.specs.declared.error.CheckPlace.TheVariants as place
-pub use Rattle.fact_calls.specs.Calls.{limit}
+pub use Rattle.fact_call_mode.specs.Calls.{limit}
 
 -- ---- what an input holds
 

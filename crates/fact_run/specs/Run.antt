@@ -1,9 +1,9 @@
--- What a run reads and writes.
-use Rattle.std.specs.Prelude.{ℕ, ◌≡◌, ◌≤◌, ◌<◌, List, [], ◌∷◌, ◌++◌, length, Bool, true, false, ◌||◌, if◌then◌else◌, Option, Some, None, IsSome, IsSomeAnd, Ok, Err, ◌⊎◌, codes}
+-- What a run reads and writes. That it wrote the module of a plan, with all that this promises, is `SendsPage`, by `Prints`; that it counted, checked,
+-- called or chained, the other records of `SendsBy`.
+use Rattle.std.specs.Prelude.{ℕ, ◌≡◌, ◌<◌, List, [], ◌∷◌, ◌++◌, length, Bool, true, false, ◌||◌, if◌then◌else◌, Option, Some, None, IsSome, IsSomeAnd, ◌⊎◌, codes}
 use Rattle.std.specs.Io.KnownBytes.{Appends}
 use Rattle.std.specs.Fmt.{decimal}
 use Rattle.hex.specs.Hex.{encode_lower}
-use Rattle.serde_json.specs.Data.{Data}
 use Rattle.fact_wasm.specs.declared.module.WasmModule.{WasmModule}
 use Rattle.fact_wasm.specs.Ranges.{InRange}
 use Rattle.fact_binary.specs.Spelling.{Spells}
@@ -11,11 +11,10 @@ use Rattle.fact_io.specs.Faults.{Rose}
 use Rattle.fact_io.specs.Transfers.{AppendsFront, TakesAll}
 use Rattle.fact_plan.specs.declared.plan.FusePlan.{FusePlan}
 use Rattle.fact_plan.specs.declared.fault.PlanFault.{PlanFault}
-use Rattle.fact_plan.specs.Reading.{value_in}
 use Rattle.fact_plan.specs.Plan.{plan_of}
 use Rattle.fact_plan_types.specs.declared.error.Place.{Place}
 use Rattle.fact_plan_types.specs.Faults.{Fault}
-use Rattle.fact_checks.specs.FirstFault.{IsFaultlessPlan, IsFirstAt}
+use Rattle.fact_adapter_rules.specs.FirstFault.{IsFaultlessPlan, IsFirstAt}
 use Rattle.fact_generate.specs.Generated.{generated}
 use Rattle.fact_module.specs.declared.fusion.Fused.{Fused}
 use Rattle.fact_types.specs.declared.import.Import.{Import}
@@ -24,11 +23,11 @@ use Rattle.fact_command.specs.declared.command.CommandOptions.{CommandOptions}
 use Rattle.fact_command.specs.declared.status.Status.{Status}
 use Rattle.fact_command.specs.declared.status.Status.TheVariants as status
 use Rattle.fact_command.specs.Command.{reading}
-pub use Rattle.fact_calls.specs.Calls.{HoldsNoJson, limit}
-use Rattle.fact_calls.specs.Calls.{HasBadValue, HasInput, HoldsFaultyInput, HoldsInput, IsNotCallable, IsOverLimit, TellsInput}
-use Rattle.fact_calls.specs.Inputs.{CallInput}
-use Rattle.fact_chains.specs.ChainInputs.{ChainInput}
-use Rattle.fact_chains.specs.ChainTexts.{HasBadChainValue, HasChainInput, HoldsChain, HoldsFaultyChain, IsChainOverLimit, IsNotChained, TellsChainInput}
+pub use Rattle.fact_call_mode.specs.Calls.{HoldsNoJson, limit}
+use Rattle.fact_call_mode.specs.Calls.{HasBadValue, HasInput, HoldsFaultyInput, HoldsInput, IsNotCallable, IsOverLimit, TellsInput}
+use Rattle.fact_call_mode.specs.Inputs.{CallInput, call_input}
+use Rattle.fact_chain_mode.specs.ChainInputs.{ChainInput, chain_input}
+use Rattle.fact_chain_mode.specs.ChainTexts.{HasBadChainValue, IsChainOverLimit, IsNotChained, TellsChainInput}
 use Rattle.fact_run.specs.Check.{HoldsAccepted, accepted_line}
 use Rattle.fact_command.specs.ImportLines.{import_lines}
 
@@ -38,19 +37,12 @@ use Rattle.fact_command.specs.ImportLines.{import_lines}
 abbrev pub IsTooLong : List ℕ → Type 0
 IsTooLong bytes = limit < length bytes
 
--- The bytes are a JSON text whose value has this first fault.
-pub record HoldsFault (bytes : List ℕ) (f : PlanFault) : Type 0 where
-  pub within : length bytes ≤ limit
-  pub value : Data
-  pub is_json : value_in bytes ≡ Some value
-  pub is_fault : plan_of value ≡ Err f
+-- They are a JSON text whose value has this first fault as a plan, or is this plan.
+abbrev pub HoldsFault : List ℕ → PlanFault → Type 0
+HoldsFault bytes f = HoldsFaultyInput plan_of bytes f
 
--- The bytes are a JSON text whose value is this plan.
-pub record HoldsPlan (bytes : List ℕ) (p : FusePlan) : Type 0 where
-  pub within : length bytes ≤ limit
-  pub value : Data
-  pub is_json : value_in bytes ≡ Some value
-  pub is_plan : plan_of value ≡ Ok p
+abbrev pub HoldsPlan : List ℕ → FusePlan → Type 0
+HoldsPlan bytes p = HoldsInput plan_of bytes p
 
 -- a plan whose first fault is this one, at this place
 pub record HoldsRefusal (bytes : List ℕ) (f : Fault) (place : Place) : Type 0 where
@@ -67,25 +59,25 @@ pub record HoldsFaultless (bytes : List ℕ) : Type 0 where
 -- Where two adapters are chained, or one of some name is called, the bytes hold an input in place of a plan: its first fault, and the first fault of
 -- its plan.
 abbrev pub HoldsFaultBy : (chain : Bool) → (call : Option (List ℕ)) → List ℕ → PlanFault → Type 0
-HoldsFaultBy true call bytes f = HoldsFaultyChain bytes f
+HoldsFaultBy true call bytes f = HoldsFaultyInput chain_input bytes f
 HoldsFaultBy false None bytes f = HoldsFault bytes f
-HoldsFaultBy false (Some name) bytes f = HoldsFaultyInput bytes f
+HoldsFaultBy false (Some name) bytes f = HoldsFaultyInput call_input bytes f
 
 abbrev pub HoldsRefusalBy : (chain : Bool) → (call : Option (List ℕ)) → List ℕ → Fault → Place → Type 0
-HoldsRefusalBy true call bytes f place = HasChainInput bytes (λ i. IsFirstAt i.plan f place)
+HoldsRefusalBy true call bytes f place = HasInput chain_input bytes (λ i. IsFirstAt i.plan f place)
 HoldsRefusalBy false None bytes f place = HoldsRefusal bytes f place
-HoldsRefusalBy false (Some name) bytes f place = HasInput bytes (λ i. IsFirstAt i.plan f place)
+HoldsRefusalBy false (Some name) bytes f place = HasInput call_input bytes (λ i. IsFirstAt i.plan f place)
 
 -- And there the values have this first fault, or do not fit.
 abbrev pub HoldsBadValueBy : (chain : Bool) → (call : Option (List ℕ)) → List ℕ → PlanFault → Type 0
-HoldsBadValueBy true call bytes f = HasChainInput bytes (λ i. HasBadChainValue i f)
+HoldsBadValueBy true call bytes f = HasInput chain_input bytes (λ i. HasBadChainValue i f)
 HoldsBadValueBy false None bytes f = ⊥
-HoldsBadValueBy false (Some name) bytes f = HasInput bytes (λ i. HasBadValue name i f)
+HoldsBadValueBy false (Some name) bytes f = HasInput call_input bytes (λ i. HasBadValue name i f)
 
 abbrev pub HoldsOverLimitBy : (chain : Bool) → (call : Option (List ℕ)) → List ℕ → Type 0
-HoldsOverLimitBy true call bytes = HasChainInput bytes IsChainOverLimit
+HoldsOverLimitBy true call bytes = HasInput chain_input bytes IsChainOverLimit
 HoldsOverLimitBy false None bytes = ⊥
-HoldsOverLimitBy false (Some name) bytes = HasInput bytes (IsOverLimit name)
+HoldsOverLimitBy false (Some name) bytes = HasInput call_input bytes (IsOverLimit name)
 
 -- All that the source had was taken, and it is so.
 pub record Read (left left' : Option (List ℕ)) (P : List ℕ → Type 0) : Type 0 where
@@ -154,7 +146,7 @@ pub record SendsAccepted (input : List ℕ) (Sent : List ℕ → Type 0) : Type 
 -- The bytes hold an input, and of the text that tells the call of an adapter of it this was sent.
 pub record SendsCall (fuel : ℕ) (name bytes : List ℕ) (Sent : List ℕ → Type 0) : Type 0 where
   pub input : CallInput
-  pub holds : HoldsInput bytes input
+  pub holds : HoldsInput call_input bytes input
   pub text : List ℕ
   pub tells : TellsInput fuel name input text
   pub sent : Sent text
@@ -162,7 +154,7 @@ pub record SendsCall (fuel : ℕ) (name bytes : List ℕ) (Sent : List ℕ → T
 -- The bytes hold an input, and of the text that tells the chain of two adapters of it this was sent.
 pub record SendsChain (fuel : ℕ) (bytes : List ℕ) (Sent : List ℕ → Type 0) : Type 0 where
   pub input : ChainInput
-  pub holds : HoldsChain bytes input
+  pub holds : HoldsInput chain_input bytes input
   pub text : List ℕ
   pub tells : TellsChainInput fuel input text
   pub sent : Sent text
@@ -263,11 +255,11 @@ pub record IsUndisturbedCall (words : List (List ℕ)) (name : List ℕ) (before
 pub record EndsAsCall (name bytes : List ℕ) (s : Status) : Type 0 where
   pub too_long : IsTooLong bytes → IsOrMemory status.TooLong s
   pub not_json : HoldsNoJson bytes → IsOrMemory status.NotJson s
-  pub bad_plan : ((f : PlanFault) × HoldsFaultyInput bytes f) → IsOrMemory status.BadPlan s
-  pub refused : ((f : Fault) × (place : Place) × HasInput bytes (λ i. IsFirstAt i.plan f place)) → IsOrMemory status.Refused s
-  pub not_callable : HasInput bytes (IsNotCallable name) → IsOrMemory status.NotCallable s
-  pub bad_value : ((f : PlanFault) × HasInput bytes (λ i. HasBadValue name i f)) → IsOrMemory status.BadValue s
-  pub over_limit : HasInput bytes (IsOverLimit name) → IsOrMemory status.OverLimit s
+  pub bad_plan : ((f : PlanFault) × HoldsFaultyInput call_input bytes f) → IsOrMemory status.BadPlan s
+  pub refused : ((f : Fault) × (place : Place) × HasInput call_input bytes (λ i. IsFirstAt i.plan f place)) → IsOrMemory status.Refused s
+  pub not_callable : HasInput call_input bytes (IsNotCallable name) → IsOrMemory status.NotCallable s
+  pub bad_value : ((f : PlanFault) × HasInput call_input bytes (λ i. HasBadValue name i f)) → IsOrMemory status.BadValue s
+  pub over_limit : HasInput call_input bytes (IsOverLimit name) → IsOrMemory status.OverLimit s
 
 -- The command takes the words, two adapters are chained, and no read failed.
 pub record IsUndisturbedChain (words : List (List ℕ)) (before now : ℕ) : Type 0 where
@@ -278,8 +270,8 @@ pub record IsUndisturbedChain (words : List (List ℕ)) (before now : ℕ) : Typ
 pub record EndsAsChain (bytes : List ℕ) (s : Status) : Type 0 where
   pub too_long : IsTooLong bytes → IsOrMemory status.TooLong s
   pub not_json : HoldsNoJson bytes → IsOrMemory status.NotJson s
-  pub bad_plan : ((f : PlanFault) × HoldsFaultyChain bytes f) → IsOrMemory status.BadPlan s
-  pub refused : ((f : Fault) × (place : Place) × HasChainInput bytes (λ i. IsFirstAt i.plan f place)) → IsOrMemory status.Refused s
-  pub not_chained : HasChainInput bytes IsNotChained → IsOrMemory status.NotChained s
-  pub bad_value : ((f : PlanFault) × HasChainInput bytes (λ i. HasBadChainValue i f)) → IsOrMemory status.BadValue s
-  pub over_limit : HasChainInput bytes IsChainOverLimit → IsOrMemory status.OverLimit s
+  pub bad_plan : ((f : PlanFault) × HoldsFaultyInput chain_input bytes f) → IsOrMemory status.BadPlan s
+  pub refused : ((f : Fault) × (place : Place) × HasInput chain_input bytes (λ i. IsFirstAt i.plan f place)) → IsOrMemory status.Refused s
+  pub not_chained : HasInput chain_input bytes IsNotChained → IsOrMemory status.NotChained s
+  pub bad_value : ((f : PlanFault) × HasInput chain_input bytes (λ i. HasBadChainValue i f)) → IsOrMemory status.BadValue s
+  pub over_limit : HasInput chain_input bytes IsChainOverLimit → IsOrMemory status.OverLimit s

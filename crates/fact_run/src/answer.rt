@@ -1,10 +1,10 @@
-//! From the source to what there is to tell.
+//! What a run has to tell ([`Reply`]), and the mode that reads a plan: from the bytes of the source to the text that prints its module.
 
 ghost use Rattle.std.specs.Prelude.{◌≡◌, ◌≢◌, ◌≤◌, ◌+◌, length, string_bytes, IfOk, MatchResult};
 ghost use Rattle.fact_io.specs.Faults.{Rose};
 ghost use Rattle.fact_io.specs.Transfers.{TakesUpTo};
 ghost use Rattle.fact_plan.specs.declared.plan.FusePlan.{FusePlan};
-ghost use Rattle.fact_checks.specs.FirstFault.{IsFaultlessPlan};
+ghost use Rattle.fact_adapter_rules.specs.FirstFault.{IsFaultlessPlan};
 ghost use Rattle.fact_plan_types.specs.PlanTypes.{told};
 ghost use Rattle.fact_run.specs.declared.answer.Reply.TheVariants as reply;
 ghost use Rattle.fact_command.specs.declared.command.CommandOptions.{CommandOptions};
@@ -113,6 +113,7 @@ fn fused_page(
     }
 }
 
+/// The text that prints the module of a plan, with the tunables that the words ask for.
 fn print(alloc: Global, plan: FusePlan, options: &CommandOptions) -> Result<String, OutOfMemory>
     requires { 1 ≤ options.now.fuel }
     ensures { IfOk result (λ text. Prints options.now plan (string_bytes text)) }

@@ -1,4 +1,4 @@
-//! What an input comes to with which an adapter is called.
+//! The mode that calls an adapter (`--call`): what an input comes to.
 
 ghost use Rattle.std.specs.Prelude.{◌≡◌, ◌≢◌, ◌≤◌, ◌+◌, length};
 ghost use Rattle.fact_io.specs.Faults.{Rose};
@@ -7,14 +7,14 @@ ghost use Rattle.fact_run.specs.Answer.{IsCallReply, IsReplyToCalled, IsReplyToV
 ghost use Rattle.fact_run.specs.Run.{limit};
 
 use crate::answer::{Reply, reply_to_fault, reply_to_refusal};
-use fact_calls::{CallReply, reply_to_call};
+use fact_call_mode::{CallReply, reply_to_call};
 use fact_io::{InputError, Source, read_all};
 use fact_plan::PlanFault;
 use fact_value_json::value_fault_line;
 use std::alloc::Global;
 
 /// What a fault of values comes to.
-pub fn reply_to_value(alloc: Global, fault: &PlanFault) -> Reply
+fn reply_to_value(alloc: Global, fault: &PlanFault) -> Reply
     ensures { IsReplyToValue fault.now result }
 {
     if matches!(fault, PlanFault::OutOfMemory) {
@@ -27,7 +27,7 @@ pub fn reply_to_value(alloc: Global, fault: &PlanFault) -> Reply
 }
 
 /// What the reply to a call comes to, with the line that tells it.
-fn told_reply(alloc: Global, reply: CallReply) -> Reply
+pub fn told_reply(alloc: Global, reply: CallReply) -> Reply
     ensures { IsToldReply reply result }
 {
     match reply {

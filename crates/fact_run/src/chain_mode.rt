@@ -1,4 +1,4 @@
-//! What an input comes to with which two adapters are chained.
+//! The mode that chains two adapters (`--chain`): what an input comes to.
 
 ghost use Rattle.std.specs.Prelude.{◌≡◌, ◌≢◌, ◌≤◌, ◌+◌, length};
 ghost use Rattle.fact_io.specs.Faults.{Rose};
@@ -6,25 +6,20 @@ ghost use Rattle.fact_io.specs.Transfers.{TakesUpTo};
 ghost use Rattle.fact_run.specs.Answer.{IsChainReply, IsReplyToChained, IsToldChainReply};
 ghost use Rattle.fact_run.specs.Run.{limit};
 
-use crate::answer::{Reply, reply_to_fault, reply_to_refusal};
-use crate::call_mode::reply_to_value;
-use fact_chains::{ChainReply, reply_to_chain};
+use crate::answer::Reply;
+use crate::call_mode::told_reply;
+use fact_call_mode::CallReply;
+use fact_chain_mode::reply_to_chain;
 use fact_io::{InputError, Source, read_all};
 use std::alloc::Global;
 
 /// What the reply to a chain comes to, with the line that tells it.
-fn told_reply(alloc: Global, reply: ChainReply) -> Reply
+fn told_chain_reply(alloc: Global, reply: CallReply) -> Reply
     ensures { IsToldChainReply reply result }
 {
     match reply {
-        ChainReply::NotJson => Reply::NotJson,
-        ChainReply::BadPlan(fault) => reply_to_fault(alloc, &fault),
-        ChainReply::Refused(error) => reply_to_refusal(alloc, &error),
-        ChainReply::NotChained => Reply::NotChained,
-        ChainReply::BadValue(fault) => reply_to_value(alloc, &fault),
-        ChainReply::OverLimit => Reply::OverLimit,
-        ChainReply::Page(text) => Reply::Page(text),
-        ChainReply::OutOfMemory => Reply::OutOfMemory,
+        CallReply::NotCallable => Reply::NotChained,
+        other => told_reply(alloc, other),
     }
 }
 
@@ -34,7 +29,7 @@ fn reply_to(alloc: Global, bytes: &[u8], fuel: u32) -> Reply
     requires fuel { 1 ≤ fuel }
     ensures { IsReplyToChained fuel bytes.now result }
 {
-    told_reply(alloc, reply_to_chain(alloc, bytes, fuel))
+    told_chain_reply(alloc, reply_to_chain(alloc, bytes, fuel))
 }
 
 /// What all that the source has comes to, where two adapters are chained.

@@ -1,4 +1,4 @@
-//! What an input comes to that is checked.
+//! The mode that checks a module (`--check`): what the digits of an input come to.
 
 ghost use Rattle.std.specs.Prelude.{◌≡◌, ◌≢◌, ◌≤◌, ◌+◌, length, string_bytes, IfOk, MatchResult};
 ghost use Rattle.fact_io.specs.Faults.{Rose};

@@ -1,4 +1,4 @@
-//! The counts of a plan and of its module.
+//! The counts of a plan and of its module, which `--generate` prints.
 
 ghost use Rattle.std.specs.Prelude.{◌≡◌, IfOk, string_bytes};
 ghost use Rattle.fact_run.specs.Run.{count_line, counts};

@@ -1,4 +1,4 @@
-//! What a run comes to, by its mode.
+//! Which mode the words ask for ([`reply_under`]), and the mode that makes a plan (`--generate`).
 
 ghost use Rattle.std.specs.Prelude.{◌≡◌, ◌≢◌, ◌≤◌, ◌+◌, IfOk, IfSome, IsSome, false, string_bytes};
 ghost use Rattle.fact_io.specs.Faults.{Rose};

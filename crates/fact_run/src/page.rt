@@ -1,4 +1,4 @@
-//! The printed text of a module.
+//! The text that prints a module: its bytes in hex, and the lines of its imports.
 
 ghost use Rattle.std.specs.Prelude.{◌≡◌, string_bytes, IfOk};
 ghost use Rattle.fact_run.specs.Run.{page};

@@ -1,4 +1,4 @@
-//! The top call.
+//! The top call, [`run`]: the words are read, the reply of their mode is written, and the line of the end is told.
 
 ghost use Rattle.std.specs.Prelude.{◌≡◌, ◌≢◌, ◌≤◌, ◌+◌, ℕ, List, IfSome, IsSome, None, Some, map, option_map, string_bytes};
 ghost use Rattle.std.specs.Io.KnownBytes.{Appends, Keeps};
@@ -17,8 +17,10 @@ ghost use Rattle.fact_wasm.specs.declared.module.WasmModule.{WasmModule};
 ghost use Rattle.fact_check.specs.declared.error.CheckError.{CheckError};
 ghost use Rattle.fact_run.specs.Check.{HoldsAccepted, HoldsNoHex, HoldsRejected, rejected_line};
 ghost use Rattle.fact_value_json.specs.Lines.{bad_value_line};
-ghost use Rattle.fact_calls.specs.Calls.{HasCall, HasInput, IsNotCallable};
-ghost use Rattle.fact_chains.specs.ChainTexts.{HasChain, HasChainInput, IsNotChained};
+ghost use Rattle.fact_call_mode.specs.Calls.{HasCall, HasInput, IsNotCallable};
+ghost use Rattle.fact_call_mode.specs.Inputs.{call_input};
+ghost use Rattle.fact_chain_mode.specs.ChainInputs.{chain_input};
+ghost use Rattle.fact_chain_mode.specs.ChainTexts.{HasChain, IsNotChained};
 ghost use Rattle.fact_run.specs.Run.{AsksCall, AsksChain, ChecksBytes, EndsAsCall, EndsAsChain, GeneratesPlan, HoldsBadValueBy, HoldsFault, HoldsFaultBy, HoldsFaultless, HoldsNoJson, HoldsOverLimitBy, HoldsRefusal, HoldsRefusalBy, IsEndUnread, IsJsonMode, IsOrMemory, IsTooLong, IsUndisturbed, IsUndisturbedCall, IsUndisturbedChain, IsUndisturbedCheck, Read, ReadsJson, Sends, TellsLine, limit};
 ghost use Rattle.fact_command.specs.Status.{line_of};
 
@@ -139,8 +141,8 @@ pub fn run<S: Source, K: Sink, E: Sink>(
     ensures not_hex { result ≡ Status.NotHex → ChecksBytes (map string_bytes words.now) × Read (S.left source.old) (S.left source.new) HoldsNoHex }
     ensures rejected { result ≡ Status.Rejected → ChecksBytes (map string_bytes words.now) × Read (S.left source.old) (S.left source.new) (λ input. (e : CheckError)
         × HoldsRejected input e × TellsLine (E.written err.old) (E.written err.new) (E.faults err.old) (E.faults err.new) (rejected_line e)) }
-    ensures not_callable { result ≡ Status.NotCallable → (name : List ℕ) × AsksCall (map string_bytes words.now) name × Read (S.left source.old) (S.left source.new) (λ bytes. HasInput bytes (IsNotCallable name)) }
-    ensures not_chained { result ≡ Status.NotChained → AsksChain (map string_bytes words.now) × Read (S.left source.old) (S.left source.new) (λ bytes. HasChainInput bytes IsNotChained) }
+    ensures not_callable { result ≡ Status.NotCallable → (name : List ℕ) × AsksCall (map string_bytes words.now) name × Read (S.left source.old) (S.left source.new) (λ bytes. HasInput call_input bytes (IsNotCallable name)) }
+    ensures not_chained { result ≡ Status.NotChained → AsksChain (map string_bytes words.now) × Read (S.left source.old) (S.left source.new) (λ bytes. HasInput chain_input bytes IsNotChained) }
     ensures bad_value { result ≡ Status.BadValue → (o : CommandOptions) × (reading (map string_bytes words.now) ≡ Some o) × IsJsonMode o × Read (S.left source.old) (S.left source.new) (λ bytes. (f : PlanFault)
         × HoldsBadValueBy o.chain o.call bytes f × TellsLine (E.written err.old) (E.written err.new) (E.faults err.old) (E.faults err.new) (bad_value_line f)) }
     ensures over_limit { result ≡ Status.OverLimit → (o : CommandOptions) × (reading (map string_bytes words.now) ≡ Some o) × IsJsonMode o
@@ -183,12 +185,12 @@ pub fn run<S: Source, K: Sink, E: Sink>(
         → IfSome (S.left source.old) (λ bytes. EndsAsCall name bytes result) }
     ensures complete_call { (name : List ℕ) → IsUndisturbedCall (map string_bytes words.now) name (S.faults source.old) (S.faults source.new)
         → (Rose (K.faults out.old) (K.faults out.new) → ⊥)
-        → IfSome (S.left source.old) (λ bytes. HasInput bytes (HasCall name) → IsOrMemory Status.Done result) }
+        → IfSome (S.left source.old) (λ bytes. HasInput call_input bytes (HasCall name) → IsOrMemory Status.Done result) }
     ensures exactly_chain { IsUndisturbedChain (map string_bytes words.now) (S.faults source.old) (S.faults source.new)
         → IfSome (S.left source.old) (λ bytes. EndsAsChain bytes result) }
     ensures complete_chain { IsUndisturbedChain (map string_bytes words.now) (S.faults source.old) (S.faults source.new)
         → (Rose (K.faults out.old) (K.faults out.new) → ⊥)
-        → IfSome (S.left source.old) (λ bytes. HasChainInput bytes HasChain → IsOrMemory Status.Done result) }
+        → IfSome (S.left source.old) (λ bytes. HasInput chain_input bytes HasChain → IsOrMemory Status.Done result) }
     ensures complete_generated { GeneratesPlan (map string_bytes words.now) → (Rose (K.faults out.old) (K.faults out.new) → ⊥) → IsOrMemory Status.Done result }
 
     // What was written.

@@ -4,7 +4,7 @@ use Rattle.fact_wasm.specs.declared.instr.FuncName.TheVariants as func
 use Rattle.fact_wasm.specs.declared.instr.Instr.{the_lemmas}
 use Rattle.fact_wasm.specs.declared.instr.Instr.TheVariants as I
 use Rattle.fact_wasm.specs.Ranges.{AreRanged}
-use Rattle.fact_pieces.specs.Places.{Slot}
+use Rattle.fact_code_laws.specs.Places.{Slot}
 use Rattle.fact_emit.proofs.NamedLaws.{ranged_append, ranged_more, ranged_none}
 use Rattle.fact_emit.proofs.RangedCode.{get_ranged, set_ranged}
 use Rattle.fact_steps.specs.Code.{back_code, call_code, popped_code, pushed_code, saved_code, started_code, zero_code}

@@ -9,10 +9,10 @@ use Rattle.fact_wasm.specs.declared.instr.Instr.TheVariants as I
 use Rattle.fact_wasm.specs.declared.module.WasmModule.{WasmModule}
 use Rattle.fact_wasm.specs.declared.types.ValType.{ValType}
 use Rattle.fact_types.specs.declared.outside.Trap.TheVariants.{CannotLeaveComponent}
-use Rattle.fact_moves.specs.Running.{ImportPlaces}
-use Rattle.fact_pieces.specs.Code.{guard_code}
-use Rattle.fact_pieces.specs.Context.{read_slots_code, restore_code, CanWriteSlotsIf}
-use Rattle.fact_pieces.specs.Places.{Slot}
+use Rattle.fact_actions.specs.Running.{ImportPlaces}
+use Rattle.fact_code_laws.specs.Code.{guard_code}
+use Rattle.fact_code_laws.specs.Context.{read_slots_code, restore_code, CanWriteSlotsIf}
+use Rattle.fact_code_laws.specs.Places.{Slot}
 use Rattle.fact_emit.specs.Checks.{Guarded}
 use Rattle.fact_emit.specs.Emits.{Grew, Emits}
 use Rattle.fact_emit.specs.Pieces.{Is}
@@ -28,7 +28,7 @@ use Rattle.fact_steps.specs.Code.{back_code, pushed_code}
 use Rattle.fact_steps.specs.Steps.{ChecksMayLeave, EntersCall, ExitsCall, FinishesCall, RestoresAndFinishes, ReturnsPost}
 use Rattle.fact_steps.proofs.RangedSteps.{back_ranged, constants_ranged, post_ranged}
 
--- the test whether an instance may be left
+-- the test whether an instance may leave
 pub may_leave_emits : {a b : Writer} {test : List Instr} (flags saved : ℕ) → test ≡ I.GlobalGet flags ∷ I.LocalTee saved ∷ [] → Emits a b (Guarded test CannotLeaveComponent []) → Emits a b (ChecksMayLeave flags saved)
 may_leave_emits flags saved same x =
     emits_as (λ M p locals code g. record { trap = g.place; has = g.has; is = g.is ∙ append-nil (guard_code (I.GlobalGet flags ∷ I.LocalTee saved ∷ []) g.place) }) (guarded_as same x)
@@ -54,13 +54,13 @@ no_exit a false is = emits_nothing (λ M p locals. record { is = refl; has = tt 
 no_exit a true is = absurd (let no : true ≡ false = is in cc)
 
 -- the post-return, whose place was there before
-pub post_emits : {a b c e f g : Writer} (function : ℕ) (context : Bool) (callee own : ContextLocals) (given : List Slot) → function < length (functions_of a.imports)
+pub post_emits : {a b c e f g : Writer} (function : ℕ) (context : Bool) (callee own : ContextLocals) (given : List Slot) → function < length (functions_of a.sections)
     → Emits a b (ReadsSlots context own) → Emits b c (WritesSlots context callee) → Wrote c e (pushed_code given) → Wrote e f (I.Call (func.Import function) ∷ []) → Emits f g (WritesSlots context own)
     → Emits a g (ReturnsPost function context callee own given)
 post_emits {a} {b} {c} {e} {f} {g} function context callee own given below x y z v w =
     let grew_c : Grew a c = grew_on x.grew y.grew in
-    let imports : ℕ = length (functions_of c.imports) in
-    let there : function < imports = omega (arith, below, ap length grew_c.imports.functions.is, length-append (functions_of a.imports) grew_c.imports.functions.more) in
+    let imports : ℕ = length (functions_of c.sections) in
+    let there : function < imports = omega (arith, below, ap length grew_c.imports.functions.is, length-append (functions_of a.sections) grew_c.imports.functions.more) in
     let call = emits_before (post_ranged imports function given there) (wrote_then z v) in
     let Last : WasmModule → ImportPlaces → List ValType → List Instr → Type 0 = λ M p locals code. (code ≡ (pushed_code given ++ I.Call (func.Import function) ∷ []) ++ restore_code context (slots_of p own)) × CanWriteSlotsIf context M p (slots_of p own) in
     let last : Emits c g Last = emits_then {P = Is (pushed_code given ++ I.Call (func.Import function) ∷ [])} (λ M p locals code more is r. (λ i. is i ++ r.is i, r.can)) call w in
@@ -82,7 +82,7 @@ no_finish a None context callee own given is = emits_nothing (λ M p locals. rec
 no_finish a (Some f) context callee own given is = absurd (let no : Some f ≡ None = is in cc)
 
 -- the flags are set back, which imports nothing, and then the post-return is called
-pub still_there : (o : Option (Id Funcs)) {a b : Writer} {added : List Instr} → Wrote a b added → IfSome o (λ (f : Id Funcs). f.number < length (functions_of a.imports)) → IfSome o (λ (f : Id Funcs). f.number < length (functions_of b.imports))
+pub still_there : (o : Option (Id Funcs)) {a b : Writer} {added : List Instr} → Wrote a b added → IfSome o (λ (f : Id Funcs). f.number < length (functions_of a.sections)) → IfSome o (λ (f : Id Funcs). f.number < length (functions_of b.sections))
 still_there o x h = subst (λ s. IfSome o (λ (f : Id Funcs). f.number < length (functions_of s))) (sym x.imports) h
 
 pub restored_finish : {a b c : Writer} (flags saved : ℕ) (o : Option (Id Funcs)) (context : Bool) (callee own : ContextLocals) (given : List Slot) → Wrote a b (back_code flags saved) → Emits b c (FinishesCall o context callee own given)

@@ -3,9 +3,9 @@ use Rattle.std.specs.Prelude.{ℕ, Bool, true, false, List, [], ◌∷◌, ◌++
 use Rattle.fact_wasm.specs.declared.instr.FuncName.TheVariants as func
 use Rattle.fact_wasm.specs.declared.instr.Instr.{Instr}
 use Rattle.fact_wasm.specs.declared.instr.Instr.TheVariants as I
-use Rattle.fact_pieces.specs.Code.{guard_code}
-use Rattle.fact_pieces.specs.Context.{ContextSlots, read_slots_code, restore_code}
-use Rattle.fact_pieces.specs.Places.{Slot}
+use Rattle.fact_code_laws.specs.Code.{guard_code}
+use Rattle.fact_code_laws.specs.Context.{ContextSlots, read_slots_code, restore_code}
+use Rattle.fact_code_laws.specs.Places.{Slot}
 
 -- locals are pushed, the first one first
 abbrev pub pushed_code : List Slot → List Instr

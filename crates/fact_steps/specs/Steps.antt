@@ -1,4 +1,4 @@
--- The steps of adapters that name functions of the module, as pieces of code: the test whether an instance may be left, what the runtime is told of
+-- The steps of adapters that name functions of the module, as pieces of code: the test whether an instance may leave, what the runtime is told of
 -- a call, and the call of a post-return.
 use Rattle.std.specs.Prelude.{◌≡◌, ℕ, Bool, true, false, List, [], ◌++◌, Option, Some, None}
 use Rattle.fact_wasm.specs.declared.instr.Instr.{Instr}
@@ -8,10 +8,10 @@ use Rattle.fact_entity.specs.declared.id.Id.{Id}
 use Rattle.fact_entity.specs.declared.table.Funcs.{Funcs}
 use Rattle.fact_types.specs.declared.import.Import.TheVariants as import
 use Rattle.fact_types.specs.declared.outside.Trap.TheVariants.{CannotLeaveComponent}
-use Rattle.fact_moves.specs.Running.{ImportPlaces}
-use Rattle.fact_pieces.specs.Context.{CanReadSlotsIf, CanWriteSlotsIf}
-use Rattle.fact_pieces.specs.Knows.{KnowsFunction}
-use Rattle.fact_pieces.specs.Places.{Slot}
+use Rattle.fact_actions.specs.Running.{ImportPlaces}
+use Rattle.fact_code_laws.specs.Context.{CanReadSlotsIf, CanWriteSlotsIf}
+use Rattle.fact_code_laws.specs.Knows.{KnowsFunction}
+use Rattle.fact_code_laws.specs.Places.{Slot}
 use Rattle.fact_emit.specs.Options.{number_if_any}
 use Rattle.fact_emit.specs.RuntimeCalls.{KnowsRuntime, slots_of}
 use Rattle.fact_emit.specs.declared.context.ContextLocals.{ContextLocals}

@@ -3,5 +3,11 @@
 //! has written.
 #![tactic(auto)]
 
-pub mod passing;
-pub mod steps;
+mod passing;
+mod steps;
+
+pub use passing::are_passed_on;
+pub use steps::{
+    call_callee, check_may_leave, clear_flags, enter_call, exit_call, hold_flags, push_locals,
+    restore_and_finish, restore_flags,
+};

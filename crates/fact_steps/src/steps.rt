@@ -9,12 +9,10 @@ ghost use Rattle.fact_emit.specs.Writers.{Wrote};
 ghost use Rattle.fact_steps.specs.Code.{back_code, call_code, popped_code, pushed_code, started_code, zero_code};
 ghost use Rattle.fact_steps.specs.Steps.{ChecksMayLeave, EntersCall, ExitsCall, FinishesCall, RestoresAndFinishes, ReturnsPost};
 
-use fact_emit::calls::call_runtime;
-use fact_emit::checks::put_guard;
-use fact_emit::context::{ContextLocals, read_context, restore_context};
-use fact_emit::imported::RuntimeFunction;
-use fact_emit::places::TypedLocal;
-use fact_emit::writer::Writer;
+use fact_emit::{
+    ContextLocals, RuntimeFunction, TypedLocal, Writer, call_runtime, put_guard, read_context,
+    restore_context,
+};
 use fact_entity::FuncIndex;
 use fact_types::Trap;
 use fact_wasm::{FuncName, Instr, OutOfMemory};
@@ -129,7 +127,7 @@ fn call_post_return(
     own: ContextLocals,
     given: &[TypedLocal],
 ) -> Result<(), OutOfMemory>
-    requires { function < length (functions_of w.old.imports) }
+    requires { function < length (functions_of w.old.sections) }
     ensures { OnOk result (Emits w.old w.new (ReturnsPost function context callee own (slots_of_locals given.now))) }
 {
     read_context(w, context, own)?;
@@ -149,7 +147,7 @@ fn finish_call(
     own: ContextLocals,
     given: &[TypedLocal],
 ) -> Result<(), OutOfMemory>
-    requires { IfSome post_return (λ (f : id.Id _). f.number < length (functions_of w.old.imports)) }
+    requires { IfSome post_return (λ (f : id.Id _). f.number < length (functions_of w.old.sections)) }
     ensures { OnOk result (Emits w.old w.new (FinishesCall post_return context callee own (slots_of_locals given.now))) }
 {
     match post_return {
@@ -172,7 +170,7 @@ pub fn restore_and_finish(
     own: ContextLocals,
     given: &[TypedLocal],
 ) -> Result<(), OutOfMemory>
-    requires { IfSome post_return (λ (f : id.Id _). f.number < length (functions_of w.old.imports)) }
+    requires { IfSome post_return (λ (f : id.Id _). f.number < length (functions_of w.old.sections)) }
     ensures { OnOk result (Emits w.old w.new (RestoresAndFinishes lower_flags lower_saved post_return context callee own (slots_of_locals given.now))) }
 {
     restore_flags(w, lower_flags, lower_saved)?;

@@ -20,19 +20,19 @@ use Rattle.fact_types.specs.Signatures.{width}
 use Rattle.fact_types.specs.Tables.{Tables, HasShape}
 use Rattle.fact_machine.specs.declared.types.CoreValue.{CoreValue}
 use Rattle.fact_values.specs.Limits.{place_in}
-use Rattle.fact_moves.specs.Actions.{Action}
-use Rattle.fact_moves.specs.Moves.{element_flats, entry_extent, flat_length, move, move_fields}
-use Rattle.fact_moves.specs.Running.{ImportPlaces}
-use Rattle.fact_moves.specs.Sides.{LiftLowerOptions, Source, Target, width_of_side}
-use Rattle.fact_moves.specs.Outlining.{translates, translates_times}
-use Rattle.fact_moves.proofs.ValidTypes.{single_extent}
-use Rattle.fact_pieces.specs.Does.{Locals}
-use Rattle.fact_pieces.specs.Places.{Slot, From, InLocals, InMemory, To, ToLocals, ToMemory, Setting, transfer, Moves, Stood, FromUsed, ToUsed, to_past}
-use Rattle.fact_pieces.proofs.FieldMoves.{from_part, to_spot, with_to, IsApartAt, moves_same, moves_member, moves_no_local, moves_no_member}
-use Rattle.fact_pieces.proofs.FixedMoves.{elements_from, moves_element, moves_fixed_by_parts}
-use Rattle.fact_pieces.proofs.Keeping.{keeps_all}
-use Rattle.fact_pieces.proofs.Rules.{done}
-use Rattle.fact_pieces.proofs.TypingLaws.{typed_done}
+use Rattle.fact_actions.specs.Actions.{Action}
+use Rattle.fact_actions.specs.Moves.{element_flats, entry_extent, flat_length, move, move_fields}
+use Rattle.fact_actions.specs.Running.{ImportPlaces}
+use Rattle.fact_actions.specs.Sides.{LiftLowerOptions, Source, Target, width_of_side}
+use Rattle.fact_actions.specs.Outlining.{translates, translates_times}
+use Rattle.fact_actions.proofs.ValidTypes.{single_extent}
+use Rattle.fact_code_laws.specs.Does.{Locals}
+use Rattle.fact_code_laws.specs.Places.{Slot, From, InLocals, InMemory, To, ToLocals, ToMemory, Setting, transfer, Moves, Stood, FromUsed, ToUsed, to_past}
+use Rattle.fact_code_laws.proofs.FieldMoves.{from_part, to_spot, with_to, IsApartAt, moves_same, moves_member, moves_no_local, moves_no_member}
+use Rattle.fact_code_laws.proofs.FixedMoves.{elements_from, moves_element, moves_fixed_by_parts}
+use Rattle.fact_code_laws.proofs.Keeping.{keeps_all}
+use Rattle.fact_code_laws.proofs.Rules.{done}
+use Rattle.fact_code_laws.proofs.TypingLaws.{typed_done}
 use Rattle.fact_emit.specs.declared.places.Sides.{Sides}
 use Rattle.fact_emit.specs.declared.writer.Writer.{Writer}
 use Rattle.fact_emit.specs.Asked.{AskedHelper}
@@ -316,7 +316,7 @@ elements_all {sides} {src} {dst} {s = s} {u} all M p locals code m = record {
 pub record ElementsRun (t : Tables) (from to : InterfaceType) (e : FixedElements) (i : ℕ) (sides : Sides) (src : From) (dst spots : To) (before between : Fuel) (first now : Writer) : Type 0 where
   pub asks : List AskedHelper
   pub grew : GrewAsking asks first now
-  pub asked : AreAsked t sides (suc (height t to)) now.imports asks
+  pub asked : AreAsked t sides (suc (height t to)) now.sections asks
   pub goes_on : (s u : Shape) → HasShape t from s → HasShape t to u → IsCounted s → IsCounted u → CanMoveMember s u → AreFixedElements sides e s u → (n : ℕ) → i + n ≡ e.count → (later : List AskedHelper) (last : Writer)
       → EmitsAsking later now last (MovesElements sides src spots (taken_in first) e.count i n s u) → EmitsAsking (asks ++ later) first last (MovesElements sides src dst (taken_in first) e.count 0 e.count s u)
   pub place : place_of_target spots ≡ place_of_target dst

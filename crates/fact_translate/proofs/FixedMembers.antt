@@ -14,7 +14,7 @@ use Rattle.fact_types.specs.Layout.{extent}
 use Rattle.fact_types.specs.Shapes.{k_fixed, Shape, s_plain, s_node, Members, layout_of}
 use Rattle.fact_types.specs.Signatures.{width}
 use Rattle.fact_types.specs.Tables.{Tables, HasShape}
-use Rattle.fact_pieces.specs.Places.{From, InMemory, To, ToMemory}
+use Rattle.fact_code_laws.specs.Places.{From, InMemory, To, ToMemory}
 use Rattle.fact_emit.specs.declared.places.Address.{Address}
 use Rattle.fact_emit.specs.declared.places.SourcePlace.{SourcePlace}
 use Rattle.fact_emit.specs.declared.places.SourcePlace.TheVariants as source
@@ -43,7 +43,7 @@ use Rattle.fact_emit.proofs.FreedLocals.{all_distinct}
 use Rattle.fact_kinds.proofs.TypeKinds.{fixed_kind, fixed_members, fixed_size, fixed_type}
 use Rattle.fact_kinds.proofs.Translating.{then_none, translated_at, translated_with}
 use Rattle.fact_kinds.proofs.TranslatedShapes.{times_are, translated_shapes}
-use Rattle.fact_moves.specs.Outlining.{Route, translates, translates_times, turns_of}
+use Rattle.fact_actions.specs.Outlining.{Route, translates, translates_times, turns_of}
 
 -- ---- by a loop
 

@@ -22,9 +22,9 @@ use Rattle.fact_types.specs.Sound.{TakesBytes}
 use Rattle.fact_types.specs.Tables.{Tables, HasShape, HasMembers, IsSound, abi_at, map_node}
 use Rattle.fact_types.proofs.PlaceLaws.{align_pos, ends_within}
 use Rattle.fact_types.proofs.ShapeLaws.{layout_is}
-use Rattle.fact_moves.specs.Running.{ImportPlaces}
-use Rattle.fact_moves.specs.Outlining.{in_memories, translates}
-use Rattle.fact_pieces.specs.Places.{From, InMemory, To, ToMemory}
+use Rattle.fact_actions.specs.Running.{ImportPlaces}
+use Rattle.fact_actions.specs.Outlining.{in_memories, translates}
+use Rattle.fact_code_laws.specs.Places.{From, InMemory, To, ToMemory}
 use Rattle.fact_emit.specs.declared.places.Sides.{Sides}
 use Rattle.fact_emit.specs.declared.writer.Writer.{Writer}
 use Rattle.fact_emit.specs.Emits.{Emits, EmitsAsking}

@@ -16,11 +16,11 @@ use Rattle.fact_types.proofs.ShapeLaws.{layouts_are, same_some, none_some}
 use Rattle.fact_values.specs.Canonical.{ThereIs}
 use Rattle.fact_values.specs.Limits.{CaseType, case_type}
 use Rattle.fact_values.specs.Places.{count_of_members, case_bytes}
-use Rattle.fact_moves.specs.Actions.{Action, Give, ◌>>=◌}
-use Rattle.fact_moves.specs.Actions as action
-use Rattle.fact_moves.specs.Moves.{padded, write_case, move, move_case}
-use Rattle.fact_moves.specs.Sides.{Transfer, Source, Target, write_number}
-use Rattle.fact_moves.specs.Outlining.{Route, translates, translates_case, translates_none}
+use Rattle.fact_actions.specs.Actions.{Action, Give, ◌>>=◌}
+use Rattle.fact_actions.specs.Actions as action
+use Rattle.fact_actions.specs.Moves.{padded, write_case, move, move_case}
+use Rattle.fact_actions.specs.Sides.{Transfer, Source, Target, write_number}
+use Rattle.fact_actions.specs.Outlining.{Route, translates, translates_case, translates_none}
 use Rattle.fact_kinds.specs.declared.sums.NumberedCase.{NumberedCase}
 use Rattle.fact_kinds.specs.declared.sums.PairedCase.{PairedCase}
 use Rattle.fact_kinds.specs.declared.sums.Sum.{Sum}

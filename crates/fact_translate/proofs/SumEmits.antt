@@ -24,13 +24,13 @@ use Rattle.fact_types.specs.Tables.{Tables, HasShape, IsSound}
 use Rattle.fact_types.proofs.ShapeLaws.{same_some, none_some}
 use Rattle.fact_values.specs.Limits.{CaseType, case_type}
 use Rattle.fact_values.specs.Places.{count_of_members, case_bytes}
-use Rattle.fact_moves.specs.Actions.{Give, ◌>>=◌}
-use Rattle.fact_moves.specs.Moves.{padded, write_case, move}
-use Rattle.fact_moves.specs.Running.{ImportPlaces}
-use Rattle.fact_moves.specs.Sides.{write_number}
-use Rattle.fact_moves.specs.Outlining.{translates_case, translates_if}
-use Rattle.fact_pieces.specs.Cases.{tag_code, zero_code}
-use Rattle.fact_pieces.specs.Places.{From, To, Setting, Number, to_past, read_code}
+use Rattle.fact_actions.specs.Actions.{Give, ◌>>=◌}
+use Rattle.fact_actions.specs.Moves.{padded, write_case, move}
+use Rattle.fact_actions.specs.Running.{ImportPlaces}
+use Rattle.fact_actions.specs.Sides.{write_number}
+use Rattle.fact_actions.specs.Outlining.{translates_case, translates_if}
+use Rattle.fact_code_laws.specs.Cases.{tag_code, zero_code}
+use Rattle.fact_code_laws.specs.Places.{From, To, Setting, Number, to_past, read_code}
 use Rattle.fact_emit.specs.declared.places.Sides.{Sides}
 use Rattle.fact_emit.specs.declared.writer.Writer.{Writer}
 use Rattle.fact_emit.specs.Asked.{AskedHelper, HasHelper}
@@ -43,7 +43,7 @@ use Rattle.fact_emit.specs.Numbers.{ReadsNumber}
 use Rattle.fact_emit.specs.Parts.{from_behind, to_behind, bytes_by}
 use Rattle.fact_emit.specs.Pieces.{Piece, Is}
 use Rattle.fact_emit.specs.Places.{checks_at}
-use Rattle.fact_emit.specs.Writers.{is_local_in_use, taken_in, Wrote, Took, Freed, Began, Ended}
+use Rattle.fact_emit.specs.Writers.{is_local_in_use, taken_in, Wrote, Took, Freed, Began, EndedBody}
 use Rattle.fact_emit.proofs.ChosenBodies.{aside_nothing, aside_on, aside_grew, aside_does, bodies_behind, choice_grew, choice_emits}
 use Rattle.fact_emit.proofs.Emitting.{emits_as, emits_then, emits_wrote, grew_on, grew_wrote, grew_around, sooner}
 use Rattle.fact_emit.proofs.ImportLaws.{extended_none, extended_on}
@@ -106,7 +106,7 @@ module _ {t : Tables} {source destination : VariantInfo} {sides : Sides} {src : 
   payload_some y z from_is to_is m = record {
     grew = m.grew;
     asks = m.asks;
-    asked = subst (λ o. AreAsked t sides (payload_height t o) b.imports m.asks) (sym to_is) m.asked;
+    asked = subst (λ o. AreAsked t sides (payload_height t o) b.sections m.asks) (sym to_is) m.asked;
     some = λ y' z' e f p u hp hu.
         m.emits p u (subst (λ y. HasShape t y p) (sym (same_some from y y' from_is e)) hp) (subst (λ z. HasShape t z u) (sym (same_some to z z' to_is f)) hu);
     none = λ e f. absurd (none_some from y e from_is);
@@ -212,7 +212,7 @@ module _ {t : Tables} {source destination : VariantInfo} {sides : Sides} {src : 
   case_moved = record {
     grew = grew_on (grew_wrote (tag_ranged size found.number dst) w) m.grew;
     asks = m.asks;
-    asked = subst (λ o. AreAsked t sides (numbered_height t o) c.imports m.asks) (sym found_is) m.asked;
+    asked = subst (λ o. AreAsked t sides (numbered_height t o) c.sections m.asks) (sym found_is) m.asked;
     emits = λ ms ns k source_is destination_is is cs cu can. moved_found ms ns k source_is destination_is is cs cu (found_case t k ns ns is.members 0 is.has cu can);
     translated = λ ms ns k is cs cu can. translated_found ms ns k is cs cu (found_case t k ns ns is.members 0 is.has cu can);
   }
@@ -270,7 +270,7 @@ bodies_joined {sides} {src} {dst} {taken} {ms} {ns} {c} {M} {p} {locals} bodies 
 
 -- One body more.
 pub bodies_on : {t : Tables} {from to : InterfaceType} {sum : Sum} {sides : Sides} {src : From} {dst : To} {i : ℕ} {bodies bodies' : List (List Instr)} {first now b c d : Writer} {begun between left : Fuel} {outer body : List Instr} (paired : PairedCase) → IsSound t → IsSumOf t from to sum → slice_get sum.cases.items i ≡ Some paired
-    → numbered_height t paired.found ≤ height t to → Began now b outer → MovedCase t sum.from sum.to paired sides src dst between left b c → Ended c d outer body → bodies' ≡ bodies ++ body ∷ [] → WroteBodies t from to sides src dst i bodies begun between first now → WroteBodies t from to sides src dst (i + 1) bodies' begun left first d
+    → numbered_height t paired.found ≤ height t to → Began now b outer → MovedCase t sum.from sum.to paired sides src dst between left b c → EndedBody c d outer body → bodies' ≡ bodies ++ body ∷ [] → WroteBodies t from to sides src dst i bodies begun between first now → WroteBodies t from to sides src dst (i + 1) bodies' begun left first d
 bodies_on {t} {from} {to} {sum} {sides} {src} {dst} {i} {bodies} {bodies'} {first} {now} {b} {c} {d} {begun} {between} {left} {outer} {body} paired sound is there lower began moved ended more r =
     subst (λ bs. WroteBodies t from to sides src dst (i + 1) bs begun left first d) (sym more) (record {
       grew = subst (GrewAsideAsking (r.asks ++ moved.asks) first d) (sym (bodies_behind bodies body)) (aside_on r.grew (aside_grew began ended moved.grew));

@@ -17,17 +17,17 @@ use Rattle.fact_types.specs.Signatures.{width}
 use Rattle.fact_types.proofs.ShapeLaws.{none_some}
 use Rattle.fact_values.specs.Limits.{CaseType, case_type}
 use Rattle.fact_values.specs.Places.{count_of_members, case_bytes, payload_place}
-use Rattle.fact_moves.specs.Actions.{Give, ◌>>=◌}
-use Rattle.fact_moves.specs.Moves.{flat_length, padded, move, move_case, payload_part, payload_spot, write_case}
-use Rattle.fact_moves.specs.Running.{ImportPlaces}
-use Rattle.fact_moves.specs.Sides.{LiftLowerOptions, Transfer, Source, Values, AtAddress, Target, Slots, Into, side_abi, width_of_side, write_number}
-use Rattle.fact_pieces.specs.Cases.{tag_code, zero_code}
-use Rattle.fact_pieces.specs.Places.{From, To, Rooms, Setting, transfer, Moves, Number, N64, size_of, to_past}
-use Rattle.fact_pieces.specs.Typed.{OnStack}
-use Rattle.fact_pieces.proofs.CaseMoves.{IsTag, moves_bare_case, moves_some_case}
-use Rattle.fact_pieces.proofs.FieldMoves.{from_part, source_part, to_spot, target_spot, target_past, with_to, IsApartAt, moves_same}
-use Rattle.fact_pieces.proofs.SumMoves.{moves_sum, tagged_code}
-use Rattle.fact_pieces.proofs.TypedShapes.{IsClosedCode}
+use Rattle.fact_actions.specs.Actions.{Give, ◌>>=◌}
+use Rattle.fact_actions.specs.Moves.{flat_length, padded, move, move_case, payload_part, payload_spot, write_case}
+use Rattle.fact_actions.specs.Running.{ImportPlaces}
+use Rattle.fact_actions.specs.Sides.{LiftLowerOptions, Transfer, Source, Values, AtAddress, Target, Slots, Into, side_abi, width_of_side, write_number}
+use Rattle.fact_code_laws.specs.Cases.{tag_code, zero_code}
+use Rattle.fact_code_laws.specs.Places.{From, To, Rooms, Setting, transfer, Moves, Number, N64, size_of, to_past}
+use Rattle.fact_code_laws.specs.Typed.{OnStack}
+use Rattle.fact_code_laws.proofs.CaseMoves.{IsTag, moves_bare_case, moves_some_case}
+use Rattle.fact_code_laws.proofs.FieldMoves.{from_part, source_part, to_spot, target_spot, target_past, with_to, IsApartAt, moves_same}
+use Rattle.fact_code_laws.proofs.SumMoves.{moves_sum, tagged_code}
+use Rattle.fact_code_laws.proofs.TypedShapes.{IsClosedCode}
 use Rattle.fact_emit.specs.declared.places.Sides.{Sides}
 use Rattle.fact_emit.specs.Bodies.{ChoosesCase}
 use Rattle.fact_emit.specs.Fitting.{bytes_of_shape, FitsShapes, node_moves}

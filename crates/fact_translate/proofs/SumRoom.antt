@@ -20,13 +20,13 @@ use Rattle.fact_types.proofs.ShapeLaws.{same_some, none_some}
 use Rattle.fact_machine.specs.Typing.{is_number}
 use Rattle.fact_values.specs.Limits.{CaseType, case_type}
 use Rattle.fact_values.specs.Places.{case_bytes, payload_place}
-use Rattle.fact_moves.specs.Moves.{flat_length}
-use Rattle.fact_moves.specs.Running.{ImportPlaces}
-use Rattle.fact_moves.specs.Sides.{LiftLowerOptions, side_abi, width_of_side}
-use Rattle.fact_pieces.specs.Places.{Slot, From, InLocals, InMemory, To, ToLocals, ToMemory, Number, N8, N16, N32, N64, MayHold, Readable, Writable, FromTyped, ToTyped, Off, to_past}
-use Rattle.fact_pieces.proofs.CaseMoves.{MayZero}
-use Rattle.fact_pieces.proofs.FieldMoves.{from_part, to_spot}
-use Rattle.fact_pieces.proofs.Zeros.{AreNumbers}
+use Rattle.fact_actions.specs.Moves.{flat_length}
+use Rattle.fact_actions.specs.Running.{ImportPlaces}
+use Rattle.fact_actions.specs.Sides.{LiftLowerOptions, side_abi, width_of_side}
+use Rattle.fact_code_laws.specs.Places.{Slot, From, InLocals, InMemory, To, ToLocals, ToMemory, Number, N8, N16, N32, N64, MayHold, Readable, Writable, FromTyped, ToTyped, Off, to_past}
+use Rattle.fact_code_laws.proofs.CaseMoves.{MayZero}
+use Rattle.fact_code_laws.proofs.FieldMoves.{from_part, to_spot}
+use Rattle.fact_code_laws.proofs.Zeros.{AreNumbers}
 use Rattle.fact_emit.specs.Fitting.{IsSlotFor, AreRoom, SlotsFit, CanRead, CanWrite, bytes_of_shape}
 use Rattle.fact_emit.specs.Parts.{from_behind, to_behind, offset_on}
 use Rattle.fact_emit.specs.Places.{HasDistinctSlots}

@@ -14,12 +14,12 @@ use Rattle.fact_types.specs.Shapes.{Kind, k_variant, Shape, s_node, Members, lay
 use Rattle.fact_types.specs.Signatures.{width}
 use Rattle.fact_types.specs.Tables.{Tables, IsLiveMember, HasShape, HasMembers}
 use Rattle.fact_values.specs.Limits.{CaseType, case_type}
-use Rattle.fact_moves.specs.Moves.{move_case}
-use Rattle.fact_moves.specs.Outlining.{Route, Translating, translates, translates_case, translates_cases, translates_if, translates_none}
-use Rattle.fact_moves.specs.Running.{ImportPlaces}
-use Rattle.fact_moves.specs.Sides.{LiftLowerOptions}
-use Rattle.fact_pieces.specs.Cases.{zero_code}
-use Rattle.fact_pieces.specs.Places.{From, To, Rooms, transfer, Moves, to_past}
+use Rattle.fact_actions.specs.Moves.{move_case}
+use Rattle.fact_actions.specs.Outlining.{Route, Translating, translates, translates_case, translates_cases, translates_if, translates_none}
+use Rattle.fact_actions.specs.Running.{ImportPlaces}
+use Rattle.fact_actions.specs.Sides.{LiftLowerOptions}
+use Rattle.fact_code_laws.specs.Cases.{zero_code}
+use Rattle.fact_code_laws.specs.Places.{From, To, Rooms, transfer, Moves, to_past}
 use Rattle.fact_emit.specs.declared.places.Sides.{Sides}
 use Rattle.fact_emit.specs.declared.writer.Writer.{Writer}
 use Rattle.fact_emit.specs.Asked.{AskedHelper, HasHelpers}
@@ -70,7 +70,7 @@ pub record EmitsPayload (asks : List AskedHelper) (sides : Sides) (from to : Var
 pub record MovedSome (t : Tables) (source destination : VariantInfo) (from to : InterfaceType) (sides : Sides) (src : From) (dst : To) (before after : Fuel) (old new : Writer) : Type 0 where
   pub asks : List AskedHelper
   pub grew : GrewAsking asks old new
-  pub asked : AreAsked t sides (suc (height t to)) new.imports asks
+  pub asked : AreAsked t sides (suc (height t to)) new.sections asks
   pub emits : (p u : Shape) → HasShape t from p → HasShape t to u → IsCounted p → IsCounted u → CanMoveMember p u → EmitsPayload asks sides source destination p u src dst old new
   pub translated : (p u : Shape) → HasShape t from p → HasShape t to u → IsCounted p → IsCounted u → CanMoveMember p u → TranslatesAs t sides src dst before after asks (λ i r. translates i r p u)
 
@@ -87,7 +87,7 @@ numbered_height t (Some f) = payload_height t f.payload
 pub record MovedPayload (t : Tables) (source destination : VariantInfo) (from to : Option InterfaceType) (sides : Sides) (src : From) (dst : To) (before after : Fuel) (old new : Writer) : Type 0 where
   pub asks : List AskedHelper
   pub grew : GrewAsking asks old new
-  pub asked : AreAsked t sides (payload_height t to) new.imports asks
+  pub asked : AreAsked t sides (payload_height t to) new.sections asks
   pub some : (y z : InterfaceType) → from ≡ Some y → to ≡ Some z
       → (p u : Shape) → HasShape t y p → HasShape t z u → IsCounted p → IsCounted u → CanMoveMember p u → EmitsPayload asks sides source destination p u src dst old new
   pub none : from ≡ None → to ≡ None → EmitsAsking asks old new (λ M p locals code. code ≡ zero_code (to_past 1 dst))
@@ -119,7 +119,7 @@ translates_by_case i r c ns = translates_if c.payload (λ s m. translates_case i
 pub record MovedCase (t : Tables) (source destination : VariantInfo) (paired : PairedCase) (sides : Sides) (src : From) (dst : To) (before after : Fuel) (old new : Writer) : Type 0 where
   pub asks : List AskedHelper
   pub grew : GrewAsking asks old new
-  pub asked : AreAsked t sides (numbered_height t paired.found) new.imports asks
+  pub asked : AreAsked t sides (numbered_height t paired.found) new.sections asks
   pub emits : (ms ns : Members) (c : CaseType) → source ≡ variant_info (layouts_of ms) → destination ≡ variant_info (layouts_of ns) → IsCaseOf t ms ns paired c → AreCounted ms → AreCounted ns → CanMoveCase c ns
       → EmitsAsking asks old new (MovesCaseOf sides src dst (taken_in old) ms ns c)
   pub translated : (ms ns : Members) (c : CaseType) → IsCaseOf t ms ns paired c → AreCounted ms → AreCounted ns → CanMoveCase c ns → TranslatesAs t sides src dst before after asks (λ i r. translates_by_case i r c ns)
@@ -133,7 +133,7 @@ pub record WroteBodies (t : Tables) (from to : InterfaceType) (sides : Sides) (s
   pub asks : List AskedHelper
   pub grew : GrewAsideAsking asks old new (code_of_bodies bodies)
   pub all : length bodies ≡ count
-  pub asked : AreAsked t sides (height t to) new.imports asks
+  pub asked : AreAsked t sides (height t to) new.sections asks
   pub does : (k l : Kind) (ms ns : Members) → HasShape t from (s_node k ms) → HasShape t to (s_node l ns) → AreCounted ms → AreCounted ns → CanMoveCases ms ns
       → (M : WasmModule) (p : ImportPlaces) (locals : List ValType) → Later new M p locals → HasHelpers M p asks → AreCaseBodies sides src dst (taken_in old) ms ns bodies M p locals
   pub translated : (k l : Kind) (ms ns : Members) → HasShape t from (s_node k ms) → HasShape t to (s_node l ns) → AreCounted ms → AreCounted ns → CanMoveCases ms ns
@@ -145,7 +145,7 @@ pub record WroteBodies (t : Tables) (from to : InterfaceType) (sides : Sides) (s
 pub record MovedSumBy (t : Tables) (from to : InterfaceType) (local : ℕ) (sides : Sides) (src : From) (dst : To) (before after : Fuel) (old new : Writer) : Type 0 where
   pub asks : List AskedHelper
   pub grew : GrewAsking asks old new
-  pub asked : AreAsked t sides (height t to) new.imports asks
+  pub asked : AreAsked t sides (height t to) new.sections asks
   pub emits : (k l : Kind) (ms ns : Members) → HasShape t from (s_node k ms) → HasShape t to (s_node l ns) → AreCounted ms → AreCounted ns → CanMoveCases ms ns
       → EmitsAsking asks old new (MovesValue sides src dst (except local (taken_in old)) 516 (λ S. FitsShapes sides S (s_node k_variant ms) (s_node k_variant ns) src dst × HasLocal local val.I32 S) (node_moves (s_node k_variant ms) (s_node k_variant ns)))
   pub translated : (k l : Kind) (ms ns : Members) → HasShape t from (s_node k ms) → HasShape t to (s_node l ns) → AreCounted ms → AreCounted ns → CanMoveCases ms ns
@@ -154,7 +154,7 @@ pub record MovedSumBy (t : Tables) (from to : InterfaceType) (local : ℕ) (side
 pub record MovedSum (t : Tables) (from to : InterfaceType) (sides : Sides) (src : From) (dst : To) (before after : Fuel) (old new : Writer) : Type 0 where
   pub asks : List AskedHelper
   pub grew : GrewAsking asks old new
-  pub asked : AreAsked t sides (height t to) new.imports asks
+  pub asked : AreAsked t sides (height t to) new.sections asks
   pub emits : (k l : Kind) (ms ns : Members) → HasShape t from (s_node k ms) → HasShape t to (s_node l ns) → AreCounted ms → AreCounted ns → CanMoveCases ms ns
       → EmitsAsking asks old new (MovesNode sides src dst (taken_in old) (s_node k_variant ms) (s_node k_variant ns))
   pub translated : (k l : Kind) (ms ns : Members) → HasShape t from (s_node k ms) → HasShape t to (s_node l ns) → AreCounted ms → AreCounted ns → CanMoveCases ms ns

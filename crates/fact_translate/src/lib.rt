@@ -1,5 +1,8 @@
-//! The moves of values of types: of records, tuples and other nodes with their members, and of variants by the code of their
-//! cases, from the code of each kind of type. What each function ensures is what the code does that it has written.
+//! The moves of values of any type ([`translate_in_place`], or by helpers where fuel is wanting): of records, tuples and other nodes with their members,
+//! and of variants by the code of their cases, from the code of each kind of type in `fact_kinds`. What each function ensures is what the code does that it
+//! has written.
 #![tactic(auto)]
 
-pub mod products;
+mod products;
+
+pub use products::{move_tuple, translate_in_place};

@@ -1,9 +1,10 @@
-//! Records, tuples, variants, options, results, lists and maps, lists of fixed length, and values of any type that these functions move.
+//! [`translate`], which moves a value of any type, and the moves of nodes: records, tuples, variants, options, results, lists, maps and lists of fixed length.
+//! They call one another, as types stand within one another.
 
 ghost use Rattle.std.specs.Prelude.{IfOk, None, OnOk, ◌≡◌, length};
 ghost use Rattle.fact_types.specs.declared.interface.InterfaceType.TheVariants as ty;
 ghost use Rattle.fact_types.specs.Tables.{IsLive, IsLiveMember};
-ghost use Rattle.fact_pieces.specs.Places.{InMemory, ToMemory};
+ghost use Rattle.fact_code_laws.specs.Places.{InMemory, ToMemory};
 ghost use Rattle.fact_emit.specs.Handles.{handle_transfer as transfer_of};
 ghost use Rattle.fact_emit.specs.Places.{from_of, to_of};
 ghost use Rattle.fact_emit.specs.StringPieces.{AreSidesImported};
@@ -15,36 +16,27 @@ ghost use Rattle.fact_kinds.specs.MemberPairs.{ArePairs, MovedPairs};
 ghost use Rattle.fact_kinds.specs.Sums.{IsSumOf};
 
 use fact_builder::ComponentTypesBuilder;
-use fact_emit::bodies::put_cases;
-use fact_emit::handles::{handle_transfer, move_handle};
-use fact_emit::numbers::read_number;
-use fact_emit::places::{Address, Sides, SourcePlace, TargetPlace};
-use fact_emit::writer::Writer;
+use fact_emit::{
+    Address, Sides, SourcePlace, TargetPlace, Writer, handle_transfer, move_handle, put_cases,
+    read_number,
+};
 use fact_entity::{
     TypeFixedLengthListIndex, TypeListIndex, TypeMapIndex, TypeOptionIndex, TypeRecordIndex,
     TypeResultIndex, TypeTupleIndex, TypeVariantIndex,
 };
-use fact_kinds::fixed::{
-    FixedElements, close_fixed, free_fixed_locals, nth_source, nth_target, open_fixed,
-    take_fixed_locals,
-};
-use fact_kinds::flags::discriminant_number;
-use fact_kinds::fuel::{Fuel, cost};
-use fact_kinds::helpers::call_helper;
-use fact_kinds::layouts::{alignment, byte_count, byte_place, flat_length, next_place};
-use fact_kinds::leaves::move_leaf;
-use fact_kinds::lists::{Elements, close_list, free_list_locals, open_list, take_list_locals};
-use fact_kinds::maps::{entries, value_place};
-use fact_kinds::members::{MemberPair, pair_fields, pair_members};
-use fact_kinds::places::check_places;
-use fact_kinds::sums::{
-    PairedCase, Sum, option_sum, payload_place, put_left_over, put_tag, result_sum, variant_sum,
+use fact_kinds::{
+    Elements, FixedElements, Fuel, MemberPair, PairedCase, Sum, alignment, byte_count, byte_place,
+    call_helper, check_places, close_fixed, close_list, cost, discriminant_number, entries,
+    flat_length, free_fixed_locals, free_list_locals, move_leaf, next_place, nth_source,
+    nth_target, open_fixed, open_list, option_sum, pair_fields, pair_members, payload_place,
+    put_left_over, put_tag, result_sum, take_fixed_locals, take_list_locals, value_place,
+    variant_sum,
 };
 use fact_types::{ComponentTypes, FieldPlace, InterfaceType, VariantInfo};
 use fact_wasm::{Instr, OutOfMemory, Seq, ValType};
 
-/// Moves a value of a live type to a place of a type that it can be moved to. Where that costs more than the fuel that is left, and some was
-/// taken, a helper moves it.
+/// Moves a value of a live type to a place of a type that it can be moved to. Where that costs more than the fuel that is left, a helper moves
+/// it, unless none of the fuel was taken yet.
 #[cycle(moving)]
 pub fn translate(
     types: &ComponentTypes,
@@ -59,7 +51,7 @@ pub fn translate(
 ) -> Result<(), OutOfMemory>
     requires from_live { IsLive types.now from }
     requires to_live { IsLive types.now to }
-    requires sides { AreSidesImported sides w.old.imports }
+    requires sides { AreSidesImported sides w.old.sections }
     requires tables { builder.now.tables ≡ types.now }
     requires told { AreSidesTold sides }
     ensures { OnOk result (MovedValue types.now from to sides (from_of sides.from source.entry) (to_of sides.to target.entry) fuel.old fuel.new w.old w.new) }
@@ -87,7 +79,7 @@ pub fn translate_in_place(
 ) -> Result<(), OutOfMemory>
     requires from_live { IsLive types.now from }
     requires to_live { IsLive types.now to }
-    requires sides { AreSidesImported sides w.old.imports }
+    requires sides { AreSidesImported sides w.old.sections }
     requires tables { builder.now.tables ≡ types.now }
     requires told { AreSidesTold sides }
     ensures { OnOk result (MovedInPlace types.now from to sides (from_of sides.from source.entry) (to_of sides.to target.entry) fuel.old fuel.new w.old w.new) }
@@ -116,7 +108,7 @@ fn move_node(
 ) -> Result<(), OutOfMemory>
     requires from_live { IsLive types.now from }
     requires to_live { IsLive types.now to }
-    requires sides { AreSidesImported sides w.old.imports }
+    requires sides { AreSidesImported sides w.old.sections }
     requires tables { builder.now.tables ≡ types.now }
     requires told { AreSidesTold sides }
     requires no_handle { transfer_of from to ≡ None }
@@ -191,7 +183,7 @@ fn move_record(
 ) -> Result<(), OutOfMemory>
     requires from_live { IsLive types.now (ty.Record from) }
     requires to_live { IsLive types.now (ty.Record to) }
-    requires sides { AreSidesImported sides w.old.imports }
+    requires sides { AreSidesImported sides w.old.sections }
     requires tables { builder.now.tables ≡ types.now }
     requires told { AreSidesTold sides }
     ensures { OnOk result (MovedNode types.now (ty.Record from) (ty.Record to) sides (from_of sides.from source.entry) (to_of sides.to target.entry) fuel.old fuel.new w.old w.new) }
@@ -219,7 +211,7 @@ pub fn move_tuple(
 ) -> Result<(), OutOfMemory>
     requires from_live { IsLive types.now (ty.Tuple from) }
     requires to_live { IsLive types.now (ty.Tuple to) }
-    requires sides { AreSidesImported sides w.old.imports }
+    requires sides { AreSidesImported sides w.old.sections }
     requires tables { builder.now.tables ≡ types.now }
     requires told { AreSidesTold sides }
     ensures { OnOk result (MovedTuple types.now (ty.Tuple from) (ty.Tuple to) sides (from_of sides.from source.entry) (to_of sides.to target.entry) fuel.old fuel.new w.old w.new) }
@@ -246,7 +238,7 @@ fn move_pairs(
     target: TargetPlace<'_>,
 ) -> Result<(), OutOfMemory>
     requires pairs { ArePairs types.now whole pairs.now }
-    requires sides { AreSidesImported sides w.old.imports }
+    requires sides { AreSidesImported sides w.old.sections }
     requires tables { builder.now.tables ≡ types.now }
     requires told { AreSidesTold sides }
     ensures { OnOk result (MovedPairs types.now whole pairs.now sides (from_of sides.from source.entry) (to_of sides.to target.entry) fuel.old fuel.new w.old w.new) }
@@ -280,7 +272,7 @@ fn move_list(
 ) -> Result<(), OutOfMemory>
     requires from_live { IsLive types.now (ty.List from) }
     requires to_live { IsLive types.now (ty.List to) }
-    requires sides { AreSidesImported sides w.old.imports }
+    requires sides { AreSidesImported sides w.old.sections }
     requires tables { builder.now.tables ≡ types.now }
     requires told { AreSidesTold sides }
     ensures { OnOk result (MovedNode types.now (ty.List from) (ty.List to) sides (from_of sides.from source.entry) (to_of sides.to target.entry) fuel.old fuel.new w.old w.new) }
@@ -326,7 +318,7 @@ fn move_map(
 ) -> Result<(), OutOfMemory>
     requires from_live { IsLive types.now (ty.Map from) }
     requires to_live { IsLive types.now (ty.Map to) }
-    requires sides { AreSidesImported sides w.old.imports }
+    requires sides { AreSidesImported sides w.old.sections }
     requires tables { builder.now.tables ≡ types.now }
     requires told { AreSidesTold sides }
     ensures { OnOk result (MovedNode types.now (ty.Map from) (ty.Map to) sides (from_of sides.from source.entry) (to_of sides.to target.entry) fuel.old fuel.new w.old w.new) }
@@ -376,7 +368,7 @@ fn move_fixed_list(
 ) -> Result<(), OutOfMemory>
     requires from_live { IsLive types.now (ty.FixedLengthList from) }
     requires to_live { IsLive types.now (ty.FixedLengthList to) }
-    requires sides { AreSidesImported sides w.old.imports }
+    requires sides { AreSidesImported sides w.old.sections }
     requires tables { builder.now.tables ≡ types.now }
     requires told { AreSidesTold sides }
     ensures { OnOk result (MovedNode types.now (ty.FixedLengthList from) (ty.FixedLengthList to) sides (from_of sides.from source.entry) (to_of sides.to target.entry) fuel.old fuel.new w.old w.new) }
@@ -425,7 +417,7 @@ fn move_by_loop(
 ) -> Result<(), OutOfMemory>
     requires from_live { IsLive types.now from }
     requires to_live { IsLive types.now to }
-    requires sides { AreSidesImported sides w.old.imports }
+    requires sides { AreSidesImported sides w.old.sections }
     requires tables { builder.now.tables ≡ types.now }
     requires told { AreSidesTold sides }
     ensures { OnOk result (MovedElements types.now from to e 1 sides (InMemory sides.from.memory source.local source.offset) (ToMemory sides.to.memory target.local target.offset) fuel.old fuel.new w.old w.new) }
@@ -463,7 +455,7 @@ fn move_one_by_one(
 ) -> Result<(), OutOfMemory>
     requires from_live { IsLive types.now from }
     requires to_live { IsLive types.now to }
-    requires sides { AreSidesImported sides w.old.imports }
+    requires sides { AreSidesImported sides w.old.sections }
     requires tables { builder.now.tables ≡ types.now }
     requires told { AreSidesTold sides }
     ensures { OnOk result (MovedElements types.now from to e e.count sides (from_of sides.from source.entry) (to_of sides.to target.entry) fuel.old fuel.new w.old w.new) }
@@ -495,7 +487,7 @@ fn move_member(
 ) -> Result<(), OutOfMemory>
     requires from_live { IsLiveFound types.now found }
     requires to_live { IsLive types.now to }
-    requires sides { AreSidesImported sides w.old.imports }
+    requires sides { AreSidesImported sides w.old.sections }
     requires tables { builder.now.tables ≡ types.now }
     requires told { AreSidesTold sides }
     ensures { OnOk result (MovedMember types.now found to sides (from_of sides.from source.entry) (to_of sides.to spot.entry) fuel.old fuel.new w.old w.new) }
@@ -528,7 +520,7 @@ fn move_variant(
 ) -> Result<(), OutOfMemory>
     requires from_live { IsLive types.now (ty.Variant from) }
     requires to_live { IsLive types.now (ty.Variant to) }
-    requires sides { AreSidesImported sides w.old.imports }
+    requires sides { AreSidesImported sides w.old.sections }
     requires tables { builder.now.tables ≡ types.now }
     requires told { AreSidesTold sides }
     ensures { OnOk result (MovedNode types.now (ty.Variant from) (ty.Variant to) sides (from_of sides.from source.entry) (to_of sides.to target.entry) fuel.old fuel.new w.old w.new) }
@@ -557,7 +549,7 @@ fn move_option(
 ) -> Result<(), OutOfMemory>
     requires from_live { IsLive types.now (ty.Option from) }
     requires to_live { IsLive types.now (ty.Option to) }
-    requires sides { AreSidesImported sides w.old.imports }
+    requires sides { AreSidesImported sides w.old.sections }
     requires tables { builder.now.tables ≡ types.now }
     requires told { AreSidesTold sides }
     ensures { OnOk result (MovedNode types.now (ty.Option from) (ty.Option to) sides (from_of sides.from source.entry) (to_of sides.to target.entry) fuel.old fuel.new w.old w.new) }
@@ -586,7 +578,7 @@ fn move_result(
 ) -> Result<(), OutOfMemory>
     requires from_live { IsLive types.now (ty.Result from) }
     requires to_live { IsLive types.now (ty.Result to) }
-    requires sides { AreSidesImported sides w.old.imports }
+    requires sides { AreSidesImported sides w.old.sections }
     requires tables { builder.now.tables ≡ types.now }
     requires told { AreSidesTold sides }
     ensures { OnOk result (MovedNode types.now (ty.Result from) (ty.Result to) sides (from_of sides.from source.entry) (to_of sides.to target.entry) fuel.old fuel.new w.old w.new) }
@@ -617,7 +609,7 @@ fn move_sum(
     requires from_live { IsLive types.now from }
     requires to_live { IsLive types.now to }
     requires cases { IsSumOf types.now from to sum.now }
-    requires sides { AreSidesImported sides w.old.imports }
+    requires sides { AreSidesImported sides w.old.sections }
     requires tables { builder.now.tables ≡ types.now }
     requires told { AreSidesTold sides }
     ensures { OnOk result (MovedSum types.now from to sides (from_of sides.from source.entry) (to_of sides.to target.entry) fuel.old fuel.new w.old w.new) }
@@ -648,7 +640,7 @@ fn move_sum_by(
     requires from_live { IsLive types.now from }
     requires to_live { IsLive types.now to }
     requires cases { IsSumOf types.now from to sum.now }
-    requires sides { AreSidesImported sides w.old.imports }
+    requires sides { AreSidesImported sides w.old.sections }
     requires tables { builder.now.tables ≡ types.now }
     requires told { AreSidesTold sides }
     ensures { OnOk result (MovedSumBy types.now from to local sides (from_of sides.from source.entry) (to_of sides.to target.entry) fuel.old fuel.new w.old w.new) }
@@ -664,7 +656,7 @@ fn move_sum_by(
     Ok(())
 }
 
-/// The code of each case, which stands aside.
+/// The code of each case, each in a buffer of its own.
 #[cycle(moving)]
 fn case_bodies(
     types: &ComponentTypes,
@@ -681,7 +673,7 @@ fn case_bodies(
     requires from_live { IsLive types.now from }
     requires to_live { IsLive types.now to }
     requires cases { IsSumOf types.now from to sum.now }
-    requires sides { AreSidesImported sides w.old.imports }
+    requires sides { AreSidesImported sides w.old.sections }
     requires tables { builder.now.tables ≡ types.now }
     requires told { AreSidesTold sides }
     ensures { IfOk result (λ bodies. WroteBodies types.now from to sides (from_of sides.from source.entry) (to_of sides.to target.entry) (length sum.now.cases.items) bodies.items fuel.old fuel.new w.old w.new) }
@@ -713,7 +705,7 @@ fn move_case(
 ) -> Result<(), OutOfMemory>
     requires from_live { IsLiveMember types.now case.payload }
     requires to_live { IsLiveNumbered types.now case.found }
-    requires sides { AreSidesImported sides w.old.imports }
+    requires sides { AreSidesImported sides w.old.sections }
     requires tables { builder.now.tables ≡ types.now }
     requires told { AreSidesTold sides }
     ensures { OnOk result (MovedCase types.now infos.0 infos.1 case sides (from_of sides.from source.entry) (to_of sides.to target.entry) fuel.old fuel.new w.old w.new) }
@@ -749,7 +741,7 @@ fn move_payload(
 ) -> Result<(), OutOfMemory>
     requires from_live { IsLiveMember types.now from }
     requires to_live { IsLiveMember types.now to }
-    requires sides { AreSidesImported sides w.old.imports }
+    requires sides { AreSidesImported sides w.old.sections }
     requires tables { builder.now.tables ≡ types.now }
     requires told { AreSidesTold sides }
     ensures { OnOk result (MovedPayload types.now infos.0 infos.1 from to sides (from_of sides.from source.entry) (to_of sides.to target.entry) fuel.old fuel.new w.old w.new) }
@@ -782,7 +774,7 @@ fn move_some(
 ) -> Result<(), OutOfMemory>
     requires from_live { IsLive types.now from }
     requires to_live { IsLive types.now to }
-    requires sides { AreSidesImported sides w.old.imports }
+    requires sides { AreSidesImported sides w.old.sections }
     requires tables { builder.now.tables ≡ types.now }
     requires told { AreSidesTold sides }
     ensures { OnOk result (MovedSome types.now infos.0 infos.1 from to sides (from_of sides.from source.entry) (to_of sides.to target.entry) fuel.old fuel.new w.old w.new) }

@@ -34,7 +34,7 @@ tuple_shapes t k i e h = have_shapes t k e.types (λ j d l. (tuple_within t k i 
 pub has_signature : (t : Tables) → IsSound t → (i : Id TypeFuncs) → i.number < length t.functions → (params results : List Shape) × HasSignature t i params results
 has_signature t k i h =
     let (f, is) = there t.functions i.number h in
-    let live = held (IsLiveFunc t) t.functions i.number f h is (k.linked of_functions) in
+    let live = held (IsLiveFunc t) t.functions i.number f h is (k.held_live of_functions) in
     let (taken, taken_is) = there t.tuples f.params.number live.params in
     let (given, given_is) = there t.tuples f.results.number live.results in
     let (ps, takes) = tuple_shapes t k f.params taken taken_is in

@@ -30,7 +30,7 @@ use Rattle.fact_types.specs.declared.kinds.TypeFixedLengthList.{TypeFixedLengthL
 use Rattle.fact_types.specs.Ordered.{VariantType}
 use Rattle.fact_types.specs.Shapes.{ok_name, error_name, Shape, s_plain, s_node, Members, no_members, bare, typed, depth, deepest}
 use Rattle.fact_types.specs.Tables.{Tables, Node, node_of, record_node, variant_node, placed, tuple_node, option_node, result_node, list_node, map_node, fixed_length_list_node, IsLive, IsLiveMember, HasShape, HasMembers, payload_in, future_node, stream_node, IsSound, entries}
-use Rattle.fact_types.specs.Heights.{tallest, over_members, height_in, height, Within}
+use Rattle.fact_types.specs.Heights.{tallest, over_members, height_in, height, IsMemberOf}
 use Rattle.fact_types.proofs.ShapeLaws.{no_node, same_some, none_some}
 
 left_le : (a b c : ℕ) → max a b ≤ c → a ≤ c
@@ -99,36 +99,36 @@ member_lower t k ty n l e i x m g = go (k.shaped ty l)
 pub member_live : (t : Tables) → IsSound t → (ty : InterfaceType) (n : Node) → node_of t ty ≡ Some n → (i : ℕ) (x : List ℕ) (m : InterfaceType) → i < length n.members → slice_get n.members i ≡ Some (x, Some m) → IsLive t m
 member_live t k ty n e i x m lt g = subst (λ o. IsLiveMember t o) (ap (λ z. z.1) (same_some (slice_get n.members i) _ _ (slice_get-get_or n.members i (x, Some m) lt) g)) ((k.stands ty n e).live i (x, Some m) lt)
 
-pub member_within : (t : Tables) → IsSound t → (ty : InterfaceType) (n : Node) → IsLive t ty → node_of t ty ≡ Some n → (i : ℕ) (x : List ℕ) (m : InterfaceType) → slice_get n.members i ≡ Some (x, Some m) → Within t m ty
+pub member_within : (t : Tables) → IsSound t → (ty : InterfaceType) (n : Node) → IsLive t ty → node_of t ty ≡ Some n → (i : ℕ) (x : List ℕ) (m : InterfaceType) → slice_get n.members i ≡ Some (x, Some m) → IsMemberOf t m ty
 member_within t k ty n l e i x m g = record { lower = member_lower t k ty n l e i x m g; live = member_live t k ty n e i x m (slice_get_within n.members i (x, Some m) g) g }
 
 -- ---- the members of each kind
-pub list_within : (t : Tables) → IsSound t → (i : Id TypeLists) (e : TypeList) → slice_get t.lists i.number ≡ Some e → Within t e.element (t_list i)
+pub list_within : (t : Tables) → IsSound t → (i : Id TypeLists) (e : TypeList) → slice_get t.lists i.number ≡ Some e → IsMemberOf t e.element (t_list i)
 list_within t k i e h = member_within t k (t_list i) (list_node e) (slice_get_within t.lists i.number e h) (ap (option_map list_node) h) 0 _ e.element refl
 
-pub fixed_length_list_within : (t : Tables) → IsSound t → (i : Id TypeFixedLengthLists) (e : TypeFixedLengthList) → slice_get t.fixed_length_lists i.number ≡ Some e → Within t e.element (t_fixed_length_list i)
+pub fixed_length_list_within : (t : Tables) → IsSound t → (i : Id TypeFixedLengthLists) (e : TypeFixedLengthList) → slice_get t.fixed_length_lists i.number ≡ Some e → IsMemberOf t e.element (t_fixed_length_list i)
 fixed_length_list_within t k i e h = member_within t k (t_fixed_length_list i) (fixed_length_list_node e) (slice_get_within t.fixed_length_lists i.number e h) (ap (option_map fixed_length_list_node) h) 0 _ e.element refl
 
-pub option_within : (t : Tables) → IsSound t → (i : Id TypeOptions) (e : TypeOption) → slice_get t.options i.number ≡ Some e → Within t e.ty (t_option i)
+pub option_within : (t : Tables) → IsSound t → (i : Id TypeOptions) (e : TypeOption) → slice_get t.options i.number ≡ Some e → IsMemberOf t e.ty (t_option i)
 option_within t k i e h = member_within t k (t_option i) (option_node e) (slice_get_within t.options i.number e h) (ap (option_map option_node) h) 1 _ e.ty refl
 
-pub map_key_within : (t : Tables) → IsSound t → (i : Id TypeMaps) (e : TypeMap) → slice_get t.maps i.number ≡ Some e → Within t e.key (t_map i)
+pub map_key_within : (t : Tables) → IsSound t → (i : Id TypeMaps) (e : TypeMap) → slice_get t.maps i.number ≡ Some e → IsMemberOf t e.key (t_map i)
 map_key_within t k i e h = member_within t k (t_map i) (map_node e) (slice_get_within t.maps i.number e h) (ap (option_map map_node) h) 0 _ e.key refl
 
-pub map_value_within : (t : Tables) → IsSound t → (i : Id TypeMaps) (e : TypeMap) → slice_get t.maps i.number ≡ Some e → Within t e.value (t_map i)
+pub map_value_within : (t : Tables) → IsSound t → (i : Id TypeMaps) (e : TypeMap) → slice_get t.maps i.number ≡ Some e → IsMemberOf t e.value (t_map i)
 map_value_within t k i e h = member_within t k (t_map i) (map_node e) (slice_get_within t.maps i.number e h) (ap (option_map map_node) h) 1 _ e.value refl
 
-pub ok_within : (t : Tables) → IsSound t → (i : Id TypeResults) (e : TypeResult) (m : InterfaceType) → slice_get t.results i.number ≡ Some e → e.ok ≡ Some m → Within t m (t_result i)
+pub ok_within : (t : Tables) → IsSound t → (i : Id TypeResults) (e : TypeResult) (m : InterfaceType) → slice_get t.results i.number ≡ Some e → e.ok ≡ Some m → IsMemberOf t m (t_result i)
 ok_within t k i e m h g = member_within t k (t_result i) (result_node e) (slice_get_within t.results i.number e h) (ap (option_map result_node) h) 0 _ m (ap (λ (o : Option InterfaceType). Some (ok_name, o)) g)
 
-pub error_within : (t : Tables) → IsSound t → (i : Id TypeResults) (e : TypeResult) (m : InterfaceType) → slice_get t.results i.number ≡ Some e → e.err ≡ Some m → Within t m (t_result i)
+pub error_within : (t : Tables) → IsSound t → (i : Id TypeResults) (e : TypeResult) (m : InterfaceType) → slice_get t.results i.number ≡ Some e → e.err ≡ Some m → IsMemberOf t m (t_result i)
 error_within t k i e m h g = member_within t k (t_result i) (result_node e) (slice_get_within t.results i.number e h) (ap (option_map result_node) h) 1 _ m (ap (λ (o : Option InterfaceType). Some (error_name, o)) g)
 
-pub record_within : (t : Tables) → IsSound t → (i : Id TypeRecords) (e : TypeRecord) → slice_get t.records i.number ≡ Some e → (j : ℕ) (f : RecordField) → slice_get e.fields j ≡ Some f → Within t f.ty (t_record i)
+pub record_within : (t : Tables) → IsSound t → (i : Id TypeRecords) (e : TypeRecord) → slice_get t.records i.number ≡ Some e → (j : ℕ) (f : RecordField) → slice_get e.fields j ≡ Some f → IsMemberOf t f.ty (t_record i)
 record_within t k i e h j f g = member_within t k (t_record i) (record_node e) (slice_get_within t.records i.number e h) (ap (option_map record_node) h) j f.name f.ty
     (slice_get-map (λ (f : RecordField). (f.name, Some f.ty)) e.fields j ∙ ap (option_map (λ (f : RecordField). (f.name, Some f.ty))) g)
 
-pub variant_within : (t : Tables) → IsSound t → (i : Id TypeVariants) (e : VariantType) → slice_get t.variants i.number ≡ Some e → (j : ℕ) (x : List ℕ) (m : InterfaceType) → slice_get e.cases j ≡ Some (x, Some m) → Within t m (t_variant i)
+pub variant_within : (t : Tables) → IsSound t → (i : Id TypeVariants) (e : VariantType) → slice_get t.variants i.number ≡ Some e → (j : ℕ) (x : List ℕ) (m : InterfaceType) → slice_get e.cases j ≡ Some (x, Some m) → IsMemberOf t m (t_variant i)
 variant_within t k i e h j x m g = member_within t k (t_variant i) (variant_node e) (slice_get_within t.variants i.number e h) (ap (option_map variant_node) h) j x m g
 
 get_placed : (ys : List InterfaceType) (n j : ℕ) (m : InterfaceType) → slice_get ys j ≡ Some m → (x : List ℕ) × (slice_get (placed n ys) j ≡ Some (x, Some m))
@@ -136,18 +136,18 @@ get_placed [] n j m g = absurd (none_some None m refl g)
 get_placed (y ∷ ys) n zero m g = (n ∷ [], ap (λ (o : Option InterfaceType). option_map (λ (z : InterfaceType). (n ∷ [], Some z)) o) g)
 get_placed (y ∷ ys) n (suc j) m g = get_placed ys (suc n) j m g
 
-pub tuple_within : (t : Tables) → IsSound t → (i : Id TypeTuples) (e : TypeTuple) → slice_get t.tuples i.number ≡ Some e → (j : ℕ) (m : InterfaceType) → slice_get e.types j ≡ Some m → Within t m (t_tuple i)
+pub tuple_within : (t : Tables) → IsSound t → (i : Id TypeTuples) (e : TypeTuple) → slice_get t.tuples i.number ≡ Some e → (j : ℕ) (m : InterfaceType) → slice_get e.types j ≡ Some m → IsMemberOf t m (t_tuple i)
 tuple_within t k i e h j m g =
     let (x, found) = get_placed e.types 0 j m g in
     member_within t k (t_tuple i) (tuple_node e) (slice_get_within t.tuples i.number e h) (ap (option_map tuple_node) h) j x m found
 
 -- ---- the payloads of futures and of streams
 pub future_within : (t : Tables) → IsSound t → (i : Id TypeFutureTables) (e : TypeFutureTable) (f : TypeFuture) (m : InterfaceType)
-    → slice_get t.future_tables i.number ≡ Some e → slice_get t.futures e.ty.number ≡ Some f → f.payload ≡ Some m → Within t m (t_future i)
+    → slice_get t.future_tables i.number ≡ Some e → slice_get t.futures e.ty.number ≡ Some f → f.payload ≡ Some m → IsMemberOf t m (t_future i)
 future_within t k i e f m h g p = member_within t k (t_future i) (future_node t.futures i.number e) (slice_get_within t.future_tables i.number e h) (ap (option_map (future_node t.futures i.number)) h) 0 [] m
     (ap (λ (o : Option TypeFuture). Some ([], payload_in (λ (f : TypeFuture). f.payload) o)) g ∙ ap (λ (o : Option InterfaceType). Some ([], o)) p)
 
 pub stream_within : (t : Tables) → IsSound t → (i : Id TypeStreamTables) (e : TypeStreamTable) (f : TypeStream) (m : InterfaceType)
-    → slice_get t.stream_tables i.number ≡ Some e → slice_get t.streams e.ty.number ≡ Some f → f.payload ≡ Some m → Within t m (t_stream i)
+    → slice_get t.stream_tables i.number ≡ Some e → slice_get t.streams e.ty.number ≡ Some f → f.payload ≡ Some m → IsMemberOf t m (t_stream i)
 stream_within t k i e f m h g p = member_within t k (t_stream i) (stream_node t.streams i.number e) (slice_get_within t.stream_tables i.number e h) (ap (option_map (stream_node t.streams i.number)) h) 0 [] m
     (ap (λ (o : Option TypeStream). Some ([], payload_in (λ (f : TypeStream). f.payload) o)) g ∙ ap (λ (o : Option InterfaceType). Some ([], o)) p)

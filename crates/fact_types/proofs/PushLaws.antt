@@ -24,7 +24,7 @@ use Rattle.fact_types.specs.declared.kinds.TypeResourceTable.{TypeResourceTable}
 use Rattle.fact_types.specs.Externs.{ModuleType, ComponentType, InstanceType}
 use Rattle.fact_types.specs.Ordered.{VariantType, FlagsType, EnumType}
 use Rattle.fact_types.specs.Shapes.{Shape, s_plain, s_node, depth}
-use Rattle.fact_types.specs.Tables.{Tables, Table, of_modules, of_components, of_component_instances, of_functions, of_records, of_variants, of_tuples, of_flags, of_enums, of_options, of_results, of_lists, of_maps, of_fixed_length_lists, of_futures, of_future_tables, of_streams, of_stream_tables, of_error_context_tables, of_resource_tables, entries_in, no_tables, Node, record_node, variant_node, tuple_node, flags_node, enum_node, option_node, result_node, list_node, map_node, fixed_length_list_node, future_node, stream_node, payload_in, node_of, is_plain, IsLive, IsLiveMember, IsLiveDef, IsLiveFunc, AreLiveExterns, IsLiveComponent, IsLinkedIn, HasShape, Stands, IsSound, entries}
+use Rattle.fact_types.specs.Tables.{Tables, Table, of_modules, of_components, of_component_instances, of_functions, of_records, of_variants, of_tuples, of_flags, of_enums, of_options, of_results, of_lists, of_maps, of_fixed_length_lists, of_futures, of_future_tables, of_streams, of_stream_tables, of_error_context_tables, of_resource_tables, entries_in, no_tables, Node, record_node, variant_node, tuple_node, flags_node, enum_node, option_node, result_node, list_node, map_node, fixed_length_list_node, future_node, stream_node, payload_in, node_of, is_plain, IsLive, IsLiveMember, IsLiveDef, IsLiveFunc, AreLiveExterns, IsLiveComponent, AreHeldLive, HasShape, Stands, IsSound, entries}
 use Rattle.fact_types.proofs.ShapeLaws.{Grows, keeps_shape, keeps_members, stays, shaped_members}
 
 -- ---- what one more entry changes for one type: a and b are the entries that it names before and after, l and m say that it
@@ -41,7 +41,7 @@ added (Some n) = 1
 pub record GrowsBy (t u : Tables) (new : Option Node) : Type 0 where
   pub longer : (table : Table) → entries_in t table ≤ entries_in u table
   pub step : (ty : InterfaceType) → Step (node_of t ty) (node_of u ty) (IsLive t ty) (IsLive u ty) (is_plain ty) new
-  pub linked : (table : Table) → IsLinkedIn u u table
+  pub held_live : (table : Table) → AreHeldLive u u table
   pub more : entries t + added new ≤ entries u
 
 -- ---- live indices stay live
@@ -91,7 +91,7 @@ externs_longer t u g xs a = λ i d l. def_longer t u g (get_or xs i d).1.ty (a i
 component_longer : (t u : Tables) → ((table : Table) → entries_in t table ≤ entries_in u table) → (c : ComponentType) → IsLiveComponent t c → IsLiveComponent u c
 component_longer t u g c l = record { imports = externs_longer t u g c.imports l.imports; exports = externs_longer t u g c.exports l.exports }
 
-keeps_links : (t u : Tables) → ((table : Table) → entries_in t table ≤ entries_in u table) → (table : Table) → IsLinkedIn t t table → IsLinkedIn u t table
+keeps_links : (t u : Tables) → ((table : Table) → entries_in t table ≤ entries_in u table) → (table : Table) → AreHeldLive t t table → AreHeldLive u t table
 keeps_links t u g of_functions a = λ i d l. func_longer t u g (get_or t.functions i d) (a i d l)
 keeps_links t u g of_components a = λ i d l. component_longer t u g (get_or t.components i d) (a i d l)
 keeps_links t u g of_component_instances a = λ i d l. externs_longer t u g (get_or t.component_instances i d).exports (a i d l)
@@ -122,7 +122,7 @@ pub pushed : (t u : Tables) (new : Option Node) → GrowsBy t u new → IsSound 
 pushed t u new g k s = record {
   stands = λ ty n h. entry_stands t u new g k s ty n ((g.step ty).last n h);
   shaped = λ ty l. type_shaped t u new g k s ty ((g.step ty).lives l);
-  linked = g.linked;
+  held_live = g.held_live;
 }
 
 -- ---- lists that grew by one
@@ -204,7 +204,7 @@ step_module : (t : Tables) (r : ModuleType) → (ty : InterfaceType) → Step (n
 step_module t r (t_record i) = step_same _ _ _ _
 step_module t r ty = step_same (node_of t ty) (IsLive t ty) (is_plain ty) _
 
-links_module : (t : Tables) (r : ModuleType) → ((table : Table) → IsLinkedIn t t table) → (table : Table) → IsLinkedIn (record t { modules = t.modules ++ r ∷ [] }) (record t { modules = t.modules ++ r ∷ [] }) table
+links_module : (t : Tables) (r : ModuleType) → ((table : Table) → AreHeldLive t t table) → (table : Table) → AreHeldLive (record t { modules = t.modules ++ r ∷ [] }) (record t { modules = t.modules ++ r ∷ [] }) table
 links_module t r h of_modules = tt
 links_module t r h table = keeps_links t (record t { modules = t.modules ++ r ∷ [] }) (longer_module t r) table (h table)
 
@@ -214,7 +214,7 @@ more_module t r = omega arith
 pub pushed_module : {A E : Type 0} (t : Tables) → (news : List ModuleType) (r : ModuleType) (res : Result A E) → OnOk res (news ≡ t.modules ++ r ∷ []) → OnErr res (news ≡ t.modules) → IsSound t → IsSound (record t { modules = news })
 pushed_module t news r res e o k =
     after_push (λ (xs : List ModuleType). IsSound (record t { modules = xs })) t.modules news r res e o k
-    (pushed t _ None (record { longer = longer_module t r; step = step_module t r; linked = links_module t r k.linked; more = more_module t r }) k tt)
+    (pushed t _ None (record { longer = longer_module t r; step = step_module t r; held_live = links_module t r k.held_live; more = more_module t r }) k tt)
 
 -- ---- one more entry of components
 longer_component : (t : Tables) (r : ComponentType) (table : Table) → entries_in t table ≤ entries_in (record t { components = t.components ++ r ∷ [] }) table
@@ -225,7 +225,7 @@ step_component : (t : Tables) (r : ComponentType) → (ty : InterfaceType) → S
 step_component t r (t_record i) = step_same _ _ _ _
 step_component t r ty = step_same (node_of t ty) (IsLive t ty) (is_plain ty) _
 
-links_component : (t : Tables) (r : ComponentType) → IsLiveComponent t r → ((table : Table) → IsLinkedIn t t table) → (table : Table) → IsLinkedIn (record t { components = t.components ++ r ∷ [] }) (record t { components = t.components ++ r ∷ [] }) table
+links_component : (t : Tables) (r : ComponentType) → IsLiveComponent t r → ((table : Table) → AreHeldLive t t table) → (table : Table) → AreHeldLive (record t { components = t.components ++ r ∷ [] }) (record t { components = t.components ++ r ∷ [] }) table
 links_component t r s h of_components = all_more (IsLiveComponent (record t { components = t.components ++ r ∷ [] })) t.components r (keeps_links t (record t { components = t.components ++ r ∷ [] }) (longer_component t r) of_components (h of_components)) (component_longer t (record t { components = t.components ++ r ∷ [] }) (longer_component t r) r s)
 links_component t r s h table = keeps_links t (record t { components = t.components ++ r ∷ [] }) (longer_component t r) table (h table)
 
@@ -235,7 +235,7 @@ more_component t r = omega arith
 pub pushed_component : {A E : Type 0} (t v : Tables) → t ≡ v → (news : List ComponentType) (r : ComponentType) (res : Result A E) → OnOk res (news ≡ t.components ++ r ∷ []) → OnErr res (news ≡ t.components) → IsSound t → IsLiveComponent v r → IsSound (record t { components = news })
 pushed_component t v w news r res e o k s =
     after_push (λ (xs : List ComponentType). IsSound (record t { components = xs })) t.components news r res e o k
-    (pushed t _ None (record { longer = longer_component t r; step = step_component t r; linked = links_component t r (subst (λ (z : Tables). IsLiveComponent z r) (sym w) s) k.linked; more = more_component t r }) k tt)
+    (pushed t _ None (record { longer = longer_component t r; step = step_component t r; held_live = links_component t r (subst (λ (z : Tables). IsLiveComponent z r) (sym w) s) k.held_live; more = more_component t r }) k tt)
 
 -- ---- one more entry of component_instances
 longer_component_instance : (t : Tables) (r : InstanceType) (table : Table) → entries_in t table ≤ entries_in (record t { component_instances = t.component_instances ++ r ∷ [] }) table
@@ -246,7 +246,7 @@ step_component_instance : (t : Tables) (r : InstanceType) → (ty : InterfaceTyp
 step_component_instance t r (t_record i) = step_same _ _ _ _
 step_component_instance t r ty = step_same (node_of t ty) (IsLive t ty) (is_plain ty) _
 
-links_component_instance : (t : Tables) (r : InstanceType) → AreLiveExterns t r.exports → ((table : Table) → IsLinkedIn t t table) → (table : Table) → IsLinkedIn (record t { component_instances = t.component_instances ++ r ∷ [] }) (record t { component_instances = t.component_instances ++ r ∷ [] }) table
+links_component_instance : (t : Tables) (r : InstanceType) → AreLiveExterns t r.exports → ((table : Table) → AreHeldLive t t table) → (table : Table) → AreHeldLive (record t { component_instances = t.component_instances ++ r ∷ [] }) (record t { component_instances = t.component_instances ++ r ∷ [] }) table
 links_component_instance t r s h of_component_instances = all_more (λ (c : InstanceType). AreLiveExterns (record t { component_instances = t.component_instances ++ r ∷ [] }) c.exports) t.component_instances r (keeps_links t (record t { component_instances = t.component_instances ++ r ∷ [] }) (longer_component_instance t r) of_component_instances (h of_component_instances)) (externs_longer t (record t { component_instances = t.component_instances ++ r ∷ [] }) (longer_component_instance t r) r.exports s)
 links_component_instance t r s h table = keeps_links t (record t { component_instances = t.component_instances ++ r ∷ [] }) (longer_component_instance t r) table (h table)
 
@@ -256,7 +256,7 @@ more_component_instance t r = omega arith
 pub pushed_component_instance : {A E : Type 0} (t v : Tables) → t ≡ v → (news : List InstanceType) (r : InstanceType) (res : Result A E) → OnOk res (news ≡ t.component_instances ++ r ∷ []) → OnErr res (news ≡ t.component_instances) → IsSound t → AreLiveExterns v r.exports → IsSound (record t { component_instances = news })
 pushed_component_instance t v w news r res e o k s =
     after_push (λ (xs : List InstanceType). IsSound (record t { component_instances = xs })) t.component_instances news r res e o k
-    (pushed t _ None (record { longer = longer_component_instance t r; step = step_component_instance t r; linked = links_component_instance t r (subst (λ (z : Tables). AreLiveExterns z r.exports) (sym w) s) k.linked; more = more_component_instance t r }) k tt)
+    (pushed t _ None (record { longer = longer_component_instance t r; step = step_component_instance t r; held_live = links_component_instance t r (subst (λ (z : Tables). AreLiveExterns z r.exports) (sym w) s) k.held_live; more = more_component_instance t r }) k tt)
 
 -- ---- one more entry of functions
 longer_func : (t : Tables) (r : TypeFunc) (table : Table) → entries_in t table ≤ entries_in (record t { functions = t.functions ++ r ∷ [] }) table
@@ -267,7 +267,7 @@ step_func : (t : Tables) (r : TypeFunc) → (ty : InterfaceType) → Step (node_
 step_func t r (t_record i) = step_same _ _ _ _
 step_func t r ty = step_same (node_of t ty) (IsLive t ty) (is_plain ty) _
 
-links_func : (t : Tables) (r : TypeFunc) → IsLiveFunc t r → ((table : Table) → IsLinkedIn t t table) → (table : Table) → IsLinkedIn (record t { functions = t.functions ++ r ∷ [] }) (record t { functions = t.functions ++ r ∷ [] }) table
+links_func : (t : Tables) (r : TypeFunc) → IsLiveFunc t r → ((table : Table) → AreHeldLive t t table) → (table : Table) → AreHeldLive (record t { functions = t.functions ++ r ∷ [] }) (record t { functions = t.functions ++ r ∷ [] }) table
 links_func t r s h of_functions = all_more (IsLiveFunc (record t { functions = t.functions ++ r ∷ [] })) t.functions r (keeps_links t (record t { functions = t.functions ++ r ∷ [] }) (longer_func t r) of_functions (h of_functions)) (func_longer t (record t { functions = t.functions ++ r ∷ [] }) (longer_func t r) r s)
 links_func t r s h table = keeps_links t (record t { functions = t.functions ++ r ∷ [] }) (longer_func t r) table (h table)
 
@@ -277,7 +277,7 @@ more_func t r = omega arith
 pub pushed_func : {A E : Type 0} (t v : Tables) → t ≡ v → (news : List TypeFunc) (r : TypeFunc) (res : Result A E) → OnOk res (news ≡ t.functions ++ r ∷ []) → OnErr res (news ≡ t.functions) → IsSound t → IsLiveFunc v r → IsSound (record t { functions = news })
 pushed_func t v w news r res e o k s =
     after_push (λ (xs : List TypeFunc). IsSound (record t { functions = xs })) t.functions news r res e o k
-    (pushed t _ None (record { longer = longer_func t r; step = step_func t r; linked = links_func t r (subst (λ (z : Tables). IsLiveFunc z r) (sym w) s) k.linked; more = more_func t r }) k tt)
+    (pushed t _ None (record { longer = longer_func t r; step = step_func t r; held_live = links_func t r (subst (λ (z : Tables). IsLiveFunc z r) (sym w) s) k.held_live; more = more_func t r }) k tt)
 
 -- ---- one more entry of records
 longer_record : (t : Tables) (r : TypeRecord) (table : Table) → entries_in t table ≤ entries_in (record t { records = t.records ++ r ∷ [] }) table
@@ -288,7 +288,7 @@ step_record : (t : Tables) (r : TypeRecord) → (ty : InterfaceType) → Step (n
 step_record t r (t_record i) = step_end (λ n. record_node) t.records r i.number false
 step_record t r ty = step_same (node_of t ty) (IsLive t ty) (is_plain ty) _
 
-links_record : (t : Tables) (r : TypeRecord) → ((table : Table) → IsLinkedIn t t table) → (table : Table) → IsLinkedIn (record t { records = t.records ++ r ∷ [] }) (record t { records = t.records ++ r ∷ [] }) table
+links_record : (t : Tables) (r : TypeRecord) → ((table : Table) → AreHeldLive t t table) → (table : Table) → AreHeldLive (record t { records = t.records ++ r ∷ [] }) (record t { records = t.records ++ r ∷ [] }) table
 links_record t r h of_records = tt
 links_record t r h table = keeps_links t (record t { records = t.records ++ r ∷ [] }) (longer_record t r) table (h table)
 
@@ -298,7 +298,7 @@ more_record t r = omega (arith, length-append t.records (r ∷ []))
 pub pushed_record : {A E : Type 0} (t v : Tables) → t ≡ v → (news : List TypeRecord) (r : TypeRecord) (res : Result A E) → OnOk res (news ≡ t.records ++ r ∷ []) → OnErr res (news ≡ t.records) → IsSound t → Stands v (record_node r) → IsSound (record t { records = news })
 pushed_record t v w news r res e o k s =
     after_push (λ (xs : List TypeRecord). IsSound (record t { records = xs })) t.records news r res e o k
-    (pushed t _ (Some (record_node r)) (record { longer = longer_record t r; step = step_record t r; linked = links_record t r k.linked; more = more_record t r }) k (subst (λ (z : Tables). Stands z (record_node r)) (sym w) s))
+    (pushed t _ (Some (record_node r)) (record { longer = longer_record t r; step = step_record t r; held_live = links_record t r k.held_live; more = more_record t r }) k (subst (λ (z : Tables). Stands z (record_node r)) (sym w) s))
 
 -- ---- one more entry of variants
 longer_variant : (t : Tables) (r : VariantType) (table : Table) → entries_in t table ≤ entries_in (record t { variants = t.variants ++ r ∷ [] }) table
@@ -309,7 +309,7 @@ step_variant : (t : Tables) (r : VariantType) → (ty : InterfaceType) → Step 
 step_variant t r (t_variant i) = step_end (λ n. variant_node) t.variants r i.number false
 step_variant t r ty = step_same (node_of t ty) (IsLive t ty) (is_plain ty) _
 
-links_variant : (t : Tables) (r : VariantType) → ((table : Table) → IsLinkedIn t t table) → (table : Table) → IsLinkedIn (record t { variants = t.variants ++ r ∷ [] }) (record t { variants = t.variants ++ r ∷ [] }) table
+links_variant : (t : Tables) (r : VariantType) → ((table : Table) → AreHeldLive t t table) → (table : Table) → AreHeldLive (record t { variants = t.variants ++ r ∷ [] }) (record t { variants = t.variants ++ r ∷ [] }) table
 links_variant t r h of_variants = tt
 links_variant t r h table = keeps_links t (record t { variants = t.variants ++ r ∷ [] }) (longer_variant t r) table (h table)
 
@@ -319,7 +319,7 @@ more_variant t r = omega (arith, length-append t.variants (r ∷ []))
 pub pushed_variant : {A E : Type 0} (t v : Tables) → t ≡ v → (news : List VariantType) (r : VariantType) (res : Result A E) → OnOk res (news ≡ t.variants ++ r ∷ []) → OnErr res (news ≡ t.variants) → IsSound t → Stands v (variant_node r) → IsSound (record t { variants = news })
 pushed_variant t v w news r res e o k s =
     after_push (λ (xs : List VariantType). IsSound (record t { variants = xs })) t.variants news r res e o k
-    (pushed t _ (Some (variant_node r)) (record { longer = longer_variant t r; step = step_variant t r; linked = links_variant t r k.linked; more = more_variant t r }) k (subst (λ (z : Tables). Stands z (variant_node r)) (sym w) s))
+    (pushed t _ (Some (variant_node r)) (record { longer = longer_variant t r; step = step_variant t r; held_live = links_variant t r k.held_live; more = more_variant t r }) k (subst (λ (z : Tables). Stands z (variant_node r)) (sym w) s))
 
 -- ---- one more entry of tuples
 longer_tuple : (t : Tables) (r : TypeTuple) (table : Table) → entries_in t table ≤ entries_in (record t { tuples = t.tuples ++ r ∷ [] }) table
@@ -330,7 +330,7 @@ step_tuple : (t : Tables) (r : TypeTuple) → (ty : InterfaceType) → Step (nod
 step_tuple t r (t_tuple i) = step_end (λ n. tuple_node) t.tuples r i.number false
 step_tuple t r ty = step_same (node_of t ty) (IsLive t ty) (is_plain ty) _
 
-links_tuple : (t : Tables) (r : TypeTuple) → ((table : Table) → IsLinkedIn t t table) → (table : Table) → IsLinkedIn (record t { tuples = t.tuples ++ r ∷ [] }) (record t { tuples = t.tuples ++ r ∷ [] }) table
+links_tuple : (t : Tables) (r : TypeTuple) → ((table : Table) → AreHeldLive t t table) → (table : Table) → AreHeldLive (record t { tuples = t.tuples ++ r ∷ [] }) (record t { tuples = t.tuples ++ r ∷ [] }) table
 links_tuple t r h of_tuples = tt
 links_tuple t r h table = keeps_links t (record t { tuples = t.tuples ++ r ∷ [] }) (longer_tuple t r) table (h table)
 
@@ -340,7 +340,7 @@ more_tuple t r = omega (arith, length-append t.tuples (r ∷ []))
 pub pushed_tuple : {A E : Type 0} (t v : Tables) → t ≡ v → (news : List TypeTuple) (r : TypeTuple) (res : Result A E) → OnOk res (news ≡ t.tuples ++ r ∷ []) → OnErr res (news ≡ t.tuples) → IsSound t → Stands v (tuple_node r) → IsSound (record t { tuples = news })
 pushed_tuple t v w news r res e o k s =
     after_push (λ (xs : List TypeTuple). IsSound (record t { tuples = xs })) t.tuples news r res e o k
-    (pushed t _ (Some (tuple_node r)) (record { longer = longer_tuple t r; step = step_tuple t r; linked = links_tuple t r k.linked; more = more_tuple t r }) k (subst (λ (z : Tables). Stands z (tuple_node r)) (sym w) s))
+    (pushed t _ (Some (tuple_node r)) (record { longer = longer_tuple t r; step = step_tuple t r; held_live = links_tuple t r k.held_live; more = more_tuple t r }) k (subst (λ (z : Tables). Stands z (tuple_node r)) (sym w) s))
 
 -- ---- one more entry of flags
 longer_flags : (t : Tables) (r : FlagsType) (table : Table) → entries_in t table ≤ entries_in (record t { flags = t.flags ++ r ∷ [] }) table
@@ -351,7 +351,7 @@ step_flags : (t : Tables) (r : FlagsType) → (ty : InterfaceType) → Step (nod
 step_flags t r (t_flags i) = step_end (λ n. flags_node) t.flags r i.number false
 step_flags t r ty = step_same (node_of t ty) (IsLive t ty) (is_plain ty) _
 
-links_flags : (t : Tables) (r : FlagsType) → ((table : Table) → IsLinkedIn t t table) → (table : Table) → IsLinkedIn (record t { flags = t.flags ++ r ∷ [] }) (record t { flags = t.flags ++ r ∷ [] }) table
+links_flags : (t : Tables) (r : FlagsType) → ((table : Table) → AreHeldLive t t table) → (table : Table) → AreHeldLive (record t { flags = t.flags ++ r ∷ [] }) (record t { flags = t.flags ++ r ∷ [] }) table
 links_flags t r h of_flags = tt
 links_flags t r h table = keeps_links t (record t { flags = t.flags ++ r ∷ [] }) (longer_flags t r) table (h table)
 
@@ -361,7 +361,7 @@ more_flags t r = omega (arith, length-append t.flags (r ∷ []))
 pub pushed_flags : {A E : Type 0} (t v : Tables) → t ≡ v → (news : List FlagsType) (r : FlagsType) (res : Result A E) → OnOk res (news ≡ t.flags ++ r ∷ []) → OnErr res (news ≡ t.flags) → IsSound t → Stands v (flags_node r) → IsSound (record t { flags = news })
 pushed_flags t v w news r res e o k s =
     after_push (λ (xs : List FlagsType). IsSound (record t { flags = xs })) t.flags news r res e o k
-    (pushed t _ (Some (flags_node r)) (record { longer = longer_flags t r; step = step_flags t r; linked = links_flags t r k.linked; more = more_flags t r }) k (subst (λ (z : Tables). Stands z (flags_node r)) (sym w) s))
+    (pushed t _ (Some (flags_node r)) (record { longer = longer_flags t r; step = step_flags t r; held_live = links_flags t r k.held_live; more = more_flags t r }) k (subst (λ (z : Tables). Stands z (flags_node r)) (sym w) s))
 
 -- ---- one more entry of enums
 longer_enum : (t : Tables) (r : EnumType) (table : Table) → entries_in t table ≤ entries_in (record t { enums = t.enums ++ r ∷ [] }) table
@@ -372,7 +372,7 @@ step_enum : (t : Tables) (r : EnumType) → (ty : InterfaceType) → Step (node_
 step_enum t r (t_enum i) = step_end (λ n. enum_node) t.enums r i.number false
 step_enum t r ty = step_same (node_of t ty) (IsLive t ty) (is_plain ty) _
 
-links_enum : (t : Tables) (r : EnumType) → ((table : Table) → IsLinkedIn t t table) → (table : Table) → IsLinkedIn (record t { enums = t.enums ++ r ∷ [] }) (record t { enums = t.enums ++ r ∷ [] }) table
+links_enum : (t : Tables) (r : EnumType) → ((table : Table) → AreHeldLive t t table) → (table : Table) → AreHeldLive (record t { enums = t.enums ++ r ∷ [] }) (record t { enums = t.enums ++ r ∷ [] }) table
 links_enum t r h of_enums = tt
 links_enum t r h table = keeps_links t (record t { enums = t.enums ++ r ∷ [] }) (longer_enum t r) table (h table)
 
@@ -382,7 +382,7 @@ more_enum t r = omega (arith, length-append t.enums (r ∷ []))
 pub pushed_enum : {A E : Type 0} (t v : Tables) → t ≡ v → (news : List EnumType) (r : EnumType) (res : Result A E) → OnOk res (news ≡ t.enums ++ r ∷ []) → OnErr res (news ≡ t.enums) → IsSound t → Stands v (enum_node r) → IsSound (record t { enums = news })
 pushed_enum t v w news r res e o k s =
     after_push (λ (xs : List EnumType). IsSound (record t { enums = xs })) t.enums news r res e o k
-    (pushed t _ (Some (enum_node r)) (record { longer = longer_enum t r; step = step_enum t r; linked = links_enum t r k.linked; more = more_enum t r }) k (subst (λ (z : Tables). Stands z (enum_node r)) (sym w) s))
+    (pushed t _ (Some (enum_node r)) (record { longer = longer_enum t r; step = step_enum t r; held_live = links_enum t r k.held_live; more = more_enum t r }) k (subst (λ (z : Tables). Stands z (enum_node r)) (sym w) s))
 
 -- ---- one more entry of options
 longer_option : (t : Tables) (r : TypeOption) (table : Table) → entries_in t table ≤ entries_in (record t { options = t.options ++ r ∷ [] }) table
@@ -393,7 +393,7 @@ step_option : (t : Tables) (r : TypeOption) → (ty : InterfaceType) → Step (n
 step_option t r (t_option i) = step_end (λ n. option_node) t.options r i.number false
 step_option t r ty = step_same (node_of t ty) (IsLive t ty) (is_plain ty) _
 
-links_option : (t : Tables) (r : TypeOption) → ((table : Table) → IsLinkedIn t t table) → (table : Table) → IsLinkedIn (record t { options = t.options ++ r ∷ [] }) (record t { options = t.options ++ r ∷ [] }) table
+links_option : (t : Tables) (r : TypeOption) → ((table : Table) → AreHeldLive t t table) → (table : Table) → AreHeldLive (record t { options = t.options ++ r ∷ [] }) (record t { options = t.options ++ r ∷ [] }) table
 links_option t r h of_options = tt
 links_option t r h table = keeps_links t (record t { options = t.options ++ r ∷ [] }) (longer_option t r) table (h table)
 
@@ -403,7 +403,7 @@ more_option t r = omega (arith, length-append t.options (r ∷ []))
 pub pushed_option : {A E : Type 0} (t v : Tables) → t ≡ v → (news : List TypeOption) (r : TypeOption) (res : Result A E) → OnOk res (news ≡ t.options ++ r ∷ []) → OnErr res (news ≡ t.options) → IsSound t → Stands v (option_node r) → IsSound (record t { options = news })
 pushed_option t v w news r res e o k s =
     after_push (λ (xs : List TypeOption). IsSound (record t { options = xs })) t.options news r res e o k
-    (pushed t _ (Some (option_node r)) (record { longer = longer_option t r; step = step_option t r; linked = links_option t r k.linked; more = more_option t r }) k (subst (λ (z : Tables). Stands z (option_node r)) (sym w) s))
+    (pushed t _ (Some (option_node r)) (record { longer = longer_option t r; step = step_option t r; held_live = links_option t r k.held_live; more = more_option t r }) k (subst (λ (z : Tables). Stands z (option_node r)) (sym w) s))
 
 -- ---- one more entry of results
 longer_result : (t : Tables) (r : TypeResult) (table : Table) → entries_in t table ≤ entries_in (record t { results = t.results ++ r ∷ [] }) table
@@ -414,7 +414,7 @@ step_result : (t : Tables) (r : TypeResult) → (ty : InterfaceType) → Step (n
 step_result t r (t_result i) = step_end (λ n. result_node) t.results r i.number false
 step_result t r ty = step_same (node_of t ty) (IsLive t ty) (is_plain ty) _
 
-links_result : (t : Tables) (r : TypeResult) → ((table : Table) → IsLinkedIn t t table) → (table : Table) → IsLinkedIn (record t { results = t.results ++ r ∷ [] }) (record t { results = t.results ++ r ∷ [] }) table
+links_result : (t : Tables) (r : TypeResult) → ((table : Table) → AreHeldLive t t table) → (table : Table) → AreHeldLive (record t { results = t.results ++ r ∷ [] }) (record t { results = t.results ++ r ∷ [] }) table
 links_result t r h of_results = tt
 links_result t r h table = keeps_links t (record t { results = t.results ++ r ∷ [] }) (longer_result t r) table (h table)
 
@@ -424,7 +424,7 @@ more_result t r = omega (arith, length-append t.results (r ∷ []))
 pub pushed_result : {A E : Type 0} (t v : Tables) → t ≡ v → (news : List TypeResult) (r : TypeResult) (res : Result A E) → OnOk res (news ≡ t.results ++ r ∷ []) → OnErr res (news ≡ t.results) → IsSound t → Stands v (result_node r) → IsSound (record t { results = news })
 pushed_result t v w news r res e o k s =
     after_push (λ (xs : List TypeResult). IsSound (record t { results = xs })) t.results news r res e o k
-    (pushed t _ (Some (result_node r)) (record { longer = longer_result t r; step = step_result t r; linked = links_result t r k.linked; more = more_result t r }) k (subst (λ (z : Tables). Stands z (result_node r)) (sym w) s))
+    (pushed t _ (Some (result_node r)) (record { longer = longer_result t r; step = step_result t r; held_live = links_result t r k.held_live; more = more_result t r }) k (subst (λ (z : Tables). Stands z (result_node r)) (sym w) s))
 
 -- ---- one more entry of lists
 longer_list : (t : Tables) (r : TypeList) (table : Table) → entries_in t table ≤ entries_in (record t { lists = t.lists ++ r ∷ [] }) table
@@ -435,7 +435,7 @@ step_list : (t : Tables) (r : TypeList) → (ty : InterfaceType) → Step (node_
 step_list t r (t_list i) = step_end (λ n. list_node) t.lists r i.number false
 step_list t r ty = step_same (node_of t ty) (IsLive t ty) (is_plain ty) _
 
-links_list : (t : Tables) (r : TypeList) → ((table : Table) → IsLinkedIn t t table) → (table : Table) → IsLinkedIn (record t { lists = t.lists ++ r ∷ [] }) (record t { lists = t.lists ++ r ∷ [] }) table
+links_list : (t : Tables) (r : TypeList) → ((table : Table) → AreHeldLive t t table) → (table : Table) → AreHeldLive (record t { lists = t.lists ++ r ∷ [] }) (record t { lists = t.lists ++ r ∷ [] }) table
 links_list t r h of_lists = tt
 links_list t r h table = keeps_links t (record t { lists = t.lists ++ r ∷ [] }) (longer_list t r) table (h table)
 
@@ -445,7 +445,7 @@ more_list t r = omega (arith, length-append t.lists (r ∷ []))
 pub pushed_list : {A E : Type 0} (t v : Tables) → t ≡ v → (news : List TypeList) (r : TypeList) (res : Result A E) → OnOk res (news ≡ t.lists ++ r ∷ []) → OnErr res (news ≡ t.lists) → IsSound t → Stands v (list_node r) → IsSound (record t { lists = news })
 pushed_list t v w news r res e o k s =
     after_push (λ (xs : List TypeList). IsSound (record t { lists = xs })) t.lists news r res e o k
-    (pushed t _ (Some (list_node r)) (record { longer = longer_list t r; step = step_list t r; linked = links_list t r k.linked; more = more_list t r }) k (subst (λ (z : Tables). Stands z (list_node r)) (sym w) s))
+    (pushed t _ (Some (list_node r)) (record { longer = longer_list t r; step = step_list t r; held_live = links_list t r k.held_live; more = more_list t r }) k (subst (λ (z : Tables). Stands z (list_node r)) (sym w) s))
 
 -- ---- one more entry of maps
 longer_map : (t : Tables) (r : TypeMap) (table : Table) → entries_in t table ≤ entries_in (record t { maps = t.maps ++ r ∷ [] }) table
@@ -456,7 +456,7 @@ step_map : (t : Tables) (r : TypeMap) → (ty : InterfaceType) → Step (node_of
 step_map t r (t_map i) = step_end (λ n. map_node) t.maps r i.number false
 step_map t r ty = step_same (node_of t ty) (IsLive t ty) (is_plain ty) _
 
-links_map : (t : Tables) (r : TypeMap) → ((table : Table) → IsLinkedIn t t table) → (table : Table) → IsLinkedIn (record t { maps = t.maps ++ r ∷ [] }) (record t { maps = t.maps ++ r ∷ [] }) table
+links_map : (t : Tables) (r : TypeMap) → ((table : Table) → AreHeldLive t t table) → (table : Table) → AreHeldLive (record t { maps = t.maps ++ r ∷ [] }) (record t { maps = t.maps ++ r ∷ [] }) table
 links_map t r h of_maps = tt
 links_map t r h table = keeps_links t (record t { maps = t.maps ++ r ∷ [] }) (longer_map t r) table (h table)
 
@@ -466,7 +466,7 @@ more_map t r = omega (arith, length-append t.maps (r ∷ []))
 pub pushed_map : {A E : Type 0} (t v : Tables) → t ≡ v → (news : List TypeMap) (r : TypeMap) (res : Result A E) → OnOk res (news ≡ t.maps ++ r ∷ []) → OnErr res (news ≡ t.maps) → IsSound t → Stands v (map_node r) → IsSound (record t { maps = news })
 pushed_map t v w news r res e o k s =
     after_push (λ (xs : List TypeMap). IsSound (record t { maps = xs })) t.maps news r res e o k
-    (pushed t _ (Some (map_node r)) (record { longer = longer_map t r; step = step_map t r; linked = links_map t r k.linked; more = more_map t r }) k (subst (λ (z : Tables). Stands z (map_node r)) (sym w) s))
+    (pushed t _ (Some (map_node r)) (record { longer = longer_map t r; step = step_map t r; held_live = links_map t r k.held_live; more = more_map t r }) k (subst (λ (z : Tables). Stands z (map_node r)) (sym w) s))
 
 -- ---- one more entry of fixed_length_lists
 longer_fixed_length_list : (t : Tables) (r : TypeFixedLengthList) (table : Table) → entries_in t table ≤ entries_in (record t { fixed_length_lists = t.fixed_length_lists ++ r ∷ [] }) table
@@ -477,7 +477,7 @@ step_fixed_length_list : (t : Tables) (r : TypeFixedLengthList) → (ty : Interf
 step_fixed_length_list t r (t_fixed_length_list i) = step_end (λ n. fixed_length_list_node) t.fixed_length_lists r i.number false
 step_fixed_length_list t r ty = step_same (node_of t ty) (IsLive t ty) (is_plain ty) _
 
-links_fixed_length_list : (t : Tables) (r : TypeFixedLengthList) → ((table : Table) → IsLinkedIn t t table) → (table : Table) → IsLinkedIn (record t { fixed_length_lists = t.fixed_length_lists ++ r ∷ [] }) (record t { fixed_length_lists = t.fixed_length_lists ++ r ∷ [] }) table
+links_fixed_length_list : (t : Tables) (r : TypeFixedLengthList) → ((table : Table) → AreHeldLive t t table) → (table : Table) → AreHeldLive (record t { fixed_length_lists = t.fixed_length_lists ++ r ∷ [] }) (record t { fixed_length_lists = t.fixed_length_lists ++ r ∷ [] }) table
 links_fixed_length_list t r h of_fixed_length_lists = tt
 links_fixed_length_list t r h table = keeps_links t (record t { fixed_length_lists = t.fixed_length_lists ++ r ∷ [] }) (longer_fixed_length_list t r) table (h table)
 
@@ -487,7 +487,7 @@ more_fixed_length_list t r = omega (arith, length-append t.fixed_length_lists (r
 pub pushed_fixed_length_list : {A E : Type 0} (t v : Tables) → t ≡ v → (news : List TypeFixedLengthList) (r : TypeFixedLengthList) (res : Result A E) → OnOk res (news ≡ t.fixed_length_lists ++ r ∷ []) → OnErr res (news ≡ t.fixed_length_lists) → IsSound t → Stands v (fixed_length_list_node r) → IsSound (record t { fixed_length_lists = news })
 pushed_fixed_length_list t v w news r res e o k s =
     after_push (λ (xs : List TypeFixedLengthList). IsSound (record t { fixed_length_lists = xs })) t.fixed_length_lists news r res e o k
-    (pushed t _ (Some (fixed_length_list_node r)) (record { longer = longer_fixed_length_list t r; step = step_fixed_length_list t r; linked = links_fixed_length_list t r k.linked; more = more_fixed_length_list t r }) k (subst (λ (z : Tables). Stands z (fixed_length_list_node r)) (sym w) s))
+    (pushed t _ (Some (fixed_length_list_node r)) (record { longer = longer_fixed_length_list t r; step = step_fixed_length_list t r; held_live = links_fixed_length_list t r k.held_live; more = more_fixed_length_list t r }) k (subst (λ (z : Tables). Stands z (fixed_length_list_node r)) (sym w) s))
 
 -- ---- one more entry of futures
 longer_future : (t : Tables) (r : TypeFuture) (table : Table) → entries_in t table ≤ entries_in (record t { futures = t.futures ++ r ∷ [] }) table
@@ -499,13 +499,13 @@ payload_future : (t : Tables) (r : TypeFuture) (e : TypeFutureTable) (n : ℕ) �
 payload_future t r e n l = ap (λ (o : Option TypeFuture). record { kind = (future_node t.futures n e).kind; members = ([], payload_in (λ f. f.payload) o) ∷ []; abi = (future_node t.futures n e).abi; parts = (future_node t.futures n e).parts }) (sym (get_before t.futures r e.ty.number l))
 
 same_future : (t : Tables) (r : TypeFuture) → IsSound t → (i : ℕ) → option_map (future_node t.futures i) (slice_get t.future_tables i) ≡ option_map (future_node (record t { futures = t.futures ++ r ∷ [] }).futures i) (slice_get t.future_tables i)
-same_future t r h i = same_mapped (future_node t.futures i) (future_node (record t { futures = t.futures ++ r ∷ [] }).futures i) t.future_tables i (λ j d l. payload_future t r (get_or t.future_tables j d) i (h.linked of_future_tables j d l))
+same_future t r h i = same_mapped (future_node t.futures i) (future_node (record t { futures = t.futures ++ r ∷ [] }).futures i) t.future_tables i (λ j d l. payload_future t r (get_or t.future_tables j d) i (h.held_live of_future_tables j d l))
 
 step_future : (t : Tables) (r : TypeFuture) → IsSound t → (ty : InterfaceType) → Step (node_of t ty) (node_of (record t { futures = t.futures ++ r ∷ [] }) ty) (IsLive t ty) (IsLive (record t { futures = t.futures ++ r ∷ [] }) ty) (is_plain ty) None
 step_future t r h (t_future i) = step_equal _ _ _ false (same_future t r h i.number)
 step_future t r h ty = step_same (node_of t ty) (IsLive t ty) (is_plain ty) _
 
-links_future : (t : Tables) (r : TypeFuture) → IsLiveMember t r.payload → ((table : Table) → IsLinkedIn t t table) → (table : Table) → IsLinkedIn (record t { futures = t.futures ++ r ∷ [] }) (record t { futures = t.futures ++ r ∷ [] }) table
+links_future : (t : Tables) (r : TypeFuture) → IsLiveMember t r.payload → ((table : Table) → AreHeldLive t t table) → (table : Table) → AreHeldLive (record t { futures = t.futures ++ r ∷ [] }) (record t { futures = t.futures ++ r ∷ [] }) table
 links_future t r s h of_futures = all_more (λ (f : TypeFuture). IsLiveMember (record t { futures = t.futures ++ r ∷ [] }) f.payload) t.futures r (keeps_links t (record t { futures = t.futures ++ r ∷ [] }) (longer_future t r) of_futures (h of_futures)) (member_longer t (record t { futures = t.futures ++ r ∷ [] }) (longer_future t r) r.payload s)
 links_future t r s h table = keeps_links t (record t { futures = t.futures ++ r ∷ [] }) (longer_future t r) table (h table)
 
@@ -515,7 +515,7 @@ more_future t r = omega arith
 pub pushed_future : {A E : Type 0} (t v : Tables) → t ≡ v → (news : List TypeFuture) (r : TypeFuture) (res : Result A E) → OnOk res (news ≡ t.futures ++ r ∷ []) → OnErr res (news ≡ t.futures) → IsSound t → IsLiveMember v r.payload → IsSound (record t { futures = news })
 pushed_future t v w news r res e o k s =
     after_push (λ (xs : List TypeFuture). IsSound (record t { futures = xs })) t.futures news r res e o k
-    (pushed t _ None (record { longer = longer_future t r; step = step_future t r k; linked = links_future t r (subst (λ (z : Tables). IsLiveMember z r.payload) (sym w) s) k.linked; more = more_future t r }) k tt)
+    (pushed t _ None (record { longer = longer_future t r; step = step_future t r k; held_live = links_future t r (subst (λ (z : Tables). IsLiveMember z r.payload) (sym w) s) k.held_live; more = more_future t r }) k tt)
 
 -- ---- one more entry of future_tables
 longer_future_table : (t : Tables) (r : TypeFutureTable) (table : Table) → entries_in t table ≤ entries_in (record t { future_tables = t.future_tables ++ r ∷ [] }) table
@@ -526,7 +526,7 @@ step_future_table : (t : Tables) (r : TypeFutureTable) → (ty : InterfaceType) 
 step_future_table t r (t_future i) = step_end (future_node t.futures) t.future_tables r i.number false
 step_future_table t r ty = step_same (node_of t ty) (IsLive t ty) (is_plain ty) _
 
-links_future_table : (t : Tables) (r : TypeFutureTable) → r.ty.number < length t.futures → ((table : Table) → IsLinkedIn t t table) → (table : Table) → IsLinkedIn (record t { future_tables = t.future_tables ++ r ∷ [] }) (record t { future_tables = t.future_tables ++ r ∷ [] }) table
+links_future_table : (t : Tables) (r : TypeFutureTable) → r.ty.number < length t.futures → ((table : Table) → AreHeldLive t t table) → (table : Table) → AreHeldLive (record t { future_tables = t.future_tables ++ r ∷ [] }) (record t { future_tables = t.future_tables ++ r ∷ [] }) table
 links_future_table t r s h of_future_tables = all_more (λ (e : TypeFutureTable). e.ty.number < length t.futures) t.future_tables r (keeps_links t (record t { future_tables = t.future_tables ++ r ∷ [] }) (longer_future_table t r) of_future_tables (h of_future_tables)) s
 links_future_table t r s h table = keeps_links t (record t { future_tables = t.future_tables ++ r ∷ [] }) (longer_future_table t r) table (h table)
 
@@ -534,12 +534,12 @@ more_future_table : (t : Tables) (r : TypeFutureTable) → entries t + 1 ≤ ent
 more_future_table t r = omega (arith, length-append t.future_tables (r ∷ []))
 
 table_stands_future : (t : Tables) → IsSound t → (n : ℕ) (r : TypeFutureTable) → r.ty.number < length t.futures → Stands t (future_node t.futures n r)
-table_stands_future t k n r l = record { live = λ i d b. one_live t _ (payload_live t (λ f. f.payload) t.futures r.ty.number l (k.linked of_futures)) i d b; laid = refl; parts = refl }
+table_stands_future t k n r l = record { live = λ i d b. one_live t _ (payload_live t (λ f. f.payload) t.futures r.ty.number l (k.held_live of_futures)) i d b; laid = refl; parts = refl }
 
 pub pushed_future_table : {A E : Type 0} (t v : Tables) → t ≡ v → (news : List TypeFutureTable) (r : TypeFutureTable) (res : Result A E) → OnOk res (news ≡ t.future_tables ++ r ∷ []) → OnErr res (news ≡ t.future_tables) → IsSound t → r.ty.number < length v.futures → IsSound (record t { future_tables = news })
 pushed_future_table t v w news r res e o k s =
     after_push (λ (xs : List TypeFutureTable). IsSound (record t { future_tables = xs })) t.future_tables news r res e o k
-    (pushed t _ (Some (future_node t.futures (length t.future_tables) r)) (record { longer = longer_future_table t r; step = step_future_table t r; linked = links_future_table t r (subst (λ (z : Tables). r.ty.number < length z.futures) (sym w) s) k.linked; more = more_future_table t r }) k (table_stands_future t k (length t.future_tables) r (subst (λ (z : Tables). r.ty.number < length z.futures) (sym w) s)))
+    (pushed t _ (Some (future_node t.futures (length t.future_tables) r)) (record { longer = longer_future_table t r; step = step_future_table t r; held_live = links_future_table t r (subst (λ (z : Tables). r.ty.number < length z.futures) (sym w) s) k.held_live; more = more_future_table t r }) k (table_stands_future t k (length t.future_tables) r (subst (λ (z : Tables). r.ty.number < length z.futures) (sym w) s)))
 
 -- ---- one more entry of streams
 longer_stream : (t : Tables) (r : TypeStream) (table : Table) → entries_in t table ≤ entries_in (record t { streams = t.streams ++ r ∷ [] }) table
@@ -551,13 +551,13 @@ payload_stream : (t : Tables) (r : TypeStream) (e : TypeStreamTable) (n : ℕ) �
 payload_stream t r e n l = ap (λ (o : Option TypeStream). record { kind = (stream_node t.streams n e).kind; members = ([], payload_in (λ f. f.payload) o) ∷ []; abi = (stream_node t.streams n e).abi; parts = (stream_node t.streams n e).parts }) (sym (get_before t.streams r e.ty.number l))
 
 same_stream : (t : Tables) (r : TypeStream) → IsSound t → (i : ℕ) → option_map (stream_node t.streams i) (slice_get t.stream_tables i) ≡ option_map (stream_node (record t { streams = t.streams ++ r ∷ [] }).streams i) (slice_get t.stream_tables i)
-same_stream t r h i = same_mapped (stream_node t.streams i) (stream_node (record t { streams = t.streams ++ r ∷ [] }).streams i) t.stream_tables i (λ j d l. payload_stream t r (get_or t.stream_tables j d) i (h.linked of_stream_tables j d l))
+same_stream t r h i = same_mapped (stream_node t.streams i) (stream_node (record t { streams = t.streams ++ r ∷ [] }).streams i) t.stream_tables i (λ j d l. payload_stream t r (get_or t.stream_tables j d) i (h.held_live of_stream_tables j d l))
 
 step_stream : (t : Tables) (r : TypeStream) → IsSound t → (ty : InterfaceType) → Step (node_of t ty) (node_of (record t { streams = t.streams ++ r ∷ [] }) ty) (IsLive t ty) (IsLive (record t { streams = t.streams ++ r ∷ [] }) ty) (is_plain ty) None
 step_stream t r h (t_stream i) = step_equal _ _ _ false (same_stream t r h i.number)
 step_stream t r h ty = step_same (node_of t ty) (IsLive t ty) (is_plain ty) _
 
-links_stream : (t : Tables) (r : TypeStream) → IsLiveMember t r.payload → ((table : Table) → IsLinkedIn t t table) → (table : Table) → IsLinkedIn (record t { streams = t.streams ++ r ∷ [] }) (record t { streams = t.streams ++ r ∷ [] }) table
+links_stream : (t : Tables) (r : TypeStream) → IsLiveMember t r.payload → ((table : Table) → AreHeldLive t t table) → (table : Table) → AreHeldLive (record t { streams = t.streams ++ r ∷ [] }) (record t { streams = t.streams ++ r ∷ [] }) table
 links_stream t r s h of_streams = all_more (λ (f : TypeStream). IsLiveMember (record t { streams = t.streams ++ r ∷ [] }) f.payload) t.streams r (keeps_links t (record t { streams = t.streams ++ r ∷ [] }) (longer_stream t r) of_streams (h of_streams)) (member_longer t (record t { streams = t.streams ++ r ∷ [] }) (longer_stream t r) r.payload s)
 links_stream t r s h table = keeps_links t (record t { streams = t.streams ++ r ∷ [] }) (longer_stream t r) table (h table)
 
@@ -567,7 +567,7 @@ more_stream t r = omega arith
 pub pushed_stream : {A E : Type 0} (t v : Tables) → t ≡ v → (news : List TypeStream) (r : TypeStream) (res : Result A E) → OnOk res (news ≡ t.streams ++ r ∷ []) → OnErr res (news ≡ t.streams) → IsSound t → IsLiveMember v r.payload → IsSound (record t { streams = news })
 pushed_stream t v w news r res e o k s =
     after_push (λ (xs : List TypeStream). IsSound (record t { streams = xs })) t.streams news r res e o k
-    (pushed t _ None (record { longer = longer_stream t r; step = step_stream t r k; linked = links_stream t r (subst (λ (z : Tables). IsLiveMember z r.payload) (sym w) s) k.linked; more = more_stream t r }) k tt)
+    (pushed t _ None (record { longer = longer_stream t r; step = step_stream t r k; held_live = links_stream t r (subst (λ (z : Tables). IsLiveMember z r.payload) (sym w) s) k.held_live; more = more_stream t r }) k tt)
 
 -- ---- one more entry of stream_tables
 longer_stream_table : (t : Tables) (r : TypeStreamTable) (table : Table) → entries_in t table ≤ entries_in (record t { stream_tables = t.stream_tables ++ r ∷ [] }) table
@@ -578,7 +578,7 @@ step_stream_table : (t : Tables) (r : TypeStreamTable) → (ty : InterfaceType) 
 step_stream_table t r (t_stream i) = step_end (stream_node t.streams) t.stream_tables r i.number false
 step_stream_table t r ty = step_same (node_of t ty) (IsLive t ty) (is_plain ty) _
 
-links_stream_table : (t : Tables) (r : TypeStreamTable) → r.ty.number < length t.streams → ((table : Table) → IsLinkedIn t t table) → (table : Table) → IsLinkedIn (record t { stream_tables = t.stream_tables ++ r ∷ [] }) (record t { stream_tables = t.stream_tables ++ r ∷ [] }) table
+links_stream_table : (t : Tables) (r : TypeStreamTable) → r.ty.number < length t.streams → ((table : Table) → AreHeldLive t t table) → (table : Table) → AreHeldLive (record t { stream_tables = t.stream_tables ++ r ∷ [] }) (record t { stream_tables = t.stream_tables ++ r ∷ [] }) table
 links_stream_table t r s h of_stream_tables = all_more (λ (e : TypeStreamTable). e.ty.number < length t.streams) t.stream_tables r (keeps_links t (record t { stream_tables = t.stream_tables ++ r ∷ [] }) (longer_stream_table t r) of_stream_tables (h of_stream_tables)) s
 links_stream_table t r s h table = keeps_links t (record t { stream_tables = t.stream_tables ++ r ∷ [] }) (longer_stream_table t r) table (h table)
 
@@ -586,12 +586,12 @@ more_stream_table : (t : Tables) (r : TypeStreamTable) → entries t + 1 ≤ ent
 more_stream_table t r = omega (arith, length-append t.stream_tables (r ∷ []))
 
 table_stands_stream : (t : Tables) → IsSound t → (n : ℕ) (r : TypeStreamTable) → r.ty.number < length t.streams → Stands t (stream_node t.streams n r)
-table_stands_stream t k n r l = record { live = λ i d b. one_live t _ (payload_live t (λ f. f.payload) t.streams r.ty.number l (k.linked of_streams)) i d b; laid = refl; parts = refl }
+table_stands_stream t k n r l = record { live = λ i d b. one_live t _ (payload_live t (λ f. f.payload) t.streams r.ty.number l (k.held_live of_streams)) i d b; laid = refl; parts = refl }
 
 pub pushed_stream_table : {A E : Type 0} (t v : Tables) → t ≡ v → (news : List TypeStreamTable) (r : TypeStreamTable) (res : Result A E) → OnOk res (news ≡ t.stream_tables ++ r ∷ []) → OnErr res (news ≡ t.stream_tables) → IsSound t → r.ty.number < length v.streams → IsSound (record t { stream_tables = news })
 pushed_stream_table t v w news r res e o k s =
     after_push (λ (xs : List TypeStreamTable). IsSound (record t { stream_tables = xs })) t.stream_tables news r res e o k
-    (pushed t _ (Some (stream_node t.streams (length t.stream_tables) r)) (record { longer = longer_stream_table t r; step = step_stream_table t r; linked = links_stream_table t r (subst (λ (z : Tables). r.ty.number < length z.streams) (sym w) s) k.linked; more = more_stream_table t r }) k (table_stands_stream t k (length t.stream_tables) r (subst (λ (z : Tables). r.ty.number < length z.streams) (sym w) s)))
+    (pushed t _ (Some (stream_node t.streams (length t.stream_tables) r)) (record { longer = longer_stream_table t r; step = step_stream_table t r; held_live = links_stream_table t r (subst (λ (z : Tables). r.ty.number < length z.streams) (sym w) s) k.held_live; more = more_stream_table t r }) k (table_stands_stream t k (length t.stream_tables) r (subst (λ (z : Tables). r.ty.number < length z.streams) (sym w) s)))
 
 -- ---- one more entry of error_context_tables
 longer_error_context_table : (t : Tables) (r : TypeErrorContextTable) (table : Table) → entries_in t table ≤ entries_in (record t { error_context_tables = t.error_context_tables ++ r ∷ [] }) table
@@ -602,7 +602,7 @@ step_error_context_table : (t : Tables) (r : TypeErrorContextTable) → (ty : In
 step_error_context_table t r (t_error_context i) = step_plain None _ _
 step_error_context_table t r ty = step_same (node_of t ty) (IsLive t ty) (is_plain ty) _
 
-links_error_context_table : (t : Tables) (r : TypeErrorContextTable) → ((table : Table) → IsLinkedIn t t table) → (table : Table) → IsLinkedIn (record t { error_context_tables = t.error_context_tables ++ r ∷ [] }) (record t { error_context_tables = t.error_context_tables ++ r ∷ [] }) table
+links_error_context_table : (t : Tables) (r : TypeErrorContextTable) → ((table : Table) → AreHeldLive t t table) → (table : Table) → AreHeldLive (record t { error_context_tables = t.error_context_tables ++ r ∷ [] }) (record t { error_context_tables = t.error_context_tables ++ r ∷ [] }) table
 links_error_context_table t r h of_error_context_tables = tt
 links_error_context_table t r h table = keeps_links t (record t { error_context_tables = t.error_context_tables ++ r ∷ [] }) (longer_error_context_table t r) table (h table)
 
@@ -612,7 +612,7 @@ more_error_context_table t r = omega arith
 pub pushed_error_context_table : {A E : Type 0} (t : Tables) → (news : List TypeErrorContextTable) (r : TypeErrorContextTable) (res : Result A E) → OnOk res (news ≡ t.error_context_tables ++ r ∷ []) → OnErr res (news ≡ t.error_context_tables) → IsSound t → IsSound (record t { error_context_tables = news })
 pushed_error_context_table t news r res e o k =
     after_push (λ (xs : List TypeErrorContextTable). IsSound (record t { error_context_tables = xs })) t.error_context_tables news r res e o k
-    (pushed t _ None (record { longer = longer_error_context_table t r; step = step_error_context_table t r; linked = links_error_context_table t r k.linked; more = more_error_context_table t r }) k tt)
+    (pushed t _ None (record { longer = longer_error_context_table t r; step = step_error_context_table t r; held_live = links_error_context_table t r k.held_live; more = more_error_context_table t r }) k tt)
 
 -- ---- one more entry of resource_tables
 longer_resource_table : (t : Tables) (r : TypeResourceTable) (table : Table) → entries_in t table ≤ entries_in (record t { resource_tables = t.resource_tables ++ r ∷ [] }) table
@@ -624,7 +624,7 @@ step_resource_table t r (t_own i) = step_plain None _ _
 step_resource_table t r (t_borrow i) = step_plain None _ _
 step_resource_table t r ty = step_same (node_of t ty) (IsLive t ty) (is_plain ty) _
 
-links_resource_table : (t : Tables) (r : TypeResourceTable) → ((table : Table) → IsLinkedIn t t table) → (table : Table) → IsLinkedIn (record t { resource_tables = t.resource_tables ++ r ∷ [] }) (record t { resource_tables = t.resource_tables ++ r ∷ [] }) table
+links_resource_table : (t : Tables) (r : TypeResourceTable) → ((table : Table) → AreHeldLive t t table) → (table : Table) → AreHeldLive (record t { resource_tables = t.resource_tables ++ r ∷ [] }) (record t { resource_tables = t.resource_tables ++ r ∷ [] }) table
 links_resource_table t r h of_resource_tables = tt
 links_resource_table t r h table = keeps_links t (record t { resource_tables = t.resource_tables ++ r ∷ [] }) (longer_resource_table t r) table (h table)
 
@@ -634,7 +634,7 @@ more_resource_table t r = omega arith
 pub pushed_resource_table : {A E : Type 0} (t : Tables) → (news : List TypeResourceTable) (r : TypeResourceTable) (res : Result A E) → OnOk res (news ≡ t.resource_tables ++ r ∷ []) → OnErr res (news ≡ t.resource_tables) → IsSound t → IsSound (record t { resource_tables = news })
 pushed_resource_table t news r res e o k =
     after_push (λ (xs : List TypeResourceTable). IsSound (record t { resource_tables = xs })) t.resource_tables news r res e o k
-    (pushed t _ None (record { longer = longer_resource_table t r; step = step_resource_table t r; linked = links_resource_table t r k.linked; more = more_resource_table t r }) k tt)
+    (pushed t _ None (record { longer = longer_resource_table t r; step = step_resource_table t r; held_live = links_resource_table t r k.held_live; more = more_resource_table t r }) k tt)
 
 -- ---- other module types
 longer_types : (t : Tables) (m : Option (List FuncType)) (table : Table) → entries_in t table ≤ entries_in (record t { module_types = m }) table
@@ -645,12 +645,12 @@ step_types : (t : Tables) (m : Option (List FuncType)) (ty : InterfaceType) → 
 step_types t m (t_record i) = step_same _ _ _ _
 step_types t m ty = step_same (node_of t ty) (IsLive t ty) (is_plain ty) _
 
-links_types : (t : Tables) (m : Option (List FuncType)) → ((table : Table) → IsLinkedIn t t table) → (table : Table) → IsLinkedIn (record t { module_types = m }) (record t { module_types = m }) table
+links_types : (t : Tables) (m : Option (List FuncType)) → ((table : Table) → AreHeldLive t t table) → (table : Table) → AreHeldLive (record t { module_types = m }) (record t { module_types = m }) table
 links_types t m h of_modules = tt
 links_types t m h table = keeps_links t (record t { module_types = m }) (longer_types t m) table (h table)
 
 pub types_set : (t : Tables) (m : Option (List FuncType)) → IsSound t → IsSound (record t { module_types = m })
-types_set t m k = pushed t _ None (record { longer = longer_types t m; step = step_types t m; linked = links_types t m k.linked; more = omega arith }) k tt
+types_set t m k = pushed t _ None (record { longer = longer_types t m; step = step_types t m; held_live = links_types t m k.held_live; more = omega arith }) k tt
 
 -- ---- other core modules, as many as before
 longer_modules : (t : Tables) (ms : List ModuleType) → length ms ≡ length t.modules → (table : Table) → entries_in t table ≤ entries_in (record t { modules = ms }) table
@@ -661,29 +661,29 @@ step_modules : (t : Tables) (ms : List ModuleType) (ty : InterfaceType) → Step
 step_modules t ms (t_record i) = step_same _ _ _ _
 step_modules t ms ty = step_same (node_of t ty) (IsLive t ty) (is_plain ty) _
 
-links_modules : (t : Tables) (ms : List ModuleType) → length ms ≡ length t.modules → ((table : Table) → IsLinkedIn t t table) → (table : Table) → IsLinkedIn (record t { modules = ms }) (record t { modules = ms }) table
+links_modules : (t : Tables) (ms : List ModuleType) → length ms ≡ length t.modules → ((table : Table) → AreHeldLive t t table) → (table : Table) → AreHeldLive (record t { modules = ms }) (record t { modules = ms }) table
 links_modules t ms e h of_modules = tt
 links_modules t ms e h table = keeps_links t (record t { modules = ms }) (longer_modules t ms e) table (h table)
 
 pub modules_set : (t : Tables) (ms : List ModuleType) → length ms ≡ length t.modules → IsSound t → IsSound (record t { modules = ms })
-modules_set t ms e k = pushed t _ None (record { longer = longer_modules t ms e; step = step_modules t ms; linked = links_modules t ms e k.linked; more = omega arith }) k tt
+modules_set t ms e k = pushed t _ None (record { longer = longer_modules t ms e; step = step_modules t ms; held_live = links_modules t ms e k.held_live; more = omega arith }) k tt
 
 -- ---- no entries
 no_entry : {X Y : Type 0} (f : X → Y) (i : ℕ) (y : Y) → option_map f (slice_get [] i) ≡ Some y → ⊥
 no_entry f i y h = cc
 
 pub empty_sound : IsSound no_tables
-empty_sound = record { stands = empty_stands; shaped = empty_shaped; linked = empty_linked }
+empty_sound = record { stands = empty_stands; shaped = empty_shaped; held_live = empty_held }
   where
-    empty_linked : (table : Table) → IsLinkedIn no_tables no_tables table
-    empty_linked of_functions = λ i d l. absurd (omega (arith, l))
-    empty_linked of_components = λ i d l. absurd (omega (arith, l))
-    empty_linked of_component_instances = λ i d l. absurd (omega (arith, l))
-    empty_linked of_futures = λ i d l. absurd (omega (arith, l))
-    empty_linked of_streams = λ i d l. absurd (omega (arith, l))
-    empty_linked of_future_tables = λ i d l. absurd (omega (arith, l))
-    empty_linked of_stream_tables = λ i d l. absurd (omega (arith, l))
-    empty_linked table = tt
+    empty_held : (table : Table) → AreHeldLive no_tables no_tables table
+    empty_held of_functions = λ i d l. absurd (omega (arith, l))
+    empty_held of_components = λ i d l. absurd (omega (arith, l))
+    empty_held of_component_instances = λ i d l. absurd (omega (arith, l))
+    empty_held of_futures = λ i d l. absurd (omega (arith, l))
+    empty_held of_streams = λ i d l. absurd (omega (arith, l))
+    empty_held of_future_tables = λ i d l. absurd (omega (arith, l))
+    empty_held of_stream_tables = λ i d l. absurd (omega (arith, l))
+    empty_held table = tt
 
     empty_stands : (ty : InterfaceType) (n : Node) → node_of no_tables ty ≡ Some n → Stands no_tables n
     empty_stands (t_record i) n h = absurd (no_entry record_node i.number n h)

@@ -24,6 +24,6 @@ unfoldable pub height : Tables → InterfaceType → ℕ
 height t ty = height_in (entries t) t ty
 
 -- A type that is a member of another one is lower, and it is live.
-pub record Within (t : Tables) (member ty : InterfaceType) : Type 0 where
+pub record IsMemberOf (t : Tables) (member ty : InterfaceType) : Type 0 where
   pub lower : height t member < height t ty
   pub live : IsLive t member

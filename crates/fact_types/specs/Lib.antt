@@ -15,12 +15,12 @@ pub mod ImportTypes
 pub mod Layout
 pub mod Lending
 pub mod Live
+pub mod Options
 pub mod Ordered
 pub mod PointerPairs
 pub mod Shapes
 pub mod Signatures
 pub mod Sound
-pub mod Steps
 pub mod Tables
 pub mod Traces
 pub mod Tuples

@@ -20,13 +20,19 @@ width true = Memory64
 abbrev pub address : Bool → ValType
 address memory64 = value_type (pointer (width memory64))
 
+-- The bytes of an address or a length.
+abbrev pub pointer_bytes : MemoryWidth → ℕ
+pointer_bytes Memory32 = 4
+pointer_bytes Memory64 = 8
+
+-- The value types of flat types, where there are some.
+abbrev pub value_types_of : Option (List FlatType) → Option (List ValType)
+value_types_of None = None
+value_types_of (Some fs) = Some (map value_type fs)
+
 -- The value types of several types, none where they are more than a limit.
 abbrev pub flat_values : Bool → ℕ → List Shape → Option (List ValType)
-flat_values memory64 limit ss = flat_of (flat_all (width memory64) limit ss)
-  where
-    flat_of : Option (List FlatType) → Option (List ValType)
-    flat_of None = None
-    flat_of (Some fs) = Some (map value_type fs)
+flat_values memory64 limit ss = value_types_of (flat_all (width memory64) limit ss)
 
 -- Flat values, or else others.
 abbrev pub flat_or : List ValType → Option (List ValType) → List ValType
@@ -118,6 +124,13 @@ async_start_signature lower lift lower_ps lift_ps = record {
 abbrev pub lower_pointer : Bool → Bool → List Shape → List ValType
 lower_pointer true memory64 rs = return_pointer memory64 rs
 lower_pointer false memory64 rs = unless_flat (address memory64 ∷ []) (flat_values memory64 1 rs)
+
+-- The flat types of the results of a side that lowers, none where they stand behind a pointer: up to one of a sync side, and of an
+-- async one where there are no results.
+abbrev pub lowered_flat_types : (async_side : Bool) → MemoryWidth → List Shape → Option (List FlatType)
+lowered_flat_types false w ts = flat_all w 1 ts
+lowered_flat_types true w [] = Some []
+lowered_flat_types true w (t ∷ ts) = None
 
 -- What the lower side gets as core results.
 abbrev pub lower_results : Bool → Bool → List Shape → List ValType

@@ -274,15 +274,15 @@ pub record IsLiveComponent (t : Tables) (c : ComponentType) : Type 0 where
   pub exports : AreLiveExterns t c.exports
 
 -- The entries of a table without layout name live indices: those of the table in t are live in u.
-abbrev pub IsLinkedIn : Tables → Tables → Table → Type 0
-IsLinkedIn u t of_functions = All (IsLiveFunc u) t.functions
-IsLinkedIn u t of_components = All (IsLiveComponent u) t.components
-IsLinkedIn u t of_component_instances = All (λ c. AreLiveExterns u c.exports) t.component_instances
-IsLinkedIn u t of_futures = All (λ f. IsLiveMember u f.payload) t.futures
-IsLinkedIn u t of_streams = All (λ s. IsLiveMember u s.payload) t.streams
-IsLinkedIn u t of_future_tables = All (λ e. e.ty.number < length u.futures) t.future_tables
-IsLinkedIn u t of_stream_tables = All (λ e. e.ty.number < length u.streams) t.stream_tables
-IsLinkedIn u t _ = Unit {0}
+abbrev pub AreHeldLive : Tables → Tables → Table → Type 0
+AreHeldLive u t of_functions = All (IsLiveFunc u) t.functions
+AreHeldLive u t of_components = All (IsLiveComponent u) t.components
+AreHeldLive u t of_component_instances = All (λ c. AreLiveExterns u c.exports) t.component_instances
+AreHeldLive u t of_futures = All (λ f. IsLiveMember u f.payload) t.futures
+AreHeldLive u t of_streams = All (λ s. IsLiveMember u s.payload) t.streams
+AreHeldLive u t of_future_tables = All (λ e. e.ty.number < length u.futures) t.future_tables
+AreHeldLive u t of_stream_tables = All (λ e. e.ty.number < length u.streams) t.stream_tables
+AreHeldLive u t _ = Unit {0}
 
 -- ---- shapes
 
@@ -315,4 +315,4 @@ pub record Stands (t : Tables) (n : Node) : Type 0 where
 pub record IsSound (t : Tables) : Type 0 where
   pub stands : (ty : InterfaceType) (n : Node) → node_of t ty ≡ Some n → Stands t n
   pub shaped : (ty : InterfaceType) → IsLive t ty → (s : Shape) × HasShape t ty s × (depth s ≤ entries t)
-  pub linked : (table : Table) → IsLinkedIn t t table
+  pub held_live : (table : Table) → AreHeldLive t t table

@@ -12,6 +12,7 @@ mod flats;
 mod import;
 mod interface;
 mod kinds;
+mod limits;
 mod live;
 mod lookup;
 mod module_types;
@@ -52,6 +53,7 @@ pub use kinds::{
     TypeList, TypeMap, TypeOption, TypeRecord, TypeResourceTable, TypeResult, TypeStream,
     TypeStreamTable, TypeTuple,
 };
+pub use limits::{lift_results_limit, lower_limit};
 pub use lookup::Lookup;
 pub use module_types::{ModuleTypes, ModuleTypesBuilder};
 pub use ordered::{TypeEnum, TypeFlags, TypeVariant};

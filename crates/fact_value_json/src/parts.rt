@@ -1,17 +1,14 @@
 //! What values are made of in JSON: names, and the keys of objects.
 ghost use Rattle.std.specs.Prelude.{◌≡◌, IfOk, find, not, option_map, slice_get, string_bytes};
 ghost use Rattle.std.specs.BTreeMap.{keys};
-ghost use Rattle.std.specs.List.{zip};
 ghost use Rattle.serde_json.specs.View.{view};
-ghost use Rattle.fact_abi.specs.Finding.{IsIndexOf, member_type_at, name_is};
+ghost use Rattle.fact_abi.specs.Finding.{IsIndexOf, name_is};
 ghost use Rattle.fact_plan.specs.Fault.{Gives};
 ghost use Rattle.fact_plan.specs.Read.{is_known, known_keys, required_keys};
 ghost use Rattle.fact_value_json.specs.Reading.{enum_in, flags_given, flags_in, names_in, new_name_in, null_in};
 
-use crate::fault::{at_place, missing, out_of_range, unknown_key, wrong_kind};
-use fact_abi::{Node, Value};
-use fact_plan::PlanFault;
-use fact_types::InterfaceType;
+use fact_abi::Value;
+use fact_plan::{PlanFault, at_place};
 use fact_wasm::{OutOfMemory, Seq, Text};
 use serde_json::{Map, Value as Json};
 use std::alloc::Global;
@@ -36,10 +33,10 @@ pub(crate) fn check_known(alloc: Global, json: &Json, names: &[Text]) -> Result<
     ensures { Gives (known_keys names.now (view json.now)) result }
 {
     let Some(members) = json.as_object() else {
-        return Err(wrong_kind(alloc));
+        return Err(PlanFault::wrong_kind(alloc));
     };
     match first_unknown(members, names) {
-        Some(key) => Err(unknown_key(alloc, key.as_str())?),
+        Some(key) => Err(PlanFault::unknown_key(alloc, key.as_str())?),
         None => Ok(()),
     }
 }
@@ -50,7 +47,7 @@ pub(crate) fn check_required(alloc: Global, json: &Json, names: &[Text]) -> Resu
 {
     for name in names {
         if json.get(name.as_str()).is_none() {
-            return Err(missing(alloc, name.as_str())?);
+            return Err(PlanFault::missing(alloc, name.as_str())?);
         }
     }
     Ok(())
@@ -63,26 +60,7 @@ pub(crate) fn check_null(alloc: Global, json: &Json) -> Result<(), PlanFault>
     if json.is_null() {
         return Ok(());
     }
-    Err(wrong_kind(alloc))
-}
-
-/// Values with their names.
-pub(crate) fn named(
-    alloc: Global,
-    names: &Seq<Text>,
-    values: Seq<Value>,
-) -> Result<Seq<(Text, Value)>, OutOfMemory>
-    ensures { IfOk result (λ fields. fields ≡ zip names.now values) }
-{
-    let mut fields = Seq::new(alloc);
-    let mut values = values.into_vec().into_iter();
-    for name in names.as_slice() {
-        let Some(value) = values.next() else {
-            break;
-        };
-        fields.push((name.try_clone()?, value))?;
-    }
-    Ok(fields)
+    Err(PlanFault::wrong_kind(alloc))
 }
 
 /// A name that is one of these, and not among those that were given before.
@@ -91,10 +69,10 @@ fn new_name(alloc: Global, names: &[Text], given: &[Text], json: &Json) -> Resul
     ensures { Gives (new_name_in names.now given.now (view json.now)) result }
 {
     let Some(name) = json.as_str() else {
-        return Err(wrong_kind(alloc));
+        return Err(PlanFault::wrong_kind(alloc));
     };
     if !is_named(names, name) || is_named(given, name) {
-        return Err(out_of_range(alloc));
+        return Err(PlanFault::out_of_range(alloc));
     }
     Ok(Text::from_str(alloc, name)?)
 }
@@ -105,7 +83,7 @@ fn names_given(alloc: Global, names: &[Text], json: &Json) -> Result<Seq<Text>, 
     ensures { Gives (names_in names.now (view json.now)) result }
 {
     let Some(list) = json.as_array() else {
-        return Err(wrong_kind(alloc));
+        return Err(PlanFault::wrong_kind(alloc));
     };
     let mut given = Seq::new(alloc);
     for (place, item) in list.iter().enumerate() {
@@ -146,25 +124,15 @@ pub(crate) fn read_enum(alloc: Global, names: &Seq<Text>, json: &Json) -> Result
     ensures { Gives (enum_in names.now (view json.now)) result }
 {
     let Some(name) = json.as_str() else {
-        return Err(wrong_kind(alloc));
+        return Err(PlanFault::wrong_kind(alloc));
     };
     if !is_named(names.as_slice(), name) {
-        return Err(out_of_range(alloc));
+        return Err(PlanFault::out_of_range(alloc));
     }
     Ok(Value::Case {
         name: Text::from_str(alloc, name)?,
         payload: Seq::new(alloc),
     })
-}
-
-/// The type of the member of a place, or `None` where it has none.
-pub(crate) fn member_type(node: &Node, place: usize) -> Option<InterfaceType>
-    ensures { result ≡ member_type_at node.now.types place }
-{
-    match node.types.get(place) {
-        Some(ty) => *ty,
-        None => None,
-    }
 }
 
 /// Whether the one of some names at a place is a name.

@@ -1,4 +1,4 @@
-//! Values of types without members.
+//! Values of types without members, as they are read from JSON.
 ghost use Rattle.std.specs.Prelude.{◌≡◌, ◌+◌, ◌-◌, ◌^◌, ℕ, IfOk};
 ghost use Rattle.std.specs.Str.{chars as chars_in};
 ghost use Rattle.serde_json.specs.View.{view};
@@ -7,7 +7,6 @@ ghost use Rattle.fact_values.specs.Numbers.{boolean, character, float32, float64
 ghost use Rattle.fact_plan.specs.Fault.{Gives};
 ghost use Rattle.fact_value_json.specs.Reading.{handle_in, integer_in, read_plain as plain_in};
 
-use crate::fault::{out_of_range, wrong_kind};
 use fact_abi::{HandleKind, Value};
 use fact_entity::EntityRef;
 use fact_plan::PlanFault;
@@ -22,9 +21,9 @@ fn integer_of(alloc: Global, json: &Json) -> Result<i128, PlanFault>
     ensures { Gives (integer_in (view json.now)) result }
 {
     let Some(number) = json.as_number() else {
-        return Err(wrong_kind(alloc));
+        return Err(PlanFault::wrong_kind(alloc));
     };
-    number.as_i128().ok_or_else(|| wrong_kind(alloc))
+    number.as_i128().ok_or_else(|| PlanFault::wrong_kind(alloc))
 }
 
 /// An integer from 0 to a number.
@@ -33,7 +32,7 @@ fn read_unsigned(alloc: Global, json: &Json, most: u64) -> Result<Value, PlanFau
 {
     let number = integer_of(alloc, json)?;
     if number < 0 || i128::from(most) < number {
-        return Err(out_of_range(alloc));
+        return Err(PlanFault::out_of_range(alloc));
     }
     Ok(Value::Int(number))
 }
@@ -44,7 +43,7 @@ fn read_signed(alloc: Global, json: &Json, most: u64) -> Result<Value, PlanFault
 {
     let number = integer_of(alloc, json)?;
     if number < -1 - i128::from(most) || i128::from(most) < number {
-        return Err(out_of_range(alloc));
+        return Err(PlanFault::out_of_range(alloc));
     }
     Ok(Value::Int(number))
 }
@@ -56,7 +55,7 @@ fn read_float32(alloc: Global, json: &Json) -> Result<Value, PlanFault>
     let number = integer_of(alloc, json)?;
     match u32::try_from(number) {
         Ok(bits) => Ok(Value::Float32(bits)),
-        Err(_) => Err(out_of_range(alloc)),
+        Err(_) => Err(PlanFault::out_of_range(alloc)),
     }
 }
 
@@ -67,7 +66,7 @@ fn read_float64(alloc: Global, json: &Json) -> Result<Value, PlanFault>
     let number = integer_of(alloc, json)?;
     match u64::try_from(number) {
         Ok(bits) => Ok(Value::Float64(bits)),
-        Err(_) => Err(out_of_range(alloc)),
+        Err(_) => Err(PlanFault::out_of_range(alloc)),
     }
 }
 
@@ -85,12 +84,12 @@ fn read_char(alloc: Global, json: &Json) -> Result<Value, PlanFault>
     ensures { Gives (plain_in character (view json.now)) result }
 {
     let Some(text) = json.as_str() else {
-        return Err(wrong_kind(alloc));
+        return Err(PlanFault::wrong_kind(alloc));
     };
     let chars = chars_of(alloc, text)?;
     match chars.as_slice() {
         [c] => Ok(Value::Char(*c)),
-        _ => Err(out_of_range(alloc)),
+        _ => Err(PlanFault::out_of_range(alloc)),
     }
 }
 
@@ -99,7 +98,7 @@ fn read_string(alloc: Global, json: &Json) -> Result<Value, PlanFault>
     ensures { Gives (plain_in text (view json.now)) result }
 {
     let Some(text) = json.as_str() else {
-        return Err(wrong_kind(alloc));
+        return Err(PlanFault::wrong_kind(alloc));
     };
     Ok(Value::Str(chars_of(alloc, text)?))
 }
@@ -110,7 +109,7 @@ fn read_bool(alloc: Global, json: &Json) -> Result<Value, PlanFault>
 {
     match json.as_bool() {
         Some(b) => Ok(Value::Bool(b)),
-        None => Err(wrong_kind(alloc)),
+        None => Err(PlanFault::wrong_kind(alloc)),
     }
 }
 
@@ -125,7 +124,7 @@ pub(crate) fn read_handle(
     ensures { Gives (handle_in kind table (view json.now)) result }
 {
     let Some(number) = json.as_u64() else {
-        return Err(wrong_kind(alloc));
+        return Err(PlanFault::wrong_kind(alloc));
     };
     match u32::try_from(number) {
         Ok(number) => Ok(Value::Handle {
@@ -133,7 +132,7 @@ pub(crate) fn read_handle(
             table,
             number,
         }),
-        Err(_) => Err(out_of_range(alloc)),
+        Err(_) => Err(PlanFault::out_of_range(alloc)),
     }
 }
 
@@ -160,6 +159,6 @@ pub(crate) fn read_plain(alloc: Global, ty: &InterfaceType, json: &Json) -> Resu
         InterfaceType::ErrorContext(i) => {
             read_handle(alloc, HandleKind::ErrorContext, i.as_u32(), json)
         }
-        _ => Err(wrong_kind(alloc)),
+        _ => Err(PlanFault::wrong_kind(alloc)),
     }
 }

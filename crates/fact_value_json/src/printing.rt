@@ -4,7 +4,7 @@ ghost use Rattle.serde_json.specs.Data.{depth};
 ghost use Rattle.serde_json.specs.Read.{max_depth, read as read_json};
 ghost use Rattle.serde_json.specs.View.{members_view, view};
 ghost use Rattle.fact_types.specs.Functions.{HaveShapes};
-ghost use Rattle.fact_types.specs.Heights.{Within};
+ghost use Rattle.fact_types.specs.Heights.{IsMemberOf};
 ghost use Rattle.fact_types.specs.Shapes.{Shape};
 ghost use Rattle.fact_types.specs.Tables.{IsLive};
 ghost use Rattle.fact_types.specs.Tuples.{tuple_members};
@@ -14,9 +14,9 @@ ghost use Rattle.fact_abi.specs.Nodes.{AreLower, HasNode};
 ghost use Rattle.fact_value_json.specs.Printing.{data_places, values_data, values_text as text_of};
 ghost use Rattle.fact_value_json.specs.Walks.{PrintsCase, PrintsEntries, PrintsEntry, PrintsFields, PrintsItems, PrintsList, PrintsMap, PrintsMember, PrintsPayload, PrintsPlaces, PrintsRecord, PrintsTuple, PrintsValue};
 
-use crate::parts::{index_of_name, member_type};
+use crate::parts::index_of_name;
 use crate::scalars::{print_enum, print_flags, print_plain};
-use fact_abi::{Node, NodeKind, Value, node_of_type};
+use fact_abi::{Node, NodeKind, Value, member_type, node_of_type};
 use fact_types::{ComponentTypes, InterfaceType};
 use fact_wasm::{OutOfMemory, Seq, Text};
 use serde_json::{Map, Value as Json, put};
@@ -225,7 +225,7 @@ fn print_list(
     element: &InterfaceType,
     value: &Value,
 ) -> Result<Json, OutOfMemory>
-    requires { Within types.now element.now owner.now }
+    requires { IsMemberOf types.now element.now owner.now }
     ensures { IfOk result (λ json. PrintsList types.now element.now value.now (view json)) }
 {
     let Value::List(values) = value else {
@@ -244,7 +244,7 @@ fn print_items(
     element: &InterfaceType,
     values: &[Value],
 ) -> Result<Vec<Json>, OutOfMemory>
-    requires { Within types.now element.now owner.now }
+    requires { IsMemberOf types.now element.now owner.now }
     ensures { IfOk result (λ list. PrintsItems types.now element.now values.now (map view list.items)) }
 {
     let mut list = Vec::new(alloc);

@@ -2,7 +2,7 @@
 ghost use Rattle.std.specs.Prelude.{◌≡◌, All, List, Ok, Err, IfOk, MatchResult, Some, length, slice_get};
 ghost use Rattle.serde_json.specs.View.{view, items_view};
 ghost use Rattle.fact_types.specs.Functions.{HaveShapes};
-ghost use Rattle.fact_types.specs.Heights.{Within};
+ghost use Rattle.fact_types.specs.Heights.{IsMemberOf};
 ghost use Rattle.fact_types.specs.Shapes.{Shape};
 ghost use Rattle.fact_types.specs.Tables.{IsLive};
 ghost use Rattle.fact_values.specs.Load.{entry_of as entry};
@@ -12,14 +12,10 @@ ghost use Rattle.fact_plan.specs.Fault.{Gives, UnlessMemory};
 ghost use Rattle.fact_value_json.specs.Reading.{counted_items as counted, entry_from, items_in, only_member as only_member_in, values_at, values_in as values_read};
 ghost use Rattle.fact_value_json.specs.Walks.{ReadsValue, ReadsItem, ReadsMember, ReadsField, ReadsFields, ReadsPlaces, ReadsCase, ReadsRecord, ReadsTuple, ReadsItems, ReadsList, ReadsFixedList, ReadsMap, ReadsEntry, ReadsChoice, ReadsPayload};
 
-use crate::fault::{at_key, at_place, fault_under, missing, unknown_key, wrong_kind};
-use crate::parts::{
-    check_known, check_null, check_required, index_of_name, member_type, named, read_enum,
-    read_flags,
-};
+use crate::parts::{check_known, check_null, check_required, index_of_name, read_enum, read_flags};
 use crate::plain::{read_handle, read_plain};
-use fact_abi::{HandleKind, Node, NodeKind, Value, node_of_type};
-use fact_plan::PlanFault;
+use fact_abi::{HandleKind, Node, NodeKind, Value, member_type, named, node_of_type};
+use fact_plan::{PlanFault, at_key, at_place};
 use fact_types::{ComponentTypes, InterfaceType};
 use fact_wasm::{Seq, Text};
 use serde_json::Value as Json;
@@ -39,7 +35,7 @@ pub fn read_values(
 {
     match values_in(alloc, types, tys, json) {
         Ok(values) => Ok(values),
-        Err(fault) => Err(fault_under(alloc, path, fault)?),
+        Err(fault) => Err(fault.under(alloc, path)?),
     }
 }
 
@@ -50,7 +46,7 @@ fn items_of(alloc: Global, json: &Json) -> Result<&[Json], PlanFault>
 {
     match json.as_array() {
         Some(list) => Ok(list.as_slice()),
-        None => Err(wrong_kind(alloc)),
+        None => Err(PlanFault::wrong_kind(alloc)),
     }
 }
 
@@ -63,7 +59,7 @@ fn counted_items(alloc: Global, count: usize, json: &Json) -> Result<&[Json], Pl
     if list.len() == count {
         Ok(list)
     } else {
-        Err(wrong_kind(alloc))
+        Err(PlanFault::wrong_kind(alloc))
     }
 }
 
@@ -73,14 +69,14 @@ fn only_member(alloc: Global, json: &Json) -> Result<(&str, &Json), PlanFault>
     ensures { MatchResult result (λ m. only_member_in (view json.now) ≡ Ok (m.0.now, view m.1.now)) (λ e. UnlessMemory e (only_member_in (view json.now) ≡ Err e)) }
 {
     let Some(members) = json.as_object() else {
-        return Err(wrong_kind(alloc));
+        return Err(PlanFault::wrong_kind(alloc));
     };
     if members.len() != 1 {
-        return Err(wrong_kind(alloc));
+        return Err(PlanFault::wrong_kind(alloc));
     }
     match members.first_key_value() {
         Some((name, payload)) => Ok((name.as_str(), payload)),
-        None => Err(wrong_kind(alloc)),
+        None => Err(PlanFault::wrong_kind(alloc)),
     }
 }
 
@@ -95,7 +91,7 @@ fn entry_of(alloc: Global, values: Seq<Value>) -> Result<(Value, Value), PlanFau
         }
         Err(others) => {
             drop(others);
-            Err(wrong_kind(alloc))
+            Err(PlanFault::wrong_kind(alloc))
         }
     }
 }
@@ -131,7 +127,7 @@ fn read_at(
 {
     match tys.get(place) {
         Some(ty) => read_item(alloc, types, ty, place, json),
-        None => Err(wrong_kind(alloc)),
+        None => Err(PlanFault::wrong_kind(alloc)),
     }
 }
 
@@ -240,7 +236,7 @@ fn read_field(
             let value = read_member(alloc, types, owner, node, place, inner);
             at_key(alloc, name.as_str(), value)
         }
-        None => Err(missing(alloc, name.as_str())?),
+        None => Err(PlanFault::missing(alloc, name.as_str())?),
     }
 }
 
@@ -259,7 +255,7 @@ fn read_member(
 {
     match member_type(node, place) {
         Some(ty) => read_value(alloc, types, &ty, json),
-        None => Err(wrong_kind(alloc)),
+        None => Err(PlanFault::wrong_kind(alloc)),
     }
 }
 
@@ -329,7 +325,7 @@ fn read_choice(
     ensures { ReadsChoice types.now node.now name.now (view json.now) result }
 {
     let Some(place) = index_of_name(&node.names, name) else {
-        return Err(unknown_key(alloc, name)?);
+        return Err(PlanFault::unknown_key(alloc, name)?);
     };
     let payload = read_payload(alloc, types, owner, node, place, json);
     Ok(Value::Case {
@@ -384,7 +380,7 @@ fn read_list(
     element: &InterfaceType,
     json: &Json,
 ) -> Result<Value, PlanFault>
-    requires { Within types.now element.now owner.now }
+    requires { IsMemberOf types.now element.now owner.now }
     ensures { ReadsList types.now element.now (view json.now) result }
 {
     let list = items_of(alloc, json)?;
@@ -401,7 +397,7 @@ fn read_items(
     element: &InterfaceType,
     list: &[Json],
 ) -> Result<Seq<Value>, PlanFault>
-    requires { Within types.now element.now owner.now }
+    requires { IsMemberOf types.now element.now owner.now }
     ensures { ReadsItems types.now element.now (items_view list.now) result }
 {
     let mut values = Seq::new(alloc);
@@ -421,7 +417,7 @@ fn read_fixed_list(
     count: u32,
     json: &Json,
 ) -> Result<Value, PlanFault>
-    requires { Within types.now element.now owner.now }
+    requires { IsMemberOf types.now element.now owner.now }
     ensures { ReadsFixedList types.now element.now count (view json.now) result }
 {
     let list = counted_items(alloc, count as usize, json)?;

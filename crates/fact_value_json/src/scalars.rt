@@ -1,4 +1,4 @@
-//! Values without members that are printed as JSON.
+//! Values of types without members, as they are printed as JSON.
 ghost use Rattle.std.specs.Prelude.{◌≡◌, IfOk, encode_utf8, encode_utf8_all, map};
 ghost use Rattle.serde_json.specs.Data.{number, string};
 ghost use Rattle.serde_json.specs.Find.{of_integer};

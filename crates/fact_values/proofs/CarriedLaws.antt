@@ -3,7 +3,7 @@ use Rattle.std.proofs.Common.{◌≡◌, ℕ, ◌<◌, ◌≤◌, List, [], leng
 use Rattle.std.specs.Prelude.{option_map}
 use Rattle.fact_types.specs.Agrees.{Agrees}
 use Rattle.fact_types.specs.Shapes.{Shape}
-use Rattle.fact_types.specs.Steps.{◌>>=◌}
+use Rattle.fact_types.specs.Options.{◌>>=◌}
 use Rattle.fact_types.proofs.ShapeLaws.{same_some}
 use Rattle.fact_values.specs.Carry.{take_number, crossed, Carries, note, noted, handles}
 use Rattle.fact_values.specs.declared.value.Value.{Value}

@@ -6,7 +6,7 @@ use Rattle.std.specs.Str.{bytes_eq}
 use Rattle.std.proofs.lemmas.Option.{slice_get_within, get_or_from_slice_get, slice_get-get_or}
 use Rattle.fact_types.specs.Agrees.{names_of}
 use Rattle.fact_types.specs.Shapes.{Members}
-use Rattle.fact_types.specs.Steps.{◌>>=◌}
+use Rattle.fact_types.specs.Options.{◌>>=◌}
 use Rattle.fact_types.proofs.ShapeLaws.{same_some, none_some}
 use Rattle.fact_values.specs.declared.value.Value.{Value, out-Value}
 use Rattle.fact_values.specs.declared.value.Value.TheOpen.{Value-F}

@@ -13,7 +13,7 @@ use Rattle.fact_types.specs.declared.widths.MemoryWidth.TheVariants.{Memory32, M
 use Rattle.fact_types.specs.Agrees.{chosen, names_of}
 use Rattle.fact_types.specs.Layout.{extent, scalar_layout}
 use Rattle.fact_types.specs.Shapes.{Kind, k_record, k_variant, k_list, k_tuple, k_map, k_flags, k_enum, k_option, k_result, k_fixed, k_future, k_stream, Shape, s_plain, s_node, Members, no_members, bare, typed, place_of, next_of}
-use Rattle.fact_types.specs.Steps.{◌>>=◌}
+use Rattle.fact_types.specs.Options.{◌>>=◌}
 use Rattle.fact_types.specs.Valid.{AreDistinct, IsRuled, AreRuled}
 use Rattle.fact_types.proofs.ShapeLaws.{same_some, none_some}
 use Rattle.fact_values.specs.Bytes.{AreBytes}

@@ -17,7 +17,7 @@ use Rattle.fact_types.proofs.ShapeLaws.{same_some, none_some}
 use Rattle.fact_types.specs.declared.outside.FixedEncoding.{FixedEncoding}
 use Rattle.fact_types.specs.declared.outside.FixedEncoding.TheVariants.{Utf8, Utf16, Latin1}
 use Rattle.fact_types.specs.declared.outside.StringEncoding.{StringEncoding}
-use Rattle.fact_types.specs.Steps.{◌>>=◌}
+use Rattle.fact_types.specs.Options.{◌>>=◌}
 use Rattle.fact_values.specs.Bytes.{AreBytes}
 use Rattle.fact_values.specs.declared.value.Value.{Value, out-Value}
 use Rattle.fact_values.specs.declared.value.Value.TheVariants as value

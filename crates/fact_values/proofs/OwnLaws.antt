@@ -15,7 +15,7 @@ use Rattle.fact_types.specs.declared.widths.MemoryWidth.TheVariants.{Memory32, M
 use Rattle.fact_types.specs.Agrees.{names_of}
 use Rattle.fact_types.specs.Layout.{extent, extents, payloads, payload_offset, greatest_size, greatest_align, variant_extent, variant_layout, scalar_layout}
 use Rattle.fact_types.specs.Shapes.{Kind, k_record, k_tuple, k_variant, k_option, k_result, k_enum, k_list, k_map, k_fixed, k_flags, k_future, k_stream, Shape, s_plain, s_node, Members, no_members, bare, typed, layout_of, layouts_of, place_of, next_of, ends_of}
-use Rattle.fact_types.specs.Steps.{◌>>=◌}
+use Rattle.fact_types.specs.Options.{◌>>=◌}
 use Rattle.fact_types.proofs.AlignLaws.{aligned_bounds}
 use Rattle.fact_types.proofs.FieldLaws.{greatest_align_pos}
 use Rattle.fact_types.proofs.PlaceLaws.{ends_grow, ends_within}

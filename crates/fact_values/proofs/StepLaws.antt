@@ -1,7 +1,7 @@
 -- Steps that ask for numbers: which handles they ask for, in which order, and what they make of the numbers.
 use Rattle.std.proofs.Common.{◌≡◌, ℕ, zero, suc, ◌+◌, ◌-◌, ◌^◌, ◌<◌, ◌≤◌, List, [], ◌∷◌, ◌++◌, length, take, drop, Option, Some, None, refl, sym, ap, ◌∙◌, arith, append_assoc}
 use Rattle.std.specs.List.{AllByRecursion}
-use Rattle.fact_types.specs.Steps.{◌>>=◌}
+use Rattle.fact_types.specs.Options.{◌>>=◌}
 use Rattle.fact_values.specs.Carry.{take_number, note}
 use Rattle.fact_values.specs.Handles.{Crossing, Step, Asked, done_step, then_step, given, each_step}
 use Rattle.fact_types.proofs.ShapeLaws.{same_some}

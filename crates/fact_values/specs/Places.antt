@@ -4,11 +4,10 @@ use Rattle.std.specs.Prelude.{ℕ, zero, suc, ◌+◌, List, [], ◌∷◌, leng
 use Rattle.fact_types.specs.declared.abi.CanonicalAbiInfo.{CanonicalAbiInfo}
 use Rattle.fact_types.specs.declared.widths.Extent.{Extent}
 use Rattle.fact_types.specs.declared.widths.MemoryWidth.{MemoryWidth}
-use Rattle.fact_types.specs.declared.widths.MemoryWidth.TheVariants.{Memory32, Memory64}
 use Rattle.fact_types.specs.Layout.{extent, extents, record_layout, zero_layout, discriminant_size, discriminant_bytes, payloads, payload_offset, flags_size, flags_extent}
 use Rattle.fact_types.specs.Shapes.{Kind, k_map, Shape, Members, no_members, bare, typed, layout_of, layouts_of}
-use Rattle.fact_types.specs.Signatures.{width}
-use Rattle.fact_types.specs.Steps.{◌>>=◌}
+use Rattle.fact_types.specs.Signatures.{pointer_bytes, width}
+use Rattle.fact_types.specs.Options.{◌>>=◌}
 use Rattle.fact_values.specs.declared.side.SideAbi.{SideAbi}
 use Rattle.fact_values.specs.Numbers.{number_in}
 
@@ -19,11 +18,6 @@ width_of side = width side.memory64
 -- The extent of a value in a side's memory.
 abbrev pub extent_on : SideAbi → Shape → Extent
 extent_on side s = extent (width_of side) (layout_of s)
-
--- The bytes of an address or a length.
-abbrev pub pointer_bytes : MemoryWidth → ℕ
-pointer_bytes Memory32 = 4
-pointer_bytes Memory64 = 8
 
 -- How many members there are.
 abbrev pub count_of_members : Members → ℕ
@@ -49,6 +43,7 @@ abbrev pub element_layout : Kind → Members → CanonicalAbiInfo
 element_layout k_map ms = record_layout (payloads (layouts_of ms))
 element_layout k ms = first_layout (payloads (layouts_of ms))
 
+-- Its extent; what adapters move in a list has the same, as a tuple of one member (`entry_extent`).
 abbrev pub element_extent : SideAbi → Kind → Members → Extent
 element_extent side k ms = extent (width_of side) (element_layout k ms)
 

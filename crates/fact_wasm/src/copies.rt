@@ -27,7 +27,8 @@ pub(crate) fn copy_list<T: Copied>(items: &Seq<T>) -> Result<Seq<T>, OutOfMemory
     Ok(copies)
 }
 
-fn copy_items<T: Copy>(items: &Seq<T>) -> Result<Seq<T>, OutOfMemory>
+/// An equal list, of items that are copied bit by bit.
+pub fn copy_items<T: Copy>(items: &Seq<T>) -> Result<Seq<T>, OutOfMemory>
     ensures { IfOk result (λ copy. copy ≡ items.now) }
 {
     let mut copy = items.empty_like().into_vec();

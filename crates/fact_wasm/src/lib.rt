@@ -14,6 +14,7 @@ mod seq;
 mod text;
 mod types;
 
+pub use copies::copy_items;
 pub use core_types::CoreTypes;
 pub use instr::{BlockType, FuncName, Instr, MemArg};
 pub use module::{ImportType, WasmExport, WasmFunc, WasmImport, WasmModule};

@@ -29,13 +29,13 @@ fn outcome_by<C: Callee>(
     requires fresh { IsFresh (C.last callee.old) (C.answered callee.old) (C.given callee.old) }
     requires ready { C.ready callee.old }
 {
-    let made = calling_module(alloc)?;
+    let adapter_module = calling_module(alloc)?;
     let sample = plain_call(alloc, 0);
     let types = ComponentTypes::new(alloc);
-    let outcome = call(alloc, &types, &made, &sample, args, callee);
+    let outcome = call(alloc, &types, &adapter_module, &sample, args, callee);
     drop(types);
     drop(sample);
-    drop(made);
+    drop(adapter_module);
     outcome
 }
 
@@ -119,15 +119,15 @@ fn errors_of_callees_are_told(alloc: Global) -> bool {
 fn chained_behind(alloc: Global, func: u32) -> Result<Chained, HostError>
     requires { func ≤ 1 }
 {
-    let made = calling_module(alloc)?;
+    let adapter_module = calling_module(alloc)?;
     let outer = plain_call(alloc, func);
     let inner = plain_call(alloc, 0);
     let types = ComponentTypes::new(alloc);
-    let chained = chain(alloc, &types, &made, &outer, &inner, &[], &[]);
+    let chained = chain(alloc, &types, &adapter_module, &outer, &inner, &[], &[]);
     drop(types);
     drop(inner);
     drop(outer);
-    drop(made);
+    drop(adapter_module);
     chained
 }
 

@@ -1,7 +1,6 @@
 //! A callee that answers no values.
 
 ghost use Rattle.std.specs.Prelude.{◌≡◌, None};
-ghost use Rattle.fact_host.specs.Callees.{number_of_error};
 
 use fact_abi::Value;
 use fact_host::{Callee, HostError};
@@ -36,19 +35,7 @@ impl Callee for Refusing {
     ghost stays = { λ first last. last.error ≡ first.error };
 
     fn called(&mut self, _params: &[Value]) -> Result<Seq<Value>, HostError> {
-        self.last = number_of(self.error);
+        self.last = self.error.number();
         Err(self.error)
-    }
-}
-
-/// The number of an error.
-fn number_of(error: HostError) -> u32
-    ensures { result ≡ number_of_error error }
-{
-    match error {
-        HostError::OutOfMemory => 1,
-        HostError::Unsuited => 2,
-        HostError::OverLimit => 3,
-        HostError::NoResults => 4,
     }
 }

@@ -19,7 +19,7 @@ use Rattle.std.specs.Prelude.{slice_get}
 use Rattle.std.proofs.Common.{length}
 use Rattle.fact_types.specs.Layout.{discriminant_size, discriminant_bytes}
 use Rattle.fact_types.specs.Shapes.{k_variant, k_option, k_result}
-use Rattle.fact_types.specs.Steps.{◌>>=◌}
+use Rattle.fact_types.specs.Options.{◌>>=◌}
 use Rattle.fact_values.specs.Formed.{IsFormed}
 use Rattle.fact_abi.specs.Loading.{Repeating}
 use Rattle.fact_values.proofs.FormedLaws.{formed}

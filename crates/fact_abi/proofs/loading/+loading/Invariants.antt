@@ -1,7 +1,7 @@
 use Rattle.std.proofs.Common.{◌≡◌, ◌+◌, ◌*◌}
 use Rattle.fact_types.specs.Heights.{height}
 use Rattle.fact_types.specs.Shapes.{Shape, Members}
-use Rattle.fact_types.specs.Steps.{◌>>=◌}
+use Rattle.fact_types.specs.Options.{◌>>=◌}
 use Rattle.fact_types.specs.Tables.{HasShape}
 use Rattle.fact_values.specs.Load.{load, load_members, entry_of}
 use Rattle.fact_abi.specs.Loading.{Loading, Repeating}

@@ -2,19 +2,19 @@ use Rattle.std.proofs.Common.{◌≡◌, ap, arith, length, rules, sym, ◌∙�
 use Rattle.std.proofs.lemmas.Bool.{eqb-false}
 use Rattle.fact_emit.specs.States.{ModuleSoFar}
 use Rattle.fact_compound.proofs.CompiledAdapters.{own_in_parts, own_in_sync, own_within}
-use Rattle.fact_compound.proofs.OptionsImported.{options_later}
+use Rattle.fact_compound.proofs.OptionsImported.{can_later, options_later}
 use Rattle.fact_compound.proofs.functions.compile_own.Goals as goal
 
 pub compile_async-requires-clause-options_imported : goal.compile_async-requires-clause-options_imported
-compile_async-requires-clause-options_imported c = options_later c.in_ok-number_functions-2.ensures.keeps c.requires.options_imported
+compile_async-requires-clause-options_imported c = options_later c.in_ok-number_functions-2.ensures.keeps c.requires.can.options_imported
 
 pub compile_async-requires-clause-ahead : goal.compile_async-requires-clause-ahead
 compile_async-requires-clause-ahead c =
     let is = c.in_ok-number_functions-2.ensures.numbered in
     omega (arith, ap (λ (s : ModuleSoFar). s.numbered) is, ap (λ (s : ModuleSoFar). length s.functions) is)
 
-pub compile_sync-requires-clause-options_imported : goal.compile_sync-requires-clause-options_imported
-compile_sync-requires-clause-options_imported c = options_later c.in_ok-number_functions-3.ensures.keeps c.requires.options_imported
+pub compile_sync-requires-clause-can : goal.compile_sync-requires-clause-can
+compile_sync-requires-clause-can c = can_later c.in_ok-number_functions-3.ensures.keeps c.requires.can
 
 pub compile_sync-requires-clause-ahead : goal.compile_sync-requires-clause-ahead
 compile_sync-requires-clause-ahead c =

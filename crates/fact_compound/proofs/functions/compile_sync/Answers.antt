@@ -1,9 +1,9 @@
 use Rattle.fact_compound.proofs.WholeFunctions.{compiled}
-use Rattle.fact_compound.proofs.OptionsImported.{options_later}
+use Rattle.fact_compound.proofs.OptionsImported.{can_later}
 use Rattle.fact_compound.proofs.functions.compile_sync.Goals as goal
 
-pub write_function-requires-clause-options_imported : goal.write_function-requires-clause-options_imported
-write_function-requires-clause-options_imported c = options_later c.in_ok-ty.ensures.keeps c.requires.options_imported
+pub write_function-requires-clause-can : goal.write_function-requires-clause-can
+write_function-requires-clause-can c = rw c.component_types-tables.ensures (can_later c.in_ok-ty.ensures.keeps c.requires.can)
 
 pub returns : goal.returns
 returns c =

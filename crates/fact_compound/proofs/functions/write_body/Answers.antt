@@ -1,9 +1,9 @@
 use Rattle.fact_compound.proofs.WholeBodies.{wrote_body}
-use Rattle.fact_compound.proofs.OptionsImported.{options_same}
+use Rattle.fact_compound.proofs.OptionsImported.{can_same}
 use Rattle.fact_compound.proofs.functions.write_body.Goals as goal
 
-pub put_body-requires-clause-options_imported : goal.put_body-requires-clause-options_imported
-put_body-requires-clause-options_imported c = options_same c.in_ok-locals.ensures.added.imports c.requires.options_imported
+pub put_body-requires-clause-can : goal.put_body-requires-clause-can
+put_body-requires-clause-can c = can_same c.in_ok-locals.ensures.added.imports c.requires.can
 
 pub returns : goal.returns
 returns c =

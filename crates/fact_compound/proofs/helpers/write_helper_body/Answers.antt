@@ -11,7 +11,7 @@ use Rattle.fact_compound.proofs.helpers.write_helper_body.Goals as goal
 
 pub translate_in_place-requires-clause-sides : goal.translate_in_place-requires-clause-sides
 translate_in_place-requires-clause-sides c =
-    sides_same (c.in_ok-results.ensures.imports ∙ c.in_ok-params.ensures.imports) (subst (λ (s : Sides). AreSidesImported s c.args.w.now.imports) (sym c.helper_sides-sides.ensures) c.requires.imported)
+    sides_same (c.in_ok-results.ensures.imports ∙ c.in_ok-params.ensures.imports) (subst (λ (s : Sides). AreSidesImported s c.args.w.now.sections) (sym c.helper_sides-sides.ensures) c.requires.imported)
 
 pub translate_in_place-requires-clause-told : goal.translate_in_place-requires-clause-told
 translate_in_place-requires-clause-told c = subst AreSidesTold (sym c.helper_sides-sides.ensures) (record { from = refl; to = refl })

@@ -1,6 +1,6 @@
 use Rattle.std.proofs.Common.{ap, sym, ◌∙◌, length}
 use Rattle.std.specs.Prelude.{is_some, nat_eq}
-use Rattle.fact_moves.specs.Adapters.{lowered_flats}
+use Rattle.fact_actions.specs.Adapters.{lowered_flats}
 use Rattle.fact_compound.proofs.FunctionShapes.{none_lowered}
 use Rattle.fact_compound.proofs.tuples.are_flat_results.Goals as goal
 

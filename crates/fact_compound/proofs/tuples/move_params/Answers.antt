@@ -9,7 +9,7 @@ use Rattle.fact_compound.proofs.tuples.move_params.Goals as goal
 pub ask_tuple_area-requires : goal.ask_tuple_area-requires
 ask_tuple_area-requires c = record {
   live = c.tuples_of-2.ensures.params_live;
-  realloc = (sides_later c.in_ok-check_tuple_area.ensures.grew.imports (subst (λ (s : Sides). AreSidesImported s c.args.w.now.imports) (sym c.params_sides-sides.ensures) c.requires.sides)).realloc;
+  realloc = (sides_later c.in_ok-check_tuple_area.ensures.grew.imports (subst (λ (s : Sides). AreSidesImported s c.args.w.now.sections) (sym c.params_sides-sides.ensures) c.requires.sides)).realloc;
 }
 
 pub move_tuple-requires : goal.move_tuple-requires
@@ -18,7 +18,7 @@ move_tuple-requires c = record {
   to_live = c.tuples_of-2.ensures.params_live;
   tables = c.requires.tables;
   told = subst AreSidesTold (sym c.params_sides-sides.ensures) (record { from = refl; to = refl });
-  sides = sides_later c.in_ok-ask_tuple_area.ensures.grew.imports (sides_later c.in_ok-check_tuple_area.ensures.grew.imports (subst (λ (s : Sides). AreSidesImported s c.args.w.now.imports) (sym c.params_sides-sides.ensures) c.requires.sides));
+  sides = sides_later c.in_ok-ask_tuple_area.ensures.grew.imports (sides_later c.in_ok-check_tuple_area.ensures.grew.imports (subst (λ (s : Sides). AreSidesImported s c.args.w.now.sections) (sym c.params_sides-sides.ensures) c.requires.sides));
 }
 
 pub returns : goal.returns

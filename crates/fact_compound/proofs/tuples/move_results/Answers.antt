@@ -12,7 +12,7 @@ move_tuple-requires c = record {
   to_live = c.tuples_of-2.ensures.results_live;
   tables = c.requires.tables;
   told = subst AreSidesTold (sym c.results_sides-sides.ensures) (record { from = refl; to = refl });
-  sides = sides_later c.in_ok-check_tuple_area-2.ensures.grew.imports (sides_later c.in_ok-check_tuple_area.ensures.grew.imports (subst (λ (s : Sides). AreSidesImported s c.args.w.now.imports) (sym c.results_sides-sides.ensures) c.requires.sides));
+  sides = sides_later c.in_ok-check_tuple_area-2.ensures.grew.imports (sides_later c.in_ok-check_tuple_area.ensures.grew.imports (subst (λ (s : Sides). AreSidesImported s c.args.w.now.sections) (sym c.results_sides-sides.ensures) c.requires.sides));
 }
 
 pub returns : goal.returns

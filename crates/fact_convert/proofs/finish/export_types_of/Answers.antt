@@ -1,4 +1,3 @@
-use Rattle.std.proofs.Common.{sym, subst}
 use Rattle.fact_convert.proofs.FinishLaws.{index_there, one_more_export, all_exports}
 use Rattle.fact_convert.proofs.finish.export_types_of.Goals as goal
 

@@ -1,4 +1,4 @@
-use Rattle.std.proofs.Common.{◌≡◌, take, map}
+use Rattle.std.proofs.Common.{take, map}
 use Rattle.std.specs.List.{AllZip}
 use Rattle.fact_convert.specs.Finished.{IsExternOf}
 use Rattle.fact_convert.specs.Merging.{merged}

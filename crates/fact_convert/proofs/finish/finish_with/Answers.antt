@@ -1,10 +1,10 @@
-use Rattle.std.proofs.Common.{◌≡◌, ◌∙◌, sym, subst, ap}
+use Rattle.std.proofs.Common.{◌≡◌, ◌∙◌, subst, ap}
 use Rattle.std.specs.Prelude.{Result, Ok, Err, Some}
 use Rattle.fact_entity.specs.declared.id.Id.{Id}
 use Rattle.fact_entity.specs.declared.table.TypeComponents.{TypeComponents}
 use Rattle.fact_types.specs.Tables.{Tables}
 use Rattle.fact_builder.specs.Builder.{Builder}
-use Rattle.fact_resources.specs.declared.error.BuildError.{BuildError}
+use Rattle.fact_builder.specs.declared.error.BuildError.{BuildError}
 use Rattle.fact_convert.specs.declared.component.Component.{Component}
 use Rattle.fact_convert.specs.Finished.{Finishes, FinishesWith}
 use Rattle.fact_convert.proofs.finish.finish_with.Goals as goal

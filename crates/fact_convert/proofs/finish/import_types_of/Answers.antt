@@ -1,5 +1,3 @@
-use Rattle.std.proofs.Common.{◌∙◌, ap, sym}
-use Rattle.fact_convert.specs.Merging.{merged}
 use Rattle.fact_convert.proofs.Merged.{one_more_entry, all_entries}
 use Rattle.fact_convert.proofs.finish.import_types_of.Goals as goal
 

@@ -1,6 +1,4 @@
-use Rattle.std.proofs.Common.{sym, ◌∙◌, subst, ap, inl, inr, refl, All}
 use Rattle.std.proofs.lemmas.Result.{err_from_is_err_and}
-use Rattle.fact_types.specs.Tables.{IsLiveComponent, AreLiveExterns}
 use Rattle.fact_convert.proofs.CoreLaws.{no_err}
 use Rattle.fact_convert.proofs.FinishLaws.{imports_live, exports_live, whole_pushed, whole_refused, whole_short}
 use Rattle.fact_convert.proofs.finish.push_whole.Goals as goal

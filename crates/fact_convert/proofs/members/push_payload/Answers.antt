@@ -1,4 +1,4 @@
-use Rattle.std.proofs.Common.{sym, append-nil, subst, ◌∙◌, ap, ◌++◌}
+use Rattle.std.proofs.Common.{sym, append-nil, ◌∙◌, ap, ◌++◌}
 use Rattle.std.specs.Prelude.{option_to_list}
 use Rattle.fact_convert.proofs.members.push_payload.Goals as goal
 

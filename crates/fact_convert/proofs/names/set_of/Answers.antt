@@ -1,5 +1,3 @@
-use Rattle.std.proofs.Common.{◌∙◌, ap, sym}
-use Rattle.fact_convert.specs.Merging.{merged_names}
 use Rattle.fact_convert.proofs.Merged.{one_more_name, all_names}
 use Rattle.fact_convert.proofs.names.set_of.Goals as goal
 

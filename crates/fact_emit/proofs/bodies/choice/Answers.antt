@@ -1,5 +1,5 @@
 use Rattle.std.proofs.Common.{◌<◌, ◌∙◌, ap, subst, arith}
-use Rattle.fact_pieces.specs.Code.{sum_code}
+use Rattle.fact_code_laws.specs.Code.{sum_code}
 use Rattle.fact_emit.proofs.ChunkBodies.{chosen_in_chunks, fewer_codes}
 use Rattle.fact_emit.proofs.bodies.choice.Goals as goal
 

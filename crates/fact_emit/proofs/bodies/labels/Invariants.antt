@@ -1,5 +1,5 @@
 use Rattle.std.proofs.Common.{◌≡◌}
-use Rattle.fact_pieces.specs.Code.{labels_from}
+use Rattle.fact_code_laws.specs.Code.{labels_from}
 use Rattle.fact_emit.proofs.bodies.labels.Given as goal
 
 abbrev pub invariant-loop-label : goal.invariant-loop-label

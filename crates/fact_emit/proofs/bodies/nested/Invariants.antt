@@ -1,6 +1,6 @@
 use Rattle.std.proofs.Common.{◌≡◌, length}
 use Rattle.fact_machine.specs.Exits.{nest}
-use Rattle.fact_pieces.specs.Code.{arms}
+use Rattle.fact_code_laws.specs.Code.{arms}
 use Rattle.fact_emit.proofs.bodies.nested.Given as goal
 
 abbrev pub invariant-loop-body : goal.invariant-loop-body

@@ -1,5 +1,5 @@
 use Rattle.std.proofs.Common.{◌∙◌, [], ◌∷◌, ap, subst}
-use Rattle.fact_pieces.specs.Code.{cases_code}
+use Rattle.fact_code_laws.specs.Code.{cases_code}
 use Rattle.fact_emit.specs.Writers.{Wrote}
 use Rattle.fact_emit.proofs.bodies.put_either.Goals as goal
 

@@ -1,6 +1,6 @@
 use Rattle.std.proofs.Common.{◌≡◌, ◌-◌, ℕ, Bool, true, false, [], ◌∷◌, ap, ◌∙◌}
 use Rattle.fact_wasm.specs.declared.instr.Instr.TheVariants as I
-use Rattle.fact_pieces.specs.Places.{place_test}
+use Rattle.fact_code_laws.specs.Places.{place_test}
 use Rattle.fact_emit.specs.Widths.{PointerCode, pointer_code}
 use Rattle.fact_emit.proofs.checks.place_test_by.Goals as goal
 

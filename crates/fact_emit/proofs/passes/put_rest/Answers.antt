@@ -1,5 +1,5 @@
 use Rattle.std.proofs.Common.{◌≡◌, ℕ, Bool, subst}
-use Rattle.fact_pieces.specs.StringCode.{times_code}
+use Rattle.fact_code_laws.specs.StringCode.{times_code}
 use Rattle.fact_emit.specs.declared.writer.Writer.{Writer}
 use Rattle.fact_emit.specs.Writers.{Wrote}
 use Rattle.fact_emit.proofs.Emitting.{wrote_then}

@@ -1,6 +1,6 @@
 use Rattle.std.proofs.Common.{arith, ap, subst, sym, ◌∙◌}
 use Rattle.std.proofs.lemmas.Result.{on_ok_weaker}
-use Rattle.fact_moves.specs.Paths.{align_of, Limit, Resize, Pass, If, Tag, Assert}
+use Rattle.fact_actions.specs.Paths.{align_of, Limit, Resize, Pass, If, Tag, Assert}
 use Rattle.fact_emit.specs.StringPaths.{AreLimitsSome, amount_of, path_of, path_test_of}
 use Rattle.fact_emit.proofs.PathLaws.{path_size}
 use Rattle.fact_emit.proofs.SidesImported.{sides_on, sides_same}

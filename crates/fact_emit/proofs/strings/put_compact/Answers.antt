@@ -1,6 +1,6 @@
 use Rattle.std.proofs.Common.{◌∙◌, subst, sym}
 use Rattle.fact_wasm.specs.Ranges.{AreRanged}
-use Rattle.fact_pieces.specs.StringCode.{no_tag_code}
+use Rattle.fact_code_laws.specs.StringCode.{no_tag_code}
 use Rattle.fact_emit.proofs.SidesImported.{sides_on, sides_same}
 use Rattle.fact_emit.proofs.StringRanged.{no_tag_ranged}
 use Rattle.fact_emit.proofs.StringTexts.{either_put, untagged_put}

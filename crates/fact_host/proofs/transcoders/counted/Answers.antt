@@ -1,6 +1,6 @@
 use Rattle.std.proofs.Common.{◌≡◌, ◌∙◌, ap, arith, subst, sym}
 use Rattle.fact_values.specs.Texts.{AreSpelled, spelled_text, unit_bytes}
-use Rattle.fact_moves.specs.Transcoders.{to_encoding}
+use Rattle.fact_actions.specs.Transcoders.{to_encoding}
 use Rattle.fact_host.proofs.Transcoded.{units_are}
 use Rattle.fact_host.proofs.Transcoding.{counted_can, made_counted}
 use Rattle.fact_host.proofs.transcoders.counted.Goals as goal

@@ -1,6 +1,6 @@
 use Rattle.std.proofs.Common.{◌∙◌, ap, arith, subst, sym, take}
 use Rattle.fact_values.specs.Texts.{AreSpelled, units_of_text}
-use Rattle.fact_moves.specs.Transcoders.{from_encoding}
+use Rattle.fact_actions.specs.Transcoders.{from_encoding}
 use Rattle.fact_host.proofs.Transcoding.{front_can, made_narrow}
 use Rattle.fact_host.proofs.transcoders.narrow.Goals as goal
 

@@ -1,5 +1,5 @@
 use Rattle.std.proofs.Common.{◌*◌, ◌≡◌, ◌∙◌, ap, drop, sym, take}
-use Rattle.fact_moves.specs.Transcoders.{from_encoding}
+use Rattle.fact_actions.specs.Transcoders.{from_encoding}
 use Rattle.fact_values.specs.Texts.{decoded, unit_bytes}
 use Rattle.fact_host.specs.Rules.{units_read}
 use Rattle.fact_host.proofs.Transcoded.{spelled_read}

@@ -1,5 +1,5 @@
 use Rattle.std.proofs.Common.{◌≡◌, ◌++◌, drop}
-use Rattle.fact_moves.specs.Transcoders.{widened}
+use Rattle.fact_actions.specs.Transcoders.{widened}
 use Rattle.fact_host.proofs.transcoders.widened.Given as goal
 
 abbrev pub invariant-loop-byte : goal.invariant-loop-byte

@@ -1,7 +1,7 @@
 use Rattle.std.proofs.Common.{◌+◌, ◌++◌, ◌/◌, ◌≡◌, ◌≤◌, ◌∙◌, ap, arith, drop, inr, length, take}
 use Rattle.fact_types.specs.declared.outside.FixedEncoding.TheVariants.{Utf16}
 use Rattle.fact_values.specs.Texts.{spelled_text, units_of_text}
-use Rattle.fact_moves.specs.Transcoders.{widened}
+use Rattle.fact_actions.specs.Transcoders.{widened}
 use Rattle.fact_host.proofs.Transcoded.{widened_units}
 use Rattle.fact_host.proofs.Transcoding.{made_widening}
 use Rattle.fact_host.proofs.transcoders.widening.Goals as goal

@@ -1,6 +1,6 @@
 use Rattle.std.proofs.Common.{length, min, sym, ap, ◌∙◌, subst}
 use Rattle.fact_types.specs.Tables.{HasShape}
-use Rattle.fact_moves.specs.Outlining.{cost_of_flags}
+use Rattle.fact_actions.specs.Outlining.{cost_of_flags}
 use Rattle.fact_kinds.proofs.Costs.{record_cost, tuple_cost, variant_cost, enum_cost, flags_cost, fixed_cost}
 use Rattle.fact_kinds.proofs.fuel.cost.Goals as goal
 

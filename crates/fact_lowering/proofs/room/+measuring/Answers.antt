@@ -8,7 +8,7 @@ use Rattle.fact_abi.specs.declared.nodes.NodeKind.TheVariants as is
 use Rattle.fact_abi.specs.Nodes.{IsNodeOf}
 use Rattle.fact_abi.proofs.BelongLaws.{item_at, place_within}
 use Rattle.fact_abi.proofs.KindLaws.{if_ok}
-use Rattle.fact_lowering.specs.Counted.{AsksBy, AsksFor, measured_at, weights_of}
+use Rattle.fact_lowering.specs.Counted.{AsksBy, CountsFor, measured_at, weights_of}
 use Rattle.fact_lowering.specs.Room.{greatest_bytes, measured_element, measured_fields, measured_payload, measured_places, shape_named}
 use Rattle.fact_lowering.proofs.RoomLaws.{asks_as, at_both, at_own, count_few, count_members, elements_on, entry_counts, fields_end, fields_on, fields_start, live_member, live_there, payload_at, payload_many, payload_one, payload_weights, places_end, places_on, places_start, sums_end, sums_on, sums_start, tells_along, weights_end, weights_here, weights_start, within_there}
 use Rattle.fact_lowering.proofs.RoomKinds.{case_counts, enum_ask, fixed_list_asks, fixed_list_counts, flags_ask, future_asks, holds_others, list_asks, list_counts, map_asks, map_counts, never_alike, no_case_counts, no_fixed_list_counts, no_list_counts, no_map_counts, no_record_counts, no_tuple_counts, option_asks, other_target, plain_asks, plain_target, record_asks, record_counts, result_asks, stream_asks, tuple_asks, tuple_counts, variant_asks}
@@ -182,7 +182,7 @@ pub asked_by_payload-returns-in-Some : goal.asked_by_payload-returns-in-Some
 asked_by_payload-returns-in-Some t c = if_ok _ _ c.asked_at.result (λ a e x p h g. payload_one x p c.args.payload.now c.in-Some.value.now a (sym c.in-Some.ensures) (e x p h g)) c.asked_at.ensures
 
 pub asked_by_payload-returns-in-None : goal.asked_by_payload-returns-in-None
-asked_by_payload-returns-in-None t c = if_ok _ _ c.weights_of.result (λ a e x p h g. payload_many x p c.args.payload.now a (sym c.in-None.ensures) (subst (λ vs. AsksFor 0 0 (weights_of x vs) a) c.as_slice.ensures (e x p h g))) c.weights_of.ensures
+asked_by_payload-returns-in-None t c = if_ok _ _ c.weights_of.result (λ a e x p h g. payload_many x p c.args.payload.now a (sym c.in-None.ensures) (subst (λ vs. CountsFor 0 0 (weights_of x vs) a) c.as_slice.ensures (e x p h g))) c.weights_of.ensures
 
 pub asked_by_case-asked_by_payload-requires : goal.asked_by_case-asked_by_payload-requires
 asked_by_case-asked_by_payload-requires t c =
@@ -191,7 +191,7 @@ asked_by_case-asked_by_payload-requires t c =
 pub asked_by_case-returns : goal.asked_by_case-returns
 asked_by_case-returns t c =
     λ ms ns n h k g.
-    let own : AsksFor 0 0 (1 + count_of_members ms) c.and-own.result = subst (λ l. AsksFor 0 0 (1 + l) c.and-own.result) (c.len.ensures ∙ count_members c.args.types.now c.args.source.now.types ms h) (c.and-own.ensures 0 0 0 0 1 c.len.result c.weighs.ensures c.weighs-2.ensures) in
+    let own : CountsFor 0 0 (1 + count_of_members ms) c.and-own.result = subst (λ l. CountsFor 0 0 (1 + l) c.and-own.result) (c.len.ensures ∙ count_members c.args.types.now c.args.source.now.types ms h) (c.and-own.ensures 0 0 0 0 1 c.len.result c.weighs.ensures c.weighs-2.ensures) in
     let inner = c.in_ok-inner.ensures (shape_named c.in-Case.name ms) (shape_named c.in-Case.name ns) (c.type_named-here.ensures.shaped c.args.types.now ms n h) (c.type_named-there.ensures.shaped c.args.types.now ns k g) in
     case_counts ms ns c.args.value.now c.and-own.result c.in_ok-inner.inner c.and.result c.in-Case.name c.in-Case.payload c.in-Case.is own
     (asks_as (λ m. measured_at m (shape_named c.in-Case.name ms) (shape_named c.in-Case.name ns) (only c.in-Case.payload)) (λ m. measured_payload m ms c.in-Case.name c.in-Case.payload (shape_named c.in-Case.name ns)) (λ m. payload_at m ms c.in-Case.name c.in-Case.payload (shape_named c.in-Case.name ns)) (payload_weights ms c.in-Case.name c.in-Case.payload) inner) c.and.ensures
@@ -242,4 +242,4 @@ asked_by_map-returns-in_default t c = λ x y ms ns hm hn two h g. no_map_counts 
 
 pub asked_by_case-returns-in_default : goal.asked_by_case-returns-in_default
 asked_by_case-returns-in_default t c =
-    λ ms ns n h k g. no_case_counts ms ns c.args.value.now c.and-own.result c.in_default.not-Case (subst (λ l. AsksFor 0 0 (1 + l) c.and-own.result) (c.len.ensures ∙ count_members c.args.types.now c.args.source.now.types ms h) (c.and-own.ensures 0 0 0 0 1 c.len.result c.weighs.ensures c.weighs-2.ensures))
+    λ ms ns n h k g. no_case_counts ms ns c.args.value.now c.and-own.result c.in_default.not-Case (subst (λ l. CountsFor 0 0 (1 + l) c.and-own.result) (c.len.ensures ∙ count_members c.args.types.now c.args.source.now.types ms h) (c.and-own.ensures 0 0 0 0 1 c.len.result c.weighs.ensures c.weighs-2.ensures))

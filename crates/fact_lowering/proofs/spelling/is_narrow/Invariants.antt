@@ -1,5 +1,5 @@
 use Rattle.std.proofs.Common.{◌≡◌, drop}
-use Rattle.fact_moves.specs.Transcoders.{all_latin1}
+use Rattle.fact_actions.specs.Transcoders.{all_latin1}
 use Rattle.fact_lowering.proofs.spelling.is_narrow.Given as goal
 
 abbrev pub invariant-loop-c : goal.invariant-loop-c

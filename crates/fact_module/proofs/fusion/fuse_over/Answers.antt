@@ -3,7 +3,7 @@ use Rattle.fact_module.proofs.FuseLaws.{fused-all, taken-first}
 use Rattle.fact_module.proofs.fusion.fuse_over.Goals as goal
 
 pub take_adapters-requires-clause-at : goal.take_adapters-requires-clause-at
-take_adapters-requires-clause-at c = rw c.new-made.ensures (taken-first _ _ _ (record { builder = refl; tunables = refl; features = refl }) refl refl)
+take_adapters-requires-clause-at c = rw c.new-module_so_far.ensures (taken-first _ _ _ (record { builder = refl; tunables = refl; features = refl }) refl refl)
 
 pub returns-clause-fused : goal.returns-clause-fused
 returns-clause-fused c =

@@ -11,4 +11,4 @@ loop-ty-preserved c =
     c.in_ok-try_clone.ensures c.ty-item.is c.loop-ty-test.true c.in_ok-push-in-Ok.ensures.items
 
 pub returns : goal.returns
-returns c = subst (λ (tys : List FuncType). AllZip (IsAt c.loop-ty.interned) c.loop-ty.found.items tys) (take_all c.loop-ty.ty-index c.args.types.now c.loop-ty-test.false) c.loop-ty.invariant
+returns c = subst (λ (tys : List FuncType). AllZip (IsAt c.loop-ty.interned) c.loop-ty.indices.items tys) (take_all c.loop-ty.ty-index c.args.types.now c.loop-ty-test.false) c.loop-ty.invariant

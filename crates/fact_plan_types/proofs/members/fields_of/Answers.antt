@@ -17,6 +17,6 @@ pub returns : goal.returns
 returns c =
     let all = take_all c.loop-name.name-index c.args.fields.now c.loop-name-test.false in
     record {
-      shaped = λ t ss h. subst (λ (fs : List _). HasMembers t (map named c.loop-name.found) (fields_of ss fs)) all (c.loop-name.invariant.shaped t ss h);
+      shaped = λ t ss h. subst (λ (fs : List _). HasMembers t (map named c.loop-name.record_fields) (fields_of ss fs)) all (c.loop-name.invariant.shaped t ss h);
       live = c.loop-name.invariant.live;
     }

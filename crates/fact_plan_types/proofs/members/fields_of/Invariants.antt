@@ -7,6 +7,6 @@ use Rattle.fact_plan_types.proofs.members.fields_of.Given as goal
 
 abbrev pub invariant-loop-name : goal.invariant-loop-name
 invariant-loop-name l = record {
-  shaped : (t : Tables) (ss : List Shape) → HaveShapes t l.types ss → HasMembers t (map (λ f. (f.name, Some f.ty)) l.found) (fields_of ss (take l.name-index l.fields));
-  live : (t : Tables) → All (IsLive t) l.types → All (λ f. IsLive t f.ty) l.found;
+  shaped : (t : Tables) (ss : List Shape) → HaveShapes t l.types ss → HasMembers t (map (λ f. (f.name, Some f.ty)) l.record_fields) (fields_of ss (take l.name-index l.fields));
+  live : (t : Tables) → All (IsLive t) l.types → All (λ f. IsLive t f.ty) l.record_fields;
 }

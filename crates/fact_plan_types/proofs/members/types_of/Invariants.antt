@@ -8,6 +8,6 @@ use Rattle.fact_plan_types.proofs.members.types_of.Given as goal
 
 abbrev pub invariant-loop-ty : goal.invariant-loop-ty
 invariant-loop-ty l = record {
-  shaped : (t : Tables) (ss : List Shape) → HaveShapes t l.types ss → HaveShapes t l.found.items (shapes_of ss (take l.ty-index l.refs));
-  live : (t : Tables) → All (IsLive t) l.types → All (IsLive t) l.found.items;
+  shaped : (t : Tables) (ss : List Shape) → HaveShapes t l.types ss → HaveShapes t l.member_types.items (shapes_of ss (take l.ty-index l.refs));
+  live : (t : Tables) → All (IsLive t) l.types → All (IsLive t) l.member_types.items;
 }

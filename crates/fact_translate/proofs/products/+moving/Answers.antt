@@ -8,7 +8,7 @@ use Rattle.fact_types.specs.declared.interface.InterfaceType.{InterfaceType}
 use Rattle.fact_types.specs.declared.kinds.TypeFixedLengthList.{TypeFixedLengthList}
 use Rattle.fact_types.proofs.ShapeLaws.{same_some}
 use Rattle.fact_types.proofs.HeightLaws.{fixed_length_list_within, list_within, map_key_within, map_value_within}
-use Rattle.fact_pieces.specs.Places.{From, To}
+use Rattle.fact_code_laws.specs.Places.{From, To}
 use Rattle.fact_emit.specs.declared.places.Sides.{Sides}
 use Rattle.fact_emit.specs.declared.writer.Writer.{Writer}
 use Rattle.fact_emit.specs.Places.{from_of, to_of}

@@ -8,12 +8,12 @@ use Rattle.fact_type_rules.proofs.functions.reveal_tuples.Goals as goal
 pub canonical_abi-params-requires : goal.canonical_abi-params-requires
 canonical_abi-params-requires c =
     let t = c.args.builder.now.tables in
-    (all-contained (IsLiveFunc t) t.functions _ (c.reveal.ensures.sound.linked of_functions) (contains-at t.functions _ _ c.index-func.ensures)).params
+    (all-contained (IsLiveFunc t) t.functions _ (c.reveal.ensures.sound.held_live of_functions) (contains-at t.functions _ _ c.index-func.ensures)).params
 
 pub canonical_abi-results-requires : goal.canonical_abi-results-requires
 canonical_abi-results-requires c =
     let t = c.args.builder.now.tables in
-    (all-contained (IsLiveFunc t) t.functions _ (c.reveal.ensures.sound.linked of_functions) (contains-at t.functions _ _ c.index-func.ensures)).results
+    (all-contained (IsLiveFunc t) t.functions _ (c.reveal.ensures.sound.held_live of_functions) (contains-at t.functions _ _ c.index-func.ensures)).results
 
 pub returns-clause-params : goal.returns-clause-params
 returns-clause-params c =

@@ -6,12 +6,12 @@ use Rattle.fact_type_rules.proofs.members.members_of.Goals as goal
 
 pub index-requires-in-Future-2 : goal.index-requires-in-Future-2
 index-requires-in-Future-2 c =
-    all-contained (λ e. e.ty.number < length c.args.types.now.futures) c.args.types.now.future_tables _ (c.reveal.ensures.sound.linked of_future_tables)
+    all-contained (λ e. e.ty.number < length c.args.types.now.futures) c.args.types.now.future_tables _ (c.reveal.ensures.sound.held_live of_future_tables)
     (contains-at c.args.types.now.future_tables _ _ c.index-in-Future.ensures)
 
 pub index-requires-in-Stream-2 : goal.index-requires-in-Stream-2
 index-requires-in-Stream-2 c =
-    all-contained (λ e. e.ty.number < length c.args.types.now.streams) c.args.types.now.stream_tables _ (c.reveal.ensures.sound.linked of_stream_tables)
+    all-contained (λ e. e.ty.number < length c.args.types.now.streams) c.args.types.now.stream_tables _ (c.reveal.ensures.sound.held_live of_stream_tables)
     (contains-at c.args.types.now.stream_tables _ _ c.index-in-Stream.ensures)
 
 pub returns-in-Record : goal.returns-in-Record

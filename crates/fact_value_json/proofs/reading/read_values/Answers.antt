@@ -9,6 +9,6 @@ pub returns-in-Ok : goal.returns-in-Ok
 unfolding values_at
 returns-in-Ok c = λ ss h. ap (at_step c.args.path.now) (c.in-Ok.ensures ss h)
 
-pub returns-in_ok-fault_under-in-Err : goal.returns-in_ok-fault_under-in-Err
+pub returns-in_ok-under-in-Err : goal.returns-in_ok-under-in-Err
 unfolding values_at
-returns-in_ok-fault_under-in-Err c = λ ss h. rw c.in_ok-fault_under-in-Err.ensures (fault_at c.args.path.now (values_in ss (view c.args.json.now)) c.in-Err.fault (c.in-Err.ensures ss h))
+returns-in_ok-under-in-Err c = λ ss h. rw c.in_ok-under-in-Err.ensures (fault_at c.args.path.now (values_in ss (view c.args.json.now)) c.in-Err.fault (c.in-Err.ensures ss h))

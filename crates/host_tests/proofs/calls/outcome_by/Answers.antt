@@ -8,9 +8,9 @@ use Rattle.host_tests.proofs.calls.outcome_by.Goals as goal
 
 pub call-outcome-requires-clause-callable : goal.call-outcome-requires-clause-callable
 call-outcome-requires-clause-callable g c =
-    let made : c.in_ok-made.made ≡ calling_module = c.in_ok-made.ensures in
+    let adapter_module : c.in_ok-adapter_module.adapter_module ≡ calling_module = c.in_ok-adapter_module.ensures in
     let sample : c.plain_call-sample.result ≡ plain_call 0 = c.plain_call-sample.ensures in
-    (no_shapes, subst (λ (m : WasmModule). IsCallable m c.new-types.result c.plain_call-sample.result no_shapes) (sym made) (subst (λ (x : HostCall). IsCallable calling_module c.new-types.result x no_shapes) (sym sample) (sample_callable c.new-types.result 0 (omega arith))))
+    (no_shapes, subst (λ (m : WasmModule). IsCallable m c.new-types.result c.plain_call-sample.result no_shapes) (sym adapter_module) (subst (λ (x : HostCall). IsCallable calling_module c.new-types.result x no_shapes) (sym sample) (sample_callable c.new-types.result 0 (omega arith))))
 
 pub call-outcome-requires-clause-live : goal.call-outcome-requires-clause-live
 call-outcome-requires-clause-live g c = subst (λ (x : HostCall). AreLive c.new-types.result x) (sym c.plain_call-sample.ensures) (sample_live c.new-types.result 0)

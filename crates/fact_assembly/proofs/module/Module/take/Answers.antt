@@ -2,23 +2,23 @@ use Rattle.std.proofs.Common.{[], ◌∷◌, ◌++◌, ap, sym, ◌∙◌, subst
 use Rattle.fact_types.specs.Tables.{IsSound, Tables}
 use Rattle.fact_plan_types.specs.PlanTypes.{told}
 use Rattle.fact_types.specs.Adapters.{LinkedAdapter}
-use Rattle.fact_checks.specs.Linked.{IsLinked, NamesTypesOf}
-use Rattle.fact_forms.specs.Sound.{HasValidSides}
+use Rattle.fact_adapter_rules.specs.Linked.{IsLinked, NamesTypesOf}
+use Rattle.fact_assembly.specs.Sound.{HasValidSides}
 use Rattle.fact_assembly.specs.Collected.{Collected, taken_of}
 use Rattle.fact_assembly.specs.Taking.{IsSoundBehind}
-use Rattle.fact_assembly.proofs.TakeLaws.{extends-more, helpers-here, linkable-here, linked-of, made-more, refused-behind, sound-behind}
+use Rattle.fact_assembly.proofs.TakeLaws.{extends-more, helpers-here, importable-here, linked-of, made-more, refused-behind, sound-behind}
 use Rattle.fact_assembly.proofs.module.Module.take.Goals as goal
 
 pub returns-else-is_memory-clause-refused : goal.returns-else-is_memory-clause-refused
 returns-else-is_memory-clause-refused c = refused-behind _ _ _ c.self.inside.state.sections _ _ (told _) c.self.view_is c.self.invariant.0 c.requires.whole c.in-Err.ensures.refused
 
-pub emit-requires-clause-linkable : goal.emit-requires-clause-linkable
-emit-requires-clause-linkable c =
+pub emit-requires-clause-importable : goal.emit-requires-clause-importable
+emit-requires-clause-importable c =
     let whole = ap (λ (v : Collected). v.whole) c.self.view_is ∙ c.requires.whole in
     let typed = subst (λ (v : Collected). NamesTypesOf v.builder c.args.candidate.now.adapter.now) (sym c.self.view_is) c.requires.typed in
     let valid = subst (λ (v : Collected). (a : LinkedAdapter) → IsLinked v.builder c.args.candidate.now a → HasValidSides a) (sym c.self.view_is) c.requires.valid in
     let sound = subst (λ (t : Tables). IsSound t) c.component_types.ensures c.reveal-2.ensures.sound in
-    linkable-here _ c.self.inside.checks c.check.new.self c.self.inside.state.sections c.self.inside.state.sections c.args.candidate.now c.self.invariant.0 whole sound typed valid c.in_default.ensures.sound
+    importable-here _ c.self.inside.checks c.check.new.self c.self.inside.state.sections c.self.inside.state.sections c.args.candidate.now c.self.invariant.0 whole sound typed valid c.in_default.ensures.sound
 
 pub emit-requires-clause-linked : goal.emit-requires-clause-linked
 emit-requires-clause-linked c =

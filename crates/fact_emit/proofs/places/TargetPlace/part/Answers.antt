@@ -1,5 +1,5 @@
 use Rattle.std.proofs.Common.{ap, sym, ◌∙◌}
-use Rattle.fact_pieces.specs.Places.{ToLocals}
+use Rattle.fact_code_laws.specs.Places.{ToLocals}
 use Rattle.fact_emit.specs.Parts.{to_behind}
 use Rattle.fact_emit.specs.Places.{to_of, slots_of_locals}
 use Rattle.fact_emit.proofs.PartPlaces.{slots_part}

@@ -1,0 +1,9 @@
+pub mod AdapterRules
+pub mod Adapters
+pub mod Binding
+pub mod Bindings
+pub mod Checked
+pub mod FirstFault
+pub mod Fronts
+pub mod Linked
+pub mod Links

@@ -1,0 +1,10 @@
+use Rattle.std.proofs.Common.{take}
+use Rattle.std.specs.Fn.{CalledAt}
+use Rattle.fact_builder.specs.Walk.{RegistersAnswer}
+use Rattle.fact_builder.proofs.RegisterLaws.{RegisteredTo}
+use Rattle.fact_builder.proofs.known_resources.ResourcesBuilder.register_found.Given as goal
+
+abbrev pub invariant-loop-path : goal.invariant-loop-path
+invariant-loop-path g l =
+    goal.F-IsAlwaysCallable g l.register
+    × RegisteredTo (RegistersAnswer g.R.Registrable.registration (CalledAt g.F.FnMut)) l.fn.register l.fn.self (take l.path-index l.found) l.register l.self

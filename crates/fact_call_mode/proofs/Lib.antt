@@ -1,0 +1,12 @@
+pub mod CallTold
+pub mod Callable
+pub mod Counting
+pub mod Exported
+pub mod FoundLaws
+pub mod HostSides
+pub mod KnownImports
+pub mod NamedCalls
+pub mod NamedExports
+pub mod Promised
+pub mod ReplyLaws
+pub mod WantsOfMemory

@@ -1,6 +1,0 @@
-use Rattle.std.proofs.Common.{rules}
-use Rattle.fact_calls.proofs.FoundLaws.{linked_all}
-use Rattle.fact_calls.proofs.calling.reply_to_input.Goals as goal
-
-pub callable_place-requires : goal.callable_place-requires
-callable_place-requires c = linked_all c.args.plan (search rules)

@@ -1,5 +1,0 @@
-use Rattle.std.proofs.Common.{refl}
-use Rattle.fact_calls.proofs.places.func_named.Goals as goal
-
-pub loop-export-init : goal.loop-export-init
-loop-export-init c = refl

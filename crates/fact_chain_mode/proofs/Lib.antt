@@ -1,0 +1,4 @@
+pub mod ChainTold
+pub mod NamedCalls
+pub mod PairLaws
+pub mod ReplyLaws

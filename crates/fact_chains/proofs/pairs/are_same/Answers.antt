@@ -1,5 +1,0 @@
-use Rattle.fact_chains.proofs.PairLaws.{tested}
-use Rattle.fact_chains.proofs.pairs.are_same.Goals as goal
-
-pub returns : goal.returns
-returns c = λ ss zs have given. tested c.args.builder.now.tables c.reveal.ensures.one_index c.args.types.now c.args.others.now c.eq.result c.eq.ensures ss zs have given

@@ -1,8 +1,0 @@
-use Rattle.serde_json.specs.View.{view}
-use Rattle.fact_chaining.proofs.Lists.{types_formed}
-use Rattle.fact_chains.proofs.values.read.Goals as goal
-
-pub returns-in-Ok-clause-typed : goal.returns-in-Ok-clause-typed
-returns-in-Ok-clause-typed c = λ ss have.
-    c.laws_of_json_values.ensures.list_read c.args.path.now ss (view c.args.json.now) c.in-Ok.values (types_formed c.args.types.now c.args.tys.now ss 0 have)
-    (c.laws_of_json_values.ensures.texts c.args.json.now) (c.in-Ok.ensures ss have)

@@ -1,7 +1,0 @@
-use Rattle.std.proofs.Common.{◌∙◌}
-use Rattle.fact_types.specs.Tuples.{tuple_of}
-use Rattle.fact_checks.proofs.TupleLaws.{placed_pointer_pair}
-use Rattle.fact_checks.proofs.memories.gives_pointer.Goals as goal
-
-pub returns : goal.returns
-returns c = λ ps rs h. c.ty_contains_pointer_pair.ensures (tuple_of rs) (c.results_tuple.ensures.shaped ps rs h) ∙ placed_pointer_pair 0 rs

@@ -1,5 +1,0 @@
-use Rattle.fact_checks.specs.Links.{IsAt}
-use Rattle.fact_checks.proofs.plan.check_each.Given as goal
-
-abbrev pub invariant-loop-k : goal.invariant-loop-k
-invariant-loop-k l = IsAt l.plan l.types.builder l.checks l.k

@@ -1,3 +1,0 @@
-pub mod MadeLaws
-pub mod MakingLaws
-mod Mapping

@@ -1,6 +1,0 @@
--- laws::laws_of_helpers
-use Rattle.fact_pieces.proofs.HelperMoves.{helper_bodies_move, helper_calls_move}
-use Rattle.fact_pieces.proofs.laws.laws_of_helpers.Goals as goal
-
-pub returns : goal.returns
-returns c = record { helper_calls_move = helper_calls_move; helper_bodies_move = helper_bodies_move }

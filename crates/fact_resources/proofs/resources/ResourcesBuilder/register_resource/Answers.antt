@@ -1,5 +1,0 @@
-use Rattle.fact_resources.proofs.RegisterLaws.{put_registration}
-use Rattle.fact_resources.proofs.resources.ResourcesBuilder.register_resource.Goals as goal
-
-pub returns-clause-registered : goal.returns-clause-registered
-returns-clause-registered c = put_registration _ _ c.self.view_is _ c.args.id _ c.requires c.in_ok-insert.ensures.entries

@@ -1,9 +1,0 @@
--- Why a conversion is refused where a table takes no entry.
-use Rattle.fact_entity.specs.declared.error.PushError.{PushError}
-use Rattle.fact_entity.specs.declared.error.PushError.TheVariants as push
-use Rattle.fact_resources.specs.declared.error.BuildError.{BuildError}
-use Rattle.fact_resources.specs.declared.error.BuildError.TheVariants as build
-
-abbrev pub build_error : PushError → BuildError
-build_error push.OutOfMemory = build.OutOfMemory
-build_error push.TooLarge = build.TooLarge

@@ -1,4 +1,0 @@
-pub mod Beside
-pub mod Errors
-pub mod Known
-pub mod Walk

@@ -1,5 +1,0 @@
-pub mod BindingLaws
-pub mod FrontLaws
-mod ItemLaws
-pub mod NameLaws
-mod PairLaws
