@@ -9,7 +9,7 @@ use Rattle.fact_machine.specs.declared.types.CoreValue.TheVariants as core
 use Rattle.fact_types.specs.declared.flats.FlatType.{FlatType}
 use Rattle.fact_types.specs.declared.flats.FlatType.TheVariants.{I32, I64, F32, F64}
 use Rattle.fact_types.specs.declared.interface.InterfaceType.{InterfaceType}
-use Rattle.fact_types.specs.declared.widths.MemoryWidth.{MemoryWidth}
+use Rattle.fact_types.specs.declared.extents.MemoryWidth.{MemoryWidth}
 use Rattle.fact_types.specs.Flat.{join}
 use Rattle.fact_types.specs.Agrees.{names_of}
 use Rattle.fact_types.specs.FlatShapes.{flat, flat_plain, flat_members, flat_any, joined, times}

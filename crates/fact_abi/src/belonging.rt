@@ -170,26 +170,40 @@ fn is_flags(names: &Seq<Text>, value: &Value) -> bool
     }
 }
 
-/// Whether the one of some names at a place is a name.
-pub(crate) fn is_name_at(names: &Seq<Text>, place: usize, name: &Text) -> bool
+/// Whether the one of some names at a place is this name.
+fn is_str_at(names: &Seq<Text>, place: usize, name: &str) -> bool
     ensures { result ≡ name_is name.now (slice_get names.now place) }
 {
     match names.get(place) {
-        Some(other) => *other == *name,
+        Some(other) => other.as_str() == name,
         None => false,
     }
 }
 
-/// The place of the first of some names that is a name, or `None` where none is.
-pub fn index_of_name(names: &Seq<Text>, name: &Text) -> Option<usize>
+/// The same of a name that is held as a text.
+pub(crate) fn is_name_at(names: &Seq<Text>, place: usize, name: &Text) -> bool
+    ensures { result ≡ name_is name.now (slice_get names.now place) }
+{
+    is_str_at(names, place, name.as_str())
+}
+
+/// The place of the first of some names that is this name, counted from 0, or `None` where none is.
+pub fn index_of_str(names: &Seq<Text>, name: &str) -> Option<usize>
     ensures { IsIndexOf name.now names.now result }
 {
     for place in 0..names.len() {
-        if is_name_at(names, place, name) {
+        if is_str_at(names, place, name) {
             return Some(place);
         }
     }
     None
+}
+
+/// The same of a name that is held as a text: see [`index_of_str`].
+pub fn index_of_name(names: &Seq<Text>, name: &Text) -> Option<usize>
+    ensures { IsIndexOf name.now names.now result }
+{
+    index_of_str(names, name.as_str())
 }
 
 /// The type of the member of a place, or `None` where it has none.

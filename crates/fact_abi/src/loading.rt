@@ -3,11 +3,12 @@
 ghost use Rattle.std.specs.Prelude.{◌≡◌, [], ◌∷◌, ◌+◌, ◌*◌, ◌<◌, ◌≤◌, ◌^◌, List, length, ℕ, option_map, slice_get, drop, IfOk, IfSome, Some};
 ghost use Rattle.std.specs.List.{zip};
 ghost use Rattle.fact_values.specs.declared.value.Value.TheVariants as a_value;
+ghost use Rattle.fact_types.specs.declared.extents.MemoryWidth.{MemoryWidth};
 ghost use Rattle.fact_types.specs.declared.interface.InterfaceType.{InterfaceType};
 ghost use Rattle.fact_types.specs.Agrees.{names_of};
 ghost use Rattle.fact_types.specs.Heights.{IsMemberOf};
 ghost use Rattle.fact_types.specs.Layout.{extent, extents, payloads, payload_offset, discriminant_size, discriminant_bytes, flags_size, flags_extent};
-ghost use Rattle.fact_types.specs.Shapes.{layouts_of, k_record, k_tuple, k_list, k_map, k_fixed, ends_of, Shape, s_node, Members, layout_of, place_of, next_of};
+ghost use Rattle.fact_types.specs.Shapes.{layouts_of, k_record, k_tuple, k_list, k_map, k_fixed, ends_of, Shape, s_node, Members, layout_of, place_of, next_of, plain_layout};
 ghost use Rattle.fact_types.specs.Signatures.{width};
 ghost use Rattle.fact_types.specs.Tables.{IsLive, HasShape, abi_at};
 ghost use Rattle.fact_abi.specs.declared.nodes.NodeKind.TheVariants as kinds;
@@ -15,7 +16,7 @@ ghost use Rattle.fact_values.specs.Load.{entry_of as entry, load as stands, load
 ghost use Rattle.fact_abi.specs.Loading.{text_of_pair, entry_of_members};
 ghost use Rattle.fact_abi.specs.Nodes.{AreOf, AreTold, HasNode, AreLower};
 ghost use Rattle.fact_machine.specs.World.{number_of};
-ghost use Rattle.fact_values.specs.Numbers.{plain_of, flags_of_number, number_in as number_there};
+ghost use Rattle.fact_values.specs.Numbers.{plain_of, flags_of_number, number_in as number_there, text};
 ghost use Rattle.fact_values.specs.Places.{each_at, pair_at as pair_there, element_extent as extent_of_element};
 ghost use Rattle.fact_abi.specs.Rooms.{plain_bytes, RoomFor, RoomForMembers, RoomForPayload, RoomForCases};
 
@@ -56,9 +57,10 @@ fn pair_in(side: &SideAbi, bytes: &[u8], address: u128) -> Option<(u64, u64)>
     Some((pointer, count))
 }
 
-/// The bytes of a value of a type without members, but for a string.
-fn plain_size(ty: &InterfaceType) -> usize
+/// The bytes of a value of a type without members that is no string, in memories of either width (canonical ABI, "Element Size").
+pub fn plain_size(ty: &InterfaceType) -> usize
     ensures size { result ≡ plain_bytes ty.now }
+    ensures value { (w : MemoryWidth) → (plain_of ty.now ≡ text → ⊥) → result ≡ (extent w (plain_layout ty.now)).size }
     ensures few { result ≤ 8 }
 {
     match *ty {

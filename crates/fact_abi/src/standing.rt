@@ -3,7 +3,7 @@
 ghost use Rattle.std.specs.Prelude.{◌≡◌, [], ◌∷◌, ◌+◌, ◌*◌, ◌<◌, ◌≤◌, ◌^◌, List, length, ℕ, replicate, IfOk, IfSome, slice_get, Some};
 ghost use Rattle.fact_types.specs.declared.interface.InterfaceType.{InterfaceType};
 ghost use Rattle.fact_types.specs.declared.interface.InterfaceType.TheVariants as a_type;
-ghost use Rattle.fact_types.specs.declared.widths.MemoryWidth.{MemoryWidth};
+ghost use Rattle.fact_types.specs.declared.extents.MemoryWidth.{MemoryWidth};
 ghost use Rattle.fact_types.specs.declared.flats.FlatType.TheVariants.{I32};
 ghost use Rattle.fact_types.specs.FlatShapes.{flat, flat_plain, flat_members, flat_any, times, pointer};
 ghost use Rattle.fact_types.specs.Heights.{IsMemberOf};

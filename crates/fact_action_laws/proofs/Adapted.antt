@@ -13,16 +13,16 @@ use Rattle.fact_values.specs.Places.{typed_names}
 use Rattle.std.specs.List.{zip}
 use Rattle.fact_action_laws.specs.FaithfulLaws.{setting_of_params, setting_of_results}
 use Rattle.fact_action_laws.specs.Items.{items_fields}
-use Rattle.fact_action_laws.specs.Law.{AreSupplied, AreWellFormed, MayStop, CanAllocate}
+use Rattle.fact_action_laws.specs.MoveTerms.{AreSupplied, AreWellFormed, MayStop, CanAllocate}
 use Rattle.fact_action_laws.specs.Places.{to_side, HoldsMemories, IsGrounded}
 use Rattle.fact_actions.specs.Regions.{Region}
 use Rattle.fact_action_laws.specs.Regions.{TransferSetting, IsInHand}
 use Rattle.fact_action_laws.proofs.Converse.{carries_fields}
-use Rattle.fact_action_laws.proofs.Lawful.{AreMoved}
+use Rattle.fact_action_laws.proofs.MoveLaws.{AreMoved}
 use Rattle.fact_action_laws.proofs.Theorem.{AreValid}
 use Rattle.fact_action_laws.proofs.Transfers.{ComeBy, AreInLimits, called_for, WentBy, IsPlaceOf, spot_of, params_law, results_law}
 use Rattle.fact_action_laws.specs.Judged.{RunsHonestly}
-use Rattle.fact_action_laws.specs.Lawful.{Texts}
+use Rattle.fact_action_laws.specs.MoveLaws.{Texts}
 
 module _ (p : ImportPlaces) (u : AdapterTunables) (a : LinkedAdapter) (source : List ℕ) where
   abbrev c : TransferSetting

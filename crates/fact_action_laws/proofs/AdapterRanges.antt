@@ -25,7 +25,7 @@ use Rattle.fact_actions.specs.Running.{ImportPlaces, Call, Ended, Gave, Halted, 
 use Rattle.fact_actions.specs.Sides.{LiftLowerOptions, Source, Values, AtAddress, Target, Slots, Into, options_of, first_bits, address_value, reallocate}
 use Rattle.fact_actions.proofs.OwnParts.{same_self}
 use Rattle.fact_action_laws.specs.Regions.{TransferSetting}
-use Rattle.fact_action_laws.specs.Laws.{TranscodersAreRanged, StartTranscodersAreRanged, ReturnTranscodersAreRanged, TranscodersCanBeAnswered, StartTranscodersCanBeAnswered, ReturnTranscodersCanBeAnswered}
+use Rattle.fact_action_laws.specs.AdapterValueLaws.{TranscodersAreRanged, StartTranscodersAreRanged, ReturnTranscodersAreRanged, TranscodersCanBeAnswered, StartTranscodersCanBeAnswered, ReturnTranscodersCanBeAnswered}
 use Rattle.fact_action_laws.specs.Premises.{KnowsMemories}
 use Rattle.fact_action_laws.proofs.AllRanged.{fields_fine}
 use Rattle.fact_action_laws.proofs.Answerable.{answered_calls}

@@ -25,19 +25,19 @@ use Rattle.fact_action_laws.proofs.Ending.{params_apart, honest_returned, calls_
 use Rattle.fact_action_laws.proofs.Framed.{IsAround, AreAround, IsParted, parted}
 use Rattle.fact_action_laws.proofs.Grounding.{has_bytes, still_there}
 use Rattle.fact_action_laws.proofs.Once.{NoneCalls}
-use Rattle.fact_action_laws.proofs.Parts.{honest_parts}
+use Rattle.fact_action_laws.proofs.TransferHonesty.{honest_parts}
 use Rattle.fact_action_laws.proofs.Stopping.{Stopping, AreReturned, returned_behind, IsEntered, IsPassedOn, IsAnswered, calls_before, calls_answered}
-use Rattle.fact_action_laws.specs.Laws.{TranscodersReadTexts}
+use Rattle.fact_action_laws.specs.AdapterValueLaws.{TranscodersReadTexts}
 use Rattle.fact_action_laws.specs.Premises.{KnowsMemories}
 use Rattle.fact_action_laws.specs.ReadTexts.{ReadsTextBy, ReadTexts, AreValuesThere}
 use Rattle.fact_action_laws.specs.Requested.{params_parts, results_parts}
 use Rattle.fact_action_laws.specs.Trapped.{AreHonestUntilTrap}
-use Rattle.fact_action_laws.proofs.AdapterAsks.{HonestlyReads, reads_for, params_sides, results_sides, params_ask, results_ask}
+use Rattle.fact_action_laws.proofs.TransferAsks.{HonestlyReads, reads_for, params_sides, results_sides, params_ask, results_ask}
 use Rattle.fact_action_laws.proofs.Fine.{there_same, typed_is_there}
 use Rattle.fact_action_laws.proofs.Halting.{HaltsAt, AtEntry, AtParams, AtCallee, AtResults, AtEnd, FromCallee, halts_sync}
 use Rattle.fact_action_laws.proofs.ReadCalls.{reads_append}
 use Rattle.fact_action_laws.proofs.ReadRuns.{IsSet}
-use Rattle.fact_action_laws.proofs.Requests.{params_honest, results_honest, knows_memories, params_none, results_none, none_front, before_back, regroup, back_apart}
+use Rattle.fact_action_laws.proofs.AdapterRequests.{params_honest, results_honest, knows_memories, params_none, results_none, none_front, before_back, regroup, back_apart}
 use Rattle.fact_action_laws.proofs.Thrown.{Unthrown, never_thrown, none_before, none_threw}
 use Rattle.fact_action_laws.proofs.Trapped.{IsBehind, last_behind, both_empty, all_honest, GivesReturned, gives_returned}
 use Rattle.fact_action_laws.proofs.TupleTexts.{params_texts, results_texts}

@@ -13,7 +13,7 @@ use Rattle.fact_actions.specs.Order.{IsMemoryOf}
 use Rattle.fact_actions.specs.Regions.{Region, Position, given_region, given_up, without, moved_on}
 use Rattle.fact_actions.proofs.OwnParts.{same_self, first_number}
 use Rattle.fact_actions.specs.Running.{Call}
-use Rattle.fact_action_laws.specs.Honest.{IsTranscoded, IsHonestResult}
+use Rattle.fact_action_laws.specs.HonestMoves.{IsTranscoded, IsHonestResult}
 use Rattle.fact_action_laws.specs.Regions.{TransferSetting, request_by, old_region, region_from, regions_by}
 
 -- Honest answers of transcoders between the memories of the two sides; and of all else where Kept holds, which then does not throw. A call

@@ -28,7 +28,7 @@ use Rattle.fact_actions.specs.Sides.{LiftLowerOptions, with_memory}
 use Rattle.fact_actions.proofs.Binds.{binds_run}
 use Rattle.fact_actions.proofs.OwnParts.{same_self}
 use Rattle.fact_actions.proofs.States.{and_left, and_right}
-use Rattle.fact_action_laws.specs.Honest.{IsHonestResult, AreHonestCalls}
+use Rattle.fact_action_laws.specs.HonestMoves.{IsHonestResult, AreHonestCalls}
 use Rattle.fact_action_laws.specs.Regions.{TransferSetting, AreBytesOf, regions_by, regions_after}
 use Rattle.fact_action_laws.proofs.Stopping.{AreReturned}
 use Rattle.fact_action_laws.specs.Trapped.{AreHonestUntilTrap, has_returned, answers_so_far}

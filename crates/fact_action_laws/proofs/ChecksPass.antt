@@ -24,11 +24,11 @@ use Rattle.fact_actions.specs.Running.{ImportPlaces, Call, Ended, Gave, Halted, 
 use Rattle.fact_actions.specs.Sides.{options_of}
 use Rattle.fact_actions.proofs.CheckedMoves.{checks_sync, checks_start, checks_return}
 use Rattle.fact_action_laws.specs.Faithful.{params_given, weight_of_values, IsInLimits, ComesToEnd}
-use Rattle.fact_action_laws.specs.TransferLaws.{results_handed, EndsInFew}
+use Rattle.fact_action_laws.specs.TransferLaws.{results_taken, EndsInFew}
 use Rattle.fact_action_laws.specs.FaithfulLaws.{quiet, IsCheckedAdapter}
 use Rattle.fact_action_laws.proofs.Ending.{runs_come_to_end}
 use Rattle.fact_action_laws.proofs.TransferEnds.{starts_come_to_end as quiet_starts, returns_come_to_end as quiet_returns}
-use Rattle.fact_action_laws.specs.Laws.{AdaptersComeToEnd, CheckedStartsComeToEnd, CheckedReturnsComeToEnd, ChecksPass, StartChecksPass, ReturnChecksPass}
+use Rattle.fact_action_laws.specs.AdapterValueLaws.{AdaptersComeToEnd, CheckedStartsComeToEnd, CheckedReturnsComeToEnd, ChecksPass, StartChecksPass, ReturnChecksPass}
 use Rattle.fact_action_laws.specs.Premises.{KnowsMemories}
 use Rattle.fact_action_laws.specs.PassingChecks.{AreNarrowResults}
 use Rattle.fact_action_laws.proofs.AdapterRanges.{transcoders_are_ranged, start_transcoders_are_ranged, return_transcoders_are_ranged}
@@ -162,5 +162,5 @@ starts_come_to_end p u a args w pass x honest there =
 pub returns_come_to_end : CheckedReturnsComeToEnd
 returns_come_to_end p u a args w pass x honest there area =
     let same = return_checks_pass p u a args w x honest pass in
-    subst (EndsInFew (weight_of_values a.lift.results (results_handed p a args w.state))) (sym same)
+    subst (EndsInFew (weight_of_values a.lift.results (results_taken p a args w.state))) (sym same)
     (quiet_returns p (quiet u) a args w x (texts_move p (quiet u) a x) (subst (IsHonestReturn p a args w.state) same honest) refl there area)

@@ -1,4 +1,4 @@
--- The parameters and the results of fact_abi at a source are what comes in there.
+-- What lifts at a source, as the parameters and the results of fact_values, is what comes in there.
 use Rattle.std.proofs.Common.{◌≡◌, ℕ, Bool, true, List, [], ◌∷◌, ◌++◌, length, map, take, Option, Some, None, refl, sym, ap, ◌∙◌, subst, append-nil}
 use Rattle.std.proofs.lemmas.Bool.{false≢true}
 use Rattle.fact_wasm.specs.declared.types.ValType.{ValType}
@@ -16,8 +16,8 @@ use Rattle.fact_actions.specs.Sides.{width_of_side, Values}
 use Rattle.fact_values.specs.declared.value.Value.{Value}
 use Rattle.fact_values.specs.Tuples.{lift_all, behind_only, where_flat, flat_or_behind}
 use Rattle.fact_action_laws.specs.Faithful.{AreInBounds}
-use Rattle.fact_action_laws.proofs.Lawful.{AreFit}
-use Rattle.fact_action_laws.specs.Law.{AreWellFormed, moving}
+use Rattle.fact_action_laws.proofs.MoveLaws.{AreFit}
+use Rattle.fact_action_laws.specs.MoveTerms.{AreWellFormed, moving}
 use Rattle.fact_action_laws.specs.Places.{from_side, HasSideMemory, AreInRange}
 use Rattle.fact_action_laws.specs.Regions.{TransferSetting}
 use Rattle.fact_action_laws.proofs.Landed.{flat_of}

@@ -14,7 +14,7 @@ use Rattle.fact_actions.specs.Moves.{move}
 use Rattle.fact_actions.specs.Sides.{Source, Target, width_of_side}
 use Rattle.fact_values.specs.declared.value.Value.{Value}
 use Rattle.fact_values.specs.Numbers.{plain_of, value_of_number}
-use Rattle.fact_action_laws.specs.Law.{HasPointers, IsSupplied, AreSupplied, IsWellFormed, AreWellFormed, AreTyped, size_on}
+use Rattle.fact_action_laws.specs.MoveTerms.{HasPointers, IsSupplied, AreSupplied, IsWellFormed, AreWellFormed, AreTyped, size_on}
 use Rattle.fact_action_laws.specs.Places.{value_at_source, IsSource, IsTarget, HoldsMemories, IsGrounded}
 use Rattle.fact_actions.specs.Regions.{Region}
 use Rattle.fact_action_laws.specs.Regions.{TransferSetting, IsInHand}
@@ -23,7 +23,7 @@ use Rattle.fact_action_laws.proofs.Elements.{IsSingle, single, IsDouble, double}
 use Rattle.fact_action_laws.proofs.FixedLaws.{fixed_refuses}
 use Rattle.fact_action_laws.proofs.Fields.{members_taken, found_named, formed_found}
 use Rattle.fact_action_laws.proofs.Judges.{does_more}
-use Rattle.fact_action_laws.proofs.Lawful.{AreLawfulMoves}
+use Rattle.fact_action_laws.proofs.MoveLaws.{AreLawfulMoves}
 use Rattle.fact_action_laws.proofs.ListLaws.{one}
 use Rattle.fact_action_laws.proofs.Missing.{NotAll, no_fields_refuse, bare_fields_refuse, typed_fields_refuse, record_refuses, tuple_refuses, all_taken}
 use Rattle.fact_action_laws.proofs.Never.{does_always}
@@ -40,7 +40,7 @@ use Rattle.fact_action_laws.proofs.Distinct.{each_agrees, places_agree}
 use Rattle.fact_action_laws.proofs.Weights.{In, in_contains, contains_in}
 use Rattle.fact_types.specs.PointerPairs.{is_string}
 use Rattle.fact_action_laws.specs.Judged.{RunsHonestly}
-use Rattle.fact_action_laws.specs.Lawful.{IsLawfulMove, Refuses, Texts, MovesAreLawful, MovesRefuse}
+use Rattle.fact_action_laws.specs.MoveLaws.{IsLawfulMove, Refuses, Texts, MovesAreLawful, MovesRefuse}
 
 -- a type of whose numbers each is a value
 scalar : (c : TransferSetting) → IsGrounded c → (p q : InterfaceType) → p ≡ q → (n : IsScalar q) → ((x : ℕ) → value_of_number (plain_of q) x ≡ None → ⊥) → Refuses c (s_plain p) (s_plain q)

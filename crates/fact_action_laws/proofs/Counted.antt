@@ -25,9 +25,9 @@ use Rattle.fact_values.specs.Places.{typed_names}
 use Rattle.fact_values.specs.Weight.{weight, weight_members, weight_case, weight_element, weight_in}
 use Rattle.fact_actions.specs.Running.{Call}
 use Rattle.fact_action_laws.specs.Items.{ValueItem, HandleItem, RegionItem, TextItem, of_some, chars_in, handle_item, items_plain, Inner, items, items_fields, items_case, items_places, items_element, case_items, AreItemCalls, BeginItemCalls, IsItemCalls, BeginsItem}
-use Rattle.fact_action_laws.specs.Law.{AreTyped, IsWellFormed, AreWellFormed}
+use Rattle.fact_action_laws.specs.MoveTerms.{AreTyped, IsWellFormed, AreWellFormed}
 use Rattle.fact_action_laws.proofs.Distinct.{case_named, case_weighs, each_agrees, places_agree, IsPayloadOf}
-use Rattle.fact_action_laws.proofs.Lawful.{field_weight, fields_weight}
+use Rattle.fact_action_laws.proofs.MoveLaws.{field_weight, fields_weight}
 use Rattle.fact_action_laws.proofs.Sums.{payload_weight}
 use Rattle.fact_action_laws.proofs.Weights.{record_weight}
 use Rattle.fact_action_laws.proofs.Variants.{case_has}

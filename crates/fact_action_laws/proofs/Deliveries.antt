@@ -24,8 +24,8 @@ use Rattle.fact_actions.specs.Running.{ImportPlaces, Ended, is_state, calls_in, 
 use Rattle.fact_actions.specs.Sides.{options_of, Values, AtAddress, first_bits}
 use Rattle.fact_action_laws.specs.Faithful.{params_given}
 use Rattle.fact_action_laws.specs.FaithfulLaws.{setting_of_params, setting_of_results, quiet, IsCheckedAdapter, TextsMove}
-use Rattle.fact_action_laws.specs.Honest.{AreHonestCalls}
-use Rattle.fact_action_laws.specs.Law.{AreSupplied, MayStop}
+use Rattle.fact_action_laws.specs.HonestMoves.{AreHonestCalls}
+use Rattle.fact_action_laws.specs.MoveTerms.{AreSupplied, MayStop}
 use Rattle.fact_action_laws.specs.Places.{from_side, to_side, IsGrounded, HoldsMemories}
 use Rattle.fact_action_laws.specs.Regions.{TransferSetting, IsInHand}
 use Rattle.fact_action_laws.specs.Items.{items_fields}
@@ -34,7 +34,7 @@ use Rattle.fact_action_laws.proofs.Called.{AllCalled}
 use Rattle.fact_action_laws.proofs.Fields.{members_taken}
 use Rattle.fact_action_laws.proofs.Grounding.{byte_below, has_bytes, still_there, cores_in_range, source_typed, members_ruled, members_have_pointers}
 use Rattle.fact_action_laws.proofs.Honestly.{IsOfTransfer, params_of_transfer, results_of_transfer, honest_are}
-use Rattle.fact_action_laws.proofs.Lawful.{AreLawfulMoves, AreMoved}
+use Rattle.fact_action_laws.proofs.MoveLaws.{AreLawfulMoves, AreMoved}
 use Rattle.fact_action_laws.proofs.Membered.{fields_agree, members_formed, members_valid}
 use Rattle.fact_action_laws.proofs.Refusals.{RefusesFields}
 use Rattle.fact_action_laws.proofs.Refused.{tuple_lacks, params_come, results_come, come_back}

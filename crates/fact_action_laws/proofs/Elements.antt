@@ -4,8 +4,8 @@ use Rattle.std.specs.Prelude.{sum_by}
 use Rattle.std.specs.List.{flat_map}
 use Rattle.std.proofs.Math.Nat.{div-add-mod}
 use Rattle.std.proofs.lemmas.List.Sums.{sum_by-cons}
-use Rattle.fact_types.specs.declared.widths.MemoryWidth.{MemoryWidth}
-use Rattle.fact_types.specs.declared.widths.MemoryWidth.TheVariants.{Memory32, Memory64}
+use Rattle.fact_types.specs.declared.extents.MemoryWidth.{MemoryWidth}
+use Rattle.fact_types.specs.declared.extents.MemoryWidth.TheVariants.{Memory32, Memory64}
 use Rattle.fact_types.specs.Agrees.{names_of}
 use Rattle.fact_types.specs.Layout.{extent, aligned}
 use Rattle.fact_types.specs.Shapes.{Shape, Members, no_members, bare, typed, layout_of, place_of, next_of, ends_of}
@@ -17,7 +17,7 @@ use Rattle.fact_values.specs.Canonical.{EachAt}
 use Rattle.fact_values.specs.Handles.{Step, each_step, then_step, done_step}
 use Rattle.fact_types.specs.Options.{◌>>=◌}
 use Rattle.fact_values.specs.Places.{each_at}
-use Rattle.fact_action_laws.specs.Law.{AreTyped}
+use Rattle.fact_action_laws.specs.MoveTerms.{AreTyped}
 use Rattle.fact_action_laws.proofs.Plain.{both}
 
 -- ---- what is done to each

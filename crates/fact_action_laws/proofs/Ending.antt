@@ -33,10 +33,10 @@ use Rattle.fact_actions.proofs.OwnParts.{same_self}
 use Rattle.fact_types.specs.declared.import.Import.TheVariants as import
 use Rattle.fact_action_laws.specs.Faithful.{params_given, results_answered, weight_of_values, whole_weight, answered_weight, ParamsAreThere, ResultsAreThere, IsFaithful, IsInLimits, ComesToEnd}
 use Rattle.fact_action_laws.specs.FaithfulLaws.{quiet, AreWellFormedTypes, IsCheckedAdapter, TextsMove, RunsComeToEnd}
-use Rattle.fact_action_laws.specs.Honest.{AreHonestCalls}
+use Rattle.fact_action_laws.specs.HonestMoves.{AreHonestCalls}
 use Rattle.fact_action_laws.specs.Items.{items_fields, BeginItemCalls}
 use Rattle.fact_action_laws.specs.Judged.{Judged, RunsHonestly}
-use Rattle.fact_action_laws.specs.Law.{MayStop}
+use Rattle.fact_action_laws.specs.MoveTerms.{MayStop}
 use Rattle.fact_action_laws.specs.Places.{to_side, HasSideMemory}
 use Rattle.fact_action_laws.specs.Regions.{TransferSetting, IsInHand, AreBytesOf}
 use Rattle.fact_action_laws.proofs.Apart.{advance, honest_apart, within_transfer, around_stays, around_leaves}
@@ -46,10 +46,10 @@ use Rattle.fact_action_laws.proofs.Counted.{places_bound, calls_few, begun_calls
 use Rattle.fact_action_laws.proofs.Deliveries.{params_setting, ParamsCome, params_are_come, params_does, params_honest, results_setting, ResultsCome, results_are_come, results_does, results_honest, area_is_live}
 use Rattle.fact_action_laws.proofs.FaithfulRuns.{synced, synced_is, gives_faithfully}
 use Rattle.fact_action_laws.proofs.Grounding.{members_ruled, still_there}
-use Rattle.fact_action_laws.proofs.Lawful.{AreMoved}
+use Rattle.fact_action_laws.proofs.MoveLaws.{AreMoved}
 use Rattle.fact_action_laws.proofs.Membered.{items_placed, members_formed}
 use Rattle.fact_action_laws.proofs.Once.{NoneCalls, Differs, none_calls, params_differ, results_differ, aside_differs, other_none}
-use Rattle.fact_action_laws.proofs.Realloc.{grown_bytes}
+use Rattle.fact_action_laws.proofs.NewRegions.{grown_bytes}
 use Rattle.fact_action_laws.proofs.Stopping.{AreReturned, returned_behind, IsEntered, IsPassedOn, IsAnswered, StopsAt, Entering, InParams, Calling, InResults, Finishing, calls_before, calls_answered, moves_back, Stopping, stops_sync}
 use Rattle.fact_action_laws.proofs.Transfers.{AreInLimits, called_for, WentBy, IsPlaceOf}
 use Rattle.fact_action_laws.proofs.TypedArgs.{lower_numeric, lift_numeric, AreNumeric}

@@ -6,8 +6,8 @@ use Rattle.std.proofs.lemmas.Bool.{false≢true, lt-ltb}
 use Rattle.std.proofs.lemmas.Slice.Eq.{bytes_eq-Decides}
 use Rattle.fact_types.specs.declared.flats.FlatType.TheVariants as flat_type
 use Rattle.fact_types.specs.declared.outside.Trap.TheVariants.{InvalidDiscriminant}
-use Rattle.fact_types.specs.declared.widths.MemoryWidth.{MemoryWidth}
-use Rattle.fact_types.specs.declared.widths.MemoryWidth.TheVariants.{Memory32, Memory64}
+use Rattle.fact_types.specs.declared.extents.MemoryWidth.{MemoryWidth}
+use Rattle.fact_types.specs.declared.extents.MemoryWidth.TheVariants.{Memory32, Memory64}
 use Rattle.fact_types.specs.Agrees.{names_of, named}
 use Rattle.fact_types.specs.Layout.{extent, discriminant_size, discriminant_bytes, enum_layout}
 use Rattle.fact_types.specs.Shapes.{k_enum, Shape, s_node, Members, no_members, bare, typed}
@@ -30,7 +30,7 @@ use Rattle.fact_types.specs.Options.{◌>>=◌}
 use Rattle.fact_values.specs.Numbers.{number_in}
 use Rattle.fact_values.specs.Weight.{weight}
 use Rattle.fact_action_laws.specs.Items.{items, items_case, of_some, numbers, AreItemCalls}
-use Rattle.fact_action_laws.specs.Law.{size_on, IsFit, IsMoved, MayStop}
+use Rattle.fact_action_laws.specs.MoveTerms.{size_on, IsFit, IsMoved, MayStop}
 use Rattle.fact_action_laws.specs.Places.{from_side, to_side, value_at_source, IsTarget, IsAtTarget, StandsAtTarget, IsGrounded}
 use Rattle.fact_action_laws.specs.Regions.{TransferSetting, IsInHand}
 use Rattle.fact_action_laws.proofs.Cases.{count_same, tag_same, tag_is, case_by, loads_by, lifts_by}
@@ -39,11 +39,11 @@ use Rattle.fact_action_laws.proofs.Judges.{does_visit, does_more}
 use Rattle.fact_action_laws.proofs.Numbers.{number_at_source, reads_number, does_write_number, IsNumberAt}
 use Rattle.fact_action_laws.proofs.Placing.{leaves_wider}
 use Rattle.fact_action_laws.proofs.Plain.{both, does_aligned}
-use Rattle.fact_action_laws.proofs.Realloc.{does_pass}
+use Rattle.fact_action_laws.proofs.NewRegions.{does_pass}
 use Rattle.fact_action_laws.proofs.Variants.{sum_number, case_of}
 use Rattle.fact_values.specs.Formed.{AreBare}
 use Rattle.fact_action_laws.specs.Judged.{RunsHonestly}
-use Rattle.fact_action_laws.specs.Lawful.{IsLawfulMove}
+use Rattle.fact_action_laws.specs.MoveLaws.{IsLawfulMove}
 
 -- ---- cases without payloads
 

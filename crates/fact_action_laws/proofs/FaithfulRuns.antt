@@ -31,14 +31,14 @@ use Rattle.fact_action_laws.proofs.Framed.{IsParted, parted, when_guarded}
 use Rattle.fact_action_laws.proofs.Landed.{HasLanded, params_landed, results_landed}
 use Rattle.fact_action_laws.proofs.Membered.{members_formed}
 use Rattle.fact_action_laws.proofs.Once.{none_before}
-use Rattle.fact_action_laws.proofs.Parts.{AreHonestParts, honest_parts}
+use Rattle.fact_action_laws.proofs.TransferHonesty.{AreHonestParts, honest_parts}
 use Rattle.fact_action_laws.proofs.Transfers.{WentBy, IsPlaceOf, spot_of, ComeBy}
 use Rattle.fact_action_laws.proofs.TypedArgs.{lower_numeric, lift_numeric, AreNumeric}
 use Rattle.fact_action_laws.proofs.Weighed.{does_give_so, moved_weighs, answered_once}
 use Rattle.fact_types.specs.Agrees.{AgreesPlaces}
 use Rattle.fact_types.specs.declared.flats.FlatType.{FlatType}
 use Rattle.fact_types.specs.FlatShapes.{flat_all}
-use Rattle.fact_action_laws.specs.Honest.{AreHonestCalls}
+use Rattle.fact_action_laws.specs.HonestMoves.{AreHonestCalls}
 use Rattle.fact_action_laws.proofs.Parting.{When, parts_so, parts_self}
 use Rattle.fact_action_laws.specs.Judged.{GivesNothing}
 

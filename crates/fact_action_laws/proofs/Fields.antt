@@ -5,7 +5,7 @@ use Rattle.std.specs.List.{zip}
 use Rattle.std.specs.Str.{bytes_eq}
 use Rattle.std.proofs.lemmas.List.{drop-drop, take-append-drop}
 use Rattle.fact_types.specs.declared.outside.StringEncoding.{StringEncoding}
-use Rattle.fact_types.specs.declared.widths.MemoryWidth.TheVariants.{Memory32, Memory64}
+use Rattle.fact_types.specs.declared.extents.MemoryWidth.TheVariants.{Memory32, Memory64}
 use Rattle.fact_types.specs.Agrees.{named, first_of}
 use Rattle.fact_types.specs.Fields.{Field, find, field_of}
 use Rattle.fact_types.specs.FlatShapes.{flat, flat_members}
@@ -16,7 +16,7 @@ use Rattle.fact_types.proofs.ShapeLaws.{same_some, none_some}
 use Rattle.fact_machine.specs.declared.types.CoreValue.{CoreValue}
 use Rattle.fact_actions.specs.Moves.{part}
 use Rattle.fact_values.specs.Limits.{place_in}
-use Rattle.fact_types.specs.declared.widths.MemoryWidth.{MemoryWidth}
+use Rattle.fact_types.specs.declared.extents.MemoryWidth.{MemoryWidth}
 use Rattle.fact_actions.specs.Sides.{Source, Values, AtAddress, width_of_side}
 use Rattle.fact_types.specs.Adapters.{is_wide}
 use Rattle.fact_values.specs.declared.side.SideAbi.{SideAbi}
@@ -25,7 +25,7 @@ use Rattle.fact_values.specs.Handles.{value_named}
 use Rattle.fact_values.specs.Lift.{lift_leading, lift_members}
 use Rattle.fact_values.specs.Load.{load, load_members}
 use Rattle.fact_values.specs.Places.{typed_names}
-use Rattle.fact_action_laws.specs.Law.{IsWellFormed, AreWellFormed}
+use Rattle.fact_action_laws.specs.MoveTerms.{IsWellFormed, AreWellFormed}
 use Rattle.fact_action_laws.specs.Places.{from_side, value_at_source, AreInRange, IsSource}
 use Rattle.fact_action_laws.specs.Regions.{TransferSetting}
 use Rattle.fact_action_laws.proofs.Flats.{flat_lengths, value_leads}

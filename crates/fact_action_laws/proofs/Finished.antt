@@ -1,7 +1,7 @@
 -- Adapters move texts, and so whole runs of theirs are faithful.
 use Rattle.fact_action_laws.specs.FaithfulLaws.{setting_of_params, setting_of_results, quiet}
 use Rattle.fact_action_laws.proofs.FaithfulRuns.{runs_are_faithful, runs_weigh}
-use Rattle.fact_action_laws.specs.Laws.{TextsAreMoved, TextsMoveInAdapters, AdaptersAreFaithful, AdaptersWeigh}
+use Rattle.fact_action_laws.specs.AdapterValueLaws.{TextsAreMoved, TextsMoveInAdapters, AdaptersAreFaithful, AdaptersWeigh}
 use Rattle.fact_action_laws.proofs.ForTypes.{texts}
 
 pub texts_are_moved : TextsAreMoved

@@ -15,14 +15,14 @@ use Rattle.fact_actions.specs.Regions.{params_landing, is_request}
 use Rattle.fact_actions.specs.Requests.{request_of, requests_in, parts_requests, answers_in}
 use Rattle.fact_actions.specs.Running.{ImportPlaces, Call}
 use Rattle.fact_actions.proofs.OwnParts.{same_self}
-use Rattle.fact_action_laws.specs.Laws.{FirstRequestIsCalledFor}
-use Rattle.fact_action_laws.specs.Requested.{params_parts, IsOutsideTransfers, AreOutsideTransfers, AreFromCallee, ArePassed, AreAnswered, calls_until_results, AreSoFar, StopsEntering, StopsInParams, StopsCalling, StopsInResults, StopsFinishing}
+use Rattle.fact_action_laws.specs.AdapterValueLaws.{FirstRequestIsCalledFor}
+use Rattle.fact_action_laws.specs.Requested.{params_parts, IsOutsideTransfers, AreOutsideTransfers, AreFromCallee, ArePassed, AreAnswered, calls_until_results, HaveAskedSoFar, StopsEntering, StopsInParams, StopsCalling, StopsInResults, StopsFinishing}
 use Rattle.fact_action_laws.specs.Trapped.{HaveReturned, BeginRequestsSoFar}
 use Rattle.fact_action_laws.proofs.Trapped.{both_empty}
 
 -- The only call, of a function other than the callee, trapped: it is one of the transfer of parameters.
 in_params : (p : ImportPlaces) (u : AdapterTunables) (a : LinkedAdapter) (args : List CoreValue) (first : MachineState) (c : Call) (f : CoreDef) → c.what ≡ import.CoreDef f → (f ≡ a.callee → ⊥) → c.answer ≡ Traps
-    → AreSoFar p u a args first (c ∷ []) → BeginRequestsSoFar (params_transfer u a) (params_landing a) (params_parts p u a args first) (c ∷ [])
+    → HaveAskedSoFar p u a args first (c ∷ []) → BeginRequestsSoFar (params_transfer u a) (params_landing a) (params_parts p u a args first) (c ∷ [])
 in_params p u a args first c f is other traps h = by h
   where
     B : List Call → Type 0
@@ -56,7 +56,7 @@ in_params p u a args first c f is other traps h = by h
     entering [] params o e b = subst B (sym e) b
     entering (x ∷ enter) params o e b = let g : x ≡ c = cc in absurd (no_outside (subst (λ x. IsOutsideTransfers None x.what) g o.0))
 
-    by : AreSoFar p u a args first (c ∷ []) → B (c ∷ [])
+    by : HaveAskedSoFar p u a args first (c ∷ []) → B (c ∷ [])
     by (StopsEntering o) = absurd (no_outside o.0)
     by (StopsInParams enter params o e k b d) = entering enter params o e b
     by (StopsCalling t others o e) = absurd (behind t others o t.enter t.params refl refl e)

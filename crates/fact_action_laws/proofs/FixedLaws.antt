@@ -4,8 +4,8 @@ use Rattle.std.specs.Prelude.{sum_by, option_map}
 use Rattle.std.specs.List.{flat_map}
 use Rattle.fact_wasm.specs.declared.types.ValType.{ValType}
 use Rattle.fact_types.specs.declared.abi.CanonicalAbiInfo.{CanonicalAbiInfo}
-use Rattle.fact_types.specs.declared.widths.MemoryWidth.{MemoryWidth}
-use Rattle.fact_types.specs.declared.widths.MemoryWidth.TheVariants.{Memory32, Memory64}
+use Rattle.fact_types.specs.declared.extents.MemoryWidth.{MemoryWidth}
+use Rattle.fact_types.specs.declared.extents.MemoryWidth.TheVariants.{Memory32, Memory64}
 use Rattle.fact_types.specs.FlatShapes.{flat, flat_members, times}
 use Rattle.fact_types.specs.Layout.{extent, fixed_list_layout}
 use Rattle.fact_types.specs.Shapes.{k_fixed, Shape, s_node, layout_of}
@@ -30,14 +30,14 @@ use Rattle.fact_values.specs.Opened.{elements_in}
 use Rattle.fact_values.specs.Places.{each_at}
 use Rattle.fact_values.specs.Weight.{weight, weight_element, weight_in}
 use Rattle.fact_action_laws.specs.Items.{items, items_element, of_some, numbers, AreItemCalls}
-use Rattle.fact_action_laws.specs.Law.{size_on, moving, IsFit, IsWellFormed, IsMoved, MayStop}
+use Rattle.fact_action_laws.specs.MoveTerms.{size_on, moving, IsFit, IsWellFormed, IsMoved, MayStop}
 use Rattle.fact_action_laws.specs.Places.{from_side, to_side, value_at_source, IsSource, IsTarget, IsGiven, IsAtTarget, StandsAtTarget, IsGrounded}
 use Rattle.fact_action_laws.specs.Regions.{TransferSetting, IsInHand}
 use Rattle.fact_action_laws.proofs.Elements.{each_map, flat_each, sum_each}
 use Rattle.fact_action_laws.proofs.Fields.{part_lifts, members_taken}
 use Rattle.fact_action_laws.proofs.Flats.{value_leads, length-times}
 use Rattle.fact_action_laws.proofs.Judges.{does_visit, does_more}
-use Rattle.fact_action_laws.proofs.Lawful.{AreLawfulMoves}
+use Rattle.fact_action_laws.proofs.MoveLaws.{AreLawfulMoves}
 use Rattle.fact_action_laws.proofs.ListLaws.{one, row, unrow, element_loads, row_loads, row_crossed, row_asks, row_weighs, row_canonical, from_extent, to_extent, element_fit}
 use Rattle.fact_action_laws.proofs.Placing.{leaves_wider}
 use Rattle.fact_action_laws.proofs.Plain.{both, does_aligned}
@@ -47,7 +47,7 @@ use Rattle.fact_action_laws.proofs.Rows.{row_crosses, row_items, row_weight}
 use Rattle.fact_action_laws.proofs.Spans.{parts_from, spots_from, flats_from, flats_to, spans_taken, SpansFit, IsSpansTarget, InSpans, SpansStand, spans_move, spans_never}
 use Rattle.fact_action_laws.proofs.Targets.{hold_length, values_length}
 use Rattle.fact_action_laws.specs.Judged.{RunsHonestly}
-use Rattle.fact_action_laws.specs.Lawful.{IsLawfulMove, Refuses}
+use Rattle.fact_action_laws.specs.MoveLaws.{IsLawfulMove, Refuses}
 
 -- ---- one member
 

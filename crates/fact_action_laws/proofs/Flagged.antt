@@ -9,8 +9,8 @@ use Rattle.std.proofs.lemmas.Bool.{eqb-true, leb-true}
 use Rattle.fact_types.specs.declared.flats.FlatType.TheVariants as flat_type
 use Rattle.fact_types.specs.declared.sizes.FlagsSize.{FlagsSize}
 use Rattle.fact_types.specs.declared.sizes.FlagsSize.TheVariants.{Size0, Size1, Size2, Size4Plus}
-use Rattle.fact_types.specs.declared.widths.MemoryWidth.{MemoryWidth}
-use Rattle.fact_types.specs.declared.widths.MemoryWidth.TheVariants.{Memory32, Memory64}
+use Rattle.fact_types.specs.declared.extents.MemoryWidth.{MemoryWidth}
+use Rattle.fact_types.specs.declared.extents.MemoryWidth.TheVariants.{Memory32, Memory64}
 use Rattle.fact_types.specs.Agrees.{HaveSameNames, names_of}
 use Rattle.fact_types.specs.FlatShapes.{flat}
 use Rattle.fact_types.specs.Options.{◌>>=◌}
@@ -31,7 +31,7 @@ use Rattle.fact_values.specs.Handles.{cross, cross_flags, flag_named, flags_name
 use Rattle.fact_values.specs.Load.{load}
 use Rattle.fact_values.specs.Weight.{weight}
 use Rattle.fact_action_laws.specs.Items.{items, numbers}
-use Rattle.fact_action_laws.specs.Law.{size_on}
+use Rattle.fact_action_laws.specs.MoveTerms.{size_on}
 use Rattle.fact_action_laws.specs.Places.{value_at_source, IsTarget, IsAtTarget, StandsAtTarget, IsGrounded}
 use Rattle.fact_action_laws.specs.Regions.{TransferSetting, IsInHand}
 use Rattle.fact_action_laws.proofs.Judges.{does_visit, does_more}
@@ -42,7 +42,7 @@ use Rattle.fact_action_laws.proofs.Products.{mapped}
 use Rattle.fact_values.specs.Numbers.{flags_of_number, number_in, number_of_words}
 use Rattle.fact_values.specs.Opened.{flags_in}
 use Rattle.fact_values.proofs.IsALaws.{bytes_same}
-use Rattle.fact_action_laws.specs.Lawful.{IsLawfulMove}
+use Rattle.fact_action_laws.specs.MoveLaws.{IsLawfulMove}
 
 -- ---- the room of flags
 

@@ -5,7 +5,7 @@ use Rattle.fact_types.specs.declared.flats.FlatType.{FlatType}
 use Rattle.fact_types.specs.declared.flats.FlatType.TheVariants as flat_type
 use Rattle.fact_types.specs.declared.interface.InterfaceType.{InterfaceType}
 use Rattle.fact_types.specs.declared.interface.InterfaceType.TheVariants as ty
-use Rattle.fact_types.specs.declared.widths.MemoryWidth.{MemoryWidth}
+use Rattle.fact_types.specs.declared.extents.MemoryWidth.{MemoryWidth}
 use Rattle.fact_types.specs.FlatShapes.{flat, flat_by, flat_members, flat_any, flat_plain, joined, times}
 use Rattle.fact_types.specs.Layout.{flags_size, flags_flat}
 use Rattle.fact_types.specs.Shapes.{Kind, k_record, k_variant, k_list, k_tuple, k_map, k_flags, k_enum, k_option, k_result, k_fixed, k_future, k_stream, Shape, s_plain, s_node, Members, no_members, bare, typed, layouts_of}
@@ -21,7 +21,7 @@ use Rattle.fact_types.specs.Options.{◌>>=◌}
 use Rattle.fact_values.specs.Places.{width_of, count_of_members, typed_names}
 use Rattle.std.specs.List.{zip}
 use Rattle.fact_types.specs.Agrees.{names_of}
-use Rattle.fact_action_laws.specs.Law.{IsWellFormedBy, IsWellFormed, AreWellFormed}
+use Rattle.fact_action_laws.specs.MoveTerms.{IsWellFormedBy, IsWellFormed, AreWellFormed}
 use Rattle.fact_values.specs.Formed.{AreBare}
 
 -- ---- lengths

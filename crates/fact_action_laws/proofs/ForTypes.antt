@@ -2,14 +2,14 @@
 use Rattle.std.proofs.Common.{◌≡◌, Option, Some, None, refl}
 use Rattle.fact_types.specs.declared.outside.CoreDef.{CoreDef}
 use Rattle.fact_types.specs.declared.outside.MemoryOption.{MemoryOption}
-use Rattle.fact_action_laws.specs.Law.{HasPointers}
+use Rattle.fact_action_laws.specs.MoveTerms.{HasPointers}
 use Rattle.fact_action_laws.specs.Places.{IsGrounded, HasKnownMemory}
 use Rattle.fact_action_laws.specs.Regions.{TransferSetting}
 use Rattle.fact_action_laws.proofs.Equipped.{IsEquipped}
 use Rattle.fact_action_laws.proofs.Fine.{known_at}
 use Rattle.fact_action_laws.proofs.TextLaw.{SideIsThere, text_law}
 use Rattle.fact_action_laws.proofs.Unread.{text_refuses}
-use Rattle.fact_action_laws.specs.Lawful.{Texts}
+use Rattle.fact_action_laws.specs.MoveLaws.{Texts}
 
 -- something that is there
 record Found {A : Type 0} (o : Option A) : Type 0 where

@@ -6,11 +6,11 @@ use Rattle.fact_entity.specs.declared.id.Id.{Id}
 use Rattle.fact_entity.specs.declared.table.TypeResourceTables.{TypeResourceTables}
 use Rattle.fact_entity.specs.declared.table.TypeComponentLocalErrorContextTables.{TypeComponentLocalErrorContextTables}
 use Rattle.fact_types.specs.Layout.{extent, scalar_layout}
-use Rattle.fact_types.specs.declared.widths.MemoryWidth.TheVariants.{Memory32, Memory64}
+use Rattle.fact_types.specs.declared.extents.MemoryWidth.TheVariants.{Memory32, Memory64}
 use Rattle.fact_types.specs.declared.flats.FlatType.TheVariants as flat_type
 use Rattle.fact_types.specs.declared.interface.InterfaceType.TheVariants as ty
 use Rattle.fact_types.specs.declared.outside.Trap.TheVariants.{InvalidChar}
-use Rattle.fact_types.specs.declared.widths.MemoryWidth.{MemoryWidth}
+use Rattle.fact_types.specs.declared.extents.MemoryWidth.{MemoryWidth}
 use Rattle.fact_types.specs.FlatShapes.{flat}
 use Rattle.fact_types.specs.Shapes.{k_future, k_stream, Shape, s_plain, s_node, Members}
 use Rattle.fact_types.proofs.ShapeLaws.{same_some, none_some}
@@ -39,9 +39,9 @@ use Rattle.fact_values.specs.Load.{load}
 use Rattle.fact_values.specs.Opened.{number_of_handle}
 use Rattle.fact_values.specs.Weight.{weight}
 use Rattle.fact_action_laws.specs.Footprints.{HasPlaced}
-use Rattle.fact_action_laws.specs.Honest.{IsHonestResult}
+use Rattle.fact_action_laws.specs.HonestMoves.{IsHonestResult}
 use Rattle.fact_action_laws.specs.Items.{HandleItem, items, handle_item, of_some, numbers, crossings, requests, AreItemCalls}
-use Rattle.fact_action_laws.specs.Law.{size_on, IsFit, IsMoved, MayStop}
+use Rattle.fact_action_laws.specs.MoveTerms.{size_on, IsFit, IsMoved, MayStop}
 use Rattle.fact_action_laws.specs.Places.{to_side, value_at_source, IsSource, IsTarget, IsAtTarget, StandsAtTarget, IsGrounded}
 use Rattle.fact_actions.specs.Regions.{Region}
 use Rattle.fact_action_laws.specs.Regions.{TransferSetting, IsInHand, regions_after, regions_by}
@@ -51,11 +51,11 @@ use Rattle.fact_action_laws.proofs.Numeric.{char_is, own_is, borrow_is, error_co
 use Rattle.fact_action_laws.proofs.Placing.{leaves_wider}
 use Rattle.fact_action_laws.proofs.Plain.{source_number, number_stands, does_aligned, reads_flat}
 use Rattle.fact_action_laws.proofs.Products.{mapped}
-use Rattle.fact_action_laws.proofs.Realloc.{does_pass, ready_later, narrow_value}
+use Rattle.fact_action_laws.proofs.NewRegions.{does_pass, ready_later, narrow_value}
 use Rattle.fact_action_laws.proofs.Targets.{left_true}
 use Rattle.fact_action_laws.proofs.Telling.{told_one}
 use Rattle.fact_action_laws.specs.Judged.{RunsHonestly}
-use Rattle.fact_action_laws.specs.Lawful.{IsLawfulMove}
+use Rattle.fact_action_laws.specs.MoveLaws.{IsLawfulMove}
 
 -- ---- characters
 

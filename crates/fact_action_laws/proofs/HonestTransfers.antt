@@ -23,7 +23,7 @@ use Rattle.fact_actions.specs.Regions.{IsAreaSound}
 use Rattle.fact_actions.specs.Running.{ImportPlaces, Ended, run}
 use Rattle.fact_action_laws.specs.Faithful.{ParamsAreThere}
 use Rattle.fact_action_laws.specs.FaithfulLaws.{IsCheckedAdapter}
-use Rattle.fact_action_laws.specs.TransferLaws.{HandedAreThere}
+use Rattle.fact_action_laws.specs.TransferLaws.{TakenAreThere}
 use Rattle.fact_action_laws.proofs.WorkedAdapters.{pair, pair_fine, taking, places, state, words, off, fields, a_b_fine, b_a_fine, taking_checked}
 
 module _ (instances : Id RuntimeInstances) where
@@ -90,6 +90,6 @@ module _ (instances : Id RuntimeInstances) where
   unfolding move_fields aligned
   results_arrive = refl
 
-  return_meets : IsHonestReturn at waiting (words (5 ∷ 7 ∷ 4 ∷ [])) before returning × HandedAreThere at waiting (words (5 ∷ 7 ∷ 4 ∷ [])) before × IsAreaSound at waiting (words (5 ∷ 7 ∷ 4 ∷ [])) before
+  return_meets : IsHonestReturn at waiting (words (5 ∷ 7 ∷ 4 ∷ [])) before returning × TakenAreThere at waiting (words (5 ∷ 7 ∷ 4 ∷ [])) before × IsAreaSound at waiting (words (5 ∷ 7 ∷ 4 ∷ [])) before
   unfolding move_fields aligned lift_leading AreWithinLimits
   return_meets = (record { state_typed = refl; args_typed = refl; typed = tt; honest = tt }, record { values = _; there = refl; bounds = (tt, (tt, tt)) }, (record { aligned = refl; inside = leb-true 12 12 refl }, tt))

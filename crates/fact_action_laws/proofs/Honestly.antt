@@ -13,7 +13,7 @@ use Rattle.fact_actions.specs.Calls.{nth_number, is_import_of, is_call_of_any}
 use Rattle.fact_actions.specs.Honest.{AreHonest}
 use Rattle.fact_actions.specs.Running.{Call, calls_in, run, ImportPlaces}
 use Rattle.fact_actions.specs.Sides.{first_bits, LiftLowerOptions, options_of}
-use Rattle.fact_action_laws.specs.Honest.{IsHonestRealloc, AreHonestCalls}
+use Rattle.fact_action_laws.specs.HonestMoves.{IsHonestRealloc, AreHonestCalls}
 use Rattle.fact_actions.specs.Regions.{Region, Position, IsInAny, IsHonestRegion, given_up, given_region, without, moved_on}
 use Rattle.fact_action_laws.specs.Regions.{TransferSetting, request_by, old_region, region_from, regions_by}
 use Rattle.fact_actions.specs.Order.{HaveTwoMemories, IsMemoryOf, IsValueCall}

@@ -22,7 +22,7 @@ use Rattle.fact_action_laws.proofs.Equipped.{IsEquipped}
 use Rattle.fact_action_laws.proofs.Stages.{Stage, amount_at}
 use Rattle.fact_action_laws.proofs.States.{from_bytes, to_bytes, There}
 use Rattle.fact_action_laws.proofs.ReadCalls.{SpellsSome}
-use Rattle.fact_action_laws.proofs.Reallocs.{Got}
+use Rattle.fact_action_laws.proofs.WalkReallocs.{Got}
 
 -- ---- numbers modulo a width
 

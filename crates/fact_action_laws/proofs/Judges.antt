@@ -20,7 +20,7 @@ use Rattle.fact_actions.specs.Running.{Call, Ended, Gave, Halted, Strayed, heavi
 use Rattle.fact_values.specs.Numbers.{number_in}
 use Rattle.fact_actions.specs.Regions.{Region}
 use Rattle.fact_action_laws.specs.Regions.{TransferSetting, regions_by, regions_after}
-use Rattle.fact_action_laws.specs.Honest.{IsHonestResult, AreHonestCalls}
+use Rattle.fact_action_laws.specs.HonestMoves.{IsHonestResult, AreHonestCalls}
 use Rattle.fact_actions.proofs.Binds.{binds_run}
 use Rattle.fact_action_laws.specs.Judged.{Judged, Judges, RunsHonestly}
 

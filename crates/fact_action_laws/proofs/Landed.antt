@@ -1,4 +1,4 @@
--- A transfer of parameters or results that was moved is one as fact_abi reads it.
+-- A transfer of parameters or results that was moved is one as fact_values reads it on both sides.
 use Rattle.std.proofs.Common.{◌≡◌, ℕ, Bool, true, false, List, [], ◌∷◌, ◌++◌, length, map, Option, Some, None, refl, sym, ap, ◌∙◌, subst, arith, append-nil}
 use Rattle.fact_wasm.specs.declared.types.ValType.{ValType}
 use Rattle.fact_types.specs.declared.flats.FlatType.{FlatType}
@@ -24,12 +24,12 @@ use Rattle.fact_values.specs.IsA.{AreMembers}
 use Rattle.fact_values.specs.Places.{typed_names}
 use Rattle.fact_values.specs.Tuples.{lift_all, load_tuple, behind_only, behind_last, where_flat, lift_param_values, sync_lower_results}
 use Rattle.fact_action_laws.specs.Faithful.{IsTransferred, AreCanonical}
-use Rattle.fact_action_laws.specs.Law.{AreWellFormed}
+use Rattle.fact_action_laws.specs.MoveTerms.{AreWellFormed}
 use Rattle.fact_action_laws.specs.Places.{to_side}
 use Rattle.fact_actions.specs.Regions.{Region}
 use Rattle.fact_action_laws.specs.Regions.{TransferSetting, IsInHand, AreBytesOf, regions_after}
 use Rattle.fact_action_laws.proofs.Landing.{bytes_there, stands_flat, stands_behind, behind_new, behind_return}
-use Rattle.fact_action_laws.proofs.Lawful.{AreMoved, MembersStand}
+use Rattle.fact_action_laws.proofs.MoveLaws.{AreMoved, MembersStand}
 use Rattle.fact_action_laws.proofs.Membered.{moved_carries, transferred_among}
 use Rattle.fact_action_laws.proofs.Transfers.{WentBy, IsPlaceOf, spot_of}
 use Rattle.fact_machine.specs.Typing.{address_operand}

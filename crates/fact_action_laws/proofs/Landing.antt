@@ -1,4 +1,4 @@
--- The values that stand at the destination of a transfer are the parameters and the results of fact_abi there.
+-- The values that stand at the destination of a transfer are the parameters and the results that fact_values lifts there.
 use Rattle.std.proofs.Common.{◌≡◌, ℕ, ◌+◌, ◌%◌, ◌^◌, ◌<◌, ◌≤◌, Bool, true, false, List, [], ◌∷◌, ◌++◌, length, map, Option, Some, None, refl, sym, ap, ◌∙◌, subst, mod-eq_of_lt}
 use Rattle.std.specs.Prelude.{nat_le, ◌==◌, if◌then◌else◌}
 use Rattle.std.proofs.lemmas.Bool.{false≢true, le-leb, eq-eqb}
@@ -6,7 +6,7 @@ use Rattle.std.proofs.lemmas.Option.{get_or_from_slice_get}
 use Rattle.fact_wasm.specs.declared.types.ValType.{ValType}
 use Rattle.fact_types.specs.declared.outside.StringEncoding.{StringEncoding}
 use Rattle.fact_types.specs.declared.flats.FlatType.{FlatType}
-use Rattle.fact_types.specs.declared.widths.MemoryWidth.{MemoryWidth}
+use Rattle.fact_types.specs.declared.extents.MemoryWidth.{MemoryWidth}
 use Rattle.fact_types.specs.Flat.{value_type}
 use Rattle.fact_types.specs.FlatShapes.{pointer, flat_each, flat_all, when_upto}
 use Rattle.fact_types.specs.Shapes.{Shape}
@@ -28,10 +28,10 @@ use Rattle.fact_values.specs.declared.value.Value.{Value}
 use Rattle.fact_values.specs.Load.{load_members}
 use Rattle.fact_values.specs.Texts.{lies_aligned}
 use Rattle.fact_values.specs.Tuples.{lift_all, load_tuple, behind, behind_last}
-use Rattle.fact_action_laws.specs.Law.{AreWellFormed}
+use Rattle.fact_action_laws.specs.MoveTerms.{AreWellFormed}
 use Rattle.fact_action_laws.specs.Places.{to_side}
 use Rattle.fact_action_laws.specs.Regions.{TransferSetting, AreBytesOf}
-use Rattle.fact_action_laws.proofs.Lawful.{MembersStand}
+use Rattle.fact_action_laws.proofs.MoveLaws.{MembersStand}
 use Rattle.fact_action_laws.proofs.Standing.{stands, all_stand, each_flat, lifts_all}
 use Rattle.fact_action_laws.proofs.Targets.{both_true, left_true, right_true}
 use Rattle.fact_action_laws.proofs.Transfers.{upto_is, flats_are}

@@ -1,7 +1,7 @@
 pub mod Adapted
-mod AdapterAsks
 pub mod AdapterRanges
 pub mod AdapterReads
+pub mod AdapterRequests
 mod AllAsked
 mod AllPaths
 mod AllRanged
@@ -11,6 +11,7 @@ mod Answered
 pub mod Apart
 mod Asking
 pub mod Assembled
+pub mod AsyncRequests
 mod Beginning
 pub mod Bounds
 pub mod Bytes
@@ -40,7 +41,6 @@ pub mod Finished
 mod FirstRequest
 pub mod FixedLaws
 pub mod Flagged
-pub mod FlaggedRequests
 pub mod Flats
 mod ForTypes
 pub mod Framed
@@ -61,7 +61,6 @@ pub mod Joins
 pub mod Judges
 pub mod Landed
 pub mod Landing
-pub mod Lawful
 mod Limited
 pub mod ListLaws
 pub mod Lists
@@ -69,7 +68,9 @@ pub mod MapLaws
 mod Means
 pub mod Membered
 pub mod Missing
+pub mod MoveLaws
 pub mod Never
+pub mod NewRegions
 pub mod NoCase
 pub mod NoLeaf
 pub mod NoList
@@ -81,7 +82,6 @@ mod PartAsks
 pub mod PartRooms
 pub mod PartTexts
 pub mod Parting
-pub mod Parts
 mod Passes
 mod PastLimits
 pub mod Placing
@@ -95,15 +95,12 @@ mod ReadCalls
 mod ReadRuns
 mod ReadWalks
 mod Reading
-pub mod Realloc
-mod Reallocs
 pub mod Records
 pub mod Refusals
 pub mod Refused
 pub mod Regional
 mod RequestCases
 pub mod RequestRooms
-pub mod Requests
 pub mod Returns
 pub mod Rows
 mod Served
@@ -130,7 +127,9 @@ pub mod Theorem
 pub mod Thrown
 mod Trails
 pub mod Transcoded
+mod TransferAsks
 pub mod TransferEnds
+pub mod TransferHonesty
 pub mod Transfers
 mod Trapped
 mod Trapping
@@ -143,6 +142,7 @@ mod TypedTexts
 mod Unread
 pub mod Variants
 mod WalkAsks
+mod WalkReallocs
 mod Walked
 mod Walking
 pub mod Weighed

@@ -5,9 +5,9 @@ use Rattle.std.specs.List.{flat_map}
 use Rattle.std.proofs.lemmas.List.{append-nil}
 use Rattle.std.proofs.lemmas.Bool.{le-leb}
 use Rattle.fact_wasm.specs.declared.types.ValType.{ValType}
-use Rattle.fact_types.specs.declared.widths.Extent.{Extent}
-use Rattle.fact_types.specs.declared.widths.MemoryWidth.{MemoryWidth}
-use Rattle.fact_types.specs.declared.widths.MemoryWidth.TheVariants.{Memory32, Memory64}
+use Rattle.fact_types.specs.declared.extents.Extent.{Extent}
+use Rattle.fact_types.specs.declared.extents.MemoryWidth.{MemoryWidth}
+use Rattle.fact_types.specs.declared.extents.MemoryWidth.TheVariants.{Memory32, Memory64}
 use Rattle.fact_types.specs.FlatShapes.{pointer}
 use Rattle.fact_types.specs.Layout.{extent, pointer_pair_layout}
 use Rattle.fact_types.specs.Shapes.{Kind, k_list, Shape, s_node, Members, no_members, typed, layout_of, place_of}
@@ -35,13 +35,13 @@ use Rattle.fact_values.specs.Places.{Pair, pair_at, each_at, element_extent as a
 use Rattle.fact_values.specs.Texts.{lies_aligned}
 use Rattle.fact_values.specs.Weight.{weight, weight_element, weight_in}
 use Rattle.fact_action_laws.specs.Items.{RegionItem, items, items_fields, items_element, of_some, numbers, AreItemCalls}
-use Rattle.fact_action_laws.specs.Law.{HasPointers, moving, IsFit, IsMoved, MayStop}
+use Rattle.fact_action_laws.specs.MoveTerms.{HasPointers, moving, IsFit, IsMoved, MayStop}
 use Rattle.fact_action_laws.specs.Places.{from_side, to_side, value_at_source, IsTarget, IsAtTarget, StandsAtTarget, IsGrounded}
 use Rattle.fact_action_laws.specs.Regions.{TransferSetting, IsInHand}
 use Rattle.fact_action_laws.proofs.Elements.{each_at_map, each_holds_map, each_map, flat_each, sum_each, length_each, first_place, takes_some}
 use Rattle.fact_actions.proofs.ValidTypes.{single_extent}
 use Rattle.fact_action_laws.proofs.Judges.{does_visit, does_more}
-use Rattle.fact_action_laws.proofs.Lawful.{AreLawfulMoves}
+use Rattle.fact_action_laws.proofs.MoveLaws.{AreLawfulMoves}
 use Rattle.fact_action_laws.proofs.Lists.{ListFit, list_moves}
 use Rattle.fact_action_laws.proofs.Pairs.{pair_taken, IsPairAt}
 use Rattle.fact_action_laws.proofs.Placing.{leaves_wider}
@@ -49,7 +49,7 @@ use Rattle.fact_action_laws.proofs.Plain.{both, does_aligned}
 use Rattle.fact_action_laws.proofs.Products.{mapped}
 use Rattle.fact_action_laws.proofs.Rows.{row_crosses, row_items, row_weight, RowsStand, RowsFit}
 use Rattle.fact_action_laws.specs.Judged.{RunsHonestly}
-use Rattle.fact_action_laws.specs.Lawful.{IsLawfulMove}
+use Rattle.fact_action_laws.specs.MoveLaws.{IsLawfulMove}
 
 -- ---- elements
 

@@ -5,7 +5,7 @@ use Rattle.std.specs.List.{flat_map}
 use Rattle.std.proofs.lemmas.List.{append-nil}
 use Rattle.std.proofs.lemmas.Bool.{false≢true, lt-ltb, ltb-true, leb-true, eqb-true}
 use Rattle.fact_types.specs.declared.outside.Trap.TheVariants.{ListOutOfBounds}
-use Rattle.fact_types.specs.declared.widths.Extent.{Extent}
+use Rattle.fact_types.specs.declared.extents.Extent.{Extent}
 use Rattle.fact_types.specs.FlatShapes.{pointer}
 use Rattle.fact_types.specs.Shapes.{Members, ends_of}
 use Rattle.fact_types.specs.Signatures.{width}
@@ -23,16 +23,16 @@ use Rattle.fact_values.specs.Places.{Pair, each_at}
 use Rattle.fact_values.specs.Texts.{lies_aligned}
 use Rattle.fact_action_laws.specs.Footprints.{HasChanged}
 use Rattle.fact_action_laws.specs.Items.{RegionItem, numbers, AreItemCalls}
-use Rattle.fact_action_laws.specs.Law.{HasPointers, MayStop}
+use Rattle.fact_action_laws.specs.MoveTerms.{HasPointers, MayStop}
 use Rattle.fact_action_laws.specs.Places.{from_side, IsSource, IsTarget, IsAtTarget, IsGiven, HoldsMemories, IsGrounded}
 use Rattle.fact_actions.specs.Regions.{Region}
 use Rattle.fact_action_laws.specs.Regions.{TransferSetting, IsInHand, regions_after}
 use Rattle.fact_action_laws.proofs.Judges.{does_bind, does_more, does_unless, regions_append}
-use Rattle.fact_action_laws.proofs.Lawful.{AreLawfulMoves}
+use Rattle.fact_action_laws.proofs.MoveLaws.{AreLawfulMoves}
 use Rattle.fact_action_laws.proofs.Numbers.{flat_bound}
 use Rattle.fact_action_laws.proofs.Pairs.{address_bound, pair_taken, reads_pair, IsPairAt, PairWrote, does_write_pair}
 use Rattle.fact_action_laws.proofs.Placing.{leaves_wider, leaves_then}
-use Rattle.fact_action_laws.proofs.Realloc.{NewRegion, does_reallocate, does_check}
+use Rattle.fact_action_laws.proofs.NewRegions.{NewRegion, does_reallocate, does_check}
 use Rattle.fact_action_laws.proofs.Records.{stops_later}
 use Rattle.fact_action_laws.proofs.Regional.{leaves_new, no_numbers}
 use Rattle.fact_action_laws.proofs.Rows.{row_crosses, row_items, row_weight, RowsStand, RowsMoved, RowsFit, rows_move}

@@ -2,7 +2,7 @@
 use Rattle.std.proofs.Common.{◌≡◌, ℕ, ◌+◌, ◌*◌, ◌%◌, ◌≤◌, false, List, [], ◌∷◌, ◌++◌, length, map, Option, Some, None, refl, sym, ap, ◌∙◌, subst, arith}
 use Rattle.std.specs.Prelude.{sum_by, option_map}
 use Rattle.std.specs.List.{flat_map}
-use Rattle.fact_types.specs.declared.widths.Extent.{Extent}
+use Rattle.fact_types.specs.declared.extents.Extent.{Extent}
 use Rattle.fact_types.specs.FlatShapes.{pointer}
 use Rattle.fact_types.specs.Shapes.{k_map, Shape, s_node, Members, no_members, typed}
 use Rattle.fact_types.specs.Signatures.{width}
@@ -28,12 +28,12 @@ use Rattle.fact_values.specs.Opened.{map_entries_in}
 use Rattle.fact_values.specs.Places.{Pair, pair_at}
 use Rattle.fact_values.specs.Weight.{weight, weight_members, weight_in}
 use Rattle.fact_action_laws.specs.Items.{RegionItem, items, items_places, of_some, numbers, AreItemCalls}
-use Rattle.fact_action_laws.specs.Law.{HasPointers, moving, IsFit, IsMoved, MayStop}
+use Rattle.fact_action_laws.specs.MoveTerms.{HasPointers, moving, IsFit, IsMoved, MayStop}
 use Rattle.fact_action_laws.specs.Places.{from_side, to_side, value_at_source, IsTarget, IsAtTarget, StandsAtTarget, IsGrounded}
 use Rattle.fact_action_laws.specs.Regions.{TransferSetting, IsInHand}
 use Rattle.fact_action_laws.proofs.Elements.{each_at_map, each_map, flat_each, sum_each, length_each, takes_some}
 use Rattle.fact_action_laws.proofs.Judges.{does_visit, does_more}
-use Rattle.fact_action_laws.proofs.Lawful.{AreLawfulMoves}
+use Rattle.fact_action_laws.proofs.MoveLaws.{AreLawfulMoves}
 use Rattle.fact_action_laws.proofs.ListLaws.{ElementsOf, elements_are, elements_stand, behind_flat, behind_memory, pair_size}
 use Rattle.fact_action_laws.proofs.Lists.{ListFit, list_moves}
 use Rattle.fact_action_laws.proofs.Pairs.{pair_taken, IsPairAt}
@@ -43,7 +43,7 @@ use Rattle.fact_action_laws.proofs.Products.{mapped}
 use Rattle.fact_action_laws.proofs.Rows.{row_crosses, row_items, row_weight, RowsStand}
 use Rattle.fact_action_laws.proofs.Tuples.{crosses_alike, items_alike, weighs_alike}
 use Rattle.fact_action_laws.specs.Judged.{RunsHonestly}
-use Rattle.fact_action_laws.specs.Lawful.{IsLawfulMove}
+use Rattle.fact_action_laws.specs.MoveLaws.{IsLawfulMove}
 
 -- ---- entries
 

@@ -27,7 +27,7 @@ use Rattle.fact_actions.specs.Strings.{PathPoint, path_start, amount, walk, form
 use Rattle.fact_action_laws.specs.FaithfulLaws.{setting_of_params, setting_of_results}
 use Rattle.fact_action_laws.specs.Regions.{TransferSetting}
 use Rattle.fact_action_laws.proofs.Called.{AllCalled, Calls, calls_give, calls_stop, calls_visit, calls_ask, calls_read, calls_write, calls_length, calls_bind, calls_slots, calls_slots_set, all_called}
-use Rattle.fact_action_laws.specs.Laws.{AreOfNoTranscoder, TranscodersNeedMeans}
+use Rattle.fact_action_laws.specs.AdapterValueLaws.{AreOfNoTranscoder, TranscodersNeedMeans}
 use Rattle.fact_action_laws.specs.Premises.{HasMeans}
 use Rattle.fact_action_laws.proofs.AllPaths.{limited}
 use Rattle.fact_action_laws.proofs.AllRuled.{AreRules, fields_ruled}

@@ -20,12 +20,12 @@ use Rattle.fact_values.specs.Places.{typed_names}
 use Rattle.fact_values.specs.Weight.{weight_members}
 use Rattle.fact_action_laws.specs.Faithful.{AreCarried, all_handles, IsTransferred}
 use Rattle.fact_action_laws.specs.Items.{items, items_fields, items_places, crossing, crossings, number_if, numbers}
-use Rattle.fact_action_laws.specs.Law.{AreTyped, ArePlaces, IsWellFormed, AreWellFormed}
+use Rattle.fact_action_laws.specs.MoveTerms.{AreTyped, ArePlaces, IsWellFormed, AreWellFormed}
 use Rattle.fact_action_laws.specs.Places.{to_side}
 use Rattle.fact_actions.specs.Regions.{Region}
 use Rattle.fact_action_laws.specs.Regions.{TransferSetting}
 use Rattle.fact_action_laws.proofs.Crossed.{handles_in, handles_append, told_crossings, handles_are}
-use Rattle.fact_action_laws.proofs.Lawful.{AreMoved, fields_weight}
+use Rattle.fact_action_laws.proofs.MoveLaws.{AreMoved, fields_weight}
 use Rattle.fact_action_laws.proofs.Plain.{both}
 use Rattle.fact_action_laws.proofs.Regional.{no_numbers}
 use Rattle.fact_action_laws.proofs.Telling.{crossings_append}

@@ -5,8 +5,8 @@ use Rattle.std.specs.List.{zip}
 use Rattle.std.specs.Str.{bytes_eq}
 use Rattle.std.proofs.lemmas.List.{drop-drop, take-append-drop}
 use Rattle.fact_types.specs.declared.outside.StringEncoding.{StringEncoding}
-use Rattle.fact_types.specs.declared.widths.MemoryWidth.{MemoryWidth}
-use Rattle.fact_types.specs.declared.widths.MemoryWidth.TheVariants.{Memory32, Memory64}
+use Rattle.fact_types.specs.declared.extents.MemoryWidth.{MemoryWidth}
+use Rattle.fact_types.specs.declared.extents.MemoryWidth.TheVariants.{Memory32, Memory64}
 use Rattle.fact_types.specs.Agrees.{names_of}
 use Rattle.fact_types.specs.Fields.{Field, find, field_of}
 use Rattle.fact_types.specs.FlatShapes.{flat, flat_members}
@@ -28,14 +28,14 @@ use Rattle.fact_values.specs.Lift.{lift_leading, lift_members}
 use Rattle.fact_values.specs.Load.{load, load_members}
 use Rattle.fact_types.specs.Options.{◌>>=◌ as and_then}
 use Rattle.fact_values.specs.Limits.{place_in}
-use Rattle.fact_action_laws.specs.Law.{AreTyped, AreWellFormed}
+use Rattle.fact_action_laws.specs.MoveTerms.{AreTyped, AreWellFormed}
 use Rattle.fact_action_laws.specs.Places.{from_side, value_at_source, IsSource, HoldsMemories, IsGrounded}
 use Rattle.fact_actions.specs.Regions.{Region}
 use Rattle.fact_action_laws.specs.Regions.{TransferSetting, IsInHand, regions_after}
 use Rattle.fact_action_laws.proofs.Distinct.{other_name, distinct_later, same_name}
 use Rattle.fact_action_laws.proofs.Fields.{members_taken, here, later, in_width, place_in_width, next_in_width, part_source}
 use Rattle.fact_action_laws.proofs.Flats.{flat_lengths, value_leads}
-use Rattle.fact_action_laws.proofs.Lawful.{IsMembersTarget}
+use Rattle.fact_action_laws.proofs.MoveLaws.{IsMembersTarget}
 use Rattle.fact_action_laws.proofs.Never.{never_first, never_after}
 use Rattle.fact_action_laws.proofs.Plain.{does_aligned}
 use Rattle.fact_action_laws.proofs.Products.{product_target}
@@ -44,7 +44,7 @@ use Rattle.fact_action_laws.proofs.Refusals.{RefusesFields, never_visit}
 use Rattle.fact_action_laws.proofs.Targets.{field_target, others_target}
 use Rattle.fact_action_laws.proofs.Weights.{In, in_at}
 use Rattle.fact_action_laws.specs.Judged.{GivesNothing}
-use Rattle.fact_action_laws.specs.Lawful.{IsLawfulMove, Refuses}
+use Rattle.fact_action_laws.specs.MoveLaws.{IsLawfulMove, Refuses}
 
 -- ---- fields that lift
 

@@ -21,7 +21,7 @@ use Rattle.fact_values.specs.Lift.{lift_leading, number_as}
 use Rattle.fact_values.specs.Load.{load, load_case}
 use Rattle.fact_types.specs.Options.{◌>>=◌ as and_then}
 use Rattle.fact_values.specs.Numbers.{number_in}
-use Rattle.fact_action_laws.specs.Law.{AreWellFormed, size_on}
+use Rattle.fact_action_laws.specs.MoveTerms.{AreWellFormed, size_on}
 use Rattle.fact_action_laws.specs.Places.{from_side, value_at_source, AreInRange, IsSource, IsTarget, HoldsMemories, IsGrounded, HasSideMemory}
 use Rattle.fact_actions.specs.Regions.{Region}
 use Rattle.fact_action_laws.specs.Regions.{TransferSetting, IsInHand, regions_after}
@@ -33,7 +33,7 @@ use Rattle.fact_action_laws.proofs.Numbers.{number_at_source, reads_number}
 use Rattle.fact_action_laws.proofs.Sums.{IsSumTarget, does_tag, target_later}
 use Rattle.fact_action_laws.proofs.Variants.{SumKind, loads_sum, lifts_sum, sum_flat, sum_number, any_room, case_formed, sum_target, sum_layout, does_sum, move_of}
 use Rattle.fact_action_laws.specs.Judged.{GivesNothing}
-use Rattle.fact_action_laws.specs.Lawful.{Refuses}
+use Rattle.fact_action_laws.specs.MoveLaws.{Refuses}
 
 -- ---- what is missing at a source
 

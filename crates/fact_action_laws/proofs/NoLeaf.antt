@@ -42,7 +42,7 @@ use Rattle.fact_action_laws.proofs.Refusals.{NumberAt, no_number, of_number, num
 use Rattle.fact_action_laws.proofs.Variants.{sum_number}
 use Rattle.fact_values.specs.Formed.{AreBare}
 use Rattle.fact_action_laws.specs.Judged.{GivesNothing}
-use Rattle.fact_action_laws.specs.Lawful.{Refuses}
+use Rattle.fact_action_laws.specs.MoveLaws.{Refuses}
 
 -- ---- handles
 

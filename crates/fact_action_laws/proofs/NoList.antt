@@ -3,7 +3,7 @@ use Rattle.std.proofs.Common.{◌≡◌, ℕ, zero, suc, ◌+◌, ◌*◌, ◌%�
 use Rattle.std.specs.Prelude.{nat_lt, nat_le, ◌&&◌, if◌then◌else◌, option_map}
 use Rattle.std.proofs.lemmas.Bool.{le-leb}
 use Rattle.fact_types.specs.declared.outside.Trap.TheVariants.{ListOutOfBounds}
-use Rattle.fact_types.specs.declared.widths.Extent.{Extent}
+use Rattle.fact_types.specs.declared.extents.Extent.{Extent}
 use Rattle.fact_types.specs.Layout.{extent}
 use Rattle.fact_types.specs.Shapes.{k_list, k_map, Shape, s_node, Members, layout_of, ends_of}
 use Rattle.fact_types.specs.Signatures.{pointer_bytes, width}
@@ -23,23 +23,23 @@ use Rattle.fact_types.specs.Options.{◌>>=◌ as and_then}
 use Rattle.fact_values.specs.Numbers.{number_in}
 use Rattle.fact_values.specs.Places.{Pair, pair_at, each_at}
 use Rattle.fact_values.specs.Texts.{lies_aligned}
-use Rattle.fact_action_laws.specs.Law.{HasPointers}
+use Rattle.fact_action_laws.specs.MoveTerms.{HasPointers}
 use Rattle.fact_action_laws.specs.Places.{from_side, value_at_source, IsSource, HoldsMemories, IsGrounded, HasSideMemory}
 use Rattle.fact_actions.specs.Regions.{Region}
 use Rattle.fact_action_laws.specs.Regions.{TransferSetting, IsInHand, AreBytesOf, regions_after}
 use Rattle.fact_action_laws.proofs.Elements.{each_at_map}
 use Rattle.fact_action_laws.proofs.Fields.{members_taken}
-use Rattle.fact_action_laws.proofs.Lawful.{AreLawfulMoves}
+use Rattle.fact_action_laws.proofs.MoveLaws.{AreLawfulMoves}
 use Rattle.fact_action_laws.proofs.ListLaws.{one, unrow, row_loads, from_extent}
 use Rattle.fact_action_laws.proofs.MapLaws.{two, unpair, entry_at, members_load}
 use Rattle.fact_action_laws.proofs.Never.{never_unless, never_first, never_after, never_number, never_check}
 use Rattle.fact_action_laws.proofs.Numbers.{reads_number}
 use Rattle.fact_action_laws.proofs.Pairs.{same_bytes, pair_taken, reads_pair}
 use Rattle.fact_action_laws.proofs.Plain.{does_aligned}
-use Rattle.fact_action_laws.proofs.Realloc.{does_reallocate}
+use Rattle.fact_action_laws.proofs.NewRegions.{does_reallocate}
 use Rattle.fact_action_laws.proofs.Refusals.{RefusesFields, never_visit}
 use Rattle.fact_action_laws.specs.Judged.{GivesNothing}
-use Rattle.fact_action_laws.specs.Lawful.{Refuses}
+use Rattle.fact_action_laws.specs.MoveLaws.{Refuses}
 
 -- ---- a pair that is not there
 

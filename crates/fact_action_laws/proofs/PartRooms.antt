@@ -14,7 +14,7 @@ use Rattle.fact_types.specs.declared.flats.FlatType.TheVariants.{I32}
 use Rattle.fact_types.specs.declared.interface.InterfaceType.{InterfaceType}
 use Rattle.fact_types.specs.declared.interface.InterfaceType.TheVariants as ty
 use Rattle.fact_types.specs.declared.outside.StringEncoding.{StringEncoding}
-use Rattle.fact_types.specs.declared.widths.Extent.{Extent}
+use Rattle.fact_types.specs.declared.extents.Extent.{Extent}
 use Rattle.fact_types.proofs.ShapeLaws.{none_some, same_some}
 use Rattle.fact_machine.specs.declared.types.CoreValue.{CoreValue}
 use Rattle.fact_values.specs.declared.value.Value.{Value, out-Value}
@@ -31,7 +31,7 @@ use Rattle.fact_actions.specs.Strings.{form_in}
 use Rattle.fact_actions.specs.Requests.{RequestPart, TextPart, list_part}
 use Rattle.fact_actions.specs.Sides.{Source, Values, AtAddress, nth_part, side_abi, width_of_side}
 use Rattle.fact_action_laws.specs.Items.{ValueItem, TextItem, chars_in, items, items_fields, items_case, items_places, items_element, of_some, region_item}
-use Rattle.fact_action_laws.specs.Law.{HasPointers, IsWellFormed, AreTyped, AreWellFormed, IsSupplied, AreSupplied}
+use Rattle.fact_action_laws.specs.MoveTerms.{HasPointers, IsWellFormed, AreTyped, AreWellFormed, IsSupplied, AreSupplied}
 use Rattle.fact_action_laws.specs.Places.{from_side, to_side, value_at_source, AreInRange, IsSource, HasSideMemory}
 use Rattle.fact_action_laws.specs.Regions.{TransferSetting}
 use Rattle.fact_action_laws.proofs.Distinct.{case_named, each_agrees, places_agree}
@@ -51,7 +51,7 @@ use Rattle.fact_action_laws.proofs.Tuples.{places_fields, items_alike}
 use Rattle.fact_action_laws.proofs.Variants.{SumKind, a_variant, an_option, a_result, sum_taken, sum_number, case_formed}
 use Rattle.fact_action_laws.proofs.Weights.{taken_length}
 use Rattle.fact_action_laws.proofs.Plain.{both}
-use Rattle.fact_action_laws.specs.Laws.{PartsTakeNoMore}
+use Rattle.fact_action_laws.specs.AdapterValueLaws.{PartsTakeNoMore}
 use Rattle.fact_action_laws.specs.Parts.{pair_of_source, case_of_source, parts_of_some, parts_of_each, parts_of_plain, parts_of, parts_of_fields, parts_of_case}
 use Rattle.fact_action_laws.specs.Rooms.{parts_bytes, items_bytes}
 use Rattle.fact_action_laws.proofs.Encoded.{AreSmallBytes}

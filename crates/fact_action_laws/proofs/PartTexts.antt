@@ -3,7 +3,7 @@ use Rattle.std.specs.Prelude.{◌≡◌, ℕ, ◌+◌, ◌*◌, ◌%◌, ◌≤�
 use Rattle.fact_values.specs.Texts.{unit_bytes}
 use Rattle.fact_actions.specs.Paths.{TextForm}
 use Rattle.fact_actions.specs.Requests.{RequestPart, RegionPart, TextPart}
-use Rattle.fact_action_laws.specs.Law.{HasPointers}
+use Rattle.fact_action_laws.specs.MoveTerms.{HasPointers}
 use Rattle.fact_action_laws.specs.Regions.{TransferSetting}
 use Rattle.fact_action_laws.proofs.Spelled.{SpellsText, form_align, form_encoding}
 

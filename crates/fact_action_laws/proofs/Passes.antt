@@ -16,7 +16,7 @@ use Rattle.fact_values.specs.Lift.{bits_of}
 use Rattle.fact_actions.specs.Strings.{PathPoint, minus, amount, passed, source_args, target_args}
 use Rattle.fact_values.specs.Texts.{AreSpelled, unit_bytes, spelled_text, units_of_text}
 use Rattle.fact_actions.specs.Transcoders.{TranscodeKind, AllUnits, Counted, Fitting, Narrow, Tagged, Widening, transcode_kind, from_encoding, to_encoding, Room, IsHonestPass}
-use Rattle.fact_action_laws.specs.Honest.{IsTranscoded}
+use Rattle.fact_action_laws.specs.HonestMoves.{IsTranscoded}
 use Rattle.fact_actions.specs.Regions.{Region, IsIn}
 use Rattle.fact_action_laws.specs.Regions.{TransferSetting}
 use Rattle.fact_actions.specs.Calls.{nth_number}

@@ -34,12 +34,12 @@ use Rattle.fact_actions.specs.Sides.{LiftLowerOptions, Transfer, Source, Values,
 use Rattle.fact_actions.specs.Strings.{PathPoint, path_start, check_text, choose_action, form_in, most_string_bytes, passed, source_args, target_args, walk}
 use Rattle.fact_actions.specs.Transcoders.{TranscodeKind, AllUnits, Counted, Fitting, Narrow, Tagged, Widening, Room, IsHonestPass, StopsBy, from_encoding, numbers_answered, to_encoding, transcode_kind, transcode_types}
 use Rattle.fact_actions.proofs.OwnParts.{bits_address}
-use Rattle.fact_action_laws.specs.Honest.{IsTranscoded}
+use Rattle.fact_action_laws.specs.HonestMoves.{IsTranscoded}
 use Rattle.fact_action_laws.specs.Places.{IsSource}
 use Rattle.fact_action_laws.specs.Regions.{TransferSetting}
 use Rattle.fact_action_laws.proofs.Numbers.{number_at_source}
 use Rattle.fact_action_laws.proofs.Pairs.{pair_read, pair_taken}
-use Rattle.fact_action_laws.specs.Laws.{LimitsAreThoseOfPaths, LongWalksTrap, TextsPastLimitsTrap, SomeTextsOutgrow}
+use Rattle.fact_action_laws.specs.AdapterValueLaws.{LimitsAreThoseOfPaths, LongWalksTrap, TextsPastLimitsTrap, SomeTextsOutgrow}
 use Rattle.fact_action_laws.specs.PastLimits.{first_factor, greatest_factor, OutgrowsFirst}
 use Rattle.fact_action_laws.proofs.AllPaths.{limited}
 use Rattle.fact_action_laws.proofs.Bounds.{length_text}

@@ -4,7 +4,7 @@ use Rattle.std.specs.Prelude.{if◌then◌else◌}
 use Rattle.fact_types.specs.declared.flats.FlatType.{FlatType}
 use Rattle.fact_types.specs.declared.flats.FlatType.TheVariants as flat_type
 use Rattle.fact_types.specs.declared.interface.InterfaceType.{InterfaceType}
-use Rattle.fact_types.specs.declared.widths.MemoryWidth.TheVariants.{Memory32}
+use Rattle.fact_types.specs.declared.extents.MemoryWidth.TheVariants.{Memory32}
 use Rattle.fact_types.specs.FlatShapes.{flat, flat_plain}
 use Rattle.fact_types.specs.Shapes.{Shape, s_plain}
 use Rattle.fact_types.proofs.ShapeLaws.{none_some}
@@ -26,7 +26,7 @@ use Rattle.fact_values.specs.Numbers.{plain_of, value_of_number, number_in}
 use Rattle.fact_values.specs.Places.{extent_on}
 use Rattle.fact_values.specs.Weight.{weight}
 use Rattle.fact_action_laws.specs.Items.{items, numbers, AreItemCalls}
-use Rattle.fact_action_laws.specs.Law.{size_on, IsMoved, MayStop}
+use Rattle.fact_action_laws.specs.MoveTerms.{size_on, IsMoved, MayStop}
 use Rattle.fact_action_laws.specs.Places.{from_side, to_side, value_at_source, IsInRange, IsSource, IsTarget, IsAtTarget, StandsAtTarget, HoldsMemories, IsGrounded}
 use Rattle.fact_actions.specs.Regions.{Region}
 use Rattle.fact_action_laws.specs.Regions.{TransferSetting, IsInHand}

@@ -13,7 +13,7 @@ use Rattle.fact_types.specs.Valid.{IsRuled, AreRuled, AreDistinct}
 use Rattle.fact_types.proofs.ShapeLaws.{same_some, none_some}
 use Rattle.fact_values.specs.Formed.{AreBare}
 use Rattle.fact_values.specs.Limits.{CaseType, case_type}
-use Rattle.fact_action_laws.specs.Law.{AreTyped, IsWellFormed, AreWellFormed}
+use Rattle.fact_action_laws.specs.MoveTerms.{AreTyped, IsWellFormed, AreWellFormed}
 use Rattle.fact_action_laws.proofs.Distinct.{case_named, each_agrees}
 use Rattle.fact_action_laws.specs.FaithfulLaws.{AreWellFormedTypes, OwnMemoriesServe}
 use Rattle.fact_action_laws.proofs.Grounding.{members_ruled, members_have_pointers}

@@ -35,7 +35,7 @@ use Rattle.fact_actions.proofs.OwnParts.{same_self}
 use Rattle.fact_types.specs.FlatShapes.{flat_all}
 use Rattle.fact_action_laws.specs.Faithful.{IsTransferred, params_given, params_passed}
 use Rattle.fact_action_laws.specs.FaithfulLaws.{quiet, IsCheckedAdapter, TextsMove}
-use Rattle.fact_action_laws.specs.Honest.{AreHonestCalls}
+use Rattle.fact_action_laws.specs.HonestMoves.{AreHonestCalls}
 use Rattle.fact_action_laws.specs.Judged.{GivesNothing}
 use Rattle.fact_action_laws.specs.Places.{to_side}
 use Rattle.fact_action_laws.specs.Regions.{TransferSetting}
@@ -52,7 +52,7 @@ use Rattle.fact_action_laws.proofs.Stopping.{set_if, IsEntered, IsPassedOn, call
 use Rattle.fact_action_laws.proofs.Transfers.{ComeBy}
 use Rattle.fact_action_laws.proofs.TypedArgs.{lower_numeric, AreNumeric}
 use Rattle.fact_action_laws.proofs.Weighed.{does_give_so}
-use Rattle.fact_action_laws.specs.Laws.{CalleesAreGiven}
+use Rattle.fact_action_laws.specs.AdapterValueLaws.{CalleesAreGiven}
 use Rattle.fact_action_laws.specs.Trapped.{AreHonestUntilTrap, IsHonestUntilTrap}
 use Rattle.fact_action_laws.proofs.Finished.{texts_move}
 use Rattle.fact_action_laws.proofs.Trapped.{IsBehind, last_behind, both_empty}

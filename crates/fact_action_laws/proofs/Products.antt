@@ -26,16 +26,16 @@ use Rattle.fact_values.specs.Opened.{fields_in, members_in}
 use Rattle.fact_values.specs.Places.{typed_names}
 use Rattle.fact_values.specs.Weight.{weight, weight_members, weight_in}
 use Rattle.fact_action_laws.specs.Items.{ValueItem, items, items_fields, items_places, of_some, numbers, AreItemCalls}
-use Rattle.fact_action_laws.specs.Law.{IsFit, IsMoved, MayStop}
+use Rattle.fact_action_laws.specs.MoveTerms.{IsFit, IsMoved, MayStop}
 use Rattle.fact_action_laws.specs.Places.{to_side, value_at_source, IsTarget, IsAtTarget, StandsAtTarget, IsGrounded}
 use Rattle.fact_action_laws.specs.Regions.{TransferSetting, IsInHand}
 use Rattle.fact_action_laws.proofs.Fields.{members_taken}
 use Rattle.fact_action_laws.proofs.Judges.{does_visit, does_more}
-use Rattle.fact_action_laws.proofs.Lawful.{IsMembersTarget, IsAmong, MembersStand, AreFit, fields_weight, AreLawfulMoves}
+use Rattle.fact_action_laws.proofs.MoveLaws.{IsMembersTarget, IsAmong, MembersStand, AreFit, fields_weight, AreLawfulMoves}
 use Rattle.fact_action_laws.proofs.Plain.{does_aligned}
 use Rattle.fact_action_laws.proofs.Placing.{leaves_wider}
 use Rattle.fact_action_laws.specs.Judged.{RunsHonestly}
-use Rattle.fact_action_laws.specs.Lawful.{IsLawfulMove}
+use Rattle.fact_action_laws.specs.MoveLaws.{IsLawfulMove}
 
 pub record Mapped {A B : Type 0} (q : Option A) (f : A → B) (y : B) : Type 0 where
   pub mid : A

@@ -25,7 +25,7 @@ use Rattle.fact_actions.specs.Running.{Call, Ended, Gave, Halted, Strayed, ended
 use Rattle.fact_actions.specs.Sides.{LiftLowerOptions, with_memory, first_bits, address_value, type_of_addresses, check_region, get_slots, set_slots, reallocate}
 use Rattle.fact_actions.proofs.Binds.{binds_run}
 use Rattle.fact_actions.proofs.States.{and_left, and_right}
-use Rattle.fact_action_laws.specs.Honest.{AreHonestCalls}
+use Rattle.fact_action_laws.specs.HonestMoves.{AreHonestCalls}
 use Rattle.fact_action_laws.specs.Regions.{TransferSetting, AreBytesOf, regions_after}
 use Rattle.fact_action_laws.proofs.Bytes.{get_set_other}
 use Rattle.fact_action_laws.proofs.Stopping.{AreReturned}

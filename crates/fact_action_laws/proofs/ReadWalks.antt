@@ -11,7 +11,7 @@ use Rattle.fact_actions.specs.Paths.{TextForm, path}
 use Rattle.fact_actions.specs.Regions.{Region, moved_on, without}
 use Rattle.fact_actions.specs.Running.{Call, Ended, Gave, Halted, Strayed, run}
 use Rattle.fact_actions.specs.Strings.{PathPoint, path_start, walk}
-use Rattle.fact_action_laws.specs.Honest.{AreHonestCalls}
+use Rattle.fact_action_laws.specs.HonestMoves.{AreHonestCalls}
 use Rattle.fact_action_laws.specs.Regions.{TransferSetting, regions_after, regions_by}
 use Rattle.fact_action_laws.specs.ReadTexts.{ReadTexts}
 use Rattle.fact_action_laws.specs.Trapped.{AreHonestUntilTrap}

@@ -24,19 +24,19 @@ use Rattle.fact_types.specs.Options.{◌>>=◌ as and_then}
 use Rattle.fact_values.specs.Places.{typed_names}
 use Rattle.fact_values.specs.Weight.{weight}
 use Rattle.fact_action_laws.specs.Items.{ValueItem, items, items_fields, of_some, numbers, AreItemCalls}
-use Rattle.fact_action_laws.specs.Law.{IsWellFormed, AreWellFormed, size_on, moving, IsFit, IsMoved, MayStop}
+use Rattle.fact_action_laws.specs.MoveTerms.{IsWellFormed, AreWellFormed, size_on, moving, IsFit, IsMoved, MayStop}
 use Rattle.fact_action_laws.specs.Places.{to_side, IsTarget, IsGiven, StandsAtTarget}
 use Rattle.fact_actions.specs.Regions.{Region}
 use Rattle.fact_action_laws.specs.Regions.{TransferSetting, IsInHand, regions_after}
 use Rattle.fact_action_laws.proofs.Fields.{field_taken}
 use Rattle.fact_action_laws.proofs.Flats.{value_leads}
 use Rattle.fact_action_laws.proofs.Judges.{does_give, does_bind, does_map, does_more}
-use Rattle.fact_action_laws.proofs.Lawful.{IsMembersTarget, IsAmong, MembersStand, AreFit, field_weight, fields_weight, AreMoved, AreLawfulMoves}
+use Rattle.fact_action_laws.proofs.MoveLaws.{IsMembersTarget, IsAmong, MembersStand, AreFit, field_weight, fields_weight, AreMoved, AreLawfulMoves}
 use Rattle.fact_action_laws.proofs.Placing.{placed_nothing, leaves_wider, leaves_then}
 use Rattle.fact_action_laws.proofs.Targets.{values_append, values_length, hold_length, field_target, others_target, apart, field_among, others_among, among_live}
 use Rattle.fact_action_laws.proofs.Telling.{numbers_append, told_append, begun_first, begun_later}
 use Rattle.fact_action_laws.specs.Judged.{RunsHonestly}
-use Rattle.fact_action_laws.specs.Lawful.{IsLawfulMove}
+use Rattle.fact_action_laws.specs.MoveLaws.{IsLawfulMove}
 
 -- ---- crossing
 

@@ -6,7 +6,7 @@ use Rattle.fact_types.specs.declared.flats.FlatType.{FlatType}
 use Rattle.fact_types.specs.declared.flats.FlatType.TheVariants as flat_type
 use Rattle.fact_types.specs.declared.interface.InterfaceType.{InterfaceType}
 use Rattle.fact_types.specs.declared.interface.InterfaceType.TheVariants as ty
-use Rattle.fact_types.specs.declared.widths.MemoryWidth.TheVariants.{Memory32}
+use Rattle.fact_types.specs.declared.extents.MemoryWidth.TheVariants.{Memory32}
 use Rattle.fact_types.specs.declared.outside.Trap.TheVariants.{InvalidChar}
 use Rattle.fact_types.specs.FlatShapes.{flat_members}
 use Rattle.fact_types.specs.Shapes.{s_plain, Members}
@@ -25,13 +25,13 @@ use Rattle.fact_action_laws.specs.Places.{from_side, value_at_source, IsSource, 
 use Rattle.fact_actions.specs.Regions.{Region}
 use Rattle.fact_action_laws.specs.Regions.{TransferSetting, IsInHand, AreBytesOf}
 use Rattle.fact_action_laws.proofs.Judges.{does_visit, does_more}
-use Rattle.fact_action_laws.proofs.Lawful.{IsMembersTarget}
+use Rattle.fact_action_laws.proofs.MoveLaws.{IsMembersTarget}
 use Rattle.fact_action_laws.proofs.Never.{never_number, never_unless}
 use Rattle.fact_action_laws.proofs.Numbers.{number_at_source, reads_number}
 use Rattle.fact_action_laws.proofs.Numeric.{IsNumeric, IsScalar, char_is}
 use Rattle.fact_action_laws.proofs.Plain.{does_aligned, reads_flat}
 use Rattle.fact_action_laws.specs.Judged.{GivesNothing}
-use Rattle.fact_action_laws.specs.Lawful.{Refuses}
+use Rattle.fact_action_laws.specs.MoveLaws.{Refuses}
 
 -- Fields of which not all lift are never moved.
 pub record RefusesFields (c : TransferSetting) (ms ns : Members) (e : ℕ) (Some_fail : Source → Type 0) : Type 0 where

@@ -19,15 +19,15 @@ use Rattle.fact_actions.specs.Moves.{move_fields, entry_extent}
 use Rattle.fact_actions.specs.Regions.{Region}
 use Rattle.fact_actions.specs.Sides.{Source, Values, AtAddress, Slots, Into, width_of_side, address_value, first_bits, reallocate}
 use Rattle.fact_values.specs.declared.value.Value.{Value}
-use Rattle.fact_action_laws.specs.Law.{CanAllocate, AreSupplied, AreWellFormed}
+use Rattle.fact_action_laws.specs.MoveTerms.{CanAllocate, AreSupplied, AreWellFormed}
 use Rattle.fact_action_laws.specs.Places.{IsSource, HoldsMemories, IsGrounded, HasSideMemory, from_side}
 use Rattle.fact_action_laws.specs.Regions.{TransferSetting, IsInHand, regions_after}
 use Rattle.fact_action_laws.proofs.Converse.{carries_fields, fields_refuse, places_lack}
 use Rattle.fact_action_laws.proofs.Fields.{members_taken}
-use Rattle.fact_action_laws.proofs.Lawful.{AreLawfulMoves}
+use Rattle.fact_action_laws.proofs.MoveLaws.{AreLawfulMoves}
 use Rattle.fact_action_laws.proofs.Membered.{members_typed, names_distinct, names_same}
 use Rattle.fact_action_laws.proofs.Never.{never_check, never_first}
-use Rattle.fact_action_laws.proofs.Realloc.{does_check, does_reallocate}
+use Rattle.fact_action_laws.proofs.NewRegions.{does_check, does_reallocate}
 use Rattle.fact_action_laws.proofs.Refusals.{RefusesFields}
 use Rattle.fact_action_laws.proofs.Theorem.{AreValid}
 use Rattle.fact_action_laws.proofs.Transfers.{ComeBy, IsPlaceOf, ends_at, leading, leads, slots_hold, results_hold, flats_are}
@@ -46,7 +46,7 @@ use Rattle.fact_types.specs.Flat.{value_type}
 use Rattle.fact_action_laws.proofs.Targets.{both_true, left_true, right_true}
 use Rattle.std.proofs.lemmas.List.{length-map}
 use Rattle.fact_action_laws.specs.Judged.{GivesNothing}
-use Rattle.fact_action_laws.specs.Lawful.{Texts}
+use Rattle.fact_action_laws.specs.MoveLaws.{Texts}
 
 -- tuples of which not all members lift are never moved
 pub tuple_lacks : (c : TransferSetting) → IsGrounded c → Texts c → (ts us : List Shape) → AgreesPlaces (tuple_members ts) (tuple_members us) → AreValid (tuple_members ts) → AreWellFormed (tuple_members ts) → AreValid (tuple_members us) → AreWellFormed (tuple_members us)

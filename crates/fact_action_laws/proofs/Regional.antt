@@ -7,7 +7,7 @@ use Rattle.fact_action_laws.specs.Items.{crossing, crossings, number_if, numbers
 use Rattle.fact_actions.specs.Regions.{Region}
 use Rattle.fact_action_laws.specs.Regions.{TransferSetting, IsInHand, regions_after}
 use Rattle.fact_action_laws.proofs.Judges.{regions_append}
-use Rattle.fact_action_laws.proofs.Realloc.{Made, NewRegion}
+use Rattle.fact_action_laws.proofs.NewRegions.{Made, NewRegion}
 
 -- a move into the region alone: seen from before, it changed nothing that was live
 pub placed_new : {m m1 m2 : List ℕ} {Live Live1 Live2 R : ℕ → Type 0} {P : List ℕ → Type 0} → Made m m1 Live Live1 R → HasPlaced m1 m2 Live1 Live2 R P → HasPlaced m m2 Live Live2 (λ j. ⊥) P

@@ -10,7 +10,7 @@ use Rattle.fact_actions.specs.Sides.{LiftLowerOptions, Transfer, first_bits, wra
 use Rattle.fact_machine.specs.Typing.{address_bits}
 use Rattle.fact_actions.specs.Strings.{PathPoint, path_start, amount, holds, with_tag, passed}
 use Rattle.fact_actions.specs.Transcoders.{TranscodeKind, Fitting, Widening, AllUnits, Counted, Narrow, Tagged, transcode_kind}
-use Rattle.fact_action_laws.specs.Laws.{RequestsTakeNoMore}
+use Rattle.fact_action_laws.specs.AdapterValueLaws.{RequestsTakeNoMore}
 use Rattle.fact_action_laws.specs.Rooms.{region_bytes, path_bytes, parts_bytes, request_bytes, requests_bytes, DoesNotGrow, OfNext, OfEither, CutsShrink, AllCutsShrink}
 
 -- ---- one request

@@ -34,17 +34,17 @@ use Rattle.fact_actions.specs.Sides.{Source, Values, AtAddress, Slots, Into, opt
 use Rattle.fact_actions.proofs.CheckedMoves.{return_checked}
 use Rattle.fact_action_laws.specs.Faithful.{flat_results_of, WhereGiven, weight_of_values}
 use Rattle.fact_action_laws.specs.FaithfulLaws.{quiet, setting_of_results, IsCheckedAdapter, TextsMove}
-use Rattle.fact_action_laws.specs.Honest.{AreHonestCalls}
-use Rattle.fact_action_laws.specs.Law.{AreWellFormed}
+use Rattle.fact_action_laws.specs.HonestMoves.{AreHonestCalls}
+use Rattle.fact_action_laws.specs.MoveTerms.{AreWellFormed}
 use Rattle.fact_action_laws.specs.Places.{to_side, IsSource}
 use Rattle.fact_action_laws.specs.Regions.{TransferSetting, IsInHand, AreBytesOf}
-use Rattle.fact_action_laws.specs.TransferLaws.{leading_results, results_handed, HasHandedResults, ReturnsAreFaithful, ReturnsWeigh}
+use Rattle.fact_action_laws.specs.TransferLaws.{leading_results, results_taken, HasHandedResults, ReturnsAreFaithful, ReturnsWeigh}
 use Rattle.fact_action_laws.proofs.Cleared.{IsButForFlags, without_flags, cleared_is}
 use Rattle.fact_action_laws.proofs.Deliveries.{results_setting, results_are_come, results_come_or_never, results_does, results_honest}
 use Rattle.fact_action_laws.proofs.Grounding.{source_typed}
 use Rattle.fact_action_laws.proofs.Landed.{flat_of, HasLanded, results_landed}
 use Rattle.fact_action_laws.proofs.Landing.{all_each, bytes_there, behind_return, stands_behind}
-use Rattle.fact_action_laws.proofs.Lawful.{AreMoved, MembersStand}
+use Rattle.fact_action_laws.proofs.MoveLaws.{AreMoved, MembersStand}
 use Rattle.fact_action_laws.proofs.Membered.{members_formed, moved_carries}
 use Rattle.fact_action_laws.specs.Judged.{GivesNothing}
 use Rattle.fact_action_laws.proofs.Starts.{flat_numeric, not_given, given_so}
@@ -194,7 +194,7 @@ module _ (p : ImportPlaces) (u : AdapterTunables) (a : LinkedAdapter) (x : IsChe
   -- What a run that gives something has done.
   pub record Handed (n : ℕ) (cs : List Call) (vs : List CoreValue) (s : MachineState) : Type 0 where
     pub handed : HasHandedResults p a args w.state cs vs s
-    pub weighs : n ≡ weight_of_values a.lift.results (results_handed p a args w.state)
+    pub weighs : n ≡ weight_of_values a.lift.results (results_taken p a args w.state)
 
   handed : (n : ℕ) (cs : List Call) (vs : List CoreValue) (w' : World) (s : MachineState) → run p (move_results (quiet u) a given (last_bits args)) meanwhile ≡ Gave n cs vs w' → s.memories ≡ w'.state.memories → AreHonestReturn p a args cs → Handed n cs vs s
   handed n cs vs w' s is same h = go (results_come_or_never p u a x texts args w.state typed given numeric given_typed meanwhile refl)
@@ -213,10 +213,10 @@ module _ (p : ImportPlaces) (u : AdapterTunables) (a : LinkedAdapter) (x : IsChe
           let formed = members_formed 0 a.lower.results x.lower_results.formed in
           let does = results_does p u a x texts args w.state typed given numeric given_typed meanwhile refl rs k.1 place in
           let moved = does_give_so c [] _ _ (move_results (quiet u) a given (last_bits args)) meanwhile n cs vs w' does is honest in
-          let landed = by_kind c a.lift.results rs come.are come.long (results_handed p a args w.state) come.answered a.lower m n cs vs args leading_types w' s same a.lower.async_side a.lower.results x.results_agree formed args_typed place moved in
+          let landed = by_kind c a.lift.results rs come.are come.long (results_taken p a args w.state) come.answered a.lower m n cs vs args leading_types w' s same a.lower.async_side a.lower.results x.results_agree formed args_typed place moved in
           record {
             handed = record { results = landed.transferred; canonical = landed.canonical };
-            weighs = moved_weighs c [] m a.lift.results a.lower.results (spot_of c a.lift.results a.lower.results (flat_results a.lower) (last_bits args)) rs n cs vs w' x.results_agree come.long moved (results_handed p a args w.state) come.answered;
+            weighs = moved_weighs c [] m a.lift.results a.lower.results (spot_of c a.lift.results a.lower.results (flat_results a.lower) (last_bits args)) rs n cs vs w' x.results_agree come.long moved (results_taken p a args w.state) come.answered;
           }
 
   -- the whole function, without debug checks

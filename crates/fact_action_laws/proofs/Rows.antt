@@ -21,12 +21,12 @@ use Rattle.fact_types.specs.Options.{◌>>=◌ as and_then}
 use Rattle.fact_values.specs.Places.{typed_names, each_at}
 use Rattle.fact_action_laws.specs.Footprints.{HasChanged}
 use Rattle.fact_action_laws.specs.Items.{ValueItem, items_fields, numbers, AreItemCalls}
-use Rattle.fact_action_laws.specs.Law.{moving, MayStop}
+use Rattle.fact_action_laws.specs.MoveTerms.{moving, MayStop}
 use Rattle.fact_action_laws.specs.Places.{from_side, to_side, HasSideMemory, HoldsMemories}
 use Rattle.fact_actions.specs.Regions.{Region}
 use Rattle.fact_action_laws.specs.Regions.{TransferSetting, IsInHand, regions_after}
 use Rattle.fact_action_laws.proofs.Judges.{does_give, does_bind, does_map, does_more}
-use Rattle.fact_action_laws.proofs.Lawful.{fields_weight, AreMoved, AreLawfulMoves}
+use Rattle.fact_action_laws.proofs.MoveLaws.{fields_weight, AreMoved, AreLawfulMoves}
 use Rattle.fact_action_laws.proofs.Placing.{placed_nothing, leaves_wider, leaves_then}
 use Rattle.fact_action_laws.proofs.Plain.{both}
 use Rattle.fact_action_laws.proofs.Records.{stops_first, stops_later}

@@ -15,7 +15,7 @@ use Rattle.fact_values.specs.Numbers.{plain_of}
 use Rattle.fact_values.proofs.FormedLaws.{each_entry}
 use Rattle.fact_values.proofs.MemberLaws.{names_told}
 use Rattle.fact_action_laws.specs.FaithfulLaws.{ShapesAreWellFormed, TuplesAgree}
-use Rattle.fact_action_laws.specs.Law.{AreTyped, ArePlaces, HasValues, IsWellFormedBy, IsWellFormed, AreWellFormed}
+use Rattle.fact_action_laws.specs.MoveTerms.{AreTyped, ArePlaces, HasValues, IsWellFormedBy, IsWellFormed, AreWellFormed}
 
 abbrev Told : Type 0
 Told = List (List ℕ × Option InterfaceType)

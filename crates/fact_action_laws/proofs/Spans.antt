@@ -20,13 +20,13 @@ use Rattle.fact_values.specs.Handles.{each_step, then_step, done_step}
 use Rattle.fact_types.specs.Options.{◌>>=◌ as and_then}
 use Rattle.fact_action_laws.specs.Footprints.{HasChanged}
 use Rattle.fact_action_laws.specs.Items.{numbers, AreItemCalls}
-use Rattle.fact_action_laws.specs.Law.{MayStop}
+use Rattle.fact_action_laws.specs.MoveTerms.{MayStop}
 use Rattle.fact_action_laws.specs.Places.{HasSideMemory, AreInRange, IsSource, IsGiven, HoldsMemories, can_hold_all}
 use Rattle.fact_actions.specs.Regions.{Region}
 use Rattle.fact_action_laws.specs.Regions.{TransferSetting, IsInHand, regions_after}
 use Rattle.fact_action_laws.proofs.Fields.{members_taken}
 use Rattle.fact_action_laws.proofs.Judges.{does_give, does_bind, does_map, does_more}
-use Rattle.fact_action_laws.proofs.Lawful.{AreMoved, AreLawfulMoves, IsMembersTarget, IsAmong, MembersStand, AreFit}
+use Rattle.fact_action_laws.proofs.MoveLaws.{AreMoved, AreLawfulMoves, IsMembersTarget, IsAmong, MembersStand, AreFit}
 use Rattle.fact_action_laws.proofs.Never.{never_first, never_after}
 use Rattle.fact_action_laws.proofs.Placing.{placed_nothing, leaves_wider, leaves_then}
 use Rattle.fact_action_laws.proofs.Plain.{both}

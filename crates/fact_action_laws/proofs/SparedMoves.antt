@@ -19,8 +19,8 @@ use Rattle.fact_types.specs.declared.interface.InterfaceType.TheVariants as ty
 use Rattle.fact_types.specs.declared.outside.CoreDef.{CoreDef}
 use Rattle.fact_types.specs.declared.outside.Trap.TheVariants.{ListOutOfBounds, MemoryOutOfBounds, InvalidChar, InvalidDiscriminant, CannotLeaveComponent}
 use Rattle.fact_types.specs.declared.outside.Transcode.{Transcode}
-use Rattle.fact_types.specs.declared.widths.MemoryWidth.{MemoryWidth}
-use Rattle.fact_types.specs.declared.widths.MemoryWidth.TheVariants.{Memory32, Memory64}
+use Rattle.fact_types.specs.declared.extents.MemoryWidth.{MemoryWidth}
+use Rattle.fact_types.specs.declared.extents.MemoryWidth.TheVariants.{Memory32, Memory64}
 use Rattle.fact_types.specs.Adapters.{LinkedAdapter, is_wide}
 use Rattle.fact_types.specs.Fields.{Field, field_of, find}
 use Rattle.fact_types.specs.FlatShapes.{IsCounted, AreCounted, pointer, flat, flat_plain, flat_members, times}

@@ -1,10 +1,10 @@
--- What stands at a destination is what fact_abi lifts there.
+-- What stands at a destination is what fact_values lifts there.
 use Rattle.std.proofs.Common.{◌≡◌, ℕ, suc, ◌≤◌, true, List, [], ◌∷◌, ◌++◌, length, length-append, map, take, drop, Option, Some, None, refl, sym, ap, ◌∙◌, arith}
 use Rattle.std.specs.Prelude.{if◌then◌else◌}
 use Rattle.std.proofs.lemmas.Bool.{false≢true}
 use Rattle.fact_types.specs.declared.flats.FlatType.{FlatType}
 use Rattle.fact_types.specs.declared.flats.FlatType.TheVariants as flat_type
-use Rattle.fact_types.specs.declared.widths.MemoryWidth.{MemoryWidth}
+use Rattle.fact_types.specs.declared.extents.MemoryWidth.{MemoryWidth}
 use Rattle.fact_types.specs.Flat.{value_type}
 use Rattle.fact_types.specs.FlatShapes.{flat, flat_members, flat_types, flat_each, after_flat}
 use Rattle.fact_types.specs.Shapes.{Shape}
@@ -19,7 +19,7 @@ use Rattle.fact_values.specs.declared.value.Value.{Value}
 use Rattle.fact_values.specs.Lift.{can_stand, can_stand_all, lift, lift_leading, lift_members}
 use Rattle.fact_types.specs.Options.{◌>>=◌}
 use Rattle.fact_values.specs.Tuples.{lift_all}
-use Rattle.fact_action_laws.specs.Law.{AreWellFormed}
+use Rattle.fact_action_laws.specs.MoveTerms.{AreWellFormed}
 use Rattle.fact_action_laws.proofs.FixedLaws.{leads_back}
 use Rattle.fact_action_laws.proofs.Plain.{both}
 use Rattle.fact_action_laws.proofs.Targets.{both_true, left_true, right_true}

@@ -26,9 +26,9 @@ use Rattle.fact_actions.specs.Sides.{options_of}
 use Rattle.fact_actions.proofs.CheckedMoves.{start_checked}
 use Rattle.fact_action_laws.specs.Faithful.{params_given, WhereGiven, weight_of_values}
 use Rattle.fact_action_laws.specs.FaithfulLaws.{quiet, IsCheckedAdapter, TextsMove}
-use Rattle.fact_action_laws.specs.Honest.{AreHonestCalls}
+use Rattle.fact_action_laws.specs.HonestMoves.{AreHonestCalls}
 use Rattle.fact_action_laws.specs.Regions.{TransferSetting}
-use Rattle.fact_action_laws.specs.TransferLaws.{HasStarted, StartsAreFaithful, StartsWeigh}
+use Rattle.fact_action_laws.specs.TransferLaws.{HasHandedParams, StartsAreFaithful, StartsWeigh}
 use Rattle.fact_action_laws.proofs.Cleared.{IsButForFlags, without_flags, cleared_is}
 use Rattle.fact_action_laws.proofs.Deliveries.{params_setting, params_are_come, params_come_or_never, params_does, params_honest}
 use Rattle.fact_action_laws.proofs.Landed.{flat_of, params_landed}
@@ -88,7 +88,7 @@ module _ (p : ImportPlaces) (u : AdapterTunables) (a : LinkedAdapter) (x : IsChe
 
   -- What a run that gives something has done.
   pub record Started (n : ℕ) (cs : List Call) (vs : List CoreValue) (s : MachineState) : Type 0 where
-    pub started : HasStarted p a args w.state cs vs s
+    pub started : HasHandedParams p a args w.state cs vs s
     pub weighs : n ≡ weight_of_values a.lower.params (params_given p a args w.state)
 
   started : (n : ℕ) (cs : List Call) (vs : List CoreValue) (w' : World) (s : MachineState) → run p (move_params (quiet u) a args) meanwhile ≡ Gave n cs vs w' → s.memories ≡ w'.state.memories → AreHonestStart p a cs → Started n cs vs s

@@ -33,7 +33,7 @@ use Rattle.fact_values.specs.Numbers.{number_in}
 use Rattle.fact_values.specs.Weight.{weight}
 use Rattle.fact_action_laws.specs.Footprints.{HasChanged}
 use Rattle.fact_action_laws.specs.Items.{items, items_case, of_some, numbers, AreItemCalls}
-use Rattle.fact_action_laws.specs.Law.{IsWellFormed, size_on, moving, IsFit, MayStop}
+use Rattle.fact_action_laws.specs.MoveTerms.{IsWellFormed, size_on, moving, IsFit, MayStop}
 use Rattle.fact_action_laws.specs.Places.{to_side, value_at_source, IsSource, IsTarget, IsAtTarget, IsGiven, StandsAtTarget, HoldsMemories, IsGrounded}
 use Rattle.fact_actions.specs.Regions.{Region}
 use Rattle.fact_action_laws.specs.Regions.{TransferSetting, IsInHand, regions_after}
@@ -45,7 +45,7 @@ use Rattle.fact_action_laws.proofs.Products.{fit_less}
 use Rattle.fact_action_laws.proofs.Records.{stops_later}
 use Rattle.fact_action_laws.proofs.Targets.{at_live, both_true, left_true, right_true, hold_length, values_length, values_append}
 use Rattle.fact_action_laws.specs.Judged.{RunsHonestly}
-use Rattle.fact_action_laws.specs.Lawful.{IsLawfulMove}
+use Rattle.fact_action_laws.specs.MoveLaws.{IsLawfulMove}
 
 -- ---- targets
 

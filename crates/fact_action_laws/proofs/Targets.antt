@@ -12,10 +12,10 @@ use Rattle.fact_machine.specs.declared.types.CoreValue.{CoreValue}
 use Rattle.fact_actions.specs.Moves.{spot, past}
 use Rattle.fact_machine.specs.Typed.{is_value, are_values}
 use Rattle.fact_actions.specs.Sides.{Target, Slots, Into, width_of_side}
-use Rattle.fact_action_laws.specs.Law.{size_on}
+use Rattle.fact_action_laws.specs.MoveTerms.{size_on}
 use Rattle.fact_action_laws.specs.Places.{can_hold, can_hold_all, IsTarget, IsAtTarget}
 use Rattle.fact_action_laws.specs.Regions.{TransferSetting}
-use Rattle.fact_action_laws.proofs.Lawful.{IsMembersTarget, IsAmong}
+use Rattle.fact_action_laws.proofs.MoveLaws.{IsMembersTarget, IsAmong}
 
 -- ---- tests
 

@@ -38,7 +38,7 @@ use Rattle.fact_values.specs.Places.{Pair, pair_at}
 use Rattle.fact_values.specs.Weight.{weight}
 use Rattle.fact_action_laws.specs.Footprints.{HasPlaced}
 use Rattle.fact_action_laws.specs.Items.{TextItem, chars_in, of_some, items, crossing, crossings, number_if, numbers, AreItemCalls, BeginItemCalls}
-use Rattle.fact_action_laws.specs.Law.{moving, IsFit, IsMoved, MayStop}
+use Rattle.fact_action_laws.specs.MoveTerms.{moving, IsFit, IsMoved, MayStop}
 use Rattle.fact_action_laws.specs.Places.{from_side, to_side, value_at_source, IsSource, IsTarget, IsAtTarget, StandsAtTarget, HoldsMemories, IsGrounded}
 use Rattle.fact_actions.specs.Regions.{Region, without, moved_on}
 use Rattle.fact_action_laws.specs.Regions.{TransferSetting, IsInHand, regions_after}
@@ -49,7 +49,7 @@ use Rattle.fact_action_laws.proofs.Pairs.{pair_taken, reads_pair, IsPairAt, does
 use Rattle.fact_action_laws.proofs.Placing.{leaves_wider, leaves_then}
 use Rattle.fact_action_laws.proofs.Plain.{both, does_aligned}
 use Rattle.fact_action_laws.proofs.Products.{mapped}
-use Rattle.fact_action_laws.proofs.Realloc.{does_check}
+use Rattle.fact_action_laws.proofs.NewRegions.{does_check}
 use Rattle.fact_action_laws.proofs.Stopping.{AreReturned}
 use Rattle.fact_action_laws.proofs.Sums.{target_later}
 use Rattle.fact_action_laws.proofs.Targets.{at_live}
@@ -67,7 +67,7 @@ use Rattle.fact_action_laws.proofs.Answered.{MovesAlong}
 use Rattle.fact_action_laws.proofs.Walking.{reads_in, few_calls, WalkReached, walks_path}
 use Rattle.fact_action_laws.proofs.Spelled.{form_align, form_encoding, in_form}
 use Rattle.fact_action_laws.specs.Judged.{RunsHonestly}
-use Rattle.fact_action_laws.specs.Lawful.{IsLawfulMove}
+use Rattle.fact_action_laws.specs.MoveLaws.{IsLawfulMove}
 
 -- ---- texts at sources
 

@@ -6,7 +6,7 @@ use Rattle.fact_types.specs.Agrees.{named, names_of, BothThere, Agrees, AgreesPl
 use Rattle.fact_types.specs.Fields.{Field, find}
 use Rattle.std.specs.Str.{bytes_eq}
 use Rattle.fact_types.specs.declared.flats.FlatType.{FlatType}
-use Rattle.fact_types.specs.declared.widths.MemoryWidth.TheVariants.{Memory32, Memory64}
+use Rattle.fact_types.specs.declared.extents.MemoryWidth.TheVariants.{Memory32, Memory64}
 use Rattle.fact_types.specs.FlatShapes.{flat, flat_plain}
 use Rattle.fact_machine.specs.declared.types.CoreValue.{CoreValue}
 use Rattle.fact_values.specs.declared.value.Value.{Value}
@@ -19,7 +19,7 @@ use Rattle.fact_types.specs.Valid.{AreRuled, IsValid, nesting, deepest_nesting, 
 use Rattle.fact_types.proofs.ShapeLaws.{none_some}
 use Rattle.fact_values.specs.Limits.{CaseType, case_type}
 use Rattle.fact_actions.specs.Sides.{Source, Values, AtAddress, width_of_side}
-use Rattle.fact_action_laws.specs.Law.{HasPointers, IsSupplied, AreSupplied, IsWellFormed, AreWellFormed, AreTyped, ArePlaces, size_on}
+use Rattle.fact_action_laws.specs.MoveTerms.{HasPointers, IsSupplied, AreSupplied, IsWellFormed, AreWellFormed, AreTyped, ArePlaces, size_on}
 use Rattle.fact_action_laws.specs.Places.{from_side, to_side, value_at_source, IsGrounded}
 use Rattle.fact_action_laws.specs.Regions.{TransferSetting}
 use Rattle.fact_action_laws.proofs.Cases.{count_same, tag_is}
@@ -30,7 +30,7 @@ use Rattle.fact_action_laws.proofs.Fields.{found_named, formed_found, found_has,
 use Rattle.fact_action_laws.proofs.FixedLaws.{fixed_law}
 use Rattle.fact_action_laws.proofs.Flagged.{flags_law}
 use Rattle.fact_action_laws.proofs.Handing.{char_law, own_law, borrow_law, error_context_law, future_law, stream_law}
-use Rattle.fact_action_laws.proofs.Lawful.{AreLawfulMoves}
+use Rattle.fact_action_laws.proofs.MoveLaws.{AreLawfulMoves}
 use Rattle.fact_action_laws.proofs.ListLaws.{list_law}
 use Rattle.fact_action_laws.proofs.MapLaws.{two, map_law}
 use Rattle.fact_action_laws.proofs.Numeric.{IsScalar, bool_scalar, s8_scalar, u8_scalar, s16_scalar, u16_scalar, s32_scalar, u32_scalar, s64_scalar, u64_scalar, float32_scalar, float64_scalar}
@@ -44,7 +44,7 @@ use Rattle.fact_action_laws.proofs.Weights.{taken_length, record_weight}
 use Rattle.fact_types.specs.PointerPairs.{has_pointer_pair, have_pointer_pair, is_string}
 use Rattle.std.proofs.lemmas.Bool.{false≢true}
 use Rattle.std.specs.Prelude.{Bool, true, false, ◌||◌}
-use Rattle.fact_action_laws.specs.Lawful.{IsLawfulMove}
+use Rattle.fact_action_laws.specs.MoveLaws.{IsLawfulMove}
 
 -- ---- members of valid types are valid
 

@@ -15,7 +15,7 @@ use Rattle.fact_actions.specs.Regions.{byte, IsIn}
 use Rattle.fact_actions.specs.Running.{ImportPlaces, Call}
 use Rattle.fact_actions.specs.Sides.{LiftLowerOptions}
 use Rattle.fact_actions.specs.Transcoders.{transcode_kind, from_encoding, IsHonestTranscoding}
-use Rattle.fact_action_laws.specs.Honest.{IsTranscoded}
+use Rattle.fact_action_laws.specs.HonestMoves.{IsTranscoded}
 use Rattle.fact_action_laws.specs.Regions.{TransferSetting}
 use Rattle.std.proofs.lemmas.Bool.{cases_lt}
 

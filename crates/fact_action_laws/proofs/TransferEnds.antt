@@ -26,13 +26,13 @@ use Rattle.fact_actions.specs.Sides.{options_of}
 use Rattle.fact_actions.proofs.AdapterEnds.{few_start_calls, few_return_calls}
 use Rattle.fact_action_laws.specs.Faithful.{params_given, weight_of_values, ParamsAreThere}
 use Rattle.fact_action_laws.specs.FaithfulLaws.{quiet, AreWellFormedTypes, IsCheckedAdapter, TextsMove}
-use Rattle.fact_action_laws.specs.Honest.{AreHonestCalls}
+use Rattle.fact_action_laws.specs.HonestMoves.{AreHonestCalls}
 use Rattle.fact_action_laws.specs.Items.{items_fields, BeginItemCalls, ValueItem}
 use Rattle.fact_action_laws.specs.Judged.{Judged, RunsHonestly}
-use Rattle.fact_action_laws.specs.Law.{MayStop}
+use Rattle.fact_action_laws.specs.MoveTerms.{MayStop}
 use Rattle.fact_action_laws.specs.Places.{to_side}
 use Rattle.fact_action_laws.specs.Regions.{TransferSetting, IsInHand}
-use Rattle.fact_action_laws.specs.TransferLaws.{leading_results, results_handed, HandedAreThere, EndsInFew, StartsComeToEnd, ReturnsComeToEnd}
+use Rattle.fact_action_laws.specs.TransferLaws.{leading_results, results_taken, TakenAreThere, EndsInFew, StartsComeToEnd, ReturnsComeToEnd}
 use Rattle.fact_action_laws.proofs.Cleared.{IsButForFlags, cleared_is}
 use Rattle.fact_action_laws.proofs.Coming.{come, within, come_all, within_all}
 use Rattle.fact_action_laws.proofs.Counted.{places_bound, begun_calls_few}
@@ -121,12 +121,12 @@ starts_come_to_end p u a args w x texts h off t =
 -- ---- results
 
 module _ (p : ImportPlaces) (u : AdapterTunables) (a : LinkedAdapter) (x : IsCheckedAdapter p a) (texts : TextsMove p u a) (args : List CoreValue) (w : World)
-    (typed : is_state p w.state ≡ true) (args_typed : are_values args (return_params a) ≡ true) (t : HandedAreThere p a args w.state) (area : IsAreaSound p a args w.state) where
+    (typed : is_state p w.state ≡ true) (args_typed : are_values args (return_params a) ≡ true) (t : TakenAreThere p a args w.state) (area : IsAreaSound p a args w.state) where
   abbrev r : TransferSetting
   r = returns.c p u a x texts args w typed args_typed
 
   abbrev handed_weight : ℕ
-  handed_weight = weight_of_values a.lift.results (results_handed p a args w.state)
+  handed_weight = weight_of_values a.lift.results (results_taken p a args w.state)
 
   -- the return area is in order
   abbrev area_by : Option (List ValType) → List Region

@@ -6,7 +6,7 @@ use Rattle.std.proofs.lemmas.List.{append-nil, take-append-le, drop-append-le, t
 use Rattle.fact_wasm.specs.declared.types.ValType.{ValType}
 use Rattle.fact_types.specs.declared.flats.FlatType.{FlatType}
 use Rattle.fact_types.specs.declared.flats.FlatType.TheVariants as flat_type
-use Rattle.fact_types.specs.declared.widths.MemoryWidth.{MemoryWidth}
+use Rattle.fact_types.specs.declared.extents.MemoryWidth.{MemoryWidth}
 use Rattle.fact_types.specs.declared.outside.Trap.TheVariants.{MemoryOutOfBounds}
 use Rattle.fact_types.specs.Fields.{Field, field_of}
 use Rattle.fact_types.specs.Flat.{value_type}
@@ -27,15 +27,15 @@ use Rattle.fact_actions.specs.Adapters.{check_tuple, from_values, into_params, f
 use Rattle.fact_values.specs.declared.value.Value.{Value}
 use Rattle.fact_values.specs.Places.{typed_names}
 use Rattle.fact_action_laws.specs.Items.{ValueItem, RegionItem, items_fields}
-use Rattle.fact_action_laws.specs.Law.{MayStop, CanAllocate}
+use Rattle.fact_action_laws.specs.MoveTerms.{MayStop, CanAllocate}
 use Rattle.fact_action_laws.specs.Places.{to_side, HasSideMemory, IsSource, HoldsMemories, can_hold, can_hold_all}
 use Rattle.fact_actions.specs.Regions.{Region}
 use Rattle.fact_action_laws.specs.Regions.{TransferSetting, IsInHand, regions_after}
 use Rattle.fact_action_laws.proofs.Fields.{members_taken}
 use Rattle.fact_action_laws.proofs.Judges.{does_give, does_bind}
-use Rattle.fact_action_laws.proofs.Lawful.{AreMoved, AreLawfulMoves, AreFit}
+use Rattle.fact_action_laws.proofs.MoveLaws.{AreMoved, AreLawfulMoves, AreFit}
 use Rattle.fact_action_laws.proofs.Missing.{found_within}
-use Rattle.fact_action_laws.proofs.Realloc.{NewRegion, does_reallocate, does_check}
+use Rattle.fact_action_laws.proofs.NewRegions.{NewRegion, does_reallocate, does_check}
 use Rattle.fact_action_laws.proofs.Records.{stops_later}
 use Rattle.fact_action_laws.proofs.Targets.{both_true}
 use Rattle.fact_action_laws.proofs.Telling.{told_one}

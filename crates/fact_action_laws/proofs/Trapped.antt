@@ -20,7 +20,7 @@ use Rattle.fact_actions.specs.Running.{ImportPlaces, Call, Ended, Gave, Halted, 
 use Rattle.fact_action_laws.proofs.Parting.{When, when_heavier, when_later, when_stray}
 use Rattle.fact_action_laws.proofs.Stopping.{AreReturned, returned_behind}
 use Rattle.fact_action_laws.proofs.Ending.{honest_returned}
-use Rattle.fact_action_laws.specs.Laws.{AnswersAreSoFar}
+use Rattle.fact_action_laws.specs.AdapterValueLaws.{AnswersAreSoFar}
 use Rattle.fact_action_laws.specs.Trapped.{AreHonestUntilTrap, has_returned, HaveReturned, answers_so_far}
 
 -- ---- what gave something had an answer of each call

@@ -29,7 +29,7 @@ use Rattle.fact_actions.specs.Regions.{Region}
 use Rattle.fact_actions.specs.Running.{Call, Ended, Gave, Halted, Strayed, heavier, later, then_ended, or_strayed, ended, if_typed, is_answer, with_answer, call_of, run}
 use Rattle.fact_actions.specs.Sides.{LiftLowerOptions, address_value, type_of_addresses, first_bits, with_memory, check_region, get_slots, set_slots, reallocate}
 use Rattle.fact_actions.proofs.Binds.{binds_run}
-use Rattle.fact_action_laws.specs.Honest.{IsHonestRealloc}
+use Rattle.fact_action_laws.specs.HonestMoves.{IsHonestRealloc}
 use Rattle.fact_action_laws.specs.Regions.{TransferSetting, regions_by}
 use Rattle.fact_action_laws.specs.PastLimits.{IsHonestOrTrap, AreHonestOrTraps, IsLastOf, EndsAtTrap}
 use Rattle.fact_action_laws.proofs.Equipped.{IsEquipped}

@@ -24,7 +24,7 @@ use Rattle.fact_actions.specs.Sides.{Source, Values, AtAddress, options_of, side
 use Rattle.fact_action_laws.specs.Faithful.{params_given}
 use Rattle.fact_action_laws.specs.FaithfulLaws.{AreWellFormedTypes, setting_of_params, setting_of_results, IsCheckedAdapter}
 use Rattle.fact_action_laws.specs.Items.{items_places}
-use Rattle.fact_action_laws.specs.Law.{AreSupplied}
+use Rattle.fact_action_laws.specs.MoveTerms.{AreSupplied}
 use Rattle.fact_action_laws.specs.Places.{to_side}
 use Rattle.fact_action_laws.specs.Regions.{TransferSetting}
 use Rattle.fact_action_laws.proofs.Coming.{come, come_all}
@@ -35,7 +35,7 @@ use Rattle.fact_action_laws.proofs.Missing.{found_within}
 use Rattle.fact_action_laws.proofs.Transfers.{ComeBy, leading, take_within}
 use Rattle.fact_action_laws.proofs.TypedArgs.{lower_numeric, lift_numeric}
 use Rattle.fact_action_laws.proofs.Weights.{taken_length}
-use Rattle.fact_action_laws.specs.Laws.{ParamsTakeNoMore, ResultsTakeNoMore}
+use Rattle.fact_action_laws.specs.AdapterValueLaws.{ParamsTakeNoMore, ResultsTakeNoMore}
 use Rattle.fact_action_laws.specs.Parts.{parts_of_some, parts_of, parts_of_fields}
 use Rattle.fact_action_laws.specs.Requested.{params_parts, results_parts}
 use Rattle.fact_action_laws.specs.Rooms.{part_bytes, parts_bytes, items_bytes}

@@ -20,7 +20,7 @@ use Rattle.fact_actions.specs.Running.{ImportPlaces, is_state}
 use Rattle.fact_actions.specs.Sides.{Values, AtAddress, options_of, side_abi, first_bits}
 use Rattle.fact_action_laws.specs.Faithful.{params_given}
 use Rattle.fact_action_laws.specs.FaithfulLaws.{AreWellFormedTypes, HasSyncSides, setting_of_params, setting_of_results, IsCheckedAdapter}
-use Rattle.fact_action_laws.specs.Law.{AreSupplied}
+use Rattle.fact_action_laws.specs.MoveTerms.{AreSupplied}
 use Rattle.fact_action_laws.specs.Regions.{TransferSetting}
 use Rattle.fact_action_laws.proofs.Coming.{come, come_all}
 use Rattle.fact_action_laws.proofs.FaithfulRuns.{synced, synced_is}

@@ -1,4 +1,4 @@
--- What fact_abi lifts from the core values of a side is what comes in by them.
+-- What fact_values lifts from the core values of a side is what comes in by them.
 use Rattle.std.proofs.Common.{◌≡◌, ℕ, zero, suc, ◌+◌, ◌%◌, ◌≤◌, Bool, true, false, List, [], ◌∷◌, length, take, drop, Some, None, refl, sym, ap, ◌∙◌, subst, arith, length-append, length-take, length-drop}
 use Rattle.std.specs.Prelude.{nat_le, if◌then◌else◌, ◌==◌}
 use Rattle.std.proofs.lemmas.Bool.{false≢true, eqb-true, leb-true}
@@ -18,7 +18,7 @@ use Rattle.fact_values.specs.Load.{load_members}
 use Rattle.fact_types.specs.Options.{◌>>=◌}
 use Rattle.fact_values.specs.Texts.{lies_aligned}
 use Rattle.fact_values.specs.Tuples.{lift_all, load_tuple}
-use Rattle.fact_action_laws.specs.Law.{AreWellFormed}
+use Rattle.fact_action_laws.specs.MoveTerms.{AreWellFormed}
 use Rattle.fact_action_laws.specs.Places.{from_side, AreInRange, HasSideMemory, IsSource}
 use Rattle.fact_action_laws.specs.Regions.{TransferSetting}
 use Rattle.fact_action_laws.proofs.Fields.{members_taken}

@@ -14,9 +14,9 @@ use Rattle.fact_types.specs.Options.{◌>>=◌}
 use Rattle.fact_values.specs.Places.{typed_names}
 use Rattle.fact_values.specs.Weight.{weight, weight_members}
 use Rattle.fact_action_laws.specs.Items.{items, items_fields, items_places, of_some}
-use Rattle.fact_action_laws.specs.Law.{AreTyped}
+use Rattle.fact_action_laws.specs.MoveTerms.{AreTyped}
 use Rattle.fact_action_laws.proofs.Distinct.{same_name, other_name, distinct_later, head_same, tail_same}
-use Rattle.fact_action_laws.proofs.Lawful.{field_weight, fields_weight}
+use Rattle.fact_action_laws.proofs.MoveLaws.{field_weight, fields_weight}
 
 -- a name is none of those of members
 abbrev pub IsNone : List ℕ → Members → Type 0

@@ -36,7 +36,7 @@ use Rattle.fact_action_laws.proofs.TextLaw.{SideIsThere, own_steps, turned_bytes
 use Rattle.fact_action_laws.proofs.Walked.{does_walk, text_decoded}
 use Rattle.fact_action_laws.proofs.Spelled.{form_align, form_encoding, in_form}
 use Rattle.fact_action_laws.specs.Judged.{GivesNothing}
-use Rattle.fact_action_laws.specs.Lawful.{Refuses}
+use Rattle.fact_action_laws.specs.MoveLaws.{Refuses}
 
 -- ---- a source without a text
 

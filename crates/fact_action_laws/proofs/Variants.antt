@@ -6,7 +6,7 @@ use Rattle.fact_wasm.specs.declared.types.ValType.{ValType}
 use Rattle.fact_types.specs.declared.flats.FlatType.TheVariants as flat_type
 use Rattle.fact_types.specs.declared.outside.Trap.TheVariants.{InvalidDiscriminant}
 use Rattle.fact_types.specs.Agrees.{named, names_of}
-use Rattle.fact_types.specs.declared.widths.MemoryWidth.{MemoryWidth}
+use Rattle.fact_types.specs.declared.extents.MemoryWidth.{MemoryWidth}
 use Rattle.fact_types.proofs.ShapeLaws.{same_some, none_some}
 use Rattle.fact_types.specs.FlatShapes.{flat, flat_any}
 use Rattle.fact_types.specs.Layout.{extents, payloads, greatest_size}
@@ -33,7 +33,7 @@ use Rattle.fact_values.specs.Numbers.{number_in}
 use Rattle.fact_values.specs.Opened.{case_in}
 use Rattle.fact_values.specs.Weight.{weight, weight_case, weight_in}
 use Rattle.fact_action_laws.specs.Items.{items, items_case, of_some, numbers, AreItemCalls}
-use Rattle.fact_action_laws.specs.Law.{IsWellFormed, AreWellFormed, size_on, moving, IsFit, IsMoved, MayStop}
+use Rattle.fact_action_laws.specs.MoveTerms.{IsWellFormed, AreWellFormed, size_on, moving, IsFit, IsMoved, MayStop}
 use Rattle.fact_action_laws.specs.Places.{from_side, to_side, value_at_source, AreInRange, IsSource, can_hold, HasSideMemory, IsTarget, IsAtTarget, StandsAtTarget, IsGrounded}
 use Rattle.fact_actions.specs.Regions.{Region}
 use Rattle.fact_action_laws.specs.Regions.{TransferSetting, IsInHand}
@@ -50,7 +50,7 @@ use Rattle.fact_action_laws.proofs.Sums.{ArePayloadTargets, AreInside, IsSumTarg
 use Rattle.fact_action_laws.proofs.Placing.{leaves_wider}
 use Rattle.fact_action_laws.proofs.Targets.{both_true, left_true, right_true}
 use Rattle.fact_action_laws.specs.Judged.{RunsHonestly}
-use Rattle.fact_action_laws.specs.Lawful.{IsLawfulMove}
+use Rattle.fact_action_laws.specs.MoveLaws.{IsLawfulMove}
 
 -- the kinds of sums
 pub data SumKind : Kind → Type 0 where

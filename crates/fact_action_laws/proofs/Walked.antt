@@ -17,7 +17,7 @@ use Rattle.fact_actions.specs.Running.{Call, Ended, Gave, Halted, Strayed, run}
 use Rattle.fact_actions.specs.Strings.{PathPoint}
 use Rattle.fact_values.specs.Texts.{unit_bytes, decoded, text_at}
 use Rattle.fact_action_laws.specs.Footprints.{HasPlaced}
-use Rattle.fact_action_laws.specs.Honest.{IsHonestResult, IsHonestAnswer, AreHonestCalls}
+use Rattle.fact_action_laws.specs.HonestMoves.{IsHonestResult, IsHonestAnswer, AreHonestCalls}
 use Rattle.fact_actions.specs.Regions.{Region, IsIn, without, moved_on}
 use Rattle.fact_action_laws.specs.Regions.{TransferSetting, IsInHand, regions_by, regions_after}
 use Rattle.fact_action_laws.proofs.Equipped.{IsEquipped}

@@ -23,7 +23,7 @@ use Rattle.fact_actions.specs.Strings.{PathPoint, holds, amount, passed, source_
 use Rattle.fact_values.specs.Texts.{unit_bytes, utf16_tag, has_tag}
 use Rattle.fact_actions.specs.Running.{Call, is_answer}
 use Rattle.fact_actions.specs.Transcoders.{TranscodeKind, AllUnits, Counted, Fitting, Narrow, Tagged, Widening, transcode_kind, from_encoding, to_encoding, Room, IsHonestTranscoding, transcode_types}
-use Rattle.fact_action_laws.specs.Honest.{IsTranscoded}
+use Rattle.fact_action_laws.specs.HonestMoves.{IsTranscoded}
 use Rattle.fact_actions.specs.Regions.{Region, Position}
 use Rattle.fact_action_laws.specs.Regions.{TransferSetting}
 use Rattle.fact_actions.specs.Calls.{nth_number}
@@ -37,7 +37,7 @@ use Rattle.fact_actions.proofs.OwnParts.{bits_address}
 use Rattle.fact_action_laws.proofs.Answered.{position, MovesAlong, other_stays}
 use Rattle.fact_action_laws.proofs.States.{from_bytes, to_bytes, typed_later}
 use Rattle.fact_action_laws.proofs.Trails.{Walks, walks_give, walks_more, walks_ask, walks_unless, walks_bind}
-use Rattle.fact_action_laws.proofs.Reallocs.{walks_with, walks_reallocate}
+use Rattle.fact_action_laws.proofs.WalkReallocs.{walks_with, walks_reallocate}
 use Rattle.fact_action_laws.proofs.Invariant.{wrap_small, amount_is, SameRoom, rest_of, of_operation, SourceSpells, Inv, resize}
 use Rattle.fact_action_laws.proofs.Passes.{source_pointer, target_pointer, pass_args, args_are, skips, source_is, room_is, behind_pass, served, whole_read}
 use Rattle.fact_action_laws.proofs.Spelled.{form_encoding}

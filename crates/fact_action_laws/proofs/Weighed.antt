@@ -14,10 +14,10 @@ use Rattle.fact_actions.specs.Sides.{Target}
 use Rattle.fact_values.specs.declared.value.Value.{Value}
 use Rattle.fact_values.specs.Places.{typed_names}
 use Rattle.fact_action_laws.specs.Faithful.{results_answered, weight_of_values, answered_weight}
-use Rattle.fact_action_laws.specs.Honest.{AreHonestCalls}
+use Rattle.fact_action_laws.specs.HonestMoves.{AreHonestCalls}
 use Rattle.fact_actions.specs.Regions.{Region}
 use Rattle.fact_action_laws.specs.Regions.{TransferSetting}
-use Rattle.fact_action_laws.proofs.Lawful.{AreMoved}
+use Rattle.fact_action_laws.proofs.MoveLaws.{AreMoved}
 use Rattle.fact_action_laws.proofs.Membered.{weighs_placed}
 use Rattle.fact_action_laws.proofs.Once.{NoneCalls}
 use Rattle.fact_action_laws.specs.Judged.{Judged, RunsHonestly}

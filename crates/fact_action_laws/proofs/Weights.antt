@@ -19,11 +19,11 @@ use Rattle.fact_values.specs.Load.{load, load_members}
 use Rattle.fact_values.specs.Places.{typed_names}
 use Rattle.fact_values.specs.Weight.{weight_members}
 use Rattle.fact_machine.specs.declared.types.CoreValue.{CoreValue}
-use Rattle.fact_action_laws.specs.Law.{AreTyped}
+use Rattle.fact_action_laws.specs.MoveTerms.{AreTyped}
 use Rattle.fact_action_laws.specs.Regions.{TransferSetting}
 use Rattle.fact_action_laws.proofs.Distinct.{distinct_later}
 use Rattle.fact_action_laws.proofs.Fields.{members_taken}
-use Rattle.fact_action_laws.proofs.Lawful.{field_weight, fields_weight}
+use Rattle.fact_action_laws.proofs.MoveLaws.{field_weight, fields_weight}
 use Rattle.fact_action_laws.proofs.Plain.{both}
 use Rattle.fact_action_laws.proofs.Tuples.{weighs_alike}
 

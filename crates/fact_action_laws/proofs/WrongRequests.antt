@@ -36,7 +36,7 @@ use Rattle.fact_actions.specs.Sides.{first_bits, options_of}
 use Rattle.fact_action_laws.specs.FaithfulLaws.{IsCheckedAdapter}
 use Rattle.fact_action_laws.proofs.WorkedAdapters.{exported, taking, places, state, words, off, list, bytes_fine, string_fine, none_fine, taking_checked}
 use Rattle.fact_action_laws.specs.Parts.{parts_of, parts_of_fields}
-use Rattle.fact_action_laws.specs.Requested.{params_parts, IsOutsideTransfers, AreOutsideTransfers, AreFromCallee, IsOwnRealloc, CallOwnRealloc, AreFinished, AreSoFar, StopsEntering, StopsInParams, StopsCalling, StopsInResults, StopsFinishing, AreRequested}
+use Rattle.fact_action_laws.specs.Requested.{params_parts, IsOutsideTransfers, AreOutsideTransfers, AreFromCallee, IsOwnRealloc, CallOwnRealloc, HaveAskedForAll, HaveAskedSoFar, StopsEntering, StopsInParams, StopsCalling, StopsInResults, StopsFinishing, AsksForValues}
 use Rattle.fact_action_laws.specs.Trapped.{IsHonestUntilTrap}
 use Rattle.fact_action_laws.proofs.FirstRequest.{first_request_is_called_for}
 
@@ -71,11 +71,11 @@ module _ (instances : Id RuntimeInstances) where
   record ExcludesRequests (a : LinkedAdapter) (args : List CoreValue) (s : MachineState) (e : Ended (List CoreValue)) : Type 0 where
     checked : IsCheckedAdapter at a
     honest : IsHonestRun at a args s e
-    broken : AreRequested at off a args s e → ⊥
+    broken : AsksForValues at off a args s e → ⊥
 
   -- The parameters call for so many bytes first, which no call asks for.
   not_asked : (a : LinkedAdapter) (args : List CoreValue) (s : MachineState) (calls : List Call) (n : ℕ) → AllByRecursion (AsksNot (params_landing a) (suc n)) calls
-      → ((answers : List (List CoreValue)) → size_in (parts_requests (params_transfer off a) (params_parts at off a args s) answers) ≡ suc n) → AreFinished at off a args s calls → ⊥
+      → ((answers : List (List CoreValue)) → size_in (parts_requests (params_transfer off a) (params_parts at off a args s) answers) ≡ suc n) → HaveAskedForAll at off a args s calls → ⊥
   not_asked a args s calls n all called_for f =
       let t = f.answered.passed in
       none_first (params_landing a) n t.params _ (of_last (AsksNot (params_landing a) (suc n)) t.enter _ (subst (AllByRecursion (AsksNot (params_landing a) (suc n))) f.calls_are all)) (ap size_in t.params_ask ∙ called_for _)
@@ -204,7 +204,7 @@ module _ (instances : Id RuntimeInstances) where
   record ExcludesTrapped (a : LinkedAdapter) (args : List CoreValue) (s : MachineState) (e : Ended (List CoreValue)) : Type 0 where
     checked : IsCheckedAdapter at a
     honest : IsHonestUntilTrap at a args s e
-    broken : AreRequested at off a args s e → ⊥
+    broken : AsksForValues at off a args s e → ⊥
 
   all_at_once : ExcludesTrapped texts (words (0 ∷ 2 ∷ [])) (with_text 1 (replicate 8 0)) asked_all
   unfolding aligned parts_of parts_of_fields
@@ -268,7 +268,7 @@ module _ (instances : Id RuntimeInstances) where
     broken = λ f. not_so_far (f (λ e. let bad : 1 ≡ 0 = ap bits_of e in omega (arith, bad)));
   }
     where
-      not_so_far : AreSoFar at off idle [] at_first (other_asked ∷ []) → ⊥
+      not_so_far : HaveAskedSoFar at off idle [] at_first (other_asked ∷ []) → ⊥
       not_so_far (StopsEntering out) = none_some None _ refl out.0
       not_so_far (StopsInParams enter params out calls own begin shrink) = nowhere enter params [] (calls ∙ ap (λ l. enter ++ l) (sym (append-nil params))) out own tt
       not_so_far (StopsCalling t others from calls) = nowhere t.enter t.params others calls t.enter_is t.params_are (at_callee others from)

@@ -1,4 +1,4 @@
--- The laws of whole sync adapters, where texts move (`TextsMove`, which is so in all, by Laws.antt): honest runs are faithful, weigh what their values
+-- The laws of whole sync adapters, where texts move (`TextsMove`, which is so in all, by AdapterValueLaws.antt): honest runs are faithful, weigh what their values
 -- weigh, and come to an end.
 use Rattle.std.specs.Prelude.{◌≡◌, ℕ, false, List, [], None, true}
 use Rattle.std.specs.List.{AllByRecursion}
@@ -20,14 +20,14 @@ use Rattle.fact_actions.specs.Honest.{IsHonestRun}
 use Rattle.fact_actions.specs.Order.{HaveTwoMemories}
 use Rattle.fact_actions.specs.Plain.{ended_sync}
 use Rattle.fact_action_laws.specs.Faithful.{IsFaithful, WhereGiven, whole_weight, IsInLimits, ComesToEnd}
-use Rattle.fact_action_laws.specs.Law.{HasPointers, IsWellFormed, CanAllocate}
+use Rattle.fact_action_laws.specs.MoveTerms.{HasPointers, IsWellFormed, CanAllocate}
 use Rattle.fact_action_laws.specs.Places.{HasSideMemory, HasKnownMemory, IsGrounded}
 use Rattle.fact_actions.specs.Regions.{Region}
 use Rattle.fact_action_laws.specs.Regions.{TransferSetting}
 use Rattle.fact_actions.specs.Sides.{options_of}
 use Rattle.fact_types.specs.PointerPairs.{any_pointer_pair}
 use Rattle.fact_actions.specs.Calls.{HasOwnCallee}
-use Rattle.fact_action_laws.specs.Lawful.{Texts}
+use Rattle.fact_action_laws.specs.MoveLaws.{Texts}
 
 -- ---- settings
 

@@ -4,7 +4,7 @@ use Rattle.fact_machine.specs.World.{World, Stop}
 use Rattle.fact_actions.specs.Actions.{Action}
 use Rattle.fact_actions.specs.Regions.{Region}
 use Rattle.fact_actions.specs.Running.{Call, Ended, Gave, Halted, Strayed, run}
-use Rattle.fact_action_laws.specs.Honest.{AreHonestCalls}
+use Rattle.fact_action_laws.specs.HonestMoves.{AreHonestCalls}
 use Rattle.fact_action_laws.specs.Regions.{TransferSetting}
 
 -- An end in which all calls are honest, from live regions on: what is given has a property, and a stop has one.

@@ -1,13 +1,13 @@
+pub mod AdapterValueLaws
 pub mod Answerable
 pub mod Faithful
 pub mod FaithfulLaws
 pub mod Footprints
-pub mod Honest
+pub mod HonestMoves
 pub mod Items
 pub mod Judged
-pub mod Law
-pub mod Lawful
-pub mod Laws
+pub mod MoveLaws
+pub mod MoveTerms
 pub mod Parts
 pub mod PassingChecks
 pub mod PastLimits

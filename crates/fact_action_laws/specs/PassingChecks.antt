@@ -8,7 +8,7 @@ use Rattle.fact_types.specs.Shapes.{Shape}
 use Rattle.fact_types.specs.Signatures.{flat_values, lower_limit, lift_results_limit}
 use Rattle.fact_types.specs.Tuples.{tuple_members}
 use Rattle.fact_types.specs.declared.import.Import.TheVariants as import
-use Rattle.fact_types.specs.declared.widths.MemoryWidth.{MemoryWidth}
+use Rattle.fact_types.specs.declared.extents.MemoryWidth.{MemoryWidth}
 use Rattle.fact_values.specs.UpperHalves.{AreNarrowThroughout}
 use Rattle.fact_actions.specs.Adapters.{AdapterTunables}
 use Rattle.fact_actions.specs.Calls.{results}

@@ -18,7 +18,7 @@ use Rattle.fact_actions.specs.Paths.{Path, End, Limit, Resize, Pass, If, Tag, As
 use Rattle.fact_actions.specs.Regions.{Region}
 use Rattle.fact_actions.specs.Running.{Call, Ended, Gave, Halted, Strayed}
 use Rattle.fact_actions.specs.Strings.{form_in}
-use Rattle.fact_action_laws.specs.Honest.{IsHonestAnswer}
+use Rattle.fact_action_laws.specs.HonestMoves.{IsHonestAnswer}
 use Rattle.fact_action_laws.specs.Regions.{TransferSetting, regions_by}
 
 -- ---- the limits of paths

@@ -24,10 +24,10 @@ use Rattle.fact_action_laws.specs.Trapped.{HaveReturned, answers_so_far, BeginRe
 
 -- The calls of an end ask for all that these parts ask for, where it gave something, and else so far for a front of it; and no region
 -- that they cut to what was written grows.
-abbrev pub AsksFor : Transfer → Landing → List RequestPart → Ended (List CoreValue) → Type 0
-AsksFor tr l xs (Gave n cs vs w) = AreRequests tr l xs cs × AllCutsShrink tr xs (answers_in l cs)
-AsksFor tr l xs (Halted n cs s w) = BeginRequestsSoFar tr l xs cs × AllCutsShrink tr xs (answers_so_far l cs)
-AsksFor tr l xs (Strayed n cs w) = Unit {0}
+abbrev pub AsksForParts : Transfer → Landing → List RequestPart → Ended (List CoreValue) → Type 0
+AsksForParts tr l xs (Gave n cs vs w) = AreRequests tr l xs cs × AllCutsShrink tr xs (answers_in l cs)
+AsksForParts tr l xs (Halted n cs s w) = BeginRequestsSoFar tr l xs cs × AllCutsShrink tr xs (answers_so_far l cs)
+AsksForParts tr l xs (Strayed n cs w) = Unit {0}
 
 -- The parts of parameters, in the state in which their transfer begins, and those of results, in the state that the callee left.
 abbrev pub params_parts : ImportPlaces → AdapterTunables → LinkedAdapter → (args : List CoreValue) → (first : MachineState) → List RequestPart
@@ -93,8 +93,8 @@ calls_until_results t others = calls_until_callee t.passed (t.callee ∷ (t.betw
 abbrev pub answered_parts : {p : ImportPlaces} {u : AdapterTunables} {a : LinkedAdapter} {args : List CoreValue} {first : MachineState} → AreAnswered p u a args first → List RequestPart
 answered_parts {p} {u} {a} {args} t = results_parts p u a args (results t.callee) (state_after t.callee)
 
--- Results were moved too, and what they ask for was asked for.
-pub record AreFinished (p : ImportPlaces) (u : AdapterTunables) (a : LinkedAdapter) (args : List CoreValue) (first : MachineState) (calls : List Call) : Type 0 where
+-- Results were moved too, and what they ask for was asked for: so the calls have asked for all that the values of both transfers ask for.
+pub record HaveAskedForAll (p : ImportPlaces) (u : AdapterTunables) (a : LinkedAdapter) (args : List CoreValue) (first : MachineState) (calls : List Call) : Type 0 where
   pub answered : AreAnswered p u a args first
   pub back : List Call
   pub finish : List Call
@@ -105,18 +105,19 @@ pub record AreFinished (p : ImportPlaces) (u : AdapterTunables) (a : LinkedAdapt
   pub back_shrinks : AllCutsShrink (results_transfer u a) (answered_parts answered) (answers_in (results_landing a args) back)
   pub finish_is : AreOutsideTransfers a.lift.post_return finish
 
--- How far calls came that do not end a run.
-pub data AreSoFar (p : ImportPlaces) (u : AdapterTunables) (a : LinkedAdapter) (args : List CoreValue) (first : MachineState) (calls : List Call) : Type 0 where
-  StopsEntering : AreOutsideTransfers None calls → AreSoFar p u a args first calls
+-- How far the calls of a run came that has not returned: by then they have asked for all that the values of the transfers behind them ask for, and for
+-- a front of what those of the transfer under way do.
+pub data HaveAskedSoFar (p : ImportPlaces) (u : AdapterTunables) (a : LinkedAdapter) (args : List CoreValue) (first : MachineState) (calls : List Call) : Type 0 where
+  StopsEntering : AreOutsideTransfers None calls → HaveAskedSoFar p u a args first calls
   StopsInParams : (enter params : List Call) → AreOutsideTransfers None enter → calls ≡ enter ++ params → CallOwnRealloc (options_of a.lift) params → BeginRequestsSoFar (params_transfer u a) (params_landing a) (params_parts p u a args first) params
-      → AllCutsShrink (params_transfer u a) (params_parts p u a args first) (answers_so_far (params_landing a) params) → AreSoFar p u a args first calls
-  StopsCalling : (t : ArePassed p u a args first) (others : List Call) → AreFromCallee a others → calls ≡ calls_until_callee t others → AreSoFar p u a args first calls
+      → AllCutsShrink (params_transfer u a) (params_parts p u a args first) (answers_so_far (params_landing a) params) → HaveAskedSoFar p u a args first calls
+  StopsCalling : (t : ArePassed p u a args first) (others : List Call) → AreFromCallee a others → calls ≡ calls_until_callee t others → HaveAskedSoFar p u a args first calls
   StopsInResults : (t : AreAnswered p u a args first) (back : List Call) → calls ≡ calls_until_results t back → CallOwnRealloc (options_of a.lower) back → BeginRequestsSoFar (results_transfer u a) (results_landing a args) (answered_parts t) back
-      → AllCutsShrink (results_transfer u a) (answered_parts t) (answers_so_far (results_landing a args) back) → AreSoFar p u a args first calls
-  StopsFinishing : AreFinished p u a args first calls → AreSoFar p u a args first calls
+      → AllCutsShrink (results_transfer u a) (answered_parts t) (answers_so_far (results_landing a args) back) → HaveAskedSoFar p u a args first calls
+  StopsFinishing : HaveAskedForAll p u a args first calls → HaveAskedSoFar p u a args first calls
 
--- So it is of the end of a run; of one that stops, where the lower side may leave.
-abbrev pub AreRequested : ImportPlaces → AdapterTunables → LinkedAdapter → (args : List CoreValue) → MachineState → Ended (List CoreValue) → Type 0
-AreRequested p u a args first (Gave n cs vs w) = AreFinished p u a args first cs
-AreRequested p u a args first (Halted n cs s w) = flag_in p a.lower.instance first.globals ≢ I32 0 → AreSoFar p u a args first cs
-AreRequested p u a args first (Strayed n cs w) = Unit {0}
+-- The calls of an end of a whole run have asked for what its values ask for; where it stops, if the lower side may leave.
+abbrev pub AsksForValues : ImportPlaces → AdapterTunables → LinkedAdapter → (args : List CoreValue) → MachineState → Ended (List CoreValue) → Type 0
+AsksForValues p u a args first (Gave n cs vs w) = HaveAskedForAll p u a args first cs
+AsksForValues p u a args first (Halted n cs s w) = flag_in p a.lower.instance first.globals ≢ I32 0 → HaveAskedSoFar p u a args first cs
+AsksForValues p u a args first (Strayed n cs w) = Unit {0}

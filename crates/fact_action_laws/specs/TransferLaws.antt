@@ -21,7 +21,7 @@ use Rattle.fact_action_laws.specs.FaithfulLaws.{IsCheckedAdapter, TextsMove}
 
 -- ---- values
 
--- the parameters that the first function gives, which the callee is to take
+-- the parameters that the first function hands on, which the callee is to take: what it was given is `params_given`
 abbrev pub params_handed : ImportPlaces → LinkedAdapter → (given : List CoreValue) → (last : MachineState) → Option (List Value)
 params_handed p a given last = lift_param_values (side_abi (options_of a.lift)) (side_memory p (options_of a.lift) last) a.lift.params given
 
@@ -29,32 +29,32 @@ params_handed p a given last = lift_param_values (side_abi (options_of a.lift)) 
 abbrev pub leading_results : Side → List CoreValue → List CoreValue
 leading_results s args = take (length (flat_params (is_wide s.memory) (lift_results_limit s.async_side) s.results)) args
 
--- the results of the callee that the second function takes
-abbrev pub results_handed : ImportPlaces → LinkedAdapter → (args : List CoreValue) → (first : MachineState) → Option (List Value)
-results_handed p a args first = lift_result_values a.lift.async_side (side_abi (options_of a.lift)) (side_memory p (options_of a.lift) first) a.lift.results (leading_results a.lift args)
+-- the results of the callee that the second function takes: what the lower side gets of them is `results_got`
+abbrev pub results_taken : ImportPlaces → LinkedAdapter → (args : List CoreValue) → (first : MachineState) → Option (List Value)
+results_taken p a args first = lift_result_values a.lift.async_side (side_abi (options_of a.lift)) (side_memory p (options_of a.lift) first) a.lift.results (leading_results a.lift args)
 
 -- ---- runs that return
 
--- What was given stands for the parameters, carried by the answers of these calls, and is canonical.
-pub record HasStarted (p : ImportPlaces) (a : LinkedAdapter) (args : List CoreValue) (first : MachineState) (calls : List Call) (given : List CoreValue) (last : MachineState) : Type 0 where
+-- What it hands on stands for the parameters that it was given, carried by the answers of these calls, and is canonical.
+pub record HasHandedParams (p : ImportPlaces) (a : LinkedAdapter) (args : List CoreValue) (first : MachineState) (calls : List Call) (given : List CoreValue) (last : MachineState) : Type 0 where
   pub params : IsTransferred a.lower.params a.lift.params (params_given p a args first) (params_handed p a given last) calls
   pub canonical : AreCanonical (side_abi (options_of a.lift)) (side_memory p (options_of a.lift) last) (flat_all (width_of_side (options_of a.lift)) 16 a.lift.params) a.lift.params given (first_bits given)
 
--- So does what was given, or written into the return area, for the results.
+-- What it hands on, or has written into the return area, stands so for the results that it took.
 pub record HasHandedResults (p : ImportPlaces) (a : LinkedAdapter) (args : List CoreValue) (first : MachineState) (calls : List Call) (given : List CoreValue) (last : MachineState) : Type 0 where
-  pub results : IsTransferred a.lift.results a.lower.results (results_handed p a args first) (results_got p a args given last) calls
+  pub results : IsTransferred a.lift.results a.lower.results (results_taken p a args first) (results_got p a args given last) calls
   pub canonical : AreCanonical (side_abi (options_of a.lower)) (side_memory p (options_of a.lower) last) (flat_results_of a.lower) a.lower.results given (last_bits args)
 
 -- ---- limits
 
-abbrev pub handed_moving : ImportPlaces → LinkedAdapter → (first : MachineState) → Moving
-handed_moving p a first = record { from = side_abi (options_of a.lift); to = side_abi (options_of a.lower); bytes = side_memory p (options_of a.lift) first }
+abbrev pub taken_moving : ImportPlaces → LinkedAdapter → (first : MachineState) → Moving
+taken_moving p a first = record { from = side_abi (options_of a.lift); to = side_abi (options_of a.lower); bytes = side_memory p (options_of a.lift) first }
 
 -- The results are there, within limits.
-abbrev pub HandedAreThere : ImportPlaces → LinkedAdapter → (args : List CoreValue) → (first : MachineState) → Type 0
-HandedAreThere p a args first =
-    AreThere a.lift.results (results_handed p a args first)
-    (AreInBounds (handed_moving p a first) (flat_all (width_of_side (options_of a.lift)) (lift_results_limit a.lift.async_side) a.lift.results) a.lift.results a.lower.results (leading_results a.lift args))
+abbrev pub TakenAreThere : ImportPlaces → LinkedAdapter → (args : List CoreValue) → (first : MachineState) → Type 0
+TakenAreThere p a args first =
+    AreThere a.lift.results (results_taken p a args first)
+    (AreInBounds (taken_moving p a first) (flat_all (width_of_side (options_of a.lift)) (lift_results_limit a.lift.async_side) a.lift.results) a.lift.results a.lower.results (leading_results a.lift args))
 
 -- A run that carries values of this weight gives something or lacks an answer, and makes few calls.
 pub record EndsInFew (weight : ℕ) (e : Ended (List CoreValue)) : Type 0 where
@@ -72,7 +72,7 @@ EachHonestStart P =
 
 -- A run that gives something has carried the parameters.
 abbrev pub StartsAreFaithful : Type 0
-StartsAreFaithful = EachHonestStart (λ p u a args first e. WhereGiven e (λ cs vs w. HasStarted p a args first cs vs w.state))
+StartsAreFaithful = EachHonestStart (λ p u a args first e. WhereGiven e (λ cs vs w. HasHandedParams p a args first cs vs w.state))
 
 -- The nodes that it moved weigh what they do.
 abbrev pub StartsWeigh : Type 0
@@ -93,10 +93,10 @@ abbrev pub ReturnsAreFaithful : Type 0
 ReturnsAreFaithful = EachHonestReturn (λ p u a args first e. WhereGiven e (λ cs vs w. HasHandedResults p a args first cs vs w.state))
 
 abbrev pub ReturnsWeigh : Type 0
-ReturnsWeigh = EachHonestReturn (λ p u a args first e. WhereGiven e (λ cs vs w. moved_weight e ≡ weight_of_values a.lift.results (results_handed p a args first)))
+ReturnsWeigh = EachHonestReturn (λ p u a args first e. WhereGiven e (λ cs vs w. moved_weight e ≡ weight_of_values a.lift.results (results_taken p a args first)))
 
 -- Here the return area, where there is one, was sound at the start.
 abbrev pub ReturnsComeToEnd : Type 0
 ReturnsComeToEnd =
     EachHonestReturn (λ p u a args first e.
-    u.debug ≡ false → HandedAreThere p a args first → IsAreaSound p a args first → EndsInFew (weight_of_values a.lift.results (results_handed p a args first)) e)
+    u.debug ≡ false → TakenAreThere p a args first → IsAreaSound p a args first → EndsInFew (weight_of_values a.lift.results (results_taken p a args first)) e)

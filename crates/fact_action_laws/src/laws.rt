@@ -1,7 +1,7 @@
 //! Laws of transfers of values.
 
 ghost use Rattle.fact_action_laws.specs.FaithfulLaws.{OwnMemoriesServe, RunsAreFaithful, RunsComeToEnd, RunsWeigh, ShapesAreWellFormed, TuplesAgree};
-ghost use Rattle.fact_action_laws.specs.Lawful.{MovesAreLawful, MovesRefuse};
+ghost use Rattle.fact_action_laws.specs.MoveLaws.{MovesAreLawful, MovesRefuse};
 
 /// What holds of moves by honest calls, and of honest runs of sync adapters, where it holds of strings. The call does nothing: its
 /// contract is the laws.

@@ -17,8 +17,8 @@ use Rattle.fact_types.specs.declared.outside.StringEncoding.TheVariants as strin
 use Rattle.fact_types.specs.declared.outside.Transcode.{Transcode}
 use Rattle.fact_types.specs.declared.outside.Trap.{Trap as Reason}
 use Rattle.fact_types.specs.declared.outside.Trap.TheVariants.{ListOutOfBounds, StringOutOfBounds, MemoryOutOfBounds, InvalidChar, InvalidDiscriminant, CannotLeaveComponent, UncaughtException}
-use Rattle.fact_types.specs.declared.widths.MemoryWidth.{MemoryWidth}
-use Rattle.fact_types.specs.declared.widths.MemoryWidth.TheVariants.{Memory32, Memory64}
+use Rattle.fact_types.specs.declared.extents.MemoryWidth.{MemoryWidth}
+use Rattle.fact_types.specs.declared.extents.MemoryWidth.TheVariants.{Memory32, Memory64}
 use Rattle.fact_types.specs.Adapters.{LinkedAdapter, is_wide}
 use Rattle.fact_types.specs.Fields.{Field, field_of}
 use Rattle.fact_types.specs.FlatShapes.{IsCounted, AreCounted}

@@ -1,4 +1,4 @@
--- A sync adapter writes into regions of its own (`WritesAreOwn`), and so do the functions of an async one; they give up live regions alone.
+-- A sync adapter writes into regions of its own (`WritesAreConfined`), and so do the functions of an async one; they give up live regions alone.
 use Rattle.std.proofs.Common.{◌≡◌, ℕ, suc, ◌≤◌, Bool, true, false, List, [], ◌∷◌, ◌++◌, Option, Some, None, refl, sym, ap, ◌∙◌, subst, inl, arith, append_assoc, append-nil, length}
 use Rattle.std.specs.Prelude.{if◌then◌else◌, slice_get, not, nat_eq, ◌&&◌, ◌||◌, is_some}
 use Rattle.fact_wasm.specs.declared.types.ValType.{ValType}
@@ -457,24 +457,24 @@ module _ (p : ImportPlaces) (u : AdapterTunables) (a : LinkedAdapter) (args : Li
   return_run : (w : World) → Ok p a moved_on from_results (room_in p from_results w.state) w (run p (async_return u a args) w)
   return_run w = (return_ok p moved_on u a (λ c x e. refl) own roomy args w).ok
 
-pub confined : (p : ImportPlaces) (u : AdapterTunables) (a : LinkedAdapter) (args : List CoreValue) (state : MachineState) (answers : List Answer) → HasOwnCallee a → HasRoomForValues a → IsConfined p a args state (ended_sync p u a args (first_world state answers))
-confined p u a args state answers own roomy =
+pub writes_are_confined : (p : ImportPlaces) (u : AdapterTunables) (a : LinkedAdapter) (args : List CoreValue) (state : MachineState) (answers : List Answer) → HasOwnCallee a → HasRoomForValues a → IsConfined p a args state (ended_sync p u a args (first_world state answers))
+writes_are_confined p u a args state answers own roomy =
     let w = first_world state answers in
     let x = landed (params_landing a) in
     let h = whole_run p u a args own roomy w in
     subst (λ es. AreOwnWrites p (sync_moved_on a args) x (room_in p x state) es (calls_in (ended_sync p u a args w))) (sym h.trace) h.own
 
-pub start_confined : (p : ImportPlaces) (u : AdapterTunables) (a : LinkedAdapter) (args : List CoreValue) (state : MachineState) (answers : List Answer)
+pub start_writes_are_confined : (p : ImportPlaces) (u : AdapterTunables) (a : LinkedAdapter) (args : List CoreValue) (state : MachineState) (answers : List Answer)
     → HasOwnCallee a → HasRoomForValues a → IsConfinedFrom p moved_on (params_landing a) state (run p (async_start u a args) (first_world state answers))
-start_confined p u a args state answers own roomy =
+start_writes_are_confined p u a args state answers own roomy =
     let w = first_world state answers in
     let x = landed (params_landing a) in
     let h = start_run p u a args own roomy w in
     subst (λ es. AreOwnWrites p moved_on x (room_in p x state) es (calls_in (run p (async_start u a args) w))) (sym h.trace) h.own
 
-pub return_confined : (p : ImportPlaces) (u : AdapterTunables) (a : LinkedAdapter) (args : List CoreValue) (state : MachineState) (answers : List Answer)
+pub return_writes_are_confined : (p : ImportPlaces) (u : AdapterTunables) (a : LinkedAdapter) (args : List CoreValue) (state : MachineState) (answers : List Answer)
     → HasOwnCallee a → HasRoomForValues a → IsConfinedFrom p moved_on (results_landing a args) state (run p (async_return u a args) (first_world state answers))
-return_confined p u a args state answers own roomy =
+return_writes_are_confined p u a args state answers own roomy =
     let w = first_world state answers in
     let x = landed (results_landing a args) in
     let h = return_run p u a args own roomy w in

@@ -8,8 +8,8 @@ use Rattle.std.proofs.Math.Pow.{pow-lt}
 use Rattle.std.specs.Prelude.{if◌then◌else◌}
 use Rattle.std.specs.Str.{bytes_eq}
 use Rattle.std.specs.Int.{IsPowerOfTwo, ◌∣◌}
-use Rattle.fact_types.specs.declared.widths.MemoryWidth.{MemoryWidth}
-use Rattle.fact_types.specs.declared.widths.MemoryWidth.TheVariants.{Memory32, Memory64}
+use Rattle.fact_types.specs.declared.extents.MemoryWidth.{MemoryWidth}
+use Rattle.fact_types.specs.declared.extents.MemoryWidth.TheVariants.{Memory32, Memory64}
 use Rattle.fact_types.specs.Fields.{Field, find, field_of}
 use Rattle.fact_types.specs.FlatShapes.{flat, IsCounted, AreCounted}
 use Rattle.fact_types.specs.Layout.{extent, extents, aligned, payload_offset, payloads, discriminant_size, discriminant_bytes}

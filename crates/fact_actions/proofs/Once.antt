@@ -16,7 +16,7 @@ use Rattle.fact_actions.specs.Order.{AskedCall, asks, request_calls, IsRequest, 
 use Rattle.fact_actions.specs.Plain.{ended_sync}
 use Rattle.fact_actions.specs.Running.{ImportPlaces, Call, Gave}
 use Rattle.fact_actions.specs.Sides.{LiftLowerOptions, options_of}
-use Rattle.fact_actions.proofs.Ordered.{ordered_calls}
+use Rattle.fact_actions.proofs.Ordered.{calls_are_ordered}
 
 -- none of what is asked is asked of a core function
 AllDiffer : CoreDef → List AskedCall → Type 0
@@ -121,4 +121,4 @@ once_ordered {u} {a} own o = record {
 
 pub called_once : (p : ImportPlaces) (u : AdapterTunables) (a : LinkedAdapter) (args : List CoreValue) (w w' : World) (n : ℕ) (cs : List Call) (vs : List CoreValue)
     → HasOwnCallee a → ended_sync p u a args w ≡ Gave n cs vs w' → IsCalledOnce a cs
-called_once p u a args w w' n cs vs own e = once_ordered own (ordered_calls p u a args w w' n cs vs e)
+called_once p u a args w w' n cs vs own e = once_ordered own (calls_are_ordered p u a args w w' n cs vs e)

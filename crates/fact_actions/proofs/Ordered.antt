@@ -180,9 +180,9 @@ whenever_guarded p true (Halted n cs Throw w) Q h =
     whenever_heavier n (later cs (run p (trap UncaughtException) w)) Q (whenever_later cs (run p (trap UncaughtException) w) Q (runs_trap p UncaughtException w _).so)
 whenever_guarded p true (Strayed n cs w) Q h = tt
 
-pub ordered_calls : (p : ImportPlaces) (u : AdapterTunables) (a : LinkedAdapter) (args : List CoreValue) (w w' : World) (n : ℕ) (cs : List Call) (vs : List CoreValue)
+pub calls_are_ordered : (p : ImportPlaces) (u : AdapterTunables) (a : LinkedAdapter) (args : List CoreValue) (w w' : World) (n : ℕ) (cs : List Call) (vs : List CoreValue)
     → ended_sync p u a args w ≡ Gave n cs vs w' → AreOrderedCalls p u a w.state cs w'.state
-ordered_calls p u a args w w' n cs vs e =
+calls_are_ordered p u a args w w' n cs vs e =
     subst (λ x. Whenever x (λ ds rs w''. AreOrderedCalls p u a w.state ds w''.state)) e (whenever_guarded p u.exceptions (run p (sync u a args) w) _ (runs_sync p u a args w).so)
 
 -- ---- async adapters

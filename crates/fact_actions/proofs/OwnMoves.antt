@@ -10,8 +10,8 @@ use Rattle.fact_types.specs.declared.outside.Transcode.{Transcode}
 use Rattle.fact_types.specs.declared.outside.Trap.{Trap as Reason}
 use Rattle.fact_types.specs.declared.outside.Trap.TheVariants.{StringOutOfBounds}
 use Rattle.fact_machine.specs.declared.types.CoreValue.{CoreValue}
-use Rattle.fact_types.specs.declared.widths.MemoryWidth.{MemoryWidth}
-use Rattle.fact_types.specs.declared.widths.MemoryWidth.TheVariants.{Memory32, Memory64}
+use Rattle.fact_types.specs.declared.extents.MemoryWidth.{MemoryWidth}
+use Rattle.fact_types.specs.declared.extents.MemoryWidth.TheVariants.{Memory32, Memory64}
 use Rattle.fact_machine.specs.Typing.{address_bits}
 use Rattle.fact_machine.specs.World.{World}
 use Rattle.fact_types.specs.declared.import.Import.TheVariants as import

@@ -3,8 +3,8 @@ use Rattle.std.proofs.Common.{◌≡◌, ◌≢◌, ℕ, suc, ◌+◌, ◌*◌, 
 use Rattle.std.proofs.Math.Nat.{le-max_left, le-max_right, mul-le-mul_right}
 use Rattle.fact_types.specs.declared.interface.InterfaceType.{InterfaceType}
 use Rattle.fact_types.specs.declared.interface.InterfaceType.TheVariants as ty
-use Rattle.fact_types.specs.declared.widths.MemoryWidth.{MemoryWidth}
-use Rattle.fact_types.specs.declared.widths.MemoryWidth.TheVariants.{Memory32, Memory64}
+use Rattle.fact_types.specs.declared.extents.MemoryWidth.{MemoryWidth}
+use Rattle.fact_types.specs.declared.extents.MemoryWidth.TheVariants.{Memory32, Memory64}
 use Rattle.fact_types.specs.Layout.{extent, extents, greatest_align, greatest_size, payloads, payload_offset, discriminant_size, discriminant_bytes, pointer_pair_layout, enum_layout, scalar_layout, variant_extent}
 use Rattle.fact_types.specs.Shapes.{k_record, k_variant, k_enum, k_flags, Shape, s_plain, s_node, Members, bare, typed, layout_of, layouts_of, plain_layout, place_of, next_of, ends_of}
 use Rattle.fact_types.proofs.AlignLaws.{aligned_bounds, inside_tagged}

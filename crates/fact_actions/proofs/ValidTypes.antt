@@ -1,9 +1,9 @@
 -- Valid types have room for their values, and the lists of fixed length among them have elements of one type.
 use Rattle.std.proofs.Common.{◌≡◌, ℕ, suc, ◌+◌, ◌*◌, ◌/◌, ◌≤◌, ◌<◌, ◌%◌, max, min, Bool, true, false, List, [], ◌∷◌, length, Option, Some, None, sym, ap, ◌∙◌, subst, arith}
 use Rattle.std.proofs.Math.Nat.{div-add-mod, le-max_left, le-max_right, mul_comm}
-use Rattle.fact_types.specs.declared.widths.Extent.{Extent}
-use Rattle.fact_types.specs.declared.widths.MemoryWidth.{MemoryWidth}
-use Rattle.fact_types.specs.declared.widths.MemoryWidth.TheVariants.{Memory32, Memory64}
+use Rattle.fact_types.specs.declared.extents.Extent.{Extent}
+use Rattle.fact_types.specs.declared.extents.MemoryWidth.{MemoryWidth}
+use Rattle.fact_types.specs.declared.extents.MemoryWidth.TheVariants.{Memory32, Memory64}
 use Rattle.fact_types.specs.Adapters.{Side, LinkedAdapter, is_wide}
 use Rattle.fact_types.specs.FlatShapes.{AreCounted}
 use Rattle.fact_types.specs.Layout.{extent, aligned, payloads, record_layout, record_extent}

@@ -99,8 +99,8 @@ abbrev pub TypedRunsStay : Type 0
 TypedRunsStay = EachSync StaysTyped
 
 -- A run writes into sound live regions of its transfer and into the return area alone, whatever is answered.
-abbrev pub WritesAreOwn : Type 0
-WritesAreOwn =
+abbrev pub WritesAreConfined : Type 0
+WritesAreConfined =
     (p : ImportPlaces) (u : AdapterTunables) (a : LinkedAdapter) (args : List CoreValue) (state : MachineState) (answers : List Answer)
     → HasOwnCallee a → HasRoomForValues a → IsConfined p a args state (ended_sync p u a args (first_world state answers))
 
@@ -222,13 +222,13 @@ TypedStartsStay = EachStart StaysTyped
 abbrev pub TypedReturnsStay : Type 0
 TypedReturnsStay = EachReturn StaysTyped
 
-abbrev pub StartWritesAreOwn : Type 0
-StartWritesAreOwn =
+abbrev pub StartWritesAreConfined : Type 0
+StartWritesAreConfined =
     (p : ImportPlaces) (u : AdapterTunables) (a : LinkedAdapter) (args : List CoreValue) (state : MachineState) (answers : List Answer)
     → HasOwnCallee a → HasRoomForValues a → IsConfinedFrom p moved_on (params_landing a) state (run p (async_start u a args) (first_world state answers))
 
-abbrev pub ReturnWritesAreOwn : Type 0
-ReturnWritesAreOwn =
+abbrev pub ReturnWritesAreConfined : Type 0
+ReturnWritesAreConfined =
     (p : ImportPlaces) (u : AdapterTunables) (a : LinkedAdapter) (args : List CoreValue) (state : MachineState) (answers : List Answer)
     → HasOwnCallee a → HasRoomForValues a → IsConfinedFrom p moved_on (results_landing a args) state (run p (async_return u a args) (first_world state answers))
 

@@ -53,6 +53,7 @@ ended_sync p u a args w = guarded_if u.exceptions p (run p (sync u a args) w)
 abbrev pub sync_outcome : ImportPlaces → AdapterTunables → LinkedAdapter → (args : List CoreValue) → MachineState → List Answer → NamedOutcome
 sync_outcome p u a args state answers = named_outcome (ended_sync p u a args (first_world state answers))
 
--- Plain inlining: what the adapter comes to without debug checks.
+-- Plain inlining: what the adapter comes to without debug checks. That each run comes to this, where none are on, is the clause `plain` of `Behaves`
+-- (fact_function_laws), by `sync_outcome`, which has those that are on.
 abbrev pub plain : ImportPlaces → AdapterTunables → LinkedAdapter → (args : List CoreValue) → MachineState → List Answer → NamedOutcome
 plain p u a args state answers = sync_outcome p (record u { debug = false }) a args state answers

@@ -9,7 +9,7 @@ use Rattle.fact_types.specs.declared.outside.StringEncoding.{StringEncoding}
 use Rattle.fact_types.specs.declared.outside.Trap.{Trap}
 use Rattle.fact_types.specs.declared.outside.Trap.TheVariants.{UnalignedPointer, DebugAssertUpperBitsUnset}
 use Rattle.fact_types.specs.declared.outside.UnsafeIntrinsic.TheVariants as slot
-use Rattle.fact_types.specs.declared.widths.MemoryWidth.{MemoryWidth}
+use Rattle.fact_types.specs.declared.extents.MemoryWidth.{MemoryWidth}
 use Rattle.fact_types.specs.Adapters.{Side, is_wide}
 use Rattle.fact_types.specs.Signatures.{address as pointer_type, pointer_bytes}
 use Rattle.fact_machine.specs.declared.types.CoreValue.{CoreValue}

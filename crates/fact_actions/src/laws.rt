@@ -1,6 +1,6 @@
 //! Laws of actions and of adapters.
 
-ghost use Rattle.fact_actions.specs.AdapterLaws.{CallsAreFew, StartCallsAreFew, ReturnCallsAreFew, SyncRunsFollow, CallsAreOrdered, CalleeIsCalledOnce, SourcesAreLeft, TypedRunsStay, TypedStartsStay, TypedReturnsStay, WritesAreOwn, StartWritesAreOwn, ReturnWritesAreOwn, RequestsGiveUpLive, StartRequestsGiveUpLive, ReturnRequestsGiveUpLive, OutcomesAreNamed, StartIsTransfer, ReturnIsTransfer, StartLeavesSource, ReturnLeavesSource, RequestsGrow, ChecksOnlyStop, ValidTypesServe, PlacesAreAligned, StartPlacesAreAligned, ReturnPlacesAreAligned, SameInstanceTraps, TypedSameInstanceStays, AsyncCallsTwice, AsyncCallsWriteNothing, TypedAsyncCallsStay};
+ghost use Rattle.fact_actions.specs.AdapterLaws.{CallsAreFew, StartCallsAreFew, ReturnCallsAreFew, SyncRunsFollow, CallsAreOrdered, CalleeIsCalledOnce, SourcesAreLeft, TypedRunsStay, TypedStartsStay, TypedReturnsStay, WritesAreConfined, StartWritesAreConfined, ReturnWritesAreConfined, RequestsGiveUpLive, StartRequestsGiveUpLive, ReturnRequestsGiveUpLive, OutcomesAreNamed, StartIsTransfer, ReturnIsTransfer, StartLeavesSource, ReturnLeavesSource, RequestsGrow, ChecksOnlyStop, ValidTypesServe, PlacesAreAligned, StartPlacesAreAligned, ReturnPlacesAreAligned, SameInstanceTraps, TypedSameInstanceStays, AsyncCallsTwice, AsyncCallsWriteNothing, TypedAsyncCallsStay};
 ghost use Rattle.fact_actions.specs.Alike.{MovesAreAlike, MovesFillSlots};
 ghost use Rattle.fact_actions.specs.Flags.{BitsGoByName, OtherBitsAreZero};
 ghost use Rattle.fact_actions.specs.OutlinedRows.{ThreeChars, HelpersAreShared, NestOfLists, FixedLists, FuelOfFunctions, FreeTypes, OrdersOfMembers};
@@ -22,7 +22,7 @@ pub fn laws_of_adapters()
     ensures callee_is_called_once { CalleeIsCalledOnce }
     ensures sources_are_left { SourcesAreLeft }
     ensures typed_runs_stay { TypedRunsStay }
-    ensures writes_are_own { WritesAreOwn }
+    ensures writes_are_confined { WritesAreConfined }
     ensures requests_give_up_live { RequestsGiveUpLive }
     ensures outcomes_are_named { OutcomesAreNamed }
     ensures same_instance_traps { SameInstanceTraps }
@@ -43,8 +43,8 @@ pub fn laws_of_async_adapters()
     ensures return_calls_are_few { ReturnCallsAreFew }
     ensures typed_starts_stay { TypedStartsStay }
     ensures typed_returns_stay { TypedReturnsStay }
-    ensures start_writes_are_own { StartWritesAreOwn }
-    ensures return_writes_are_own { ReturnWritesAreOwn }
+    ensures start_writes_are_confined { StartWritesAreConfined }
+    ensures return_writes_are_confined { ReturnWritesAreConfined }
     ensures start_requests_give_up_live { StartRequestsGiveUpLive }
     ensures return_requests_give_up_live { ReturnRequestsGiveUpLive }
     ensures start_places_are_aligned { StartPlacesAreAligned }
@@ -64,7 +64,8 @@ pub fn laws_of_moves()
     ensures moves_fill_slots { MovesFillSlots }
 {}
 
-/// Rows of the definition by which functions leave translations to helpers, each worked out by hand. No code goes by that definition yet.
+/// Rows of the definition by which functions leave translations to helpers, each worked out by hand. The code goes by that definition: by
+/// `TranslatesAs` (fact_kinds) in each function, and by `IsOutlined` (fact_assembly) in a module.
 /// The call does nothing: its contract is the rows.
 pub fn rows_of_outlining()
     ensures three_chars { ThreeChars }

@@ -5,4 +5,6 @@
 
 mod laws;
 
-pub use crate::laws::{laws_of_actions, laws_of_adapters, laws_of_async_adapters};
+pub use crate::laws::{
+    laws_of_actions, laws_of_adapters, laws_of_async_adapters, laws_of_moves, rows_of_outlining,
+};

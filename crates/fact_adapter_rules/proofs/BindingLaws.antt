@@ -5,10 +5,10 @@ use Rattle.std.specs.List.{flat_map}
 use Rattle.std.proofs.lemmas.Grind.{flat_map-append}
 use Rattle.std.proofs.lemmas.List.{append-nil, append_assoc}
 use Rattle.fact_types.specs.declared.outside.CoreDef.{CoreDef}
-use Rattle.fact_adapter_rules.specs.Bindings.{AreConsistent, Covers, IsBoundToAnother}
+use Rattle.fact_adapter_rules.specs.Bindings.{AreAllDifferent, AreConsistent, Covers, IsBoundToAnother}
 use Rattle.fact_adapter_rules.proofs.BoundLaws.{not_consistent}
 use Rattle.fact_adapter_rules.proofs.NameLaws.{not_distinct}
-use Rattle.fact_adapter_rules.specs.Binding.{AddsNames, AreAllDifferent, Binds}
+use Rattle.fact_adapter_rules.specs.AddedBindings.{AddsNames, Binds}
 
 -- what a list of lists gives, with one more
 pub flat_map-with : {A B : Type 0} (f : A → List B) (xs : List A) (x : A) → flat_map f (xs ++ x ∷ []) ≡ flat_map f xs ++ f x

@@ -17,7 +17,7 @@ use Rattle.fact_adapter_rules.specs.AdapterRules.{SideLacks}
 use Rattle.fact_types.specs.Adapters.{LinkedAdapter}
 use Rattle.fact_adapter_rules.specs.Adapters.{named_def, named_memory}
 use Rattle.fact_adapter_rules.specs.Linked.{HasSides, NamesTypesOf}
-use Rattle.fact_adapter_rules.specs.Links.{LinksAdapter, LinksSide}
+use Rattle.fact_adapter_rules.specs.PlanLinks.{LinksAdapter, LinksSide}
 use Rattle.fact_adapter_rules.specs.declared.adapter.Adapter.{Adapter}
 use Rattle.fact_adapter_rules.specs.declared.adapter.AdapterOptionsDfg.{AdapterOptionsDfg}
 

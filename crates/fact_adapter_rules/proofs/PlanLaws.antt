@@ -10,7 +10,7 @@ use Rattle.fact_builder.specs.Builder.{Builder}
 use Rattle.fact_plan.specs.declared.plan.FusePlan.{FusePlan}
 use Rattle.fact_plan.specs.declared.plan.PlanAdapter.{PlanAdapter}
 use Rattle.fact_plan_types.specs.Faults.{Fault, HaveNoFault, rank, unknown_index, bad_type, too_large}
-use Rattle.fact_plan_types.specs.PlanTypes.{AreFaultless}
+use Rattle.fact_plan_types.specs.PlanTypes.{HasFaultlessTypes}
 use Rattle.fact_plan_types.specs.TypeRules.{most_entries}
 use Rattle.fact_plan_types.specs.declared.error.Place.{Place}
 use Rattle.fact_plan_types.specs.declared.error.Place.TheVariants.{Adapter}
@@ -21,7 +21,7 @@ use Rattle.fact_adapter_rules.specs.Adapters.{adapter_of, adapters_before}
 use Rattle.fact_adapter_rules.specs.Checked.{AreChecked, Checks, IsFirstOf, IsSoundNext}
 use Rattle.fact_adapter_rules.specs.FirstFault.{IsFirstAt}
 use Rattle.fact_adapter_rules.specs.Linked.{HasSides, IsLinked}
-use Rattle.fact_adapter_rules.specs.Links.{IsAt, IsFirstHere, LinksAdapter}
+use Rattle.fact_adapter_rules.specs.PlanLinks.{IsAt, IsFirstHere, LinksAdapter}
 use Rattle.fact_adapter_rules.specs.declared.sides.Candidate.{Candidate}
 use Rattle.fact_adapter_rules.proofs.LinkLaws.{some_and}
 
@@ -131,7 +131,7 @@ at-first p b = record {
 }
 
 -- the first fault at a place is the plan's, where none was before
-pub first-of-plan : (p : FusePlan) (b : Builder) (c : Checks) (k : ℕ) (f : Fault) (place : Place) → AreFaultless p → IsAt p b c k → IsFirstHere p k f place → IsFirstAt p f place
+pub first-of-plan : (p : FusePlan) (b : Builder) (c : Checks) (k : ℕ) (f : Fault) (place : Place) → HasFaultlessTypes p → IsAt p b c k → IsFirstHere p k f place → IsFirstAt p f place
 first-of-plan p b c k f place types at first =
     subst (IsFirstAt p f) (sym first.is_here)
     (types, record { has = first.has; no_rule_before = first.no_rule_before; no_entry_before = λ j g below h. at.sound j g below h })

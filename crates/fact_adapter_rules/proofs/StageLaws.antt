@@ -5,13 +5,13 @@ use Rattle.std.specs.List.{flat_map}
 use Rattle.std.proofs.lemmas.Bool.{true≢false}
 use Rattle.std.proofs.lemmas.List.{append-nil}
 use Rattle.fact_types.specs.declared.outside.CoreDef.{CoreDef}
-use Rattle.fact_adapter_rules.specs.Bindings.{AreConsistent, Covers}
+use Rattle.fact_adapter_rules.specs.Bindings.{AreAllDifferent, AreConsistent, Covers}
 use Rattle.fact_adapter_rules.proofs.BoundLaws.{AreConsistent-covered}
 use Rattle.fact_plan_types.specs.Faults.{Fault, unknown_index, bad_type, too_large, bad_options, type_mismatch, bad_memory, bad_signature, import_conflict, duplicate_name, rank}
 use Rattle.fact_plan_types.specs.TypeRules.{IsRepeated}
 use Rattle.fact_types.specs.Adapters.{LinkedAdapter}
 use Rattle.fact_adapter_rules.specs.AdapterRules.{HasBadMemory, HasBadOptions, HasBadSignature, HasDuplicateName, HasImportConflict, HasTypeMismatch, LinkedHas, export_names, with}
-use Rattle.fact_adapter_rules.specs.Binding.{AddsNames, AreAllDifferent, Binds}
+use Rattle.fact_adapter_rules.specs.AddedBindings.{AddsNames, Binds}
 use Rattle.fact_adapter_rules.proofs.BindingLaws.{flat_map-with}
 use Rattle.fact_adapter_rules.proofs.FirstLaws.{HasNoneBelow, none-next}
 

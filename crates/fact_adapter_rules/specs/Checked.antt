@@ -2,13 +2,12 @@
 use Rattle.std.specs.Prelude.{◌≡◌, ◌<◌, Bool, List, [], ◌∷◌, ◌++◌}
 use Rattle.std.specs.List.{flat_map}
 use Rattle.fact_builder.specs.Builder.{Builder}
-use Rattle.fact_adapter_rules.specs.Bindings.{Covers}
+use Rattle.fact_adapter_rules.specs.Bindings.{AreAllDifferent, Covers}
 use Rattle.fact_plan_types.specs.Faults.{Fault, rank}
 use Rattle.fact_adapter_rules.specs.declared.bound.Bound.{Bound}
 use Rattle.fact_adapter_rules.specs.declared.sides.Candidate.{Candidate}
 use Rattle.fact_types.specs.Adapters.{LinkedAdapter}
 use Rattle.fact_adapter_rules.specs.AdapterRules.{LinkedHas, export_names, adapter_memories, reallocs_of, uses_of}
-use Rattle.fact_adapter_rules.specs.Binding.{AreAllDifferent}
 use Rattle.fact_adapter_rules.specs.Linked.{IsLinked}
 
 -- What was bound and exported is what these adapters use and export, each thing once.
@@ -46,8 +45,3 @@ IsSoundNext old new candidate = IsSoundOver old.builder old.concurrency old.boun
 
 abbrev pub IsFirstOf : Checks → Candidate → Fault → Type 0
 IsFirstOf c candidate f = IsFirstOver c.builder c.concurrency c.bound candidate f
-
--- Behind the adapters that were checked it has no fault.
-abbrev pub IsFaultlessBehind : Checks → Candidate → Type 0
-IsFaultlessBehind c candidate =
-    (before : List LinkedAdapter) (a : LinkedAdapter) → AreChecked c before → IsLinked c.builder candidate a → (f : Fault) → LinkedHas c.concurrency before a f → ⊥

@@ -1,9 +1,10 @@
 pub mod AdapterRules
 pub mod Adapters
-pub mod Binding
+pub mod AddedBindings
 pub mod Bindings
 pub mod Checked
 pub mod FirstFault
 pub mod Fronts
+pub mod Inputs
 pub mod Linked
-pub mod Links
+pub mod PlanLinks

@@ -2,12 +2,11 @@
 
 ghost use Rattle.std.specs.Prelude.{◌≡◌, ◌↔◌, List, [], IfOk, IsFalse, IsTrue, length, take};
 ghost use Rattle.std.specs.List.{flat_map};
-ghost use Rattle.fact_adapter_rules.specs.Bindings.{AreConsistent, Covers};
+ghost use Rattle.fact_adapter_rules.specs.Bindings.{AreAllDifferent, AreConsistent, Covers};
 ghost use Rattle.fact_adapter_rules.specs.Fronts.{IsFront};
 ghost use Rattle.fact_builder.specs.Builder.{Builder};
 ghost use Rattle.fact_types.specs.Adapters.{LinkedAdapter};
 ghost use Rattle.fact_adapter_rules.specs.AdapterRules.{HasBadMemory, HasDuplicateName, HasImportConflict, export_names, adapter_memories, reallocs_of, uses_of, with};
-ghost use Rattle.fact_adapter_rules.specs.Binding.{AreAllDifferent};
 ghost use Rattle.fact_adapter_rules.specs.Linked.{HasSides, IsLinked, NamesTypesOf};
 
 use crate::adapter::Adapter;

@@ -4,7 +4,7 @@ ghost use Rattle.std.specs.Prelude.{◌≡◌, [], IfErr, IfSome, OnErr, OnOk};
 ghost use Rattle.fact_plan_types.specs.PlanTypes.{told};
 ghost use Rattle.fact_plan_types.specs.declared.error.Place.TheVariants as place_at;
 ghost use Rattle.fact_adapter_rules.specs.Fronts.{IsFront};
-ghost use Rattle.fact_adapter_rules.specs.Checked.{IsFaultlessBehind, IsFirstOf, IsFirstOver, IsSoundNext, IsSoundOver};
+ghost use Rattle.fact_adapter_rules.specs.Checked.{IsFirstOf, IsFirstOver, IsSoundNext, IsSoundOver};
 ghost use Rattle.fact_adapter_rules.specs.Linked.{NamesTypesOf};
 
 use crate::bound::{Bound, has_bad_memory, has_duplicate_name, has_import_conflict};
@@ -151,27 +151,5 @@ impl<'a> AdapterChecks<'a> {
             self.bound.truncate(lengths);
         }
         checked
-    }
-
-    /// Tells the first fault of an adapter behind those that were found sound, as [`AdapterChecks::check`] does, and keeps
-    /// nothing of it.
-    pub fn judge(&mut self, number: u32, candidate: &Candidate<'_>) -> Result<(), FuseError>
-        requires { NamesTypesOf self.old.builder candidate.now.adapter.now }
-        ensures unchanged { self.new ≡ self.old }
-        ensures faultless { OnOk result (IsFaultlessBehind self.old candidate.now) }
-        ensures refused { IfErr result (λ e. IfSome (told e) (λ x. IsFirstOf self.old candidate.now x.0 × (x.1 ≡ place_at.Adapter number))) }
-    {
-        let lengths = self.bound.lengths();
-        let judged = check_behind(
-            self.alloc,
-            self.builder,
-            self.concurrency,
-            &mut self.agreement,
-            &mut self.bound,
-            Place::Adapter(number),
-            candidate,
-        );
-        self.bound.truncate(lengths);
-        judged
     }
 }

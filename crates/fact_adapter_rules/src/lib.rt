@@ -26,7 +26,5 @@ pub use checks::AdapterChecks;
 pub use export_names::ExportNames;
 pub use fact_plan_types::{FuseError, Place};
 pub use fact_types::{MemoryOption, OutOfMemory};
-pub use plan::{
-    MOST_INSTANCE, candidate_of, check_adapters, check_plan, linked_adapter, one_first_fault,
-};
+pub use plan::{MOST_INSTANCE, candidate_of, check_plan, linked_adapter, one_first_fault};
 pub use sides::Candidate;

@@ -6,7 +6,7 @@ ghost use Rattle.fact_entity.specs.declared.table.TypeFuncs.{TypeFuncs};
 ghost use Rattle.fact_plan_types.specs.PlanTypes.{AreTypesOf};
 ghost use Rattle.fact_adapter_rules.specs.Adapters.{named_def as def_named, named_memory as memory_named};
 ghost use Rattle.fact_adapter_rules.specs.AdapterRules.{AdapterLacks, IsPastList, SideLacks, memory_def as memory_number};
-ghost use Rattle.fact_adapter_rules.specs.Links.{LinksAdapter, LinksSide};
+ghost use Rattle.fact_adapter_rules.specs.PlanLinks.{LinksAdapter, LinksSide};
 
 use crate::adapter::{Adapter, AdapterOptionsDfg};
 use fact_entity::{EntityRef, RuntimeComponentInstanceIndex};

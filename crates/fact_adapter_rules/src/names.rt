@@ -4,7 +4,7 @@ ghost use Rattle.std.specs.Prelude.{◌≡◌, ◌++◌, IfOk, OnOk};
 ghost use Rattle.fact_adapter_rules.specs.Fronts.{IsFront};
 ghost use Rattle.fact_adapter_rules.specs.AdapterRules.{export_names, part_names};
 ghost use Rattle.fact_types.specs.Adapters.{LinkedAdapter};
-ghost use Rattle.fact_adapter_rules.specs.Binding.{AddsNames};
+ghost use Rattle.fact_adapter_rules.specs.AddedBindings.{AddsNames};
 ghost use Rattle.fact_adapter_rules.specs.Linked.{IsLinked, NamesTypesOf};
 
 use crate::ExportNames;

@@ -4,10 +4,10 @@ ghost use Rattle.std.specs.Prelude.{◌≡◌, ◌↔◌, ◌⊎◌, ◌<◌, �
 ghost use Rattle.fact_plan.specs.declared.plan.FusePlan.{FusePlan};
 ghost use Rattle.fact_plan_types.specs.Faults.{Fault, too_large};
 ghost use Rattle.fact_plan_types.specs.declared.error.Place.{Place};
-ghost use Rattle.fact_plan_types.specs.PlanTypes.{AreFaultless, AreTypesOf, told};
+ghost use Rattle.fact_plan_types.specs.PlanTypes.{HasFaultlessTypes, AreTypesOf, told};
 ghost use Rattle.fact_plan_types.specs.TypeRules.{most_entries};
 ghost use Rattle.fact_adapter_rules.specs.AdapterRules.{AdapterHas, AdapterLacks, most_instance};
-ghost use Rattle.fact_adapter_rules.specs.Links.{IsAt, IsFirstHere, LinksAdapter};
+ghost use Rattle.fact_adapter_rules.specs.PlanLinks.{IsAt, IsFirstHere, LinksAdapter};
 ghost use Rattle.fact_adapter_rules.specs.FirstFault.{IsFaultlessPlan, IsFirstAt};
 
 use crate::adapter::Adapter;
@@ -118,7 +118,7 @@ fn check_each(
     types: &PlanTypes,
 ) -> Result<(), FuseError>
     requires types { AreTypesOf plan.now types.now }
-    requires faultless { AreFaultless plan.now }
+    requires faultless { HasFaultlessTypes plan.now }
     requires at { IsAt plan.now types.now.builder checks.old 0 }
     ensures faultless { OnOk result (IsFaultlessPlan plan.now) }
     ensures refused { IfErr result (λ e. IfSome (told e) (λ x. IsFirstAt plan.now x.0 x.1)) }
@@ -130,9 +130,9 @@ fn check_each(
 }
 
 /// Tells the first fault of a plan whose types and functions have none, over its types.
-pub fn check_adapters(alloc: Global, plan: &FusePlan, types: &PlanTypes) -> Result<(), FuseError>
+fn check_adapters(alloc: Global, plan: &FusePlan, types: &PlanTypes) -> Result<(), FuseError>
     requires types { AreTypesOf plan.now types.now }
-    requires faultless { AreFaultless plan.now }
+    requires faultless { HasFaultlessTypes plan.now }
     ensures faultless { OnOk result (IsFaultlessPlan plan.now) }
     ensures refused { IfErr result (λ e. IfSome (told e) (λ x. IsFirstAt plan.now x.0 x.1)) }
 {

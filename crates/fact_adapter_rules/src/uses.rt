@@ -8,7 +8,7 @@ ghost use Rattle.fact_adapter_rules.specs.Fronts.{IsFront};
 ghost use Rattle.fact_types.specs.ImportTypes.{callback_type as callback_type_of, realloc_type as realloc_type_of};
 ghost use Rattle.fact_adapter_rules.specs.AdapterRules.{IsCalleeTwice, IsSameAs, bound, callee_uses, def_in, adapter_memories, memory_use as memory_use_of, reallocs_of, side_uses, uses_of};
 ghost use Rattle.fact_types.specs.Adapters.{LinkedAdapter, Side};
-ghost use Rattle.fact_adapter_rules.specs.Binding.{Binds};
+ghost use Rattle.fact_adapter_rules.specs.AddedBindings.{Binds};
 ghost use Rattle.fact_adapter_rules.specs.Linked.{HasSides, IsSideOf, NamesTypesOf};
 
 use crate::Bindings;

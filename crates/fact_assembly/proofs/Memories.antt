@@ -13,7 +13,7 @@ use Rattle.fact_adapter_rules.specs.Bindings.{AreConsistent}
 use Rattle.fact_actions.specs.Adapters.{flat_results}
 use Rattle.fact_actions.specs.Sides.{LiftLowerOptions, options_of}
 use Rattle.fact_action_laws.specs.FaithfulLaws.{HasOwnMemories}
-use Rattle.fact_action_laws.specs.Law.{CanAllocate, HasRealloc}
+use Rattle.fact_action_laws.specs.MoveTerms.{CanAllocate, HasRealloc}
 use Rattle.fact_action_laws.specs.Places.{HasSideMemory}
 use Rattle.fact_assembly.specs.Sound.{HasUsualPages}
 use Rattle.fact_assembly.proofs.Stable.{stable_nat}

@@ -14,8 +14,8 @@ use Rattle.fact_types.specs.FlatShapes.{AreCounted}
 use Rattle.fact_types.specs.Shapes.{Kind, k_record, k_variant, k_list, k_tuple, k_map, k_flags, k_enum, k_option, k_result, k_fixed, k_future, k_stream, Shape, s_plain, s_node, Members, no_members, bare, typed, layouts_of}
 use Rattle.fact_types.specs.Layout.{extent, payloads, record_layout}
 use Rattle.fact_types.specs.Sound.{TakesBytes}
-use Rattle.fact_types.specs.declared.widths.MemoryWidth.{MemoryWidth}
-use Rattle.fact_types.specs.declared.widths.MemoryWidth.TheVariants.{Memory32, Memory64}
+use Rattle.fact_types.specs.declared.extents.MemoryWidth.{MemoryWidth}
+use Rattle.fact_types.specs.declared.extents.MemoryWidth.TheVariants.{Memory32, Memory64}
 use Rattle.fact_types.specs.Tuples.{members_from, tuple_members}
 use Rattle.fact_types.specs.Valid.{AreDistinct, FollowsRules, IsValid}
 use Rattle.fact_types.proofs.PlaceLaws.{ends_within}
@@ -25,7 +25,7 @@ use Rattle.fact_values.specs.Limits.{CaseType, case_type}
 use Rattle.fact_values.specs.Numbers.{plain_of}
 use Rattle.fact_values.specs.Places.{count_of_members}
 use Rattle.fact_action_laws.specs.FaithfulLaws.{AreWellFormedTypes}
-use Rattle.fact_action_laws.specs.Law.{AreTyped, HasValues, IsWellFormed, IsWellFormedBy, AreWellFormed}
+use Rattle.fact_action_laws.specs.MoveTerms.{AreTyped, HasValues, IsWellFormed, IsWellFormedBy, AreWellFormed}
 use Rattle.fact_action_laws.proofs.Distinct.{each_agrees, places_agree}
 use Rattle.fact_action_laws.proofs.Elements.{takes_some}
 use Rattle.fact_action_laws.proofs.Fields.{found_named, formed_found}

@@ -9,7 +9,7 @@ use Rattle.fact_types.specs.Adapters.{LinkedAdapter}
 use Rattle.fact_types.specs.declared.import.Import.{Import}
 use Rattle.fact_emit.specs.ImportSection.{Mention, a_function, adapter_mentions, imports_of, is_of, with_mentions}
 use Rattle.fact_emit.proofs.Mentions.{mentions-on}
-use Rattle.fact_assembly.specs.Order.{AreParts, Definition, IsModulePart, Item, ModulePart, Other, functions_in, item_of, items, items_in, own_places}
+use Rattle.fact_assembly.specs.Order.{AreParts, Definition, IsModulePart, Item, ModulePart, Other, functions_of_part, item_of, items, items_in, own_places}
 
 -- ---- parts
 
@@ -41,12 +41,12 @@ parts-mention imported before (a ∷ adapters) (p ∷ parts) h =
     ∙ ap (λ l. l ++ flat_map defs_in parts) one
     ∙ append_assoc (flat_map defs_in before) p.defs (flat_map defs_in parts)
 
-pub own-push : (n : ℕ) (parts : List ModulePart) (p : ModulePart) → own_places n (parts ++ p ∷ []) ≡ own_places n parts ++ range_with_len (n + length (flat_map functions_in parts)) (length p.own)
+pub own-push : (n : ℕ) (parts : List ModulePart) (p : ModulePart) → own_places n (parts ++ p ∷ []) ≡ own_places n parts ++ range_with_len (n + length (flat_map functions_of_part parts)) (length p.own)
 own-push n [] p = let e : n ≡ n + 0 = omega arith in append-nil (range_with_len n (length p.own)) ∙ ap (λ k. range_with_len k (length p.own)) e
 own-push n (q ∷ parts) p =
-    let e : n + length (functions_in q) + length (flat_map functions_in parts) ≡ n + length (flat_map functions_in (q ∷ parts)) = omega (arith, length-append (functions_in q) (flat_map functions_in parts)) in
-    ap (λ l. range_with_len n (length q.own) ++ l) (own-push (n + length (functions_in q)) parts p ∙ ap (λ k. own_places (n + length (functions_in q)) parts ++ range_with_len k (length p.own)) e)
-    ∙ sym (append_assoc (range_with_len n (length q.own)) (own_places (n + length (functions_in q)) parts) _)
+    let e : n + length (functions_of_part q) + length (flat_map functions_of_part parts) ≡ n + length (flat_map functions_of_part (q ∷ parts)) = omega (arith, length-append (functions_of_part q) (flat_map functions_of_part parts)) in
+    ap (λ l. range_with_len n (length q.own) ++ l) (own-push (n + length (functions_of_part q)) parts p ∙ ap (λ k. own_places (n + length (functions_of_part q)) parts ++ range_with_len k (length p.own)) e)
+    ∙ sym (append_assoc (range_with_len n (length q.own)) (own_places (n + length (functions_of_part q)) parts) _)
 
 -- ---- imports as items
 

@@ -44,10 +44,10 @@ use Rattle.fact_compound.specs.Helpers.{HelpersAreThere}
 use Rattle.fact_compound.proofs.CompiledAdapters.{get_back, numbered_later}
 use Rattle.fact_assembly.specs.Sound.{IsSoundAdapter}
 use Rattle.fact_assembly.specs.Adding.{Adds, AsParts, AsSync, AsTrap, CompiledAs, Given, helper_functions, numbered_for, own_functions}
-use Rattle.fact_assembly.specs.Exports.{Callee, Exported, IsExportOf, Own, callee_of, exported_functions_of, defined_type as type_defined, type_of_function}
+use Rattle.fact_assembly.specs.Exports.{Callee, Exported, IsExportOf, Own, callee_of, exported_functions_of, defined_type as type_defined, function_type_in}
 use Rattle.fact_assembly.specs.Holding.{named_from, own_names}
 use Rattle.fact_assembly.specs.InParts.{IsInParts}
-use Rattle.fact_assembly.specs.Order.{AreParts, AreWritten, Definition, IsOrdered, Item, ModulePart, Other, functions_in, items_in, newly_asked, others_named}
+use Rattle.fact_assembly.specs.Order.{AreParts, AreWritten, Definition, IsOrdered, Item, ModulePart, Other, functions_of_part, items_in, newly_asked, others_named}
 use Rattle.fact_assembly.proofs.AddedFunctions.{AddsBehind, compiled-behind, helpers-behind, own_callees}
 use Rattle.fact_assembly.proofs.CompiledLaws.{compiled-extended, describes-entry, helpers-extended, not-awaited-sync, not-awaited-within, own-count}
 use Rattle.fact_assembly.proofs.FirstAsked.{AreFirstAsked, newly-are}
@@ -105,9 +105,9 @@ type_still : (old new : ModuleSoFar) → Extended old new → Grows old.function
 type_still old new e g (func.Import k) ty h = cc
 type_still old new e g (func.Defined k) ty h = by (slice_get old.functions k) refl h
   where
-    by : (o : Option WasmFunc) → slice_get old.functions k ≡ o → type_of_function (module_of old) o ≡ Some ty → type_of_function (module_of new) (slice_get new.functions k) ≡ Some ty
+    by : (o : Option WasmFunc) → slice_get old.functions k ≡ o → function_type_in (module_of old) o ≡ Some ty → function_type_in (module_of new) (slice_get new.functions k) ≡ Some ty
     by None at h = cc
-    by (Some f) at h = ap (type_of_function (module_of new)) (grown_get g k f at) ∙ grown_get e.types f.ty ty h
+    by (Some f) at h = ap (function_type_in (module_of new)) (grown_get g k f at) ∙ grown_get e.types f.ty ty h
 
 imported_still : (old new : ModuleSoFar) → Extended old new → (f : FuncName) (i : Import) → imported_function (module_of old) old.imports f ≡ Some i → imported_function (module_of new) new.imports f ≡ Some i
 imported_still old new e (func.Import k) i h = grown_get e.functions k i h
@@ -275,12 +275,12 @@ module _ (t : Tables) (u : AdapterTunables) (given : Given) (old new : ModuleSoF
       let before : items_so_far add.imported ≡ flat_map items_in was.parts ++ as_items = defines.items_are ∙ ap (λ l. l ++ as_items) was.imports in
       let numbers : numbers_of (items_so_far add.imported) ≡ flat_map others_in was.parts =
       ap numbers_of before ∙ filter_map-append other_number (flat_map items_in was.parts) as_items ∙ (λ k. numbers-parts was.parts k ++ numbers-defs defines.defs k) ∙ append-nil (flat_map others_in was.parts) in
-      let functions : new.functions ≡ flat_map functions_in was.parts ++ (own ++ helpers) = added.functions ∙ ap (λ fs. fs ++ (own ++ helpers)) was.functions in
-      let next : ℕ = length (flat_map functions_in was.parts) + length own in
+      let functions : new.functions ≡ flat_map functions_of_part was.parts ++ (own ++ helpers) = added.functions ∙ ap (λ fs. fs ++ (own ++ helpers)) was.functions in
+      let next : ℕ = length (flat_map functions_of_part was.parts) + length own in
       let own_last : next ≡ length add.own.functions = omega (arith, ap length was.functions, own_count, ahead_numbers, ap length (kept_imported (adapter_mentions a) old add.imported in-turn).functions) in
-      let stand : length old.functions ≡ 0 + length (flat_map functions_in was.parts) = let same = ap length was.functions in omega (arith, same) in
+      let stand : length old.functions ≡ 0 + length (flat_map functions_of_part was.parts) = let same = ap length was.functions in omega (arith, same) in
       let named : length (own_names a) ≡ length own = names-counted a ∙ sym (own-count add.compiled) in
-      let places : filter_map (λ (e : WasmExport). defined_place e.func) (named_from (length old.functions) (own_names a)) ≡ range_with_len (0 + length (flat_map functions_in was.parts)) (length own) =
+      let places : filter_map (λ (e : WasmExport). defined_place e.func) (named_from (length old.functions) (own_names a)) ≡ range_with_len (0 + length (flat_map functions_of_part was.parts)) (length own) =
       named_places (length old.functions) (own_names a) ∙ (λ k. range_with_len (stand k) (named k)) in
       record {
         parts = was.parts ++ part_of_adapter ∷ [];
@@ -290,14 +290,14 @@ module _ (t : Tables) (u : AdapterTunables) (given : Given) (old new : ModuleSoF
           next = next;
           next_is = refl;
           written = written;
-          are_written = subst (λ n. AreWritten (flat_map functions_in was.parts ++ (own ++ helpers)) (newly_asked n own) (n + length (newly_asked n own)) written) (sym own_last)
+          are_written = subst (λ n. AreWritten (flat_map functions_of_part was.parts ++ (own ++ helpers)) (newly_asked n own) (n + length (newly_asked n own)) written) (sym own_last)
               (subst (λ fs. AreWritten fs (newly_asked (length add.own.functions) own) (length add.own.functions + length (newly_asked (length add.own.functions) own)) written) functions helpers_written);
           all_written = length-map order (λ (e : ℕ × WasmFunc). e.1) ∙ add.helpers.wrote.as_many;
           others = subst (λ ns. all_added_once ns (flat_map (others_named (functions_of new ++ more)) (own ++ written)) ≡ ns ++ first.adds.others) numbers (first.in_order more);
         });
         imports = first.adds.items_are ∙ ap (λ l. l ++ map Other first.adds.others) before ∙ append_assoc (flat_map items_in was.parts) as_items (map Other first.adds.others)
             ∙ sym (flat_map-push items_in was.parts part_of_adapter);
-        functions = functions ∙ sym (flat_map-push functions_in was.parts part_of_adapter);
+        functions = functions ∙ sym (flat_map-push functions_of_part was.parts part_of_adapter);
         exports = ap (filter_map (λ (e : WasmExport). defined_place e.func)) added.exports
             ∙ filter_map-append (λ (e : WasmExport). defined_place e.func) old.exports (named_from (length old.functions) (own_names a))
             ∙ (λ k. was.exports k ++ places k)

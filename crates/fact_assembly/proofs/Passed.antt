@@ -25,7 +25,7 @@ use Rattle.fact_adapter_rules.specs.AdapterRules.{CannotUseMemory, Differs, IsCa
 use Rattle.fact_actions.specs.Calls.{HasOwnCallee}
 use Rattle.fact_actions.specs.Confined.{AreValidTypes, HasElements, HasElementsBy, HaveElements}
 use Rattle.fact_action_laws.specs.FaithfulLaws.{AreWellFormedTypes}
-use Rattle.fact_action_laws.specs.Law.{AreTyped, IsWellFormed, IsWellFormedBy, AreWellFormed}
+use Rattle.fact_action_laws.specs.MoveTerms.{AreTyped, IsWellFormed, IsWellFormedBy, AreWellFormed}
 use Rattle.fact_action_laws.proofs.PointerPairs.{own_memories_serve}
 use Rattle.fact_action_laws.proofs.Shaped.{shapes_are_well_formed, tuples_agree}
 use Rattle.fact_assembly.specs.Sound.{HasPassed, IsSoundAdapter, PassedAreSound, SoundAreChecked}

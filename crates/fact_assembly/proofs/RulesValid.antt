@@ -23,7 +23,7 @@ use Rattle.fact_type_rules.specs.TypeFaults.{AnyAmong, AnyIn, IsBadFunction, IsB
 use Rattle.fact_type_rules.proofs.RuleLaws.{valid_breaks_none}
 use Rattle.fact_adapter_rules.specs.declared.adapter.Adapter.{Adapter}
 use Rattle.fact_adapter_rules.specs.Linked.{HasSides}
-use Rattle.fact_adapter_rules.specs.Links.{LinksAdapter}
+use Rattle.fact_adapter_rules.specs.PlanLinks.{LinksAdapter}
 use Rattle.fact_assembly.specs.Sound.{HasValidSides}
 use Rattle.fact_assembly.proofs.PlanPassed.{plan_sides_are_valid}
 

@@ -30,7 +30,7 @@ use Rattle.fact_emit.specs.States.{ModuleSoFar, module_of}
 use Rattle.fact_emit.proofs.Mentions.{in-mentions}
 use Rattle.fact_assembly.specs.Sound.{HasUsualPages, IsSoundAdapter}
 use Rattle.fact_assembly.specs.Adding.{Given}
-use Rattle.fact_assembly.specs.Exports.{Callee, Exported, IsExportOf, Own, defined_type, exported, type_of_function}
+use Rattle.fact_assembly.specs.Exports.{Callee, Exported, IsExportOf, Own, defined_type, exported, function_type_in}
 use Rattle.fact_assembly.specs.Holding.{Holds}
 use Rattle.fact_assembly.proofs.NameLaws.{named-once, times, times-here}
 use Rattle.fact_assembly.proofs.WholeExports.{all-at, exports-are}
@@ -154,7 +154,7 @@ module _ (M : WasmModule) where
   defined-typed (func.Import k) ty e = cc
   defined-typed (func.Defined k) ty e = by (slice_get M.funcs k) e
     where
-      by : (o : Option WasmFunc) → type_of_function M o ≡ Some ty → is_some (option_and_then (λ (f : WasmFunc). slice_get M.types f.ty) o) ≡ true
+      by : (o : Option WasmFunc) → function_type_in M o ≡ Some ty → is_some (option_and_then (λ (f : WasmFunc). slice_get M.types f.ty) o) ≡ true
       by None e = cc
       by (Some f) e = is-there (slice_get M.types f.ty) ty e
 

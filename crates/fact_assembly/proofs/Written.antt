@@ -4,7 +4,7 @@ use Rattle.fact_types.specs.Adapters.{LinkedAdapter, Side}
 use Rattle.fact_types.specs.declared.outside.CoreDef.{CoreDef}
 use Rattle.fact_types.specs.declared.outside.MemoryOption.{MemoryOption}
 use Rattle.fact_actions.specs.Sides.{LiftLowerOptions, options_of}
-use Rattle.fact_action_laws.specs.Law.{HasRealloc}
+use Rattle.fact_action_laws.specs.MoveTerms.{HasRealloc}
 use Rattle.fact_action_laws.specs.Places.{HasSideMemory}
 use Rattle.fact_action_laws.proofs.Grounding.{members_have_pointers}
 use Rattle.fact_compound.specs.Placed.{HasMemoriesFor, HasMemoryOption, HasReallocOption}

@@ -72,16 +72,16 @@ pub record HasLinkedFault (c : Collected) (t : TakenAdapter) (f : Fault) : Type 
   pub has : LinkedHas c.tunables.concurrency_support before linked f
 
 -- The list is the other with more behind it.
-pub record BeginsWith {A : Type 0} (list first : List A) : Type 0 where
+pub record BeginsWithList {A : Type 0} (list first : List A) : Type 0 where
   pub more : List A
   pub is : list ≡ first ++ more
 
 -- Its tree has more behind the types, imports and functions from before, and what was exported is exported as it was.
 pub record Extends (old new : Collected) : Type 0 where
-  pub types : BeginsWith new.tree.types old.tree.types
-  pub section : BeginsWith new.tree.imports old.tree.imports
-  pub imports : BeginsWith new.imports old.imports
-  pub functions : BeginsWith new.tree.funcs old.tree.funcs
+  pub types : BeginsWithList new.tree.types old.tree.types
+  pub section : BeginsWithList new.tree.imports old.tree.imports
+  pub imports : BeginsWithList new.imports old.imports
+  pub functions : BeginsWithList new.tree.funcs old.tree.funcs
   pub exports : (name : List ℕ) (f : FuncName) → exported_as name old.tree.exports ≡ Some f → exported_as name new.tree.exports ≡ Some f
 
 -- The number of the tuple of the results of the lift side's function, of the adapter that it took at a place.

@@ -34,13 +34,13 @@ callee_of a = if is_awaited a then Callee (callee_name a.name) a.callee ∷ [] e
 abbrev pub exported : List LinkedAdapter → List Exported
 exported adapters = flat_map exported_functions_of adapters ++ flat_map callee_of adapters
 
-abbrev pub type_of_function : WasmModule → Option WasmFunc → Option FuncType
-type_of_function m None = None
-type_of_function m (Some f) = slice_get m.types f.ty
+abbrev pub function_type_in : WasmModule → Option WasmFunc → Option FuncType
+function_type_in m None = None
+function_type_in m (Some f) = slice_get m.types f.ty
 
 -- the type of a function that the module defines; none of another
 abbrev pub defined_type : WasmModule → FuncName → Option FuncType
-defined_type m (func.Defined k) = type_of_function m (slice_get m.funcs k)
+defined_type m (func.Defined k) = function_type_in m (slice_get m.funcs k)
 defined_type m (func.Import k) = None
 
 abbrev pub IsExportOf : WasmModule → List Import → WasmExport → Exported → Type 0

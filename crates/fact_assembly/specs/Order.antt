@@ -61,17 +61,17 @@ pub record ModulePart : Type 0 where
   pub own : List WasmFunc
   pub helpers : List WasmFunc
 
-abbrev pub functions_in : ModulePart → List WasmFunc
-functions_in p = p.own ++ p.helpers
+abbrev pub functions_of_part : ModulePart → List WasmFunc
+functions_of_part p = p.own ++ p.helpers
 
 -- An adapter's part, behind these others, where these are all imported functions.
 pub record IsModulePart (imported : List Import) (before : List ModulePart) (a : LinkedAdapter) (p : ModulePart) : Type 0 where
   pub defs : with_mentions (flat_map (λ q. q.defs) before) (adapter_mentions a) ≡ flat_map (λ q. q.defs) before ++ p.defs
   pub own : length p.own ≡ length (exported_functions_of a)
   pub next : ℕ
-  pub next_is : next ≡ length (flat_map functions_in before) + length p.own
+  pub next_is : next ≡ length (flat_map functions_of_part before) + length p.own
   pub written : List WasmFunc
-  pub are_written : AreWritten (flat_map functions_in before ++ functions_in p) (newly_asked next p.own) (next + length (newly_asked next p.own)) written
+  pub are_written : AreWritten (flat_map functions_of_part before ++ functions_of_part p) (newly_asked next p.own) (next + length (newly_asked next p.own)) written
   pub all_written : length written ≡ length p.helpers
   pub others : all_added_once (flat_map (λ q. q.others) before) (flat_map (others_named imported) (p.own ++ written)) ≡ flat_map (λ q. q.others) before ++ p.others
 
@@ -105,7 +105,7 @@ items_in p = map (λ r. Definition r.def) p.defs ++ map Other p.others
 -- the numbers of the adapters' own functions, where so many functions stand before
 abbrev pub own_places : ℕ → List ModulePart → List ℕ
 own_places n [] = []
-own_places n (p ∷ parts) = range_with_len n (length p.own) ++ own_places (n + length (functions_in p)) parts
+own_places n (p ∷ parts) = range_with_len n (length p.own) ++ own_places (n + length (functions_of_part p)) parts
 
 -- The imports of the module stand adapter by adapter, as they are new with it, the core definitions in the order of mention, the
 -- others in the order in which its code is written. So do its functions, and the exported ones are each adapter's own, in order.
@@ -113,5 +113,5 @@ pub record IsOrdered (m : WasmModule) (is : List Import) (adapters : List Linked
   pub parts : List ModulePart
   pub are_parts : AreParts (imports_of a_function m.imports is) [] adapters parts
   pub imports : items 0 m.imports is ≡ flat_map items_in parts
-  pub functions : m.funcs ≡ flat_map functions_in parts
+  pub functions : m.funcs ≡ flat_map functions_of_part parts
   pub exports : filter_map (λ e. defined_place e.func) m.exports ≡ own_places 0 parts

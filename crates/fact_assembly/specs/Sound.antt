@@ -19,14 +19,14 @@ use Rattle.fact_adapter_rules.specs.Adapters.{adapter_of, adapters_before}
 use Rattle.fact_adapter_rules.specs.AdapterRules.{LinkedHas}
 use Rattle.fact_adapter_rules.specs.FirstFault.{IsFaultlessPlan}
 use Rattle.fact_adapter_rules.specs.Linked.{HasSides}
-use Rattle.fact_adapter_rules.specs.Links.{LinksAdapter}
+use Rattle.fact_adapter_rules.specs.PlanLinks.{LinksAdapter}
 use Rattle.fact_actions.specs.Adapters.{flat_results, lift_signature_of, lower_signature_of}
 use Rattle.fact_actions.specs.Calls.{HasOwnCallee}
 use Rattle.fact_actions.specs.Confined.{HasValidTypes}
 use Rattle.fact_actions.specs.Running.{ImportPlaces}
 use Rattle.fact_actions.specs.Sides.{options_of}
 use Rattle.fact_action_laws.specs.FaithfulLaws.{AreWellFormedTypes, IsCheckedAdapter}
-use Rattle.fact_action_laws.specs.Law.{CanAllocate, HasPointers}
+use Rattle.fact_action_laws.specs.MoveTerms.{CanAllocate, HasPointers}
 use Rattle.fact_action_laws.specs.Places.{HasKnownMemory, HasSideMemory}
 
 -- ---- adapters that the checks let pass

@@ -123,8 +123,8 @@ fn push_taken(
     }
 }
 
-/// Adds the code of an adapter, and the adapter to those that were taken.
-fn emit(
+/// Takes an adapter that is checked: adds its code, and a copy of it to those that were taken.
+fn take_checked(
     alloc: Global,
     state: &mut ModuleState<'_>,
     taken: &mut Vec<TakenAdapter>,
@@ -187,7 +187,7 @@ impl<'a> Module<'a> {
             }
             return Err(error);
         }
-        match emit(self.alloc, &mut self.state, &mut self.taken, candidate) {
+        match take_checked(self.alloc, &mut self.state, &mut self.taken, candidate) {
             Ok(()) => Ok(()),
             Err(_) => {
                 self.whole = false;

@@ -5,10 +5,10 @@ use Rattle.std.specs.Prelude.{IsErrOf}
 use Rattle.std.proofs.lemmas.List.Concat.{flat_map-cons}
 use Rattle.fact_binary.specs.declared.error.DecodeError.{DecodeError}
 use Rattle.fact_binary.specs.declared.error.DecodeError.TheVariants as error
-use Rattle.fact_binary.specs.Answers.{Answers}
+use Rattle.fact_binary.specs.Answers.{IfRead}
 
 -- an error that is handed on
-pub passes : {X Y : Type 0} (d : DecodeError) (P : X → Type 0) (Q : Y → Type 0) → Answers (Err d) P → Answers (Err d) Q
+pub passes : {X Y : Type 0} (d : DecodeError) (P : X → Type 0) (Q : Y → Type 0) → IfRead (Err d) P → IfRead (Err d) Q
 passes error.OutOfMemory P Q h = tt
 passes error.NotInGrammar P Q h = absurd h
 
@@ -58,7 +58,7 @@ module _ {T : Type 0} (code : T → List ℕ) (P : T → Type 0) where
       go (d ∷ ds, is, q, l) = absurd (omega (arith, n, lt, ap length is, length-append done (d ∷ ds)))
 
 -- where only P answers, an answer that the bytes are not in the grammar is none
-pub not_in_grammar : {X : Type 0} (r : Result X DecodeError) (P : X → Type 0) → Answers r P → IsErrOf r error.NotInGrammar → ⊥
+pub not_in_grammar : {X : Type 0} (r : Result X DecodeError) (P : X → Type 0) → IfRead r P → IsErrOf r error.NotInGrammar → ⊥
 not_in_grammar (Ok x) P h e = cc
 not_in_grammar (Err error.OutOfMemory) P h e = cc
 not_in_grammar (Err error.NotInGrammar) P h e = h

@@ -43,10 +43,10 @@ Shown n (o.IfElse t body other) nd = IsChoice (Typ t ∷ []) (body_nodes n body.
 Shown n os nd = IsLeaf (immediates n os) nd
 
 -- the same by the number of bodies
-abbrev pub IsRow : ℕ → List Arg → Bodies → InstrNode → Type 0
-IsRow n xs b.None nd = IsLeaf xs nd
-IsRow n xs (b.One body) nd = IsNest xs (body_nodes n body.now) nd
-IsRow n xs (b.Two body other) nd = IsChoice xs (body_nodes n body.now) (body_nodes n other.now) nd
+abbrev pub IsEncodedRow : ℕ → List Arg → Bodies → InstrNode → Type 0
+IsEncodedRow n xs b.None nd = IsLeaf xs nd
+IsEncodedRow n xs (b.One body) nd = IsNest xs (body_nodes n body.now) nd
+IsEncodedRow n xs (b.Two body other) nd = IsChoice xs (body_nodes n body.now) (body_nodes n other.now) nd
 
 -- what of the operands has a range of its own
 abbrev pub points_of : Operands → List Point

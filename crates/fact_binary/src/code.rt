@@ -4,7 +4,7 @@ ghost use Rattle.std.specs.Prelude.{◌≡◌, ℕ, ◌<◌, ◌^◌, [], ◌∷
 ghost use Rattle.std.specs.List.{AllByRecursion};
 ghost use Rattle.std.specs.Int.{w32, w64, cast_signed};
 ghost use Rattle.fact_binary.specs.Numbers.{unsigned, signed};
-ghost use Rattle.fact_binary.specs.Encode.{Shown, IsRow, points_of, immediates, IsAligned, ArePlaced, AreBodiesPlaced};
+ghost use Rattle.fact_binary.specs.Encode.{Shown, IsEncodedRow, points_of, immediates, IsAligned, ArePlaced, AreBodiesPlaced};
 ghost use Rattle.fact_wasm.specs.Ranges.{points};
 ghost use Rattle.fact_binary.specs.Grammar.{InstrNode, IsNode, AreNodes, node, body_nodes, code, codes, opcode as opcode_of, val_type, block_type, IsBlockType, function_index, memarg, catch_all, IsIndex, IsArg, args};
 
@@ -308,7 +308,7 @@ pub enum Bodies<'a> {
 
 /// The bodies among the operands, the second empty where there is none.
 pub fn bodies_of(operands: Operands<'_>) -> Bodies<'_>
-    ensures row { (n : ℕ) (nd : InstrNode) → Shown n operands.entry nd → IsRow n (immediates n operands.entry) result nd }
+    ensures row { (n : ℕ) (nd : InstrNode) → Shown n operands.entry nd → IsEncodedRow n (immediates n operands.entry) result nd }
     ensures placed { AllByRecursion IsAligned (points_of operands.entry) → AreBodiesPlaced result }
 {
     match operands {

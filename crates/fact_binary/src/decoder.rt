@@ -8,7 +8,7 @@ ghost use Rattle.fact_wasm.specs.declared.module.WasmImport.{WasmImport};
 ghost use Rattle.fact_wasm.specs.declared.module.WasmExport.{WasmExport};
 ghost use Rattle.fact_wasm.specs.declared.module.WasmFunc.{WasmFunc};
 ghost use Rattle.fact_wasm.specs.declared.module.WasmModule.{WasmModule};
-ghost use Rattle.fact_binary.specs.Answers.{Answers};
+ghost use Rattle.fact_binary.specs.Answers.{IfRead};
 ghost use Rattle.fact_binary.specs.Numbers.{unsigned};
 ghost use Rattle.fact_binary.specs.Grammar.{val_type, IsIndex, list, IsList};
 ghost use Rattle.fact_binary.specs.Spelling.{IsValueType, func_type, IsFuncType, name, IsName, mutability, memory_type, IsMemoryType, import_type, IsImportType, import_item, IsImport, locals_run, IsRun, export_item, header, Spells};
@@ -34,7 +34,7 @@ pub const MAX_NESTING: u32 = 13_000;
 /// The value type at the front.
 pub fn value_type_at(bytes: &[u8]) -> Result<(ValType, &[u8]), DecodeError>
     ensures found { IfOk result (λ x. bytes.now ≡ val_type x.0 ∷ x.1.now) }
-    ensures only { (t : _) (rest : List ℕ) → bytes.now ≡ val_type t ∷ rest → Answers result (λ x. (x.0 ≡ t) × (x.1.now ≡ rest)) }
+    ensures only { (t : _) (rest : List ℕ) → bytes.now ≡ val_type t ∷ rest → IfRead result (λ x. (x.0 ≡ t) × (x.1.now ≡ rest)) }
 {
     let (byte, rest) = byte_at(bytes)?;
     match value_type(byte) {
@@ -78,7 +78,7 @@ impl ReadItem<FuncType> for Types {
 /// The name at the front.
 fn name_at(alloc: Global, bytes: &[u8]) -> Result<(Text, &[u8]), DecodeError>
     ensures found { IfOk result (λ x. IsName x.0 × (bytes.now ≡ name x.0 ++ x.1.now)) }
-    ensures only { (text rest : List ℕ) → IsName text → bytes.now ≡ name text ++ rest → Answers result (λ x. (x.0 ≡ text) × (x.1.now ≡ rest)) }
+    ensures only { (text rest : List ℕ) → IsName text → bytes.now ≡ name text ++ rest → IfRead result (λ x. (x.0 ≡ text) × (x.1.now ≡ rest)) }
 {
     let (content, rest) = sized_at(bytes)?;
     let text = std::str::from_utf8(content)
@@ -90,7 +90,7 @@ fn name_at(alloc: Global, bytes: &[u8]) -> Result<(Text, &[u8]), DecodeError>
 /// Whether a global is mutable.
 fn mutability_at(bytes: &[u8]) -> Result<(bool, &[u8]), DecodeError>
     ensures found { IfOk result (λ x. bytes.now ≡ mutability x.0 ∷ x.1.now) }
-    ensures only { (b : Bool) (rest : List ℕ) → bytes.now ≡ mutability b ∷ rest → Answers result (λ x. (x.0 ≡ b) × (x.1.now ≡ rest)) }
+    ensures only { (b : Bool) (rest : List ℕ) → bytes.now ≡ mutability b ∷ rest → IfRead result (λ x. (x.0 ≡ b) × (x.1.now ≡ rest)) }
 {
     let (byte, rest) = byte_at(bytes)?;
     match byte {
@@ -104,7 +104,7 @@ fn mutability_at(bytes: &[u8]) -> Result<(bool, &[u8]), DecodeError>
 fn memory_at(bytes: &[u8]) -> Result<(u64, bool, Option<u32>, &[u8]), DecodeError>
     ensures found { IfOk result (λ x. IsMemoryType x.0 x.2 × (bytes.now ≡ memory_type x.0 x.1 x.2 ++ x.3.now)) }
     ensures only { (least : ℕ) (wide : Bool) (page : Option ℕ) (rest : List ℕ) → IsMemoryType least page → bytes.now ≡ memory_type least wide page ++ rest
-        → Answers result (λ x. (x.0 ≡ least) × (x.1 ≡ wide) × (x.2 ≡ page) × (x.3.now ≡ rest)) }
+        → IfRead result (λ x. (x.0 ≡ least) × (x.1 ≡ wide) × (x.2 ≡ page) × (x.3.now ≡ rest)) }
 {
     let (flags, rest) = byte_at(bytes)?;
     if flags > 12 || flags % 4 != 0 {
@@ -122,7 +122,7 @@ fn memory_at(bytes: &[u8]) -> Result<(u64, bool, Option<u32>, &[u8]), DecodeErro
 /// What an import is.
 fn import_type_at(bytes: &[u8]) -> Result<(ImportType, &[u8]), DecodeError>
     ensures found { IfOk result (λ x. IsImportType x.0 × (bytes.now ≡ import_type x.0 ++ x.1.now)) }
-    ensures only { (t : ImportType) (rest : List ℕ) → IsImportType t → bytes.now ≡ import_type t ++ rest → Answers result (λ x. (x.0 ≡ t) × (x.1.now ≡ rest)) }
+    ensures only { (t : ImportType) (rest : List ℕ) → IsImportType t → bytes.now ≡ import_type t ++ rest → IfRead result (λ x. (x.0 ≡ t) × (x.1.now ≡ rest)) }
 {
     let (form, rest) = byte_at(bytes)?;
     match form {
@@ -258,7 +258,7 @@ fn funcs_of(
     bodies: Seq<CodeBody>,
 ) -> Result<Seq<WasmFunc>, DecodeError>
     ensures found { IfOk result (λ fs. (map type_index fs ≡ types.now) × (map body_of fs ≡ bodies)) }
-    ensures only { (fs : List WasmFunc) → map type_index fs ≡ types.now → map body_of fs ≡ bodies → Answers result (λ x. x ≡ fs) }
+    ensures only { (fs : List WasmFunc) → map type_index fs ≡ types.now → map body_of fs ≡ bodies → IfRead result (λ x. x ≡ fs) }
 {
     let mut funcs = Seq::new(alloc);
     let mut left = types;
@@ -283,7 +283,7 @@ fn funcs_of(
 /// What follows the magic number and the version.
 fn header_at(bytes: &[u8]) -> Result<&[u8], DecodeError>
     ensures found { IfOk result (λ rest. bytes.now ≡ header ++ rest.now) }
-    ensures only { (rest : List ℕ) → bytes.now ≡ header ++ rest → Answers result (λ x. x.now ≡ rest) }
+    ensures only { (rest : List ℕ) → bytes.now ≡ header ++ rest → IfRead result (λ x. x.now ≡ rest) }
 {
     match bytes {
         [0x00, 0x61, 0x73, 0x6D, 0x01, 0x00, 0x00, 0x00, rest @ ..] => Ok(rest),
@@ -298,7 +298,7 @@ fn front_at(
 ) -> Result<(Seq<FuncType>, Seq<WasmImport>, &[u8]), DecodeError>
     ensures found { IfOk result (λ x. IsModuleFront bytes.now x.0 x.1 x.2.now) }
     ensures only { (ts : List FuncType) (is : List WasmImport) (rest : List ℕ) → IsModuleFront bytes.now ts is rest
-        → Answers result (λ x. (x.0 ≡ ts) × (x.1 ≡ is) × (x.2.now ≡ rest)) }
+        → IfRead result (λ x. (x.0 ≡ ts) × (x.1 ≡ is) × (x.2.now ≡ rest)) }
 {
     let rest = header_at(bytes)?;
     let (types, rest) = section_at::<Types, FuncType>(alloc, 0, 0x01, rest)?;
@@ -314,7 +314,7 @@ fn back_of(
 ) -> Result<(Seq<u32>, Seq<WasmExport>, Seq<CodeBody>), DecodeError>
     ensures found { IfOk result (λ x. IsBack imports bytes.now x.0 x.1 x.2) }
     ensures only { (tys : List ℕ) (es : List WasmExport) (bs : List CodeBody) → IsBack imports bytes.now tys es bs
-        → Answers result (λ x. (x.0 ≡ tys) × (x.1 ≡ es) × (x.2 ≡ bs)) }
+        → IfRead result (λ x. (x.0 ≡ tys) × (x.1 ≡ es) × (x.2 ≡ bs)) }
 {
     let (types, rest) = section_at::<Functions, u32>(alloc, imports, 0x03, bytes)?;
     let (exports, rest) = section_at::<Exports, WasmExport>(alloc, imports, 0x07, rest)?;
@@ -329,7 +329,7 @@ fn back_of(
 /// is not looked at.
 fn module_of(alloc: Global, bytes: &[u8]) -> Result<WasmModule, DecodeError>
     ensures found { IfOk result (λ m. IsOwn m × Spells bytes.now m) }
-    ensures only { (m : WasmModule) → IsOwn m → Spells bytes.now m → Answers result (λ x. x ≡ m) }
+    ensures only { (m : WasmModule) → IsOwn m → Spells bytes.now m → IfRead result (λ x. x ≡ m) }
 {
     let (types, imports, rest) = front_at(alloc, bytes)?;
     let count = count_functions(imports.as_slice()) as u32;
@@ -348,7 +348,7 @@ fn module_of(alloc: Global, bytes: &[u8]) -> Result<WasmModule, DecodeError>
 /// More than [`MAX_NESTING`] bodies within one another are a want of memory, since the stack that walks of them take may not be there.
 pub fn decode(alloc: Global, bytes: &[u8]) -> Result<WasmModule, DecodeError>
     ensures found { IfOk result (λ m. InRange m × Spells bytes.now m) }
-    ensures only { (m : WasmModule) → InRange m → Spells bytes.now m → Answers result (λ x. x ≡ m) }
+    ensures only { (m : WasmModule) → InRange m → Spells bytes.now m → IfRead result (λ x. x ≡ m) }
     ensures not_in_grammar { IsErrOf result DecodeError.NotInGrammar → (m : WasmModule) → InRange m → Spells bytes.now m → ⊥ }
 {
     let module = module_of(alloc, bytes)?;

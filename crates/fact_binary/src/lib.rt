@@ -2,6 +2,9 @@
 //!
 //! [`encode`] gives the bytes of a module by the core specification ("Binary Format"), in the subset that adapters use, with
 //! multi-memory, memory64, custom page sizes and exception handling. [`decode`] gives the one module that bytes spell.
+//!
+//! - Written: `encoder` the sections, `code` the instructions, over `list` and `number`.
+//! - Read: `decoder` the sections, `read_code` the instructions by the table of `forms`, over `read_list` and `reading`; `error` says why bytes are no module.
 #![tactic(auto)]
 
 mod code;

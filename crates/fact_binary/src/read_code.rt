@@ -6,7 +6,7 @@ ghost use Rattle.fact_wasm.specs.declared.types.ValType.{ValType};
 ghost use Rattle.fact_wasm.specs.declared.instr.BlockType.{BlockType};
 ghost use Rattle.fact_wasm.specs.declared.instr.MemArg.{MemArg};
 ghost use Rattle.fact_binary.specs.declared.forms.LeafRow.TheVariants as LeafRow;
-ghost use Rattle.fact_binary.specs.Answers.{Answers, IsEnd};
+ghost use Rattle.fact_binary.specs.Answers.{IfRead, IsEnd};
 ghost use Rattle.fact_binary.specs.Numbers.{unsigned};
 ghost use Rattle.fact_binary.specs.Forms.{leaf_kinds, leaf_op, body_kinds, body_op, head_args, IsLeafAt, IsInstrAt, IsBodyAt};
 ghost use Rattle.fact_binary.specs.Grammar.{Arg, kind, args, IsArg, val_type, block_type, IsBlockType, memarg, IsMemArg, catch_all, IsIndex, InstrNode, Leaf, Nodes, node, body_nodes, code, codes, IsNode, AreNodes};
@@ -40,7 +40,7 @@ pub fn value_type(byte: u8) -> Option<ValType>
 /// The type of a block.
 fn block_type_at(bytes: &[u8]) -> Result<(BlockType, &[u8]), DecodeError>
     ensures found { IfOk result (λ x. IsBlockType x.0 × (bytes.now ≡ block_type x.0 ++ x.1.now)) }
-    ensures only { (t : BlockType) (rest : List ℕ) → IsBlockType t → bytes.now ≡ block_type t ++ rest → Answers result (λ x. (x.0 ≡ t) × (x.1.now ≡ rest)) }
+    ensures only { (t : BlockType) (rest : List ℕ) → IsBlockType t → bytes.now ≡ block_type t ++ rest → IfRead result (λ x. (x.0 ≡ t) × (x.1.now ≡ rest)) }
 {
     let (byte, rest) = byte_at(bytes)?;
     if byte == 0x40 {
@@ -58,7 +58,7 @@ fn block_type_at(bytes: &[u8]) -> Result<(BlockType, &[u8]), DecodeError>
 /// The immediate of a load or store. An alignment's exponent is below 64, and a memory that is told is not the first.
 fn memarg_at(bytes: &[u8]) -> Result<(MemArg, &[u8]), DecodeError>
     ensures found { IfOk result (λ x. IsMemArg x.0 × (bytes.now ≡ memarg x.0 ++ x.1.now)) }
-    ensures only { (m : MemArg) (rest : List ℕ) → IsMemArg m → bytes.now ≡ memarg m ++ rest → Answers result (λ x. (x.0 ≡ m) × (x.1.now ≡ rest)) }
+    ensures only { (m : MemArg) (rest : List ℕ) → IsMemArg m → bytes.now ≡ memarg m ++ rest → IfRead result (λ x. (x.0 ≡ m) × (x.1.now ≡ rest)) }
 {
     let (flags, rest) = u32_at(bytes)?;
     if flags < 64 {
@@ -124,7 +124,7 @@ impl ReadItem<u32> for Catches {
 fn labels_at(alloc: Global, imports: u32, bytes: &[u8]) -> Result<(Instr, &[u8]), DecodeError>
     ensures found { IfOk result (λ x. IsLeafAt imports LeafRow.Labels bytes.now x.0 x.1.now) }
     ensures only { (xs : List Arg) (rest : List ℕ) → map kind xs ≡ leaf_kinds LeafRow.Labels → AllByRecursion IsArg xs → bytes.now ≡ args xs ++ rest
-        → Answers result (λ x. (node imports x.0 ≡ Leaf (leaf_op LeafRow.Labels) xs) × (x.1.now ≡ rest)) }
+        → IfRead result (λ x. (node imports x.0 ≡ Leaf (leaf_op LeafRow.Labels) xs) × (x.1.now ≡ rest)) }
 {
     let (labels, rest) = list_at::<Labels, u32>(alloc, imports, bytes)?;
     let (last, rest) = u32_at(rest)?;
@@ -140,7 +140,7 @@ fn leaf_at(
 ) -> Result<(Instr, &[u8]), DecodeError>
     ensures found { IfOk result (λ x. IsLeafAt imports row bytes.now x.0 x.1.now) }
     ensures only { (xs : List Arg) (rest : List ℕ) → map kind xs ≡ leaf_kinds row → AllByRecursion IsArg xs → bytes.now ≡ args xs ++ rest
-        → Answers result (λ x. (node imports x.0 ≡ Leaf (leaf_op row) xs) × (x.1.now ≡ rest)) }
+        → IfRead result (λ x. (node imports x.0 ≡ Leaf (leaf_op row) xs) × (x.1.now ≡ rest)) }
 {
     match row {
         LeafRow::Index(row) => {
@@ -185,7 +185,7 @@ fn head_at(
     ensures found { IfOk result (λ x. AllByRecursion IsArg (head_args row x.0 x.1) × (bytes.now ≡ args (head_args row x.0 x.1) ++ x.2.now)) }
     ensures kinds { IfOk result (λ x. map kind (head_args row x.0 x.1) ≡ body_kinds row) }
     ensures only { (xs : List Arg) (rest : List ℕ) → map kind xs ≡ body_kinds row → AllByRecursion IsArg xs → bytes.now ≡ args xs ++ rest
-        → Answers result (λ x. (head_args row x.0 x.1 ≡ xs) × (x.2.now ≡ rest)) }
+        → IfRead result (λ x. (head_args row x.0 x.1 ≡ xs) × (x.2.now ≡ rest)) }
 {
     let (ty, rest) = block_type_at(bytes)?;
     match row {
@@ -207,7 +207,7 @@ fn instr_at(
     bytes: &[u8],
 ) -> Result<(Instr, &[u8]), DecodeError>
     ensures found { IfOk result (λ x. IsInstrAt imports bytes.now x.0 x.1.now) }
-    ensures only { (i : InstrNode) (rest : List ℕ) → IsNode i → bytes.now ≡ code i ++ rest → Answers result (λ x. (node imports x.0 ≡ i) × (x.1.now ≡ rest)) }
+    ensures only { (i : InstrNode) (rest : List ℕ) → IsNode i → bytes.now ≡ code i ++ rest → IfRead result (λ x. (node imports x.0 ≡ i) × (x.1.now ≡ rest)) }
 {
     let (op, rest) = byte_at(bytes)?;
     match form_of(op) {
@@ -232,7 +232,7 @@ fn nest_at(
     bytes: &[u8],
 ) -> Result<(Instr, &[u8]), DecodeError>
     ensures found { IfOk result (λ x. IsInstrAt imports (body_op row ∷ bytes.now) x.0 x.1.now) }
-    ensures only { (i : InstrNode) (rest : List ℕ) → IsNode i → body_op row ∷ bytes.now ≡ code i ++ rest → Answers result (λ x. (node imports x.0 ≡ i) × (x.1.now ≡ rest)) }
+    ensures only { (i : InstrNode) (rest : List ℕ) → IsNode i → body_op row ∷ bytes.now ≡ code i ++ rest → IfRead result (λ x. (node imports x.0 ≡ i) × (x.1.now ≡ rest)) }
 {
     let (ty, labels, rest) = head_at(alloc, imports, row, bytes)?;
     match body_at(alloc, imports, levels, rest) {
@@ -260,7 +260,7 @@ fn choice_at(
     bytes: &[u8],
 ) -> Result<(Instr, &[u8]), DecodeError>
     ensures found { IfOk result (λ x. IsInstrAt imports (0x04 ∷ bytes.now) x.0 x.1.now) }
-    ensures only { (i : InstrNode) (rest : List ℕ) → IsNode i → 0x04 ∷ bytes.now ≡ code i ++ rest → Answers result (λ x. (node imports x.0 ≡ i) × (x.1.now ≡ rest)) }
+    ensures only { (i : InstrNode) (rest : List ℕ) → IsNode i → 0x04 ∷ bytes.now ≡ code i ++ rest → IfRead result (λ x. (node imports x.0 ≡ i) × (x.1.now ≡ rest)) }
 {
     let (ty, rest) = block_type_at(bytes)?;
     let (body, end, rest) = body_at(alloc, imports, levels, rest)?;
@@ -299,7 +299,7 @@ pub fn body_at(
 ) -> Result<(Seq<Instr>, u8, &[u8]), DecodeError>
     ensures found { IfOk result (λ x. IsBodyAt imports bytes.now x.0 x.1 x.2.now) }
     ensures only { (is : Nodes) (b : ℕ) (rest : List ℕ) → IsEnd b → AreNodes is → bytes.now ≡ codes is ++ b ∷ rest
-        → Answers result (λ x. (body_nodes imports x.0 ≡ is) × (x.1 ≡ b) × (x.2.now ≡ rest)) }
+        → IfRead result (λ x. (body_nodes imports x.0 ≡ is) × (x.1 ≡ b) × (x.2.now ≡ rest)) }
 {
     if levels == 0 {
         return Err(DecodeError::OutOfMemory);

@@ -2,7 +2,7 @@
 
 ghost use Rattle.std.specs.Prelude.{◌≡◌, ℕ, ◌<◌, ◌^◌, ◌++◌, List, length, IfOk};
 ghost use Rattle.std.specs.List.{flat_map, AllByRecursion};
-ghost use Rattle.fact_binary.specs.Answers.{Answers};
+ghost use Rattle.fact_binary.specs.Answers.{IfRead};
 ghost use Rattle.fact_binary.specs.Grammar.{list, IsList};
 ghost use Rattle.fact_binary.specs.Spelling.{section};
 
@@ -19,7 +19,7 @@ pub trait ReadItem<T: Drop> {
 
     fn read(alloc: Global, imports: u32, bytes: &[u8]) -> Result<(T, &[u8]), DecodeError>
         ensures found { IfOk result (λ x. fits imports x.0 × (bytes.now ≡ code imports x.0 ++ x.1.now)) }
-        ensures only { (y : _) (rest : List ℕ) → fits imports y → bytes.now ≡ code imports y ++ rest → Answers result (λ x. (x.0 ≡ y) × (x.1.now ≡ rest)) };
+        ensures only { (y : _) (rest : List ℕ) → fits imports y → bytes.now ≡ code imports y ++ rest → IfRead result (λ x. (x.0 ≡ y) × (x.1.now ≡ rest)) };
 }
 
 /// So many items.
@@ -31,7 +31,7 @@ fn items_at<I: ReadItem<T>, T: Drop>(
 ) -> Result<(Vec<T>, &[u8]), DecodeError>
     ensures found { IfOk result (λ x. (length x.0.items ≡ count) × AllByRecursion (I.fits imports) x.0.items × (bytes.now ≡ flat_map (I.code imports) x.0.items ++ x.1.now)) }
     ensures only { (ys : List _) (rest : List ℕ) → length ys ≡ count → AllByRecursion (I.fits imports) ys → bytes.now ≡ flat_map (I.code imports) ys ++ rest
-        → Answers result (λ x. (x.0.items ≡ ys) × (x.1.now ≡ rest)) }
+        → IfRead result (λ x. (x.0.items ≡ ys) × (x.1.now ≡ rest)) }
 {
     let mut items = Vec::new(alloc);
     let mut left = bytes;
@@ -51,7 +51,7 @@ pub fn list_at<I: ReadItem<T>, T: Drop>(
 ) -> Result<(Seq<T>, &[u8]), DecodeError>
     ensures found { IfOk result (λ x. IsList (I.fits imports) x.0 × (bytes.now ≡ list (I.code imports) x.0 ++ x.1.now)) }
     ensures only { (ys : List _) (rest : List ℕ) → IsList (I.fits imports) ys → bytes.now ≡ list (I.code imports) ys ++ rest
-        → Answers result (λ x. (x.0 ≡ ys) × (x.1.now ≡ rest)) }
+        → IfRead result (λ x. (x.0 ≡ ys) × (x.1.now ≡ rest)) }
 {
     let (count, rest) = u32_at(bytes)?;
     let (items, rest) = items_at::<I, T>(alloc, imports, count, rest)?;
@@ -65,7 +65,7 @@ fn whole_list<I: ReadItem<T>, T: Drop>(
     bytes: &[u8],
 ) -> Result<Seq<T>, DecodeError>
     ensures found { IfOk result (λ xs. IsList (I.fits imports) xs × (bytes.now ≡ list (I.code imports) xs)) }
-    ensures only { (ys : List _) → IsList (I.fits imports) ys → bytes.now ≡ list (I.code imports) ys → Answers result (λ xs. xs ≡ ys) }
+    ensures only { (ys : List _) → IsList (I.fits imports) ys → bytes.now ≡ list (I.code imports) ys → IfRead result (λ xs. xs ≡ ys) }
 {
     let (items, left) = list_at::<I, T>(alloc, imports, bytes)?;
     if !left.is_empty() {
@@ -83,7 +83,7 @@ pub fn section_at<I: ReadItem<T>, T: Drop>(
 ) -> Result<(Seq<T>, &[u8]), DecodeError>
     ensures found { IfOk result (λ x. (length (list (I.code imports) x.0) < 2 ^ 32) × IsList (I.fits imports) x.0 × (bytes.now ≡ section id (list (I.code imports) x.0) ++ x.1.now)) }
     ensures only { (ys : List _) (rest : List ℕ) → length (list (I.code imports) ys) < 2 ^ 32 → IsList (I.fits imports) ys → bytes.now ≡ section id (list (I.code imports) ys) ++ rest
-        → Answers result (λ x. (x.0 ≡ ys) × (x.1.now ≡ rest)) }
+        → IfRead result (λ x. (x.0 ≡ ys) × (x.1.now ≡ rest)) }
 {
     let (first, rest) = byte_at(bytes)?;
     if first != id {

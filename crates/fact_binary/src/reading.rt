@@ -3,7 +3,7 @@
 
 ghost use Rattle.std.specs.Prelude.{ℤ, ◌≡◌, ℕ, true, false, ◌+◌, ◌*◌, ◌-◌, ◌<◌, ◌≤◌, ◌^◌, ◌++◌, List, [], ◌∷◌, length, IfOk, IfSome, IfNone, IsSomeAnd};
 ghost use Rattle.std.specs.Int.{w32, w64, cast_signed, to_le_bytes};
-ghost use Rattle.fact_binary.specs.Answers.{Answers};
+ghost use Rattle.fact_binary.specs.Answers.{IfRead};
 ghost use Rattle.fact_binary.specs.Numbers.{unsigned, signed, groups, count, magnitude, number};
 ghost use Rattle.fact_binary.specs.Spelling.{sized};
 
@@ -106,7 +106,7 @@ fn read_signed(bytes: &[u8]) -> Option<(bool, u64, &[u8])>
 /// The byte at the front.
 pub fn byte_at(bytes: &[u8]) -> Result<(u8, &[u8]), DecodeError>
     ensures found { IfOk result (λ x. bytes.now ≡ x.0 ∷ x.1.now) }
-    ensures only { (b : ℕ) (rest : List ℕ) → bytes.now ≡ b ∷ rest → Answers result (λ x. (x.0 ≡ b) × (x.1.now ≡ rest)) }
+    ensures only { (b : ℕ) (rest : List ℕ) → bytes.now ≡ b ∷ rest → IfRead result (λ x. (x.0 ≡ b) × (x.1.now ≡ rest)) }
 {
     take_byte(bytes).ok_or(DecodeError::NotInGrammar)
 }
@@ -114,7 +114,7 @@ pub fn byte_at(bytes: &[u8]) -> Result<(u8, &[u8]), DecodeError>
 /// The number of 64 bits at the front.
 pub fn u64_at(bytes: &[u8]) -> Result<(u64, &[u8]), DecodeError>
     ensures found { IfOk result (λ x. (x.0 < 2 ^ 64) × (bytes.now ≡ unsigned x.0 ++ x.1.now)) }
-    ensures only { (n : ℕ) (rest : List ℕ) → n < 2 ^ 64 → bytes.now ≡ unsigned n ++ rest → Answers result (λ x. (x.0 ≡ n) × (x.1.now ≡ rest)) }
+    ensures only { (n : ℕ) (rest : List ℕ) → n < 2 ^ 64 → bytes.now ≡ unsigned n ++ rest → IfRead result (λ x. (x.0 ≡ n) × (x.1.now ≡ rest)) }
 {
     read_unsigned(bytes).ok_or(DecodeError::NotInGrammar)
 }
@@ -122,7 +122,7 @@ pub fn u64_at(bytes: &[u8]) -> Result<(u64, &[u8]), DecodeError>
 /// The number of 32 bits at the front.
 pub fn u32_at(bytes: &[u8]) -> Result<(u32, &[u8]), DecodeError>
     ensures found { IfOk result (λ x. (x.0 < 2 ^ 32) × (bytes.now ≡ unsigned x.0 ++ x.1.now)) }
-    ensures only { (n : ℕ) (rest : List ℕ) → n < 2 ^ 32 → bytes.now ≡ unsigned n ++ rest → Answers result (λ x. (x.0 ≡ n) × (x.1.now ≡ rest)) }
+    ensures only { (n : ℕ) (rest : List ℕ) → n < 2 ^ 32 → bytes.now ≡ unsigned n ++ rest → IfRead result (λ x. (x.0 ≡ n) × (x.1.now ≡ rest)) }
 {
     let (n, rest) = u64_at(bytes)?;
     if n >= 4294967296 {
@@ -134,7 +134,7 @@ pub fn u32_at(bytes: &[u8]) -> Result<(u32, &[u8]), DecodeError>
 /// The type index of a block at the front.
 pub fn index_at(bytes: &[u8]) -> Result<(u32, &[u8]), DecodeError>
     ensures found { IfOk result (λ x. (x.0 < 2 ^ 32) × (bytes.now ≡ groups (count (2 * x.0)) x.0 ++ x.1.now)) }
-    ensures only { (n : ℕ) (rest : List ℕ) → n < 2 ^ 32 → bytes.now ≡ groups (count (2 * n)) n ++ rest → Answers result (λ x. (x.0 ≡ n) × (x.1.now ≡ rest)) }
+    ensures only { (n : ℕ) (rest : List ℕ) → n < 2 ^ 32 → bytes.now ≡ groups (count (2 * n)) n ++ rest → IfRead result (λ x. (x.0 ≡ n) × (x.1.now ≡ rest)) }
 {
     read_signed_index(bytes).ok_or(DecodeError::NotInGrammar)
 }
@@ -142,7 +142,7 @@ pub fn index_at(bytes: &[u8]) -> Result<(u32, &[u8]), DecodeError>
 /// The bits of the constant of 32 bits at the front.
 pub fn int32_at(bytes: &[u8]) -> Result<(u32, &[u8]), DecodeError>
     ensures found { IfOk result (λ x. (x.0 < 2 ^ 32) × (bytes.now ≡ signed (cast_signed w32 x.0) ++ x.1.now)) }
-    ensures only { (n : ℕ) (rest : List ℕ) → n < 2 ^ 32 → bytes.now ≡ signed (cast_signed w32 n) ++ rest → Answers result (λ x. (x.0 ≡ n) × (x.1.now ≡ rest)) }
+    ensures only { (n : ℕ) (rest : List ℕ) → n < 2 ^ 32 → bytes.now ≡ signed (cast_signed w32 n) ++ rest → IfRead result (λ x. (x.0 ≡ n) × (x.1.now ≡ rest)) }
 {
     let (negative, size, rest) = read_signed(bytes).ok_or(DecodeError::NotInGrammar)?;
     if size >= 2147483648 {
@@ -157,7 +157,7 @@ pub fn int32_at(bytes: &[u8]) -> Result<(u32, &[u8]), DecodeError>
 /// The bits of the constant of 64 bits at the front.
 pub fn int64_at(bytes: &[u8]) -> Result<(u64, &[u8]), DecodeError>
     ensures found { IfOk result (λ x. (x.0 < 2 ^ 64) × (bytes.now ≡ signed (cast_signed w64 x.0) ++ x.1.now)) }
-    ensures only { (n : ℕ) (rest : List ℕ) → n < 2 ^ 64 → bytes.now ≡ signed (cast_signed w64 n) ++ rest → Answers result (λ x. (x.0 ≡ n) × (x.1.now ≡ rest)) }
+    ensures only { (n : ℕ) (rest : List ℕ) → n < 2 ^ 64 → bytes.now ≡ signed (cast_signed w64 n) ++ rest → IfRead result (λ x. (x.0 ≡ n) × (x.1.now ≡ rest)) }
 {
     let (negative, size, rest) = read_signed(bytes).ok_or(DecodeError::NotInGrammar)?;
     if negative {
@@ -169,7 +169,7 @@ pub fn int64_at(bytes: &[u8]) -> Result<(u64, &[u8]), DecodeError>
 /// The 4 bytes of a float at the front.
 pub fn float32_at(bytes: &[u8]) -> Result<(u32, &[u8]), DecodeError>
     ensures found { IfOk result (λ x. (x.0 < 2 ^ 32) × (bytes.now ≡ to_le_bytes w32 x.0 ++ x.1.now)) }
-    ensures only { (n : ℕ) (rest : List ℕ) → n < 2 ^ 32 → bytes.now ≡ to_le_bytes w32 n ++ rest → Answers result (λ x. (x.0 ≡ n) × (x.1.now ≡ rest)) }
+    ensures only { (n : ℕ) (rest : List ℕ) → n < 2 ^ 32 → bytes.now ≡ to_le_bytes w32 n ++ rest → IfRead result (λ x. (x.0 ≡ n) × (x.1.now ≡ rest)) }
 {
     let [a, b, c, d, rest @ ..] = bytes else {
         return Err(DecodeError::NotInGrammar);
@@ -180,7 +180,7 @@ pub fn float32_at(bytes: &[u8]) -> Result<(u32, &[u8]), DecodeError>
 /// The 8 bytes of a float at the front.
 pub fn float64_at(bytes: &[u8]) -> Result<(u64, &[u8]), DecodeError>
     ensures found { IfOk result (λ x. (x.0 < 2 ^ 64) × (bytes.now ≡ to_le_bytes w64 x.0 ++ x.1.now)) }
-    ensures only { (n : ℕ) (rest : List ℕ) → n < 2 ^ 64 → bytes.now ≡ to_le_bytes w64 n ++ rest → Answers result (λ x. (x.0 ≡ n) × (x.1.now ≡ rest)) }
+    ensures only { (n : ℕ) (rest : List ℕ) → n < 2 ^ 64 → bytes.now ≡ to_le_bytes w64 n ++ rest → IfRead result (λ x. (x.0 ≡ n) × (x.1.now ≡ rest)) }
 {
     let [a, b, c, d, e, f, g, h, rest @ ..] = bytes else {
         return Err(DecodeError::NotInGrammar);
@@ -191,7 +191,7 @@ pub fn float64_at(bytes: &[u8]) -> Result<(u64, &[u8]), DecodeError>
 /// The bytes behind their number at the front.
 pub fn sized_at(bytes: &[u8]) -> Result<(&[u8], &[u8]), DecodeError>
     ensures found { IfOk result (λ x. (length x.0.now < 2 ^ 32) × (bytes.now ≡ sized x.0.now ++ x.1.now)) }
-    ensures only { (content rest : List ℕ) → length content < 2 ^ 32 → bytes.now ≡ sized content ++ rest → Answers result (λ x. (x.0.now ≡ content) × (x.1.now ≡ rest)) }
+    ensures only { (content rest : List ℕ) → length content < 2 ^ 32 → bytes.now ≡ sized content ++ rest → IfRead result (λ x. (x.0.now ≡ content) × (x.1.now ≡ rest)) }
 {
     let (len, rest) = u32_at(bytes)?;
     let len = len as usize;

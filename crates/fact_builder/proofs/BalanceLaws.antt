@@ -4,8 +4,8 @@ use Rattle.std.specs.Prelude.{option_map, nat_le, cond}
 use Rattle.fact_types.specs.declared.flats.FlatType.{FlatType}
 use Rattle.fact_types.specs.declared.interface.InterfaceType.{InterfaceType}
 use Rattle.fact_types.specs.declared.interface.InterfaceType.TheVariants.{String as t_string}
-use Rattle.fact_types.specs.declared.widths.MemoryWidth.{MemoryWidth}
-use Rattle.fact_types.specs.declared.widths.MemoryWidth.TheVariants.{Memory32, Memory64}
+use Rattle.fact_types.specs.declared.extents.MemoryWidth.{MemoryWidth}
+use Rattle.fact_types.specs.declared.extents.MemoryWidth.TheVariants.{Memory32, Memory64}
 use Rattle.fact_types.specs.FlatShapes.{times, flat, flat_plain, flat_by, flat_members, flat_any, upto}
 use Rattle.fact_types.specs.Shapes.{Kind, k_record, k_variant, k_tuple, k_option, k_result, k_fixed, Shape, s_plain, s_node, Members, no_members, bare, typed, layouts_of}
 use Rattle.fact_types.specs.Tables.{Tables, IsLive, IsSound}

@@ -11,8 +11,8 @@ use Rattle.fact_types.specs.declared.sizes.DiscriminantSize.{DiscriminantSize}
 use Rattle.fact_types.specs.declared.sizes.DiscriminantSize.TheVariants.{Size1 as one_byte, Size2 as two_bytes, Size4 as four_bytes}
 use Rattle.fact_types.specs.declared.sizes.FlagsSize.TheVariants.{Size0, Size1, Size2, Size4Plus}
 use Rattle.fact_types.specs.declared.variants.VariantInfo.{VariantInfo}
-use Rattle.fact_types.specs.declared.widths.MemoryWidth.{MemoryWidth}
-use Rattle.fact_types.specs.declared.widths.MemoryWidth.TheVariants.{Memory32, Memory64}
+use Rattle.fact_types.specs.declared.extents.MemoryWidth.{MemoryWidth}
+use Rattle.fact_types.specs.declared.extents.MemoryWidth.TheVariants.{Memory32, Memory64}
 use Rattle.fact_types.specs.Fits.{FieldFits, FieldsFit, RecordFits, CasesFit, VariantFits, ElementsFit}
 use Rattle.fact_types.specs.Layout.{extent, extents, aligned, payloads, payload_offset, variant_info, record_layout, variant_layout, discriminant_size, discriminant_bytes, enum_layout, flags_extent, flags_layout}
 use Rattle.fact_types.specs.Shapes.{Kind, k_record, k_variant, k_list, k_tuple, k_map, k_flags, k_enum, k_option, k_result, k_fixed, k_future, k_stream, Members, layout_by, layouts_of, repeated_layout, IsWithin}

@@ -2,8 +2,8 @@
 use Rattle.std.specs.Prelude.{◌≡◌, ◌⊎◌, ℕ, suc, List, [], ◌∷◌, ◌++◌, Option, Some, None, IsSome, flat_map}
 use Rattle.fact_entity.specs.declared.id.Id.{Id}
 use Rattle.fact_entity.specs.declared.table.SourceResources.{SourceResources}
-use Rattle.fact_entity.specs.declared.source.ComponentAnyTypeId.{ComponentAnyTypeId}
-use Rattle.fact_entity.specs.declared.source.ComponentAnyTypeId.TheVariants as any
+use Rattle.fact_entity.specs.declared.source_ids.ComponentAnyTypeId.{ComponentAnyTypeId}
+use Rattle.fact_entity.specs.declared.source_ids.ComponentAnyTypeId.TheVariants as any
 use Rattle.fact_source.specs.declared.items.ComponentEntityType.{ComponentEntityType}
 use Rattle.fact_source.specs.declared.items.ComponentEntityType.TheVariants as entity
 use Rattle.fact_source.specs.declared.items.SourceItem.{SourceItem}

@@ -2,8 +2,8 @@
 
 ghost use Rattle.std.specs.Prelude.{◌≡◌, ◌<◌, ◌||◌, List, length, min, option_map};
 ghost use Rattle.std.specs.List.{IsDistinct};
-ghost use Rattle.fact_types.specs.declared.widths.MemoryWidth.{MemoryWidth};
-ghost use Rattle.fact_types.specs.declared.widths.MemoryWidth.TheVariants.{Memory32, Memory64};
+ghost use Rattle.fact_types.specs.declared.extents.MemoryWidth.{MemoryWidth};
+ghost use Rattle.fact_types.specs.declared.extents.MemoryWidth.TheVariants.{Memory32, Memory64};
 ghost use Rattle.fact_types.specs.Flat.{flat_within};
 ghost use Rattle.fact_types.specs.FlatShapes.{flat, flat_types as flat_types_of};
 ghost use Rattle.fact_types.specs.Functions.{HasSignature};

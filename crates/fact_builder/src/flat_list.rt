@@ -138,10 +138,7 @@ impl FlatList {
 fn type_at(types: &[FlatType], place: usize) -> Option<FlatType>
     ensures { result ≡ slice_get types.now place }
 {
-    match types.get(place) {
-        Some(ty) => Some(*ty),
-        None => None,
-    }
+    types.get(place).copied()
 }
 
 /// What stands at a place of two joined lists of flat types.

@@ -1,7 +1,7 @@
 //! What is known of a type beside its layout.
 
 ghost use Rattle.std.specs.Prelude.{◌≡◌, length, option_map};
-ghost use Rattle.fact_types.specs.declared.widths.MemoryWidth.TheVariants.{Memory32, Memory64};
+ghost use Rattle.fact_types.specs.declared.extents.MemoryWidth.TheVariants.{Memory32, Memory64};
 ghost use Rattle.fact_types.specs.FlatShapes.{flat_plain, when_upto, after_flat};
 ghost use Rattle.fact_builder.specs.Information.{plain_information, nothing, followed, deeper as one_deeper, joined_flat, joined_information, tagged_flat, tagged as tagged_information, repeated_flat, repeated as repeated_information, with_flat, as_pointer_pair, as_handle, words};
 

@@ -1,4 +1,4 @@
-//! The resources of the source.
+//! What is known of the resources of the source: [`ResourcesBuilder`].
 
 ghost use Rattle.std.specs.Prelude.{◌≡◌, ◌<◌, length, is_some, Ok, Some, None, IfOk, IfErr, IsErr, OnOk, OnErr};
 ghost use Rattle.fact_entity.specs.declared.id.Id.{Id};

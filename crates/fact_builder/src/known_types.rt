@@ -1,7 +1,7 @@
 //! The tables of types, with what is known of the types in them.
 
 ghost use Rattle.std.specs.Prelude.{◌≡◌, min, option_map};
-ghost use Rattle.fact_types.specs.declared.widths.MemoryWidth.TheVariants.{Memory32, Memory64};
+ghost use Rattle.fact_types.specs.declared.extents.MemoryWidth.TheVariants.{Memory32, Memory64};
 ghost use Rattle.fact_types.specs.FlatShapes.{flat_types as flat_types_of};
 ghost use Rattle.fact_types.specs.Shapes.{Shape};
 ghost use Rattle.fact_types.specs.Tables.{no_tables, IsLive, HasShape};

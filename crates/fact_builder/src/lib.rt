@@ -1,6 +1,13 @@
 //! The builder of component types: it keeps one entry of each type, makes types of their members, and tells of each type its
 //! flat types, whether it holds handles or what stands in memory behind a pointer, and how deep it nests; and of functions
 //! their core signatures. Of the resources of a source it knows what each is registered as, and the table of its handles.
+//!
+//! - The tables: `builder`, over `known_types`; one entry of each type is added by `entry`, for the tables of `pushes`, by the calls of `adds`; items that are
+//!   never looked for (`items`), and look-ups by index (`index`).
+//! - Types made of their members: `products`, `sums` and `lists`, by `layouts`.
+//! - What is known of a type (`information`, with `flat_list`) is worked out from its members (`known`), and told by `facts`; of functions by `signatures`.
+//! - Resources of a source: what each is registered as (`registration`, `known_resources`); a `walk` finds them, and they are registered (`registering`,
+//!   `beside`); the same as calls of the builder (`resources`).
 #![tactic(auto)]
 
 mod adds;

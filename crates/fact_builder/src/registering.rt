@@ -1,4 +1,4 @@
-//! Registering what a walk finds.
+//! Registering what a walk finds, by closures that are told the path of its names.
 
 ghost use Rattle.std.specs.Prelude.{◌≡◌, ◌∷◌, [], OnOk, OnErr};
 ghost use Rattle.std.specs.Fn.{CalledAt};

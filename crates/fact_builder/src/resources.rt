@@ -1,4 +1,4 @@
-//! The resources of the source: their registrations, and the tables of their handles.
+//! The resources of the source, as calls of the builder: their registrations, and the tables of their handles.
 
 ghost use Rattle.std.specs.Prelude.{◌≡◌, ◌<◌, length, Some, None, IfOk, IfErr, OnOk, OnErr};
 ghost use Rattle.fact_builder.specs.Beside.{CalledBeside};

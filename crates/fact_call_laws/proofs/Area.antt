@@ -4,7 +4,7 @@ use Rattle.std.specs.List.{AllByRecursion}
 use Rattle.fact_types.specs.declared.flats.FlatType.{FlatType}
 use Rattle.fact_types.specs.Adapters.{is_wide}
 use Rattle.fact_types.specs.FlatShapes.{flat_all}
-use Rattle.fact_types.specs.declared.widths.Extent.{Extent}
+use Rattle.fact_types.specs.declared.extents.Extent.{Extent}
 use Rattle.fact_types.specs.Layout.{extent}
 use Rattle.fact_types.specs.Shapes.{Shape, layout_of}
 use Rattle.fact_types.specs.Signatures.{flat_values, width}

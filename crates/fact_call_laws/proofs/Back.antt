@@ -7,8 +7,8 @@ use Rattle.fact_types.specs.declared.abi.CanonicalAbiInfo.{CanonicalAbiInfo}
 use Rattle.fact_types.specs.declared.flats.FlatType.{FlatType}
 use Rattle.fact_types.specs.declared.outside.CoreDef.{CoreDef}
 use Rattle.fact_types.specs.declared.import.Import.TheVariants as import
-use Rattle.fact_types.specs.declared.widths.MemoryWidth.{MemoryWidth}
-use Rattle.fact_types.specs.declared.widths.MemoryWidth.TheVariants.{Memory32, Memory64}
+use Rattle.fact_types.specs.declared.extents.MemoryWidth.{MemoryWidth}
+use Rattle.fact_types.specs.declared.extents.MemoryWidth.TheVariants.{Memory32, Memory64}
 use Rattle.fact_types.specs.Adapters.{is_wide, same_def}
 use Rattle.fact_types.specs.FlatShapes.{flat_all}
 use Rattle.fact_types.specs.Layout.{extent}

@@ -23,14 +23,14 @@ use Rattle.fact_actions.specs.Running.{ImportPlaces}
 use Rattle.fact_actions.specs.Sides.{AtAddress, Values, first_bits, options_of, side_abi, width_of_side}
 use Rattle.fact_action_laws.specs.Faithful.{AreInBounds, ParamsAreThere, params_given}
 use Rattle.fact_action_laws.specs.FaithfulLaws.{AreWellFormedTypes, HasSyncSides, IsCheckedAdapter, setting_of_params, setting_of_results}
-use Rattle.fact_action_laws.specs.Law.{AreSupplied, AreWellFormed, moving}
+use Rattle.fact_action_laws.specs.MoveTerms.{AreSupplied, AreWellFormed, moving}
 use Rattle.fact_action_laws.specs.Places.{from_side}
 use Rattle.fact_action_laws.specs.Regions.{TransferSetting}
 use Rattle.fact_action_laws.proofs.Coming.{come, come_all, take_typed}
 use Rattle.fact_action_laws.proofs.FaithfulRuns.{synced, synced_is}
 use Rattle.fact_action_laws.proofs.Grounding.{members_have_pointers}
 use Rattle.fact_action_laws.proofs.Landed.{flat_of}
-use Rattle.fact_action_laws.proofs.Lawful.{AreFit}
+use Rattle.fact_action_laws.proofs.MoveLaws.{AreFit}
 use Rattle.fact_action_laws.proofs.Membered.{fields_agree, members_formed, members_valid}
 use Rattle.fact_action_laws.proofs.Transfers.{AreInLimits, ComeBy, leading}
 use Rattle.fact_action_laws.proofs.Tupled.{leading_same}

@@ -40,7 +40,7 @@ module _ (x : Setting) (h : Called x) (t : AtTrap x h) (what : names x t.event.f
   -- its parameters lift
   pub passed : IsTransferred x.adapter.lower.params x.adapter.lift.params (params_given (places x) x.adapter h.outcome.args h.outcome.first) (params_passed (places x) x.adapter (last_call x h t)) (before x h t)
   passed =
-      h.promised.behaves.passes h.outcome.args h.outcome.first (answers_of (log x)) x.steps (to_trap x h) h.promised.no_debug (may_leave x h) (before x h t) (last_call x h t) [] (calls_are x h t) what
+      h.promised.behaves.callee_is_given h.outcome.args h.outcome.first (answers_of (log x)) x.steps (to_trap x h) h.promised.no_debug (may_leave x h) (before x h t) (last_call x h t) [] (calls_are x h t) what
 
   pub lifted : params_of x.call x.shapes.lift_params t.event ≡ Some passed.outs
   lifted = passed_so x h t.event.before t.event.args ∙ passed.stand

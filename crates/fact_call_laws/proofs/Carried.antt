@@ -89,7 +89,7 @@ module _ (x : Setting) (h : Called x) (whole : AreHonestSync (places x) x.adapte
   honest_run = record { typed = typed x h; calls = calls x; are_calls = are_calls x h; honest = whole }
 
   faithful : IsFaithful (places x) x.adapter h.outcome.args h.outcome.first (calls x) values (run x h).state
-  faithful = h.promised.behaves.carries h.outcome.args h.outcome.first (answers_of (log x)) x.steps values honest_run returned
+  faithful = h.promised.behaves.is_faithful h.outcome.args h.outcome.first (answers_of (log x)) x.steps values honest_run returned
 
   -- ---- the callee's call
 

@@ -26,7 +26,7 @@ use Rattle.fact_host.specs.declared.calling.HostCall.{HostCall}
 use Rattle.fact_host.specs.declared.roles.Role.{Role}
 use Rattle.fact_host.specs.Hosts.{AreAnswersUntil}
 use Rattle.fact_host.specs.Rules.{AreAnswers, CallShapes}
-use Rattle.fact_function_laws.specs.Laws.{IsAnswered, StaysShort}
+use Rattle.fact_function_laws.specs.Laws.{IsAnsweredInLimits, StaysShort}
 use Rattle.fact_function_laws.specs.Names.{AreCalls}
 use Rattle.fact_function_laws.specs.Runs.{IsHonestSoFar, IsOver}
 use Rattle.fact_function_laws.proofs.AtOne.{answered_at_one}
@@ -113,7 +113,7 @@ module _ (x : Setting) (h : Called x) (whole : AreHonestSync (places x) x.adapte
     results = λ debug. absurd (true≢false (sym debug ∙ h.promised.no_debug));
   }
 
-  pub answered : IsAnswered x.code x.imports x.tunables x.adapter x.function h.outcome.args h.outcome.first (answers_of (log x))
+  pub answered : IsAnsweredInLimits x.code x.imports x.tunables x.adapter x.function h.outcome.args h.outcome.first (answers_of (log x))
   answered =
       answered_at_one x.code x.imports x.tunables x.adapter x.function h.outcome.args h.outcome.first (answers_of (log x)) x.steps (inr taken) honest_run checks (in_limits x h (log x) [] ruled.0 (sym (append-nil (log x))) ruled.1 whole)
 

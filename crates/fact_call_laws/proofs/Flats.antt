@@ -15,7 +15,7 @@ use Rattle.fact_types.specs.declared.flats.FlatType.TheVariants.{I32}
 use Rattle.fact_types.specs.declared.interface.InterfaceType.{InterfaceType}
 use Rattle.fact_types.specs.declared.interface.InterfaceType.TheVariants as ty
 use Rattle.fact_types.specs.declared.sizes.FlagsSize.TheVariants.{Size0, Size1, Size2, Size4Plus}
-use Rattle.fact_types.specs.declared.widths.MemoryWidth.{MemoryWidth}
+use Rattle.fact_types.specs.declared.extents.MemoryWidth.{MemoryWidth}
 use Rattle.fact_types.specs.Agrees.{chosen, names_of}
 use Rattle.fact_types.specs.Flat.{value_type}
 use Rattle.fact_types.specs.FlatShapes.{after_flat, flat, flat_any, flat_each, flat_members, flat_plain, flat_types, joined, times}
@@ -37,7 +37,7 @@ use Rattle.fact_values.specs.Lift.{lift_leading}
 use Rattle.fact_values.specs.Numbers.{flags_of_number, number_of_words, plain_of, text}
 use Rattle.fact_values.specs.Places.{count_of_members, width_of}
 use Rattle.fact_values.proofs.IsALaws.{bytes_are}
-use Rattle.fact_action_laws.specs.Law.{AreWellFormed, IsWellFormed, IsWellFormedBy}
+use Rattle.fact_action_laws.specs.MoveTerms.{AreWellFormed, IsWellFormed, IsWellFormedBy}
 use Rattle.fact_action_laws.proofs.Theorem.{AreValid, members_valid}
 use Rattle.fact_lowering.specs.Lowered.{ReadsAs, ReadsEachAs, ReadsMembersAs}
 use Rattle.fact_lowering.specs.Lowerings.{AreFlagWords, ReadsCaseAs, core_of, cores_of}

@@ -19,7 +19,7 @@ use Rattle.fact_actions.specs.Calls.{nth_number}
 use Rattle.fact_actions.specs.Transcoders.{transcode_kind, transcode_types}
 use Rattle.fact_host.specs.declared.calling.HostCall.{HostCall}
 use Rattle.fact_host.specs.declared.known.Known.{Known}
-use Rattle.fact_host.specs.Rules.{Again, AnswersBy, AreBytes, AreOfCoreTypes, AskedRegion, CallShapes, CallsBy, IsHonestlyMade, Leaves, MayLackRoom, MustNotCall, MustRefuse, MustStop, NoParams, NoRoomForResults, ReallocsIn, StoresResults, TranscodesBy, after_region, bytes_after_region, given_at, memory_at, next_region, params_of, stays, told_of, with_memory_at}
+use Rattle.fact_host.specs.Rules.{Again, AnswersBy, AreWrittenBytes, AreOfCoreTypes, AskedRegion, CallShapes, CallsBy, IsHonestlyMade, LeavesKnown, MayLackRoom, MustNotCall, MustRefuse, MustStop, NoParams, NoRoomForResults, ReallocsIn, StoresResults, TranscodesBy, after_region, bytes_after_region, given_at, memory_at, next_region, params_of, stays, told_of, with_memory_at}
 use Rattle.fact_call_laws.proofs.Steps.{ask, event_of, not_traps}
 
 -- ---- any rule
@@ -30,14 +30,14 @@ not_throws rs st q = cc
 traps_not_throws : Traps ≡ Throws → ⊥
 traps_not_throws q = cc
 
-pub refuses : (Must : Type 0) (Leave : Leaves) (k k' : Known) (func : ℕ) (args : List CoreValue) (before : MachineState) → Must → AnswersBy Must Leave k (event_of func args before Traps) k'
+pub refuses : (Must : Type 0) (Leave : LeavesKnown) (k k' : Known) (func : ℕ) (args : List CoreValue) (before : MachineState) → Must → AnswersBy Must Leave k (event_of func args before Traps) k'
 refuses Must Leave k k' func args before must = record {
   traps = ((λ q. must), (λ m. refl));
   returns = λ rs st q. absurd (not_traps rs st (sym q));
   never_throws = traps_not_throws;
 }
 
-pub gives : (Must : Type 0) (Leave : Leaves) (k k' : Known) (func : ℕ) (args results : List CoreValue) (before after : MachineState) → (Must → ⊥) → Leave after results k' → AnswersBy Must Leave k (event_of func args before (Returns results after)) k'
+pub gives : (Must : Type 0) (Leave : LeavesKnown) (k k' : Known) (func : ℕ) (args results : List CoreValue) (before after : MachineState) → (Must → ⊥) → Leave after results k' → AnswersBy Must Leave k (event_of func args before (Returns results after)) k'
 gives Must Leave k k' func args results before after refuted left = record {
   traps = ((λ q. absurd (not_traps results after q)), (λ m. absurd (refuted m)));
   returns = λ rs st q.
@@ -89,7 +89,7 @@ front_all P [] ys h = All-nil P
 front_all P (x ∷ xs) ys h = All-cons P x xs (All-head P x (xs ++ ys) h) (front_all P xs ys (All-tail P x (xs ++ ys) h))
 
 -- what was put among bytes are bytes
-pub put_are : (bytes : List ℕ) (at : ℕ) (chunk : List ℕ) → AreBytes (put_at bytes at chunk) → AreBytes chunk
+pub put_are : (bytes : List ℕ) (at : ℕ) (chunk : List ℕ) → AreWrittenBytes (put_at bytes at chunk) → AreWrittenBytes chunk
 put_are bytes at chunk h = front_all (λ b. b < 256) chunk (drop (at + length chunk) bytes) (behind_all (λ b. b < 256) (take at bytes) (chunk ++ drop (at + length chunk) bytes) h)
 
 -- ---- the rules of imports
@@ -101,7 +101,7 @@ module _ (k : Known) (func : ℕ) (args : List CoreValue) (before : MachineState
   pub realloc_given : (n : ℕ) (wide dest : Bool) → (MustRefuse k n dest (memory_at before n) (ask args) → ⊥) → IsValue (address_operand wide (given_at k n (ask args))) (address wide)
       → ReallocsIn k n wide dest (event_of func args before (Returns (address_operand wide (given_at k n (ask args)) ∷ []) (with_memory_at before n (bytes_after_region k n (ask args) (memory_at before n))))) (after_region k n (ask args))
   realloc_given n wide dest refuted typed =
-      let Leave : Leaves = λ after rs j. (after ≡ with_memory_at before n (bytes_after_region k n (ask args) (memory_at before n))) × AreOfCoreTypes (address wide ∷ []) rs × (rs ≡ address_operand wide (given_at k n (ask args)) ∷ []) × (j ≡ after_region k n (ask args)) in
+      let Leave : LeavesKnown = λ after rs j. (after ≡ with_memory_at before n (bytes_after_region k n (ask args) (memory_at before n))) × AreOfCoreTypes (address wide ∷ []) rs × (rs ≡ address_operand wide (given_at k n (ask args)) ∷ []) × (j ≡ after_region k n (ask args)) in
       gives (MustRefuse k n dest (memory_at before n) (ask args)) Leave k (after_region k n (ask args)) func args (address_operand wide (given_at k n (ask args)) ∷ []) before (with_memory_at before n (bytes_after_region k n (ask args) (memory_at before n))) refuted
       (refl, (typed, tt), refl, refl)
 
@@ -110,10 +110,10 @@ module _ (k : Known) (func : ℕ) (args : List CoreValue) (before : MachineState
     transcoder_stops must = refuses (MustStop o (memory_at before from) (memory_at before to) (told_of (event_of func args before Traps))) _ k k func args before must
 
     pub transcoder_goes : (bytes : List ℕ) (rs : List CoreValue) → (MustStop o (memory_at before from) (memory_at before to) (told_of (event_of func args before Traps)) → ⊥)
-        → IsHonestlyMade o (memory_at before from) (memory_at before to) (told_of (event_of func args before Traps)) bytes (map bits_of rs) → AreBytes bytes → AreOfCoreTypes (transcode_types (transcode_kind o) from64 to64) rs
+        → IsHonestlyMade o (memory_at before from) (memory_at before to) (told_of (event_of func args before Traps)) bytes (map bits_of rs) → AreWrittenBytes bytes → AreOfCoreTypes (transcode_types (transcode_kind o) from64 to64) rs
         → TranscodesBy k o from from64 to to64 (event_of func args before (Returns rs (with_memory_at before to (put_at (memory_at before to) (nth_number args 2) bytes)))) k
     transcoder_goes bytes rs refuted made are core =
-        let Leave : Leaves = λ after vs j. (bs : List ℕ) × IsHonestlyMade o (memory_at before from) (memory_at before to) (told_of (event_of func args before Traps)) bs (map bits_of vs) × AreBytes bs × AreOfCoreTypes (transcode_types (transcode_kind o) from64 to64) vs × (after ≡ with_memory_at before to (put_at (memory_at before to) (nth_number args 2) bs)) × (j ≡ k) in
+        let Leave : LeavesKnown = λ after vs j. (bs : List ℕ) × IsHonestlyMade o (memory_at before from) (memory_at before to) (told_of (event_of func args before Traps)) bs (map bits_of vs) × AreWrittenBytes bs × AreOfCoreTypes (transcode_types (transcode_kind o) from64 to64) vs × (after ≡ with_memory_at before to (put_at (memory_at before to) (nth_number args 2) bs)) × (j ≡ k) in
         gives (MustStop o (memory_at before from) (memory_at before to) (told_of (event_of func args before Traps))) Leave k k func args rs before (with_memory_at before to (put_at (memory_at before to) (nth_number args 2) bytes)) refuted
         (bytes, made, are, core, refl, refl)
 
@@ -125,7 +125,7 @@ module _ (k : Known) (func : ℕ) (args : List CoreValue) (before : MachineState
     pub callee_gives : (k' : Known) (rs : List CoreValue) (after : MachineState) → (k.returned ≡ true → ⊥) → (params_of c s.lift_params (event_of func args before Traps) ≡ None → ⊥)
         → AreOfCoreTypes (sync_lift c.lift.abi.memory64 s.lift_params s.lift_results).results rs → StoresResults k c s.lift_results s.lower_results values before after rs k' → CallsBy k c s (Some values) (event_of func args before (Returns rs after)) k'
     callee_gives k' rs after once there core stores =
-        let Leave : Leaves = λ st vs j. (us : List Value) × (Some values ≡ Some us) × AreOfCoreTypes (sync_lift c.lift.abi.memory64 s.lift_params s.lift_results).results vs × StoresResults k c s.lift_results s.lower_results us before st vs j in
+        let Leave : LeavesKnown = λ st vs j. (us : List Value) × (Some values ≡ Some us) × AreOfCoreTypes (sync_lift c.lift.abi.memory64 s.lift_params s.lift_results).results vs × StoresResults k c s.lift_results s.lower_results us before st vs j in
         record {
           has_room = true;
           lacks_room = λ q. absurd (true≢false q);

@@ -18,9 +18,9 @@ use Rattle.fact_types.specs.declared.outside.FixedEncoding.{FixedEncoding}
 use Rattle.fact_types.specs.declared.outside.FixedEncoding.TheVariants as units_of
 use Rattle.fact_types.specs.declared.outside.StringEncoding.{StringEncoding}
 use Rattle.fact_types.specs.declared.outside.StringEncoding.TheVariants.{Utf8, Utf16, CompactUtf16}
-use Rattle.fact_types.specs.declared.widths.Extent.{Extent}
-use Rattle.fact_types.specs.declared.widths.MemoryWidth.{MemoryWidth}
-use Rattle.fact_types.specs.declared.widths.MemoryWidth.TheVariants.{Memory32, Memory64}
+use Rattle.fact_types.specs.declared.extents.Extent.{Extent}
+use Rattle.fact_types.specs.declared.extents.MemoryWidth.{MemoryWidth}
+use Rattle.fact_types.specs.declared.extents.MemoryWidth.TheVariants.{Memory32, Memory64}
 use Rattle.fact_types.proofs.ShapeLaws.{none_some, same_some}
 use Rattle.fact_machine.specs.declared.types.CoreValue.{CoreValue}
 use Rattle.fact_values.specs.declared.value.Value.{Value}
@@ -35,14 +35,14 @@ use Rattle.fact_actions.specs.Paths.{TextForm, AsUtf8, AsUtf16, AsCompactLatin1,
 use Rattle.fact_actions.specs.Requests.{RequestPart, TextPart, list_part}
 use Rattle.fact_actions.specs.Sides.{Source, Values, AtAddress, nth_part, side_abi, width_of_side}
 use Rattle.fact_actions.specs.Strings.{form_in}
-use Rattle.fact_action_laws.specs.Law.{AreSupplied, AreTyped, AreWellFormed, IsFit, IsSupplied, IsWellFormed, moving}
+use Rattle.fact_action_laws.specs.MoveTerms.{AreSupplied, AreTyped, AreWellFormed, IsFit, IsSupplied, IsWellFormed, moving}
 use Rattle.fact_action_laws.specs.Places.{AreInRange, HasSideMemory, IsSource, from_side, value_at_source}
 use Rattle.fact_action_laws.specs.Regions.{TransferSetting}
 use Rattle.fact_action_laws.proofs.Distinct.{each_agrees, places_agree}
 use Rattle.fact_action_laws.proofs.Elements.{IsSingle, each_at_map, each_holds_map, first_place, single}
 use Rattle.fact_action_laws.proofs.Fields.{field_taken, formed_found, found_named, members_taken, part_source}
 use Rattle.fact_action_laws.proofs.FixedLaws.{fixed_source, fixed_taken}
-use Rattle.fact_action_laws.proofs.Lawful.{AreFit}
+use Rattle.fact_action_laws.proofs.MoveLaws.{AreFit}
 use Rattle.fact_action_laws.proofs.ListLaws.{element_loads, from_extent, list_taken, one, row, to_extent}
 use Rattle.fact_action_laws.proofs.MapLaws.{entry_at, entry_loads, map_taken, pair_row}
 use Rattle.fact_action_laws.proofs.Numbers.{number_at_source}

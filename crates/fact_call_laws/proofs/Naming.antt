@@ -12,9 +12,10 @@ use Rattle.fact_wasm.specs.declared.module.WasmModule.{WasmModule}
 use Rattle.fact_machine.specs.Machine.{memory_import}
 use Rattle.fact_machine.specs.Typed.{type_of_memory}
 use Rattle.fact_check.specs.Accepted.{IsAdapterModule}
-use Rattle.fact_check.specs.Plain.{memories_text}
-use Rattle.fact_check.proofs.Transcoders.{HasNoSpace, closed, divided, number_apart, opened, second_text}
+use Rattle.fact_check.specs.NameNumbers.{memories_text}
+use Rattle.fact_check.proofs.Transcoders.{closed, divided, number_apart, opened, second_text}
 use Rattle.fact_types.specs.Adapters.{LinkedAdapter}
+use Rattle.fact_types.specs.TranscoderNames.{transcode_name}
 use Rattle.fact_types.specs.declared.import.Import.{Import}
 use Rattle.fact_types.specs.declared.import.Import.TheVariants as known
 use Rattle.fact_types.specs.declared.outside.CoreDef.{CoreDef}
@@ -23,11 +24,10 @@ use Rattle.fact_types.specs.declared.outside.Transcode.{Transcode}
 use Rattle.fact_types.specs.declared.outside.Transcode.TheVariants as op
 use Rattle.fact_types.specs.declared.outside.UnsafeIntrinsic.TheVariants as slot
 use Rattle.fact_types.proofs.ShapeLaws.{same_some, none_some}
-use Rattle.fact_host.specs.Roles.{IsTranscoder, is_slot, is_told, is_transfer, operation_name}
+use Rattle.fact_host.specs.Roles.{IsTranscoder, is_slot, is_told, is_transfer}
 use Rattle.fact_host.proofs.RoleNames.{operation_apart, parts}
 use Rattle.fact_emit.specs.ImportSection.{Role, Flags, Storage, Realloc, Callback, Callee, PostReturn, IsNamed, IsPrepareNamed, IsTranscoderNamed, NamesImports, StandsFor, a_memory, if_prepare, imports_of, mentions, prepares_in}
 use Rattle.fact_emit.specs.TaskTypes.{start_call_name}
-use Rattle.fact_emit.specs.TranscoderNames.{transcode_name}
 use Rattle.fact_function_laws.specs.Names.{places_in}
 use Rattle.fact_call_laws.proofs.Memories.{imports_more, memory_from, memory_small, widths_more}
 use Rattle.fact_call_laws.proofs.Standing.{AreApart, placed}
@@ -166,21 +166,7 @@ operation_at s =
     (if bytes_eq s (codes "utf8-to-compact-utf16") then op.Utf8ToCompactUtf16 else
     (if bytes_eq s (codes "utf8-to-latin1") then op.Utf8ToLatin1 else op.Utf8ToUtf16))))))))))
 
-same_name : (o : Transcode) → transcode_name o ≡ operation_name o
-same_name (op.Copy Utf8) = refl
-same_name (op.Copy Utf16) = refl
-same_name (op.Copy Latin1) = refl
-same_name op.Latin1ToUtf16 = refl
-same_name op.Latin1ToUtf8 = refl
-same_name op.Utf16ToCompactProbablyUtf16 = refl
-same_name op.Utf16ToCompactUtf16 = refl
-same_name op.Utf16ToLatin1 = refl
-same_name op.Utf16ToUtf8 = refl
-same_name op.Utf8ToCompactUtf16 = refl
-same_name op.Utf8ToLatin1 = refl
-same_name op.Utf8ToUtf16 = refl
-
-named_back : (o : Transcode) → operation_at (operation_name o) ≡ o
+named_back : (o : Transcode) → operation_at (transcode_name o) ≡ o
 named_back (op.Copy Utf8) = refl
 named_back (op.Copy Utf16) = refl
 named_back (op.Copy Latin1) = refl
@@ -194,8 +180,8 @@ named_back op.Utf8ToCompactUtf16 = refl
 named_back op.Utf8ToLatin1 = refl
 named_back op.Utf8ToUtf16 = refl
 
-one_operation : (o q : Transcode) → transcode_name o ≡ operation_name q → o ≡ q
-one_operation o q e = sym (named_back o) ∙ ap operation_at (sym (same_name o) ∙ e) ∙ named_back q
+one_operation : (o q : Transcode) → transcode_name o ≡ transcode_name q → o ≡ q
+one_operation o q e = sym (named_back o) ∙ ap operation_at e ∙ named_back q
 
 -- the memories of a text
 memories_of_text : (f t from to : ℕ) → f < 2 ^ 32 → t < 2 ^ 32 → from < 2 ^ 32 → to < 2 ^ 32 → memories_text f t ≡ memories_text from to → (f ≡ from) × (t ≡ to)
@@ -223,7 +209,7 @@ module _ (m : WasmModule) (is : List Import) (adapters : List LinkedAdapter) (na
       → IsTranscoder m w q from from64 to to64 → IsSame o q d e d64 from64 e64 to64 from to
   transcoder_is k w o q d e d64 from64 e64 to64 from to at is_it h =
       let n : IsTranscoderNamed m.types (take k m.imports) (imports_of a_memory (take k m.imports) (take k is)) o d d64 e e64 w = names.transcoders.each k w (known.Transcode o d d64 e e64) at is_it in
-      let split = parts m w q from from64 to to64 (transcode_name o) (memories_text n.from_place n.to_place) n.is.is_named (subst HasNoSpace (sym (same_name o)) (operation_apart o)) h in
+      let split = parts m w q from from64 to to64 (transcode_name o) (memories_text n.from_place n.to_place) n.is.is_named (operation_apart o) h in
       let from_small : n.from_place < 2 ^ 32 = memory_small m n.from_place (d64, n.from_wide.page) adapter (widths_more k m.imports n.from_place (d64, n.from_wide.page) n.from_wide.imported) in
       let to_small : n.to_place < 2 ^ 32 = memory_small m n.to_place (e64, n.to_wide.page) adapter (widths_more k m.imports n.to_place (e64, n.to_wide.page) n.to_wide.imported) in
       let at_places = memories_of_text n.from_place n.to_place from to from_small to_small h.from_small h.to_small split.1 in
@@ -246,7 +232,7 @@ module _ (m : WasmModule) (is : List Import) (adapters : List LinkedAdapter) (na
         n.to_place,
         record {
           origin = n.is.is_from;
-          name = n.is.is_named ∙ ap (λ l. l ++ 32 ∷ memories_text n.from_place n.to_place) (same_name o);
+          name = n.is.is_named;
           from_small = memory_small m n.from_place (d64, n.from_wide.page) adapter from_in;
           to_small = memory_small m n.to_place (e64, n.to_wide.page) adapter to_in;
           from_pages = n.from_wide.page;

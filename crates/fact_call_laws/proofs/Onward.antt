@@ -49,9 +49,9 @@ use Rattle.fact_host.specs.declared.known.Known.{Known}
 use Rattle.fact_host.specs.declared.roles.Role.{Role}
 use Rattle.fact_host.specs.declared.roles.Role.TheVariants as role
 use Rattle.fact_host.specs.declared.transcoders.Told.{Told}
-use Rattle.fact_host.specs.Contract.{HasFirstMemory, HasMeans}
+use Rattle.fact_host.specs.Contract.{HasFirstMemory, HasSideMeans}
 use Rattle.fact_host.specs.Describes.{IsImportOf, named_calls}
-use Rattle.fact_host.specs.Rules.{Again, Answers, AreBytes, AreOfCoreTypes, CallShapes, IsHonestlyMade, LeavesAll, Malformed, MustRefuse, MustStop, NoParams, NoRoom, NoRoomForResults, ReallocsAt, ReallocsBy, StoresResults, after_region, bytes_after_region, bytes_of_memory, cursor_of, given_at, memory_at, next_region, params_of, stays, told_of, told_room, units_read, with_memory_at}
+use Rattle.fact_host.specs.Rules.{Again, Answers, AreWrittenBytes, AreOfCoreTypes, CallShapes, IsHonestlyMade, LeavesAllKnown, Malformed, MustRefuse, MustStop, NoParams, NoRoom, NoRoomForResults, ReallocsAt, ReallocsBy, StoresResults, after_region, bytes_after_region, bytes_of_memory, cursor_of, given_at, memory_at, next_region, params_of, stays, told_of, told_room, units_read, with_memory_at}
 use Rattle.fact_emit.specs.ImportSection.{mentions}
 use Rattle.fact_function_laws.specs.Names.{AreCalls, IsNamedLog}
 use Rattle.fact_function_laws.specs.Runs.{IsTypedRun}
@@ -130,17 +130,17 @@ crossings_few (c ∷ cs) = omega (arith, crossing_few c.what c.args, crossings_f
 -- ---- bytes
 
 -- the memories of a typed state hold bytes
-pub bytes_in : (m : WasmModule) (s : MachineState) → TypedState m s → (n : ℕ) → AreBytes (memory_at s n)
+pub bytes_in : (m : WasmModule) (s : MachineState) → TypedState m s → (n : ℕ) → AreWrittenBytes (memory_at s n)
 bytes_in m s typed n = by (filter_map type_of_memory m.imports) s.memories n typed.memories
   where
-    by : (kinds : List (Bool × Option ℕ)) (ms : List (List ℕ)) (n : ℕ) → AllZip (λ t bytes. IsMemory t.0 t.1 bytes) kinds ms → AreBytes (get_or ms n [])
+    by : (kinds : List (Bool × Option ℕ)) (ms : List (List ℕ)) (n : ℕ) → AllZip (λ t bytes. IsMemory t.0 t.1 bytes) kinds ms → AreWrittenBytes (get_or ms n [])
     by [] [] n h = All-nil (λ b. b < 256)
     by [] (b ∷ ms) n h = absurd h
     by (t ∷ kinds) [] n h = absurd h
     by (t ∷ kinds) (b ∷ ms) zero h = h.0.are_bytes
     by (t ∷ kinds) (b ∷ ms) (suc n) h = by kinds ms n h.1
 
-small : (bytes : List ℕ) → AreBytes bytes → AreSmallBytes bytes
+small : (bytes : List ℕ) → AreWrittenBytes bytes → AreSmallBytes bytes
 small bytes h i = elim (cases_lt i (length bytes)) [ inl lt ↦ All-get_or (λ b. b < 256) bytes i 0 lt h | inr ge ↦ (let e = get_or-eq_default bytes 0 ge in omega (arith, e)) ]
 
 -- what is told is what a transcoder's room is
@@ -221,7 +221,7 @@ module _ (laws : Laws) (reads : AllRead) (stored : AllStored) (x : Setting) (h :
     behind : Known
     rule : ReallocsBy known side dest (event (Returns results after)) behind
 
-  reallocated : (side : HostSide) (dest : Bool) → ((k : Known) → ReallocsBy known side dest (event Traps) k → ⊥) → HasMeans x.code side → HasFirstMemory side h.outcome.first → side.realloc ≡ Some number → HasRegion side dest
+  reallocated : (side : HostSide) (dest : Bool) → ((k : Known) → ReallocsBy known side dest (event Traps) k → ⊥) → HasSideMeans x.code side → HasFirstMemory side h.outcome.first → side.realloc ≡ Some number → HasRegion side dest
   reallocated side dest refuted means first is = by side.memory refl
     where
       old : IsValue (address_operand side.abi.memory64 (nth_number told 0)) (address side.abi.memory64)
@@ -318,7 +318,7 @@ module _ (laws : Laws) (reads : AllRead) (stored : AllStored) (x : Setting) (h :
       well_formed : IsMalformed (from_encoding o) (units_read o (memory_at state ((places x).memory d)) asks) → ⊥
       well_formed bad = by (decoded (from_encoding o) (units_read o (memory_at state from) asks)) refl
         where
-          are : AreBytes (units_read o (memory_at state from) asks)
+          are : AreWrittenBytes (units_read o (memory_at state from) asks)
           are = All-take (λ b. b < 256) (unit_bytes (from_encoding o) * asks.units) (drop asks.from (memory_at state from)) (All-drop (λ b. b < 256) asks.from (memory_at state from) (bytes_in x.code state typed from))
 
           by : (t : Option (List ℕ)) → decoded (from_encoding o) (units_read o (memory_at state from) asks) ≡ t → ⊥
@@ -345,18 +345,18 @@ module _ (laws : Laws) (reads : AllRead) (stored : AllStored) (x : Setting) (h :
           after_typed : TypedState x.code a.after
           after_typed = (states_agree x.code (places x) a.after (are_places x.code x.imports)).0 (first_so _ _ (a.state_typed (state_typed x h state typed)))
 
-          written : ((places x).memory e < length state.memories) ⊎ (length state.memories ≤ (places x).memory e) → AreBytes a.honest.bytes
+          written : ((places x).memory e < length state.memories) ⊎ (length state.memories ≤ (places x).memory e) → AreWrittenBytes a.honest.bytes
           written (inl lt) =
               let there : memory_at a.after ((places x).memory e) ≡ put_at (memory_at state ((places x).memory e)) (nth_number told 2) a.honest.bytes =
               ap (λ ms. get_or ms ((places x).memory e) []) a.honest.written ∙ get_or-set_same state.memories ((places x).memory e) (put_at (memory_at state ((places x).memory e)) (nth_number told 2) a.honest.bytes) [] lt in
-              put_are (memory_at state ((places x).memory e)) (nth_number told 2) a.honest.bytes (subst AreBytes there (bytes_in x.code a.after after_typed ((places x).memory e)))
+              put_are (memory_at state ((places x).memory e)) (nth_number told 2) a.honest.bytes (subst AreWrittenBytes there (bytes_in x.code a.after after_typed ((places x).memory e)))
           written (inr ge) =
               let empty : length (memory_at state ((places x).memory e)) ≡ 0 = ap length (get_or-eq_default state.memories [] ge) in
               let inside : nth_number told 2 + length a.honest.bytes ≤ length (memory_at state ((places x).memory e)) = a.honest.inside in
               let none : length a.honest.bytes ≡ 0 = omega (arith, inside, empty) in
-              subst AreBytes (sym (nil_from_length a.honest.bytes none)) (All-nil (λ b. b < 256))
+              subst AreWrittenBytes (sym (nil_from_length a.honest.bytes none)) (All-nil (λ b. b < 256))
 
-          are : AreBytes a.honest.bytes
+          are : AreWrittenBytes a.honest.bytes
           are = written (cases_lt ((places x).memory e) (length state.memories))
 
     transcoded : HasAnswer (role.Transcoder o from from64 to to64)
@@ -382,7 +382,7 @@ module _ (laws : Laws) (reads : AllRead) (stored : AllStored) (x : Setting) (h :
     results = [];
     after = state;
     behind = known;
-    rule = gives ⊥ (LeavesAll (event (Returns [] state)) known []) known known number told [] state state (λ z. z) (refl, refl, refl);
+    rule = gives ⊥ (LeavesAllKnown (event (Returns [] state)) known []) known known number told [] state state (λ z. z) (refl, refl, refl);
   }
   by_role (role.Transcoder o from from64 to to64) named = transcoded o from from64 to to64 named
   by_role role.Transfer named = record {
@@ -390,20 +390,20 @@ module _ (laws : Laws) (reads : AllRead) (stored : AllStored) (x : Setting) (h :
     after = state;
     behind = record known { transfers = suc known.transfers };
     rule =
-        gives ⊥ (λ st rs j. AreOfCoreTypes (val.I32 ∷ []) rs × LeavesAll (event (Returns (I32 (suc known.transfers) ∷ []) state)) (record known { transfers = suc known.transfers }) (I32 (suc known.transfers) ∷ []) st rs j) known
+        gives ⊥ (λ st rs j. AreOfCoreTypes (val.I32 ∷ []) rs × LeavesAllKnown (event (Returns (I32 (suc known.transfers) ∷ []) state)) (record known { transfers = suc known.transfers }) (I32 (suc known.transfers) ∷ []) st rs j) known
         (record known { transfers = suc known.transfers }) number told (I32 (suc known.transfers) ∷ []) state state (λ z. z) (((refl, few_transfers), tt), (refl, refl, refl));
   }
   by_role role.Slot named = record {
     results = I32 0 ∷ [];
     after = state;
     behind = known;
-    rule = gives ⊥ (LeavesAll (event (Returns (I32 0 ∷ []) state)) known (I32 0 ∷ [])) known known number told (I32 0 ∷ []) state state (λ z. z) (refl, refl, refl);
+    rule = gives ⊥ (LeavesAllKnown (event (Returns (I32 0 ∷ []) state)) known (I32 0 ∷ [])) known known number told (I32 0 ∷ []) state state (λ z. z) (refl, refl, refl);
   }
   by_role role.Told named = record {
     results = [];
     after = state;
     behind = known;
-    rule = gives ⊥ (LeavesAll (event (Returns [] state)) known []) known known number told [] state state (λ z. z) (refl, refl, refl);
+    rule = gives ⊥ (LeavesAllKnown (event (Returns [] state)) known []) known known number told [] state state (λ z. z) (refl, refl, refl);
   }
   by_role role.Refused named = absurd (no_trap role.Refused named known refl)
 

@@ -13,28 +13,28 @@ use Rattle.fact_lowering.specs.Lowered.{IsWritten}
 use Rattle.fact_lowering.specs.Stores.{IsShort}
 use Rattle.fact_lowering.proofs.Agreeing.{number_written, written_also, written_both, written_nothing, written_wider}
 use Rattle.fact_lowering.proofs.StoreWalks.{ReadsAll}
-use Rattle.fact_host.specs.Rules.{AreBytes}
+use Rattle.fact_host.specs.Rules.{AreWrittenBytes}
 
 -- A memory of bytes, in which so much fits behind a cursor.
 pub record HasBytes (low most : ℕ) (m : List ℕ) : Type 0 where
   pub fits : low + most ≤ length m
   pub short : IsShort m
-  pub are : AreBytes m
+  pub are : AreWrittenBytes m
 
 -- Something can be put at a place and behind a cursor, so that it is read.
 pub record Puts (R : List ℕ → Type 0) (place size low most : ℕ) (m : List ℕ) : Type 0 where
   pub high : ℕ
   pub after : List ℕ
   pub written : IsWritten R place size low high most m after
-  pub are : AreBytes after
+  pub are : AreWrittenBytes after
 
 -- ---- bytes
 
-pub put_bytes : (bytes : List ℕ) (at : ℕ) (chunk : List ℕ) → AreBytes bytes → AreBytes chunk → AreBytes (put_at bytes at chunk)
+pub put_bytes : (bytes : List ℕ) (at : ℕ) (chunk : List ℕ) → AreWrittenBytes bytes → AreWrittenBytes chunk → AreWrittenBytes (put_at bytes at chunk)
 put_bytes bytes at chunk h g =
     All-append (λ b. b < 256) (take at bytes) (chunk ++ drop (at + length chunk) bytes) (All-take (λ b. b < 256) at bytes h) (All-append (λ b. b < 256) chunk (drop (at + length chunk) bytes) g (All-drop (λ b. b < 256) (at + length chunk) bytes h))
 
-pub number_bytes : (n v : ℕ) → AreBytes (bytes_of n v)
+pub number_bytes : (n v : ℕ) → AreWrittenBytes (bytes_of n v)
 number_bytes zero v = All-nil (λ b. b < 256)
 number_bytes (suc n) v = All-cons (λ b. b < 256) (v % 256) (bytes_of n (v / 256)) (mod_below v 256 (lit< tt)) (number_bytes n (v / 256))
 

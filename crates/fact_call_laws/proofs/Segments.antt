@@ -14,7 +14,7 @@ use Rattle.fact_actions.specs.Requests.{answers_in, parts_requests, requests_in}
 use Rattle.fact_actions.specs.Running.{ImportPlaces, Call}
 use Rattle.fact_actions.specs.Sides.{LiftLowerOptions, options_of}
 use Rattle.fact_actions.proofs.OwnParts.{same_self}
-use Rattle.fact_action_laws.specs.Requested.{AreAnswered, AreFromCallee, AreOutsideTransfers, ArePassed, AreSoFar, CallOwnRealloc, IsOutsideTransfers, IsOwnRealloc, StopsCalling, StopsEntering, StopsFinishing, StopsInParams, StopsInResults, answered_parts, params_parts}
+use Rattle.fact_action_laws.specs.Requested.{AreAnswered, AreFromCallee, AreOutsideTransfers, ArePassed, HaveAskedSoFar, CallOwnRealloc, IsOutsideTransfers, IsOwnRealloc, StopsCalling, StopsEntering, StopsFinishing, StopsInParams, StopsInResults, answered_parts, params_parts}
 use Rattle.fact_action_laws.specs.Rooms.{AllCutsShrink}
 use Rattle.fact_action_laws.specs.Trapped.{answers_so_far}
 use Rattle.fact_call_laws.proofs.Steps.{same_exact}
@@ -153,7 +153,7 @@ module _ (p : ImportPlaces) (u : AdapterTunables) (a : LinkedAdapter) (args : Li
           ]
 
   -- by how far the calls came
-  pub stands : (front : List Call) (z : Call) → AreSoFar p u a args first (front ++ z ∷ []) → Stands front z
+  pub stands : (front : List Call) (z : Call) → HaveAskedSoFar p u a args first (front ++ z ∷ []) → Stands front z
   stands front z (StopsEntering out) = Beside (outside_last None front z out)
   stands front z (StopsInParams enter params out e own begin shrink) = elim (last_of enter params front z (sym e)) [
     | inl h ↦ OfParams (record {

@@ -34,21 +34,21 @@ use Rattle.fact_actions.specs.Honest.{AreHonestSync}
 use Rattle.fact_actions.specs.Order.{flag_in}
 use Rattle.fact_actions.specs.Regions.{landed, params_landing, sync_moved_on}
 use Rattle.fact_actions.specs.Running.{ImportPlaces, Call}
-use Rattle.fact_action_laws.specs.Requested.{AreSoFar, StopsFinishing}
+use Rattle.fact_action_laws.specs.Requested.{HaveAskedSoFar, StopsFinishing}
 use Rattle.fact_action_laws.specs.Trapped.{AreHonestUntilTrap}
 use Rattle.fact_lowering.specs.Room.{fits}
 use Rattle.fact_host.specs.declared.calling.HostCall.{HostCall}
 use Rattle.fact_host.specs.declared.calling.HostOutcome.{HostOutcome}
 use Rattle.fact_host.specs.declared.known.Known.{Known}
 use Rattle.fact_host.specs.declared.roles.Role.{Role}
-use Rattle.fact_host.specs.Beginning.{Begins}
+use Rattle.fact_host.specs.Beginning.{BeginsHosting}
 use Rattle.fact_host.specs.Contract.{AreOfTypes, AreSuited, HasFirstMemory, IsHostAreaSound, IsCallable, IsFirstKnown, IsOutcomeOf, ones, steps_given}
 use Rattle.fact_host.specs.Describes.{Describes, IsImportOf, named_calls}
 use Rattle.fact_host.specs.Roles.{IsRole, function_imports}
 use Rattle.fact_host.specs.Rules.{AreAnswers, CallShapes, side_bytes}
 use Rattle.fact_emit.specs.ImportSection.{mentions}
 use Rattle.fact_function_laws.specs.Names.{AreCalls, IsNamedLog, places_in}
-use Rattle.fact_function_laws.specs.Runs.{HasAsked, IsHonestToTrapSoFar, IsTypedRun}
+use Rattle.fact_function_laws.specs.Runs.{HasAsked, IsHonestUntilTrapSoFar, IsTypedRun}
 use Rattle.fact_function_laws.proofs.ImportNumbers.{named_log}
 use Rattle.fact_function_laws.proofs.LoggedImports.{run_told}
 use Rattle.fact_call_laws.specs.Carrying.{CallsAdapter, IsPromised}
@@ -69,7 +69,7 @@ pub record IsRunOf (m : WasmModule) (t : Tables) (c : HostCall) (s : CallShapes)
   pub lower_memory : HasFirstMemory c.lower first
   pub lift_memory : HasFirstMemory c.lift first
   pub area : IsHostAreaSound c s args first
-  pub begins : (p : ImportPlaces) (a : LinkedAdapter) (names : ℕ → Import) → Describes m t c p a names → Begins c a args (lengths_of first) known
+  pub begins : (p : ImportPlaces) (a : LinkedAdapter) (names : ℕ → Import) → Describes m t c p a names → BeginsHosting c a args (lengths_of first) known
   pub honest : (p : ImportPlaces) (a : LinkedAdapter) (names : ℕ → Import) → Describes m t c p a names → AreHonestUntilTrap (AreHonestSync p a args) (named_calls names o.log)
   pub stored : lower_param_values false c.lower.abi (side_bytes c.lower first) s.lower_params args ≡ Some values
 
@@ -214,7 +214,7 @@ module _ (x : Setting) (h : Called x) where
   pub honest : AreHonestUntilTrap (AreHonestSync (places x) x.adapter h.outcome.args) (calls x)
   honest = h.outcome.honest (places x) x.adapter (names x) described
 
-  abbrev pub to_trap : IsHonestToTrapSoFar x.code x.imports x.adapter h.outcome.args h.outcome.first run.log
+  abbrev pub to_trap : IsHonestUntilTrapSoFar x.code x.imports x.adapter h.outcome.args h.outcome.first run.log
   to_trap = record { typed = typed; calls = calls x; are_calls = are_calls; honest = honest }
 
   -- the lower side may leave
@@ -227,10 +227,10 @@ module _ (x : Setting) (h : Called x) where
       omega (arith, bad)
 
   -- how far it came
-  pub so_far : AreSoFar (places x) x.tunables x.adapter h.outcome.args h.outcome.first (calls x)
-  so_far = by run.end (h.promised.behaves.asks h.outcome.args h.outcome.first (answers_of (log x)) x.steps to_trap)
+  pub so_far : HaveAskedSoFar (places x) x.tunables x.adapter h.outcome.args h.outcome.first (calls x)
+  so_far = by run.end (h.promised.behaves.requests_are_called_for h.outcome.args h.outcome.first (answers_of (log x)) x.steps to_trap)
     where
-      by : (e : End) → HasAsked (places x) x.tunables x.adapter h.outcome.args h.outcome.first e (calls x) → AreSoFar (places x) x.tunables x.adapter h.outcome.args h.outcome.first (calls x)
+      by : (e : End) → HasAsked (places x) x.tunables x.adapter h.outcome.args h.outcome.first e (calls x) → HaveAskedSoFar (places x) x.tunables x.adapter h.outcome.args h.outcome.first (calls x)
       by (Returned results) q = StopsFinishing q
       by Trapped q = q may_leave
       by Thrown q = q may_leave

@@ -9,7 +9,7 @@ use Rattle.std.proofs.lemmas.List.Elements.{All-append, All-from_recursion, All-
 use Rattle.fact_types.specs.declared.outside.FixedEncoding.{FixedEncoding}
 use Rattle.fact_types.specs.declared.outside.FixedEncoding.TheVariants.{Utf8, Utf16, Latin1}
 use Rattle.fact_values.specs.Texts.{AreSpelled, IsSpelled, char_spelling, low_first, spelled_text}
-use Rattle.fact_host.specs.Rules.{AreBytes}
+use Rattle.fact_host.specs.Rules.{AreWrittenBytes}
 
 abbrev AreSmall : List ℕ → Type 0
 AreSmall bytes = AllByRecursion (λ b. b < 256) bytes
@@ -40,6 +40,6 @@ small_char Utf8 c h = small_utf8 c (scalar_small c h)
 small_char Utf16 c h = small_utf16 c (scalar_small c h)
 small_char Latin1 c h = (h, tt)
 
-pub spelled_bytes : (e : FixedEncoding) (text : List ℕ) → AreSpelled e text → AreBytes (spelled_text e text)
+pub spelled_bytes : (e : FixedEncoding) (text : List ℕ) → AreSpelled e text → AreWrittenBytes (spelled_text e text)
 spelled_bytes e [] h = All-nil (λ b. b < 256)
 spelled_bytes e (c ∷ text) h = All-append (λ b. b < 256) (char_spelling e c) (spelled_text e text) (All-from_recursion (λ b. b < 256) (char_spelling e c) (small_char e c h.0)) (spelled_bytes e text h.1)

@@ -30,7 +30,7 @@ use Rattle.fact_host.specs.declared.calling.HostSide.{HostSide}
 use Rattle.fact_host.specs.declared.known.Known.{Known}
 use Rattle.fact_host.specs.declared.roles.Role.{Role}
 use Rattle.fact_host.specs.declared.roles.Role.TheVariants as role
-use Rattle.fact_host.specs.Contract.{AreDistinct, NamesEachOnce, if_named}
+use Rattle.fact_host.specs.Contract.{AreDistinctPlaces, NamesEachOnce, if_named}
 use Rattle.fact_host.specs.Describes.{Describes, IsImportOf}
 use Rattle.fact_host.specs.Rules.{Again, Answers, AreOfCoreTypes, AskedRegion, CallShapes, MustRefuse, NoAlignment, NoRoom, NotLive, OtherTransfer, ReallocsAt, StoresResults, after_region, given_at, is_old_live, memory_at, next_region, stays}
 
@@ -189,7 +189,7 @@ module _ (m : WasmModule) (t : Tables) (c : HostCall) (p : ImportPlaces) (a : Li
   pub lower_not_post : (i j : ℕ) → c.lower.realloc ≡ Some i → c.post_return ≡ Some j → i ≢ j
   lower_not_post i j e g = by c.lift.realloc c.lower.realloc c.post_return e g (once.functions.1)
     where
-      by : (o u v : Option ℕ) → u ≡ Some i → v ≡ Some j → AreDistinct (if_named o ++ (if_named u ++ if_named v)) → i ≢ j
+      by : (o u v : Option ℕ) → u ≡ Some i → v ≡ Some j → AreDistinctPlaces (if_named o ++ (if_named u ++ if_named v)) → i ≢ j
       by None None v e g h = absurd cc
       by None (Some l) v e g h = let same : l ≡ i = cc in λ q. not_last l j v g h.0 (same ∙ q)
       by (Some o) None v e g h = absurd cc
@@ -198,14 +198,14 @@ module _ (m : WasmModule) (t : Tables) (c : HostCall) (p : ImportPlaces) (a : Li
   pub lift_not_post : (i j : ℕ) → c.lift.realloc ≡ Some i → c.post_return ≡ Some j → i ≢ j
   lift_not_post i j e g = by c.lift.realloc c.lower.realloc c.post_return e g (once.functions.1)
     where
-      by : (o u v : Option ℕ) → o ≡ Some i → v ≡ Some j → AreDistinct (if_named o ++ (if_named u ++ if_named v)) → i ≢ j
+      by : (o u v : Option ℕ) → o ≡ Some i → v ≡ Some j → AreDistinctPlaces (if_named o ++ (if_named u ++ if_named v)) → i ≢ j
       by None u v e g h = absurd cc
       by (Some l) u v e g h = let same : l ≡ i = cc in λ q. not_behind l j u v g h.0 (same ∙ q)
 
   pub lift_not_lower : (i j : ℕ) → c.lift.realloc ≡ Some i → c.lower.realloc ≡ Some j → i ≢ j
   lift_not_lower i j e g = by c.lift.realloc c.lower.realloc c.post_return e g (once.functions.1)
     where
-      by : (o u v : Option ℕ) → o ≡ Some i → u ≡ Some j → AreDistinct (if_named o ++ (if_named u ++ if_named v)) → i ≢ j
+      by : (o u v : Option ℕ) → o ≡ Some i → u ≡ Some j → AreDistinctPlaces (if_named o ++ (if_named u ++ if_named v)) → i ≢ j
       by None u v e g h = absurd cc
       by (Some l) u v e g h = let same : l ≡ i = cc in λ q. not_first l j u v g h.0 (same ∙ q)
 
@@ -213,7 +213,7 @@ module _ (m : WasmModule) (t : Tables) (c : HostCall) (p : ImportPlaces) (a : Li
   pub distinct : (n : ℕ) → c.lift.memory ≡ Some n → c.lower.memory ≡ Some n → ⊥
   distinct n e g = by c.lift.memory c.lower.memory e g once.memories
     where
-      by : (o u : Option ℕ) → o ≡ Some n → u ≡ Some n → AreDistinct (if_named o ++ if_named u) → ⊥
+      by : (o u : Option ℕ) → o ≡ Some n → u ≡ Some n → AreDistinctPlaces (if_named o ++ if_named u) → ⊥
       by None u e g h = absurd cc
       by (Some i) None e g h = absurd cc
       by (Some i) (Some j) e g h =

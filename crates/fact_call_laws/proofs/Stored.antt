@@ -20,7 +20,7 @@ use Rattle.fact_values.specs.declared.value.Value.{Value}
 use Rattle.fact_values.specs.IsA.{AreMembers}
 use Rattle.fact_values.specs.Places.{extent_on, width_of}
 use Rattle.fact_values.specs.Tuples.{lift_result_values, where_flat}
-use Rattle.fact_action_laws.specs.Law.{IsWellFormed}
+use Rattle.fact_action_laws.specs.MoveTerms.{IsWellFormed}
 use Rattle.fact_action_laws.specs.FaithfulLaws.{AreWellFormedTypes}
 use Rattle.fact_action_laws.proofs.Membered.{members_formed}
 use Rattle.fact_action_laws.proofs.Theorem.{AreValid}
@@ -35,7 +35,7 @@ use Rattle.fact_lowering.proofs.TuplesDone.{behind_done, each_flat, flat_done, r
 use Rattle.fact_host.specs.declared.known.Known.{Known}
 use Rattle.fact_host.specs.Hosts.{cursor_in, left_known, left_state}
 use Rattle.fact_host.specs.Lawful.{called_known}
-use Rattle.fact_host.specs.Rules.{AreBytes, StoresAt, bytes_of_memory, cursor_of, memory_at, side_bytes}
+use Rattle.fact_host.specs.Rules.{AreWrittenBytes, StoresAt, bytes_of_memory, cursor_of, memory_at, side_bytes}
 use Rattle.fact_host.proofs.Resulting.{left_bytes}
 use Rattle.fact_host.proofs.TupleRooms.{tuple_room_most}
 use Rattle.fact_call_laws.proofs.Flats.{HasTupleCores, tuple_cores}
@@ -49,7 +49,7 @@ record AreLeft (side : SideAbi) (ss : List Shape) (vs : List Value) (low : ℕ) 
   cores : List CoreValue
   high : ℕ
   after : List ℕ
-  are : AreBytes after
+  are : AreWrittenBytes after
   lowered : AreLowered side 1 ss vs cores low high before after
 
 all_valid : (n : ℕ) (ss : List Shape) → AllByRecursion IsValid ss → AreValid (members_from n ss)
@@ -70,7 +70,7 @@ few_flats n (Some gs) fs e = by (nat_le (length gs) n) refl e
 module _ (side : SideAbi) (ss : List Shape) (vs : List Value) (valid : AllByRecursion IsValid ss) (formed : AllByRecursion IsWellFormed ss) (are : AreMembers (tuple_members ss) vs) where
   -- ---- as core values
 
-  left_flat : (fs : List FlatType) (low : ℕ) (m : List ℕ) → flat_all (width_of side) 1 ss ≡ Some fs → low ≤ length m → AreBytes m → AreLeft side ss vs low m
+  left_flat : (fs : List FlatType) (low : ℕ) (m : List ℕ) → flat_all (width_of side) 1 ss ≡ Some fs → low ≤ length m → AreWrittenBytes m → AreLeft side ss vs low m
   left_flat fs low m e inside bytes =
       let each : flat_each (width_of side) ss ≡ Some fs = each_flat (width_of side) 1 ss fs (sym e) in
       let c : HasTupleCores side 0 ss vs fs = tuple_cores side 0 ss valid formed fs each (few_flats 1 (flat_each (width_of side) ss) fs e) vs are in
@@ -103,7 +103,7 @@ module _ (side : SideAbi) (ss : List Shape) (vs : List Value) (valid : AllByRecu
 
 -- ---- as results
 
-stored_at : (k : Known) (before : MachineState) (side : SideAbi) (ss : List Shape) (vs : List Value) (o : Option ℕ) (cores : List CoreValue) (bytes : List ℕ) (cursor most : ℕ) → AreBytes bytes
+stored_at : (k : Known) (before : MachineState) (side : SideAbi) (ss : List Shape) (vs : List Value) (o : Option ℕ) (cores : List CoreValue) (bytes : List ℕ) (cursor most : ℕ) → AreWrittenBytes bytes
     → AreLowered side 1 ss vs cores (cursor_in o k) cursor (bytes_of_memory o before) bytes → tuple_room side 1 ss vs ≤ most → StoresAt k (left_known o (called_known k) cursor) before (left_state o before bytes) most o
 stored_at k before side ss vs None cores bytes cursor most are l le = (refl, refl)
 stored_at k before side ss vs (Some n) cores bytes cursor most are l le =

@@ -14,8 +14,8 @@ use Rattle.fact_types.specs.declared.outside.FixedEncoding.TheVariants.{Utf8, Ut
 use Rattle.fact_types.specs.declared.outside.StringEncoding.{StringEncoding}
 use Rattle.fact_types.specs.declared.outside.StringEncoding.TheVariants as encoding
 use Rattle.fact_types.specs.declared.sizes.FlagsSize.TheVariants.{Size0, Size1, Size2, Size4Plus}
-use Rattle.fact_types.specs.declared.widths.MemoryWidth.{MemoryWidth}
-use Rattle.fact_types.specs.declared.widths.MemoryWidth.TheVariants.{Memory32, Memory64}
+use Rattle.fact_types.specs.declared.extents.MemoryWidth.{MemoryWidth}
+use Rattle.fact_types.specs.declared.extents.MemoryWidth.TheVariants.{Memory32, Memory64}
 use Rattle.fact_types.specs.Agrees.{chosen, names_of}
 use Rattle.fact_types.specs.Layout.{aligned, extent, extents, flags_extent, flags_size, greatest_size, payloads, record_layout, variant_layout}
 use Rattle.fact_types.specs.Shapes.{Kind, k_record, k_variant, k_list, k_tuple, k_map, k_flags, k_enum, k_option, k_result, k_fixed, k_future, k_stream, Shape, s_plain, s_node, Members, no_members, bare, typed, ends_of, layout_of, layouts_of, next_of, place_of, plain_layout}
@@ -40,7 +40,7 @@ use Rattle.fact_values.specs.Numbers.{Plain, text, flags_of_number, number_in, p
 use Rattle.fact_values.specs.Places.{Pair, case_bytes, count_of_members, element_extent, extent_on, flags_bytes, payload_place, width_of}
 use Rattle.fact_values.specs.Texts.{spelled_text, unit_bytes, units_of_text}
 use Rattle.fact_values.proofs.IsALaws.{bytes_are}
-use Rattle.fact_action_laws.specs.Law.{AreWellFormed, IsWellFormed, IsWellFormedBy}
+use Rattle.fact_action_laws.specs.MoveTerms.{AreWellFormed, IsWellFormed, IsWellFormedBy}
 use Rattle.fact_action_laws.proofs.Elements.{takes_some}
 use Rattle.fact_action_laws.proofs.Theorem.{AreValid, members_valid}
 use Rattle.fact_lowering.specs.Lowered.{IsPut, ReadsAt, ReadsEach, ReadsEntries, ReadsMembers, own_measure, own_room, own_rooms}
@@ -60,7 +60,7 @@ use Rattle.fact_lowering.proofs.StoreSteps.{IsBehind, behind_size, pair_stored}
 use Rattle.fact_lowering.proofs.StoreWalks.{element_forms, element_reads, entry_forms, entry_read, entry_reads, entry_room}
 use Rattle.fact_lowering.proofs.Stored.{IsNoText, pair_written, reads_case, reads_elements, reads_entries, reads_fixed, reads_flags, reads_future, reads_number, reads_record, reads_stream, reads_tuple, there_is}
 use Rattle.fact_lowering.proofs.StoredTexts.{text_put, text_room}
-use Rattle.fact_host.specs.Rules.{AreBytes}
+use Rattle.fact_host.specs.Rules.{AreWrittenBytes}
 use Rattle.fact_call_laws.proofs.PlainNumbers.{flags_back, flags_number, flags_small, handle_number, plain_number, plain_size}
 use Rattle.fact_call_laws.proofs.Puts.{HasBytes, Puts, bytes_behind, less_bytes, number_bytes, put_bytes, puts_all, puts_both, puts_nothing, puts_number, puts_wider}
 use Rattle.fact_call_laws.proofs.SpelledBytes.{spelled_bytes}
@@ -180,7 +180,7 @@ module _ (side : SideAbi) where
 
   -- ---- behind a pointer and a length
 
-  pair_puts : (s : Shape) (v : Value) (p : Pair) (a low high : ℕ) (m after : List ℕ) → IsBehind s → a + (extent_on side s).size ≤ low → IsShort m → AreBytes after → IsPut side s v p low high m after → Puts (ReadsAt side s v a) a (extent_on side s).size low (own_room side s v) m
+  pair_puts : (s : Shape) (v : Value) (p : Pair) (a low high : ℕ) (m after : List ℕ) → IsBehind s → a + (extent_on side s).size ≤ low → IsShort m → AreWrittenBytes after → IsPut side s v p low high m after → Puts (ReadsAt side s v a) a (extent_on side s).size low (own_room side s v) m
   pair_puts s v p a low high m after behind below short are put =
       let k : ℕ = pointer_bytes (width_of side) in
       let size = behind_size side s behind in

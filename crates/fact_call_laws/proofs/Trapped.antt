@@ -10,7 +10,7 @@ use Rattle.fact_actions.specs.Confined.{GiveUpLive, GivesUpLive, is_beside}
 use Rattle.fact_actions.specs.Honest.{AreHonestSync}
 use Rattle.fact_actions.specs.Regions.{Position, landed, params_landing, sync_moved_on}
 use Rattle.fact_actions.specs.Running.{Call}
-use Rattle.fact_action_laws.specs.Requested.{AreSoFar}
+use Rattle.fact_action_laws.specs.Requested.{HaveAskedSoFar}
 use Rattle.fact_action_laws.specs.Trapped.{LastTraps}
 use Rattle.fact_host.specs.declared.calling.HostCall.{HostCall}
 use Rattle.fact_host.specs.declared.known.Known.{Known}
@@ -145,7 +145,7 @@ module _ (x : Setting) (h : Called x) where
     calls_are = ap (named_calls (names x)) t.log_is ∙ map_on (λ (e : Event). call_by (names x e.func) e.args e.before e.answer) t.front (t.event ∷ [])
 
     pub it_stands : Stands (places x) x.tunables x.adapter h.outcome.args h.outcome.first before last_call
-    it_stands = stands (places x) x.tunables x.adapter h.outcome.args h.outcome.first before last_call (subst (AreSoFar (places x) x.tunables x.adapter h.outcome.args h.outcome.first) calls_are (so_far x h))
+    it_stands = stands (places x) x.tunables x.adapter h.outcome.args h.outcome.first before last_call (subst (HaveAskedSoFar (places x) x.tunables x.adapter h.outcome.args h.outcome.first) calls_are (so_far x h))
 
     pub holds : Holds x.code x.types x.call (places x) x.adapter (names x) (described x h) h.callable.once h.outcome.args t.last (position_after next start before)
     holds =

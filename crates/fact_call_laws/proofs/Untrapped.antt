@@ -28,7 +28,7 @@ use Rattle.fact_host.specs.Roles.{is_function}
 use Rattle.fact_emit.specs.ImportSection.{IsNamed, imported_type, mentions}
 use Rattle.fact_emit.specs.Runtime.{type_of_runtime}
 use Rattle.fact_emit.specs.declared.imported.RuntimeFunction.TheVariants as runtime
-use Rattle.fact_function_laws.specs.Laws.{IsAnswered}
+use Rattle.fact_function_laws.specs.Laws.{IsAnsweredInLimits}
 use Rattle.fact_function_laws.specs.Names.{AreCalls, IsNamedLog}
 use Rattle.fact_function_laws.specs.Runs.{CallNoTrap, IsHonestSoFar, is_trap_import}
 use Rattle.fact_function_laws.proofs.AtOne.{answered_at_one}
@@ -194,7 +194,7 @@ module _ (x : Setting) (h : Called x) (t : AtTrap x h) (seen : TypedState x.code
 
   pub no_trap : ⊥
   no_trap =
-      let answered : IsAnswered x.code x.imports x.tunables x.adapter x.function h.outcome.args h.outcome.first answers =
+      let answered : IsAnsweredInLimits x.code x.imports x.tunables x.adapter x.function h.outcome.args h.outcome.first answers =
       answered_at_one x.code x.imports x.tunables x.adapter x.function h.outcome.args h.outcome.first answers x.steps (inr (taken x.code x.function h.outcome.args h.outcome.first x.steps t.front t.event log_is answer)) so_far (checks so_far.calls) limits in
       let short = runs_stay_short x.code x.imports x.tunables x.adapter x.function h.outcome.args h.outcome.first answers h.promised.behaves answered in
       trap_last (before x h t) call (ap is_trap_import what) (short.no_trap x.steps (before x h t ++ call ∷ []) so_far.are_calls)

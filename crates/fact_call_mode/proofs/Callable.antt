@@ -32,7 +32,7 @@ use Rattle.fact_actions.specs.Adapters.{lowered_flats}
 use Rattle.fact_actions.specs.Running.{ImportPlaces}
 use Rattle.fact_actions.specs.Sides.{options_of}
 use Rattle.fact_action_laws.specs.FaithfulLaws.{HasOwnMemories}
-use Rattle.fact_action_laws.specs.Law.{HasRealloc}
+use Rattle.fact_action_laws.specs.MoveTerms.{HasRealloc}
 use Rattle.fact_action_laws.specs.Places.{HasSideMemory}
 use Rattle.fact_code_laws.specs.Knows.{KnowsFunction}
 use Rattle.fact_emit.specs.ImportSection.{Callee, Mention, NamesImports, PostReturn, Realloc, a_function, adapter_mentions, custom_page_size, imports_of, side_mentions}
@@ -46,10 +46,10 @@ use Rattle.fact_assembly.proofs.Memories.{own_memories}
 use Rattle.fact_assembly.proofs.Pairs.{contains_last, one_value, stable_consistent}
 use Rattle.fact_assembly.proofs.Passed.{passed_are_sound}
 use Rattle.fact_assembly.proofs.Stable.{stable_nat}
-use Rattle.fact_assembly.specs.Exports.{defined_type, type_of_function}
+use Rattle.fact_assembly.specs.Exports.{defined_type, function_type_in}
 use Rattle.fact_host.specs.declared.calling.HostCall.{HostCall}
 use Rattle.fact_host.specs.declared.calling.HostSide.{HostSide}
-use Rattle.fact_host.specs.Contract.{AreDistinct, HasMeans, HasSyncTypes, HaveNeeds, IsCallable, IsNameable, function_places, if_named, of_signature}
+use Rattle.fact_host.specs.Contract.{AreDistinctPlaces, HasSideMeans, HasSyncTypes, HaveNeeds, IsCallable, IsNameable, function_places, if_named, of_signature}
 use Rattle.fact_host.specs.Describes.{DescribesHostSide}
 use Rattle.fact_call_laws.specs.Carrying.{CallsAdapter}
 use Rattle.fact_call_mode.specs.Replies.{shapes_of}
@@ -105,7 +105,7 @@ abbrev Differ : List ℕ → Type 0
 Differ [] = Unit {0}
 Differ (n ∷ ns) = AllByRecursion (λ k. n ≢ k) ns × Differ ns
 
-distinct : (ns : List ℕ) → Differ ns → AreDistinct ns
+distinct : (ns : List ℕ) → Differ ns → AreDistinctPlaces ns
 distinct [] h = tt
 distinct (n ∷ ns) h = (none_of n ns h.0, distinct ns h.1)
 
@@ -159,7 +159,7 @@ type_known {m} h = ap (λ o. elim o [ None ↦ None | Some t ↦ slice_get m.typ
 body_there : (m : WasmModule) (f : ℕ) (ty : FuncType) → defined_type m (Defined f) ≡ Some ty → (body : WasmFunc) × (slice_get m.funcs f ≡ Some body) × (slice_get m.types body.ty ≡ Some ty)
 body_there m f ty e = go (slice_get m.funcs f) refl e
   where
-    go : (o : Option WasmFunc) → slice_get m.funcs f ≡ o → type_of_function m o ≡ Some ty → (body : WasmFunc) × (slice_get m.funcs f ≡ Some body) × (slice_get m.types body.ty ≡ Some ty)
+    go : (o : Option WasmFunc) → slice_get m.funcs f ≡ o → function_type_in m o ≡ Some ty → (body : WasmFunc) × (slice_get m.funcs f ≡ Some body) × (slice_get m.types body.ty ≡ Some ty)
     go None at e = absurd (none_some None ty refl e)
     go (Some body) at e = (body, at, e)
 
@@ -291,7 +291,7 @@ module _ (m : WasmModule) (is : List Import) (adapters : List LinkedAdapter) (na
       no_realloc wide a.lift.core_type.results
       (alike.alike (record { def = d; role = Realloc wide }) (record { def = e; role = PostReturn a.name a.lift.core_type.results }) h (post_return_mention e is_e) same).function
 
-  functions_once : AreDistinct (function_places c)
+  functions_once : AreDistinctPlaces (function_places c)
   functions_once =
       distinct (function_places c)
       (differ_all c.callee c.lift.realloc c.lower.realloc c.post_return
@@ -320,7 +320,7 @@ module _ (m : WasmModule) (is : List Import) (adapters : List LinkedAdapter) (na
       apart_at h.what i.what j k (realloc_stands (is_wide a.lower.memory) h.what (lower_realloc h.what h.is_what)) (post_return_stands i.what i.is_what)
       (realloc_apart (is_wide a.lower.memory) h.what i.what (lower_realloc h.what h.is_what) i.is_what) h.place i.place))
 
-  memories_once : AreDistinct (if_named c.lift.memory ++ if_named c.lower.memory)
+  memories_once : AreDistinctPlaces (if_named c.lift.memory ++ if_named c.lower.memory)
   memories_once =
       distinct (if_named c.lift.memory ++ if_named c.lower.memory)
       (differ_both c.lift.memory c.lower.memory (λ j k e g same.
@@ -338,7 +338,7 @@ module _ (m : WasmModule) (is : List Import) (adapters : List LinkedAdapter) (na
 
   -- ---- memories and reallocs
 
-  means : (s : Side) (h : HostSide) → DescribesHostSide t h p s → ((r : Mention) → Contains (side_mentions s) r → Contains all r) → (HasOddMemory s → ⊥) → HasMeans m h
+  means : (s : Side) (h : HostSide) → DescribesHostSide t h p s → ((r : Mention) → Contains (side_mentions s) r → Contains all r) → (HasOddMemory s → ⊥) → HasSideMeans m h
   means s h d inside odd = record {
     memory = λ n e.
         let i = number_at (λ (o : MemoryOption). p.memory o.def) s.memory n (d.memory ∙ e) in (

@@ -11,10 +11,10 @@ use Rattle.fact_module.specs.declared.fusion.Fused.{Fused}
 use Rattle.fact_host.specs.declared.calling.HostCall.{HostCall}
 use Rattle.fact_call_laws.specs.Carrying.{CallsAdapter}
 use Rattle.fact_call_mode.specs.declared.values.Values.{Values}
-use Rattle.fact_call_mode.specs.Replies.{CanBeCalled, IsCallOf, IsHosted, IsNamed}
+use Rattle.fact_call_mode.specs.Replies.{CanBeCalled, IsCallOf, IsHosted, IsNamedCall}
 use Rattle.fact_call_mode.proofs.Promised as of
 
-module _ (fuel : ℕ) (p : FusePlan) (name : List ℕ) (t : PlanTypes) (x : Adapter) (f : Fused) (named : IsNamed fuel p name t x f) where
+module _ (fuel : ℕ) (p : FusePlan) (name : List ℕ) (t : PlanTypes) (x : Adapter) (f : Fused) (named : IsNamedCall fuel p name t x f) where
   abbrev a : LinkedAdapter
   a = named.linked.links.linked
 
@@ -41,7 +41,7 @@ module _ (fuel : ℕ) (p : FusePlan) (name : List ℕ) (t : PlanTypes) (x : Adap
 -- ---- with values
 
 module _ (fuel : ℕ) (p : FusePlan) (name : List ℕ) (t : PlanTypes) (x : Adapter) (f : Fused) (values : Values) (can : CanBeCalled fuel p name t x f values) where
-  abbrev pub one_named : IsNamed fuel p name t x f
+  abbrev pub one_named : IsNamedCall fuel p name t x f
   one_named = record { linked = can.may.linked; fused = can.fused; accepted = can.accepted }
 
   pub hosted : (c : HostCall) → IsCallOf fuel p can.may.linked.links.linked t.builder.tables f c → IsHosted fuel p can.may.linked.links.linked t.builder.tables f c values

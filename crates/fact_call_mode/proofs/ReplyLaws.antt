@@ -8,6 +8,7 @@ use Rattle.fact_plan.specs.declared.fault.PlanFault.{PlanFault}
 use Rattle.fact_plan.specs.declared.plan.FusePlan.{FusePlan}
 use Rattle.fact_plan.specs.declared.plan.PlanAdapter.{PlanAdapter}
 use Rattle.fact_plan.specs.Reading.{value_in}
+use Rattle.fact_plan.specs.Inputs.{HoldsInput, limit}
 use Rattle.fact_plan_types.specs.Faults.{too_large}
 use Rattle.fact_plan_types.specs.PlanTypes.{AreTypesOf}
 use Rattle.fact_plan_types.specs.TypeRules.{most_entries}
@@ -15,14 +16,14 @@ use Rattle.fact_plan_types.specs.declared.plan_types.PlanTypes.{PlanTypes}
 use Rattle.fact_adapter_rules.specs.declared.adapter.Adapter.{Adapter}
 use Rattle.fact_adapter_rules.specs.Adapters.{adapter_of}
 use Rattle.fact_adapter_rules.specs.FirstFault.{IsFaultlessPlan}
-use Rattle.fact_adapter_rules.specs.Links.{LinksAdapter}
+use Rattle.fact_adapter_rules.specs.PlanLinks.{LinksAdapter}
 use Rattle.fact_values.specs.declared.value.Value.{Value}
 use Rattle.fact_call_mode.specs.declared.reply.CallReply.{CallReply}
 use Rattle.fact_call_mode.specs.declared.reply.CallReply.TheVariants as reply
 use Rattle.fact_call_mode.specs.declared.values.Values.{Values}
-use Rattle.fact_call_mode.specs.Calls.{AreFitting, HoldsInput, NamesCallable, limit}
+use Rattle.fact_call_mode.specs.Calls.{AreFitting, NamesCallable}
 use Rattle.fact_call_mode.specs.Inputs.{CallInput}
-use Rattle.fact_call_mode.specs.Replies.{HasBadValues, IsAtPlace, IsLinkedAt, IsOver, IsReplyToAdapter, IsReplyToBytes, IsReplyToData, IsReplyToInput, IsReplyToRead, IsReplyToValues, IsToldCall, input_with}
+use Rattle.fact_call_mode.specs.Replies.{HasBadValues, IsAtPlace, IsLinkedAt, IsReplyOver, IsReplyToAdapter, IsReplyToBytes, IsReplyToData, IsReplyToInput, IsReplyToRead, IsReplyToValues, IsToldCall, input_with}
 
 -- ---- values
 
@@ -48,7 +49,7 @@ bad_results x y over args (reply.Page text) is h = h
 bad_results x y over args reply.OutOfMemory is h = tt
 
 -- values that do not fit
-pub not_fitting : (read_args read_results : Result (List Value) PlanFault) (over : Type 0) (fit : Bool) (r : CallReply) → (fit ≡ false → over) → IsOver fit r → IsReplyToRead read_args read_results over r
+pub not_fitting : (read_args read_results : Result (List Value) PlanFault) (over : Type 0) (fit : Bool) (r : CallReply) → (fit ≡ false → over) → IsReplyOver fit r → IsReplyToRead read_args read_results over r
 not_fitting x y over fit reply.NotJson so h = h
 not_fitting x y over fit (reply.BadPlan g) so h = h
 not_fitting x y over fit (reply.Refused e) so h = h

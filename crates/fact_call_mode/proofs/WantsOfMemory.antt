@@ -10,12 +10,12 @@ use Rattle.fact_plan_types.specs.declared.error.Place.TheVariants.{TypeEntry, Fu
 use Rattle.fact_plan_types.specs.Faults.{Fault}
 use Rattle.fact_plan_types.specs.PlanTypes.{IsFirstOfTypes, told}
 use Rattle.fact_adapter_rules.specs.FirstFault.{IsFaultlessPlan, IsFirstAt}
-use Rattle.fact_adapter_rules.specs.Links.{IsFirstHere}
+use Rattle.fact_adapter_rules.specs.PlanLinks.{IsFirstHere}
 use Rattle.fact_adapter_rules.proofs.FaultLaws.{faultless-first}
 use Rattle.fact_values.specs.declared.value.Value.{Value}
 use Rattle.fact_host.specs.declared.callee.HostError.{HostError}
 use Rattle.fact_host.specs.declared.callee.HostError.TheVariants as host
-use Rattle.fact_host.specs.Contract.{AnsweredTooMuch, AnsweredUnsuited, AreOfTypes, AreSuited, IsCause}
+use Rattle.fact_host.specs.Contract.{AnsweredTooMuch, AnsweredUnsuited, AreOfTypes, AreSuited, IsHostCause}
 use Rattle.fact_host.specs.Rules.{CallShapes}
 use Rattle.fact_lowering.specs.Room.{fits}
 use Rattle.fact_call_mode.specs.Calls.{without_debug}
@@ -48,7 +48,7 @@ module _ (s : CallShapes) (args results : List Value) (last : ℕ) (asked : Bool
   not_too_much (inl h) = true≢false (sym can.suited.1 ∙ h.1)
   not_too_much (inr h) = too_much_by h.1
 
-  pub call_wants : (e : HostError) → IsCause s args last (answered asked results) e → e ≡ host.OutOfMemory
+  pub call_wants : (e : HostError) → IsHostCause s args last (answered asked results) e → e ≡ host.OutOfMemory
   call_wants host.OutOfMemory cause = refl
   call_wants host.Unsuited cause = absurd (not_unsuited cause)
   call_wants host.OverLimit cause = absurd (not_too_much cause)

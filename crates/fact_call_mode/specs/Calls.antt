@@ -1,16 +1,13 @@
--- What the bytes of an input hold, in each mode that calls adapters; what they come to where the adapter of a name is to be called, and the text that
--- tells a call.
-use Rattle.std.specs.Prelude.{◌≡◌, ◌⊎◌, ℕ, ◌≤◌, ◌&&◌, Bool, true, false, not, List, [], ◌∷◌, ◌++◌, length, find, Option, Some, None, Result, Ok, Err, codes}
+-- What an input comes to where the adapter of a name is to be called, and the text that tells a call.
+use Rattle.std.specs.Prelude.{◌≡◌, ◌⊎◌, ℕ, ◌&&◌, Bool, true, false, not, List, [], ◌∷◌, ◌++◌, length, find, Option, Some, None, Result, Ok, Err, codes}
 use Rattle.std.specs.Fmt.{decimal}
 use Rattle.std.specs.Str.{bytes_eq}
-use Rattle.serde_json.specs.Data.{Data}
 use Rattle.fact_wasm.specs.declared.instr.FuncName.TheVariants.{Defined}
 use Rattle.fact_types.specs.Adapters.{LinkedAdapter, is_async, is_crossing}
 use Rattle.fact_types.specs.Shapes.{Shape}
 use Rattle.fact_types.specs.Tables.{Tables}
 use Rattle.fact_plan.specs.declared.fault.PlanFault.{PlanFault}
 use Rattle.fact_plan.specs.declared.plan.FusePlan.{FusePlan}
-use Rattle.fact_plan.specs.Reading.{value_in}
 use Rattle.fact_adapter_rules.specs.Adapters.{adapters_of}
 use Rattle.fact_adapter_rules.specs.FirstFault.{IsFaultlessPlan}
 use Rattle.fact_values.specs.declared.value.Value.{Value}
@@ -27,37 +24,6 @@ use Rattle.fact_module.specs.declared.fusion.Fused.{Fused}
 use Rattle.fact_module.specs.Fused.{IsFused}
 use Rattle.fact_call_laws.specs.Carrying.{CallsAdapter}
 use Rattle.fact_call_mode.specs.Inputs.{CallInput}
-
--- the most bytes that an input may have
-abbrev pub limit : ℕ
-limit = 67_108_864
-
--- ---- what the bytes of an input hold: no JSON text, one whose value has a fault, or an input
-
--- The bytes are no JSON text, as `serde_json` reads it.
-pub record HoldsNoJson (bytes : List ℕ) : Type 0 where
-  pub within : length bytes ≤ limit
-  pub no_json : value_in bytes ≡ None
-
--- They are a JSON text in whose value the input of a mode is read, and this is its first fault.
-pub record HoldsFaultyInput {I : Type 0} (read : Data → Result I PlanFault) (bytes : List ℕ) (f : PlanFault) : Type 0 where
-  pub within : length bytes ≤ limit
-  pub value : Data
-  pub is_json : value_in bytes ≡ Some value
-  pub is_fault : read value ≡ Err f
-
--- They are a JSON text whose value is this input.
-pub record HoldsInput {I : Type 0} (read : Data → Result I PlanFault) (bytes : List ℕ) (i : I) : Type 0 where
-  pub within : length bytes ≤ limit
-  pub value : Data
-  pub is_json : value_in bytes ≡ Some value
-  pub is_input : read value ≡ Ok i
-
--- They are that of an input of which this is so.
-pub record HasInput {I : Type 0} (read : Data → Result I PlanFault) (bytes : List ℕ) (P : I → Type 0) : Type 0 where
-  pub input : I
-  pub holds : HoldsInput read bytes input
-  pub is_so : P input
 
 -- ---- arguments and results that were read, each its values or its first fault
 
@@ -100,11 +66,11 @@ abbrev pub results_of : LinkedAdapter → CallInput → Result (List Value) Plan
 results_of a i = values_at (codes "call.results") a.lift.results i.results
 
 -- they have this first fault, or are these values of their types
-abbrev pub AreFaulty : LinkedAdapter → CallInput → PlanFault → Type 0
-AreFaulty a i f = HaveFault (args_of a i) (results_of a i) f
+abbrev pub AreBadCallValues : LinkedAdapter → CallInput → PlanFault → Type 0
+AreBadCallValues a i f = HaveFault (args_of a i) (results_of a i) f
 
-abbrev pub AreValues : LinkedAdapter → CallInput → (args results : List Value) → Type 0
-AreValues a i args results = HaveValues (args_of a i) (results_of a i) args results
+abbrev pub AreCallValues : LinkedAdapter → CallInput → (args results : List Value) → Type 0
+AreCallValues a i args results = HaveValues (args_of a i) (results_of a i) args results
 
 -- whether arguments and results fit
 abbrev pub fits_args : LinkedAdapter → List Value → Bool
@@ -117,12 +83,12 @@ fits_results a results = fits a.lift.results a.lower.results results
 pub record AreOver (a : LinkedAdapter) (i : CallInput) : Type 0 where
   pub args : List Value
   pub results : List Value
-  pub values : AreValues a i args results
+  pub values : AreCallValues a i args results
   pub over : (fits_args a args ≡ false) ⊎ (fits_results a results ≡ false)
 
 -- Both fit.
 pub record AreFitting (a : LinkedAdapter) (i : CallInput) (args results : List Value) : Type 0 where
-  pub values : AreValues a i args results
+  pub values : AreCallValues a i args results
   pub args_fit : fits_args a args ≡ true
   pub results_fit : fits_results a results ≡ true
 
@@ -130,7 +96,7 @@ pub record AreFitting (a : LinkedAdapter) (i : CallInput) (args results : List V
 pub record HasBadValue (name : List ℕ) (i : CallInput) (f : PlanFault) : Type 0 where
   pub adapter : LinkedAdapter
   pub callable : NamesCallable name i adapter
-  pub faulty : AreFaulty adapter i f
+  pub faulty : AreBadCallValues adapter i f
 
 pub record IsOverLimit (name : List ℕ) (i : CallInput) : Type 0 where
   pub adapter : LinkedAdapter
@@ -187,6 +153,6 @@ pub record TellsCall (fuel : ℕ) (p : FusePlan) (a : LinkedAdapter) (args resul
   pub text_is : text ≡ call_text a.lift.params given a.lower.results got count
 
 -- The text tells the call of the adapter of a name with the values of the input.
-pub record TellsInput (fuel : ℕ) (name : List ℕ) (i : CallInput) (text : List ℕ) : Type 0 where
+pub record TellsCallInput (fuel : ℕ) (name : List ℕ) (i : CallInput) (text : List ℕ) : Type 0 where
   pub called : HasCall name i
   pub tells : TellsCall fuel i.plan called.adapter called.args called.results text

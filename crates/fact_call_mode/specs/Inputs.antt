@@ -5,7 +5,7 @@ use Rattle.fact_plan.specs.declared.fault.PlanFault.{PlanFault}
 use Rattle.fact_plan.specs.declared.plan.FusePlan.{FusePlan}
 use Rattle.fact_plan.specs.Fault.{at_step, ◌>>=◌}
 use Rattle.fact_plan.specs.Plan.{plan_in}
-use Rattle.fact_plan.specs.Read.{field, known_keys, required_keys}
+use Rattle.fact_plan.specs.Parts.{field, known_keys, required_keys}
 
 -- the keys, in the order in which they are read
 abbrev pub call_keys : List (List ℕ)

@@ -13,6 +13,7 @@ use Rattle.fact_plan.specs.declared.plan.FusePlan.{FusePlan}
 use Rattle.fact_plan.specs.declared.plan.PlanAdapter.{PlanAdapter}
 use Rattle.fact_plan.specs.declared.plan.PlanSide.{PlanSide}
 use Rattle.fact_plan.specs.Fault.{IsNotMemory}
+use Rattle.fact_plan.specs.Inputs.{HasInput, HoldsFaultyInput, HoldsNoJson}
 use Rattle.fact_plan_types.specs.declared.error.FuseError.{FuseError}
 use Rattle.fact_plan_types.specs.declared.error.FuseError.TheVariants as error
 use Rattle.fact_plan_types.specs.declared.error.Place.{Place}
@@ -23,7 +24,7 @@ use Rattle.fact_check.specs.Accepted.{IsAccepted}
 use Rattle.fact_adapter_rules.specs.declared.adapter.Adapter.{Adapter}
 use Rattle.fact_adapter_rules.specs.Adapters.{adapter_of, adapters_of}
 use Rattle.fact_adapter_rules.specs.FirstFault.{IsFaultlessPlan, IsFirstAt}
-use Rattle.fact_adapter_rules.specs.Links.{LinksAdapter}
+use Rattle.fact_adapter_rules.specs.PlanLinks.{LinksAdapter}
 use Rattle.fact_values.specs.declared.value.Value.{Value}
 use Rattle.fact_host.specs.declared.calling.HostCall.{HostCall}
 use Rattle.fact_host.specs.declared.calling.HostOutcome.{HostOutcome}
@@ -44,7 +45,7 @@ use Rattle.fact_call_mode.specs.declared.places.Kind.TheVariants as kind
 use Rattle.fact_call_mode.specs.declared.reply.CallReply.{CallReply}
 use Rattle.fact_call_mode.specs.declared.reply.CallReply.TheVariants as reply
 use Rattle.fact_call_mode.specs.declared.values.Values.{Values}
-use Rattle.fact_call_mode.specs.Calls.{AreFaulty, AreFitting, AreOver, HasBadValue, HasInput, HaveFault, HoldsFaultyInput, HoldsNoJson, IsNotCallable, IsOverLimit, TellsCall, TellsInput, args_of, callable_named, results_of, without_debug}
+use Rattle.fact_call_mode.specs.Calls.{AreBadCallValues, AreFitting, AreOver, HasBadValue, HaveFault, IsNotCallable, IsOverLimit, TellsCall, TellsCallInput, args_of, callable_named, results_of, without_debug}
 use Rattle.fact_call_mode.specs.Inputs.{CallInput, call_input}
 
 -- ---- what a call comes to
@@ -78,15 +79,15 @@ IsReplyToInput fuel name i (reply.Refused e) = TellsRefused i.plan e
 IsReplyToInput fuel name i reply.NotCallable = IsNotCallable name i
 IsReplyToInput fuel name i (reply.BadValue f) = IsNotMemory f × HasBadValue name i f
 IsReplyToInput fuel name i reply.OverLimit = IsOverLimit name i
-IsReplyToInput fuel name i (reply.Page text) = TellsInput fuel name i (string_bytes text)
+IsReplyToInput fuel name i (reply.Page text) = TellsCallInput fuel name i (string_bytes text)
 IsReplyToInput fuel name i reply.OutOfMemory = Unit {0}
 
 -- what bytes come to, and a JSON value
 abbrev pub IsReplyToCall : (fuel : ℕ) → (name bytes : List ℕ) → CallReply → Type 0
 IsReplyToCall fuel name bytes r = IsReplyToBytes call_input (IsReplyToInput fuel name) bytes r
 
-abbrev pub IsReplyToValue : (fuel : ℕ) → (name : List ℕ) → Data → CallReply → Type 0
-IsReplyToValue fuel name d r = IsReplyToData call_input (IsReplyToInput fuel name) d r
+abbrev pub IsReplyToJson : (fuel : ℕ) → (name : List ℕ) → Data → CallReply → Type 0
+IsReplyToJson fuel name d r = IsReplyToData call_input (IsReplyToInput fuel name) d r
 
 -- The text tells the call of an adapter with the values of the input.
 pub record TellsAdapter (fuel : ℕ) (a : LinkedAdapter) (i : CallInput) (text : List ℕ) : Type 0 where
@@ -101,7 +102,7 @@ IsReplyToAdapter fuel a i reply.NotJson = ⊥
 IsReplyToAdapter fuel a i (reply.BadPlan f) = ⊥
 IsReplyToAdapter fuel a i (reply.Refused e) = ⊥
 IsReplyToAdapter fuel a i reply.NotCallable = ⊥
-IsReplyToAdapter fuel a i (reply.BadValue f) = IsNotMemory f × AreFaulty a i f
+IsReplyToAdapter fuel a i (reply.BadValue f) = IsNotMemory f × AreBadCallValues a i f
 IsReplyToAdapter fuel a i reply.OverLimit = AreOver a i
 IsReplyToAdapter fuel a i (reply.Page text) = TellsAdapter fuel a i (string_bytes text)
 IsReplyToAdapter fuel a i reply.OutOfMemory = Unit {0}
@@ -140,10 +141,10 @@ HasBadValues r reply.OutOfMemory = Unit {0}
 HasBadValues r _ = ⊥
 
 -- and one that fits or does not
-abbrev pub IsOver : Bool → CallReply → Type 0
-IsOver fit reply.OverLimit = fit ≡ false
-IsOver fit reply.OutOfMemory = Unit {0}
-IsOver fit _ = ⊥
+abbrev pub IsReplyOver : Bool → CallReply → Type 0
+IsReplyOver fit reply.OverLimit = fit ≡ false
+IsReplyOver fit reply.OutOfMemory = Unit {0}
+IsReplyOver fit _ = ⊥
 
 -- ---- inputs
 
@@ -217,7 +218,7 @@ pub record CanBeCalled (fuel : ℕ) (p : FusePlan) (name : List ℕ) (t : PlanTy
   pub accepted : IsAccepted f.bytes f.«module»
 
 -- An adapter of a plan without faults, over its types, which is the one of a name that can be called, and the module that was fused of the plan.
-pub record IsNamed (fuel : ℕ) (p : FusePlan) (name : List ℕ) (t : PlanTypes) (x : Adapter) (f : Fused) : Type 0 where
+pub record IsNamedCall (fuel : ℕ) (p : FusePlan) (name : List ℕ) (t : PlanTypes) (x : Adapter) (f : Fused) : Type 0 where
   pub linked : IsLinkedAt p name t x
   pub fused : IsFused f (without_debug fuel p)
   pub accepted : IsAccepted f.bytes f.«module»

@@ -2,9 +2,10 @@
 
 ghost use Rattle.std.specs.Prelude.{◌≡◌, ◌≤◌, length};
 ghost use Rattle.serde_json.specs.View.{view};
+ghost use Rattle.fact_plan.specs.Inputs.{limit};
 ghost use Rattle.fact_adapter_rules.specs.FirstFault.{IsFaultlessPlan};
-ghost use Rattle.fact_call_mode.specs.Calls.{limit, without_debug as without_debug_checks};
-ghost use Rattle.fact_call_mode.specs.Replies.{IsAtPlace, IsLinkedAt, IsReplyToAdapter, IsReplyToCall, IsReplyToInput, IsReplyToValue, IsToldCall, MayBeCalled, input_with};
+ghost use Rattle.fact_call_mode.specs.Calls.{without_debug as without_debug_checks};
+ghost use Rattle.fact_call_mode.specs.Replies.{IsAtPlace, IsLinkedAt, IsReplyToAdapter, IsReplyToCall, IsReplyToInput, IsReplyToJson, IsToldCall, MayBeCalled, input_with};
 
 use crate::adapters::{adapter_at, callable_place};
 use crate::hosting::call_told;
@@ -150,7 +151,7 @@ fn reply_to_input(
 /// What a JSON value comes to.
 fn reply_to_value(alloc: Global, json: &Json, name: &str, fuel: u32) -> CallReply
     requires { 1 ≤ fuel }
-    ensures { IsReplyToValue fuel name.now (view json.now) result }
+    ensures { IsReplyToJson fuel name.now (view json.now) result }
 {
     match read_input(alloc, json) {
         Ok(input) => {

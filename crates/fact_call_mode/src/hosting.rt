@@ -4,10 +4,10 @@ ghost use Rattle.std.specs.Prelude.{◌≡◌, ℕ, Bool, IfOk, string_bytes};
 ghost use Rattle.fact_types.specs.Adapters.{LinkedAdapter};
 ghost use Rattle.fact_plan.specs.declared.plan.FusePlan.{FusePlan as a_plan};
 ghost use Rattle.fact_check.specs.Constants.{HasTypedConstants};
-ghost use Rattle.fact_host.specs.Contract.{AreLive, IsCallable};
+ghost use Rattle.fact_host.specs.Contract.{AreTypesLive, IsCallable};
 ghost use Rattle.fact_host.specs.Rules.{CallShapes};
 ghost use Rattle.fact_call_mode.specs.Calls.{TellsCall};
-ghost use Rattle.fact_call_mode.specs.Replies.{CanBeCalled, CanBeCarried, HasOutcome, IsCallOf, IsHosted, IsNamed};
+ghost use Rattle.fact_call_mode.specs.Replies.{CanBeCalled, CanBeCarried, HasOutcome, IsCallOf, IsHosted, IsNamedCall};
 
 use crate::places::{func_named, host_call};
 use crate::telling::outcome_text;
@@ -43,7 +43,7 @@ fn outcome_of(
     args: &[Value],
     results: Seq<Value>,
 ) -> Result<HostOutcome, OutOfMemory>
-    requires live { AreLive types.now host.now }
+    requires live { AreTypesLive types.now host.now }
     requires callable { (s : CallShapes) × IsCallable fused.now.module types.now host.now s × CanBeCarried s args.now results }
     ensures { IfOk result (λ o. (last : ℕ) × (asked : Bool) × HasOutcome fused.now types.now host.now args.now results last asked o) }
 {
@@ -62,7 +62,7 @@ fn told(
     host: &HostCall,
     values: Values,
 ) -> Result<String, OutOfMemory>
-    requires live { AreLive types.now host.now }
+    requires live { AreTypesLive types.now host.now }
     requires hosted { (fuel : ℕ) × (p : a_plan) × (a : LinkedAdapter) × IsHosted fuel p a types.now fused.now host.now values }
     ensures { IfOk result (λ text. (fuel : ℕ) (p : a_plan) (a : LinkedAdapter) → IsHosted fuel p a types.now fused.now host.now values → TellsCall fuel p a values.args values.results (string_bytes text)) }
 {
@@ -87,9 +87,9 @@ pub fn call_of(
     name: &str,
 ) -> Result<HostCall, OutOfMemory>
     requires constants { HasTypedConstants fused.now.module }
-    requires named { (fuel : ℕ) × (p : a_plan) × IsNamed fuel p name.now types.now adapter.now fused.now }
-    ensures live { IfOk result (λ c. AreLive types.now.builder.tables c) }
-    ensures calls { IfOk result (λ c. (fuel : ℕ) (p : a_plan) (named : IsNamed fuel p name.now types.now adapter.now fused.now) → IsCallOf fuel p named.linked.links.linked types.now.builder.tables fused.now c) }
+    requires named { (fuel : ℕ) × (p : a_plan) × IsNamedCall fuel p name.now types.now adapter.now fused.now }
+    ensures live { IfOk result (λ c. AreTypesLive types.now.builder.tables c) }
+    ensures calls { IfOk result (λ c. (fuel : ℕ) (p : a_plan) (named : IsNamedCall fuel p name.now types.now adapter.now fused.now) → IsCallOf fuel p named.linked.links.linked types.now.builder.tables fused.now c) }
 {
     let func = func_named(&fused.module, name);
     host_call(alloc, fused, types, adapter, func)

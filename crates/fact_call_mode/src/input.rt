@@ -4,7 +4,7 @@ ghost use Rattle.std.specs.Prelude.{◌≡◌, Ok, Err, MatchResult};
 ghost use Rattle.serde_json.specs.Find.{get};
 ghost use Rattle.serde_json.specs.View.{view};
 ghost use Rattle.fact_plan.specs.Fault.{UnlessMemory};
-ghost use Rattle.fact_plan.specs.Read.{required_value};
+ghost use Rattle.fact_plan.specs.Parts.{required_value};
 ghost use Rattle.fact_call_mode.specs.Inputs.{call_input, input_in};
 ghost use Rattle.fact_call_mode.specs.Replies.{input_of};
 

@@ -10,7 +10,7 @@ ghost use Rattle.fact_emit.specs.ImportSection.{imports_of, same_sort, sort_of};
 ghost use Rattle.fact_emit.specs.PlacesOf.{place_among, same_import};
 ghost use Rattle.fact_function_laws.specs.Names.{places_in};
 ghost use Rattle.fact_assembly.specs.Exports.{exported_as};
-ghost use Rattle.fact_host.specs.Contract.{AreLive};
+ghost use Rattle.fact_host.specs.Contract.{AreTypesLive};
 ghost use Rattle.fact_host.specs.Describes.{DescribesHostSide};
 ghost use Rattle.fact_call_laws.specs.Carrying.{CallsAdapter};
 ghost use Rattle.fact_call_mode.specs.Replies.{sort_of_kind};
@@ -168,7 +168,7 @@ pub(crate) fn host_call(
     requires even { length fused.now.module.imports ≡ length fused.now.imports }
     requires few { length fused.now.module.imports < 2 ^ 32 }
     requires linked { (a : LinkedAdapter) × HasSides types.now.builder adapter.now a }
-    ensures live { IfOk result (λ c. AreLive types.now.builder.tables c) }
+    ensures live { IfOk result (λ c. AreTypesLive types.now.builder.tables c) }
     ensures calls { IfOk result (λ c. (a : LinkedAdapter) → HasSides types.now.builder adapter.now a → is_async a ≡ false → CallsAdapter fused.now.module fused.now.imports types.now.builder.tables c a func) }
 {
     let lower = host_side(

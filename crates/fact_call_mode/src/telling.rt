@@ -7,7 +7,7 @@ ghost use Rattle.fact_types.specs.Shapes.{Shape};
 ghost use Rattle.fact_types.specs.Tables.{IsLive};
 ghost use Rattle.fact_values.specs.declared.value.Value.{Value as a_value};
 ghost use Rattle.fact_value_json.specs.Printing.{values_text};
-ghost use Rattle.fact_host.specs.Contract.{AreLive, AreOfTypes};
+ghost use Rattle.fact_host.specs.Contract.{AreTypesLive, AreOfTypes};
 ghost use Rattle.fact_call_mode.specs.Calls.{call_text, word_line};
 
 use fact_abi::Value;
@@ -48,7 +48,7 @@ fn text_of(
     got: &[Value],
     count: usize,
 ) -> Result<String, OutOfMemory>
-    requires { AreLive types.now call.now }
+    requires { AreTypesLive types.now call.now }
     ensures { IfOk result (λ text. (ps rs : List Shape) → HaveShapes types.now call.now.lift.params ps → HaveShapes types.now call.now.lower.results rs
         → AreOfTypes ps given.now → AreOfTypes rs got.now → string_bytes text ≡ call_text ps given.now rs got.now count) }
 {
@@ -78,7 +78,7 @@ pub(crate) fn outcome_text(
     call: &HostCall,
     outcome: &HostOutcome,
 ) -> Result<String, OutOfMemory>
-    requires live { AreLive types.now call.now }
+    requires live { AreTypesLive types.now call.now }
     requires params { (vs : List a_value) × (outcome.now.params ≡ Some vs) }
     requires results { (vs : List a_value) × (outcome.now.results ≡ Some vs) }
     ensures { IfOk result (λ text. (ps rs : List Shape) (given got : List a_value) → HaveShapes types.now call.now.lift.params ps → HaveShapes types.now call.now.lower.results rs

@@ -1,4 +1,4 @@
-//! The values of an input.
+//! The values of the input of a call.
 
 ghost use Rattle.std.specs.Prelude.{◌≡◌, ◌<◌, All, IfOk, List, MatchResult, Ok, Err, true, length};
 ghost use Rattle.serde_json.specs.View.{view};
@@ -12,7 +12,7 @@ ghost use Rattle.fact_lowering.specs.Room.{fits as values_fit};
 ghost use Rattle.fact_host.specs.Contract.{AreOfTypes};
 ghost use Rattle.fact_value_json.specs.Reading.{values_at};
 ghost use Rattle.fact_call_mode.specs.Calls.{AreFitting};
-ghost use Rattle.fact_call_mode.specs.Replies.{CanBeCarried, HasBadValues, IsOver, IsReplyToValues, input_with, shapes_of};
+ghost use Rattle.fact_call_mode.specs.Replies.{CanBeCarried, HasBadValues, IsReplyOver, IsReplyToValues, input_with, shapes_of};
 
 use crate::reply::{CallReply, bad_value};
 use fact_abi::Value;
@@ -62,7 +62,7 @@ pub fn check_fits(
     requires from { All (λ ty. IsLive types.now ty) from.now }
     requires to { All (λ ty. IsLive types.now ty) to.now }
     ensures { (ts us : List Shape) → HaveShapes types.now from.now ts → HaveShapes types.now to.now us
-        → MatchResult result (λ _. values_fit ts us values.now ≡ true) (λ r. IsOver (values_fit ts us values.now) r) }
+        → MatchResult result (λ _. values_fit ts us values.now ≡ true) (λ r. IsReplyOver (values_fit ts us values.now) r) }
 {
     if fits(alloc, types, from, to, values)? {
         Ok(())

@@ -9,11 +9,11 @@ use Rattle.fact_host.specs.declared.callee.HostError.TheVariants.{OutOfMemory, U
 use Rattle.fact_host.specs.declared.calling.HostCall.{HostCall}
 use Rattle.fact_host.specs.declared.calling.HostOutcome.{HostOutcome}
 use Rattle.fact_host.specs.Callees.{number_of_error}
-use Rattle.fact_host.specs.Contract.{HasNoCause, IsCause, IsOutcomeOf, IsReachedBy}
+use Rattle.fact_host.specs.Contract.{HasNoCause, IsHostCause, IsOutcomeOf, IsReachedBy}
 use Rattle.fact_host.specs.Describes.{HasCallShapes}
 use Rattle.fact_host.specs.Rules.{CallShapes}
 use Rattle.fact_chain.specs.declared.passing.Passing.{Passing}
-use Rattle.fact_chain.specs.Between.{CanBeCalled, HasPassedOn, IsNumberBy, passed_results}
+use Rattle.fact_chain.specs.Between.{CanBeRun, HasPassedOn, IsNumberBy, passed_results}
 use Rattle.fact_chain.specs.Chained.{IsChainCause, IsChained, IsInner}
 use Rattle.fact_chain.specs.Passing.{IsPassing, IsPassingTo, StaysPassing}
 use Rattle.fact_chain.proofs.UnansweredLaws.{not_given}
@@ -61,7 +61,7 @@ inner_by m t second results (Some vs) (Some o) last params h zero reached silent
     by (inr q) = (subst (λ z. IsInner m t second results z (Some o)) q (h.0, got_something o.results last h.1 zero), q)
 
 module _ (m : WasmModule) (t : Tables) (first second : HostCall) (args results : List Value) (p : Passing) where
-  pub chained : CanBeCalled m t first → IsPassingTo m t second results p → IsPassing p → (outer : HostOutcome) (inner : Option HostOutcome) → inner ≡ p.outcome
+  pub chained : CanBeRun m t first → IsPassingTo m t second results p → IsPassing p → (outer : HostOutcome) (inner : Option HostOutcome) → inner ≡ p.outcome
       → ((s : CallShapes) → HasCallShapes t first s → IsOutcomeOf m t first s args (passed_results p.outcome) p.given outer)
       → ((s : CallShapes) → HasCallShapes t first s → HasNoCause s args p.last (passed_results p.outcome))
       → IsChained m t first second args results (record { outer = outer; inner = inner })
@@ -80,7 +80,7 @@ module _ (m : WasmModule) (t : Tables) (first second : HostCall) (args results :
       subst (λ z. IsChained m t first second args results (record { outer = outer; inner = z })) (sym is) at
 
   pub chain_cause : IsPassingTo m t second results p → IsPassing p → (e : HostError) → ((s : CallShapes) → HasCallShapes t first s → IsReachedBy m t first s args p.given e)
-      → ((s : CallShapes) → HasCallShapes t first s → IsCause s args p.last (passed_results p.outcome) e) → IsChainCause m t first second args results e
+      → ((s : CallShapes) → HasCallShapes t first s → IsHostCause s args p.last (passed_results p.outcome) e) → IsChainCause m t first second args results e
   chain_cause to holds e reached h = record { given = p.given; inner = p.outcome; last = p.last; passed = passed_to m t second results p to holds; reached = reached; cause = h }
 
 -- there was no memory to begin

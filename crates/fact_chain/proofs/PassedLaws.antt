@@ -10,11 +10,11 @@ use Rattle.fact_host.specs.declared.callee.Scripted.{Scripted}
 use Rattle.fact_host.specs.declared.calling.HostCall.{HostCall}
 use Rattle.fact_host.specs.declared.calling.HostOutcome.{HostOutcome}
 use Rattle.fact_host.specs.Callees.{number_of_error}
-use Rattle.fact_host.specs.Contract.{AnsweredTooMuch, AnsweredUnsuited, AreOfTypes, AreSuited, HasNoCause, IsCause, IsOutcomeOf}
+use Rattle.fact_host.specs.Contract.{AnsweredTooMuch, AnsweredUnsuited, AreOfTypes, AreSuited, HasNoCause, IsHostCause, IsOutcomeOf}
 use Rattle.fact_host.specs.Describes.{HasCallShapes}
 use Rattle.fact_host.specs.Rules.{CallShapes}
 use Rattle.fact_lowering.specs.Room.{fits}
-use Rattle.fact_chain.specs.Between.{IsNumberBy, IsPassedError, IsPassedOn, IsScripted}
+use Rattle.fact_chain.specs.Between.{IsNumberBy, IsSecondError, IsSecondOutcome, IsScripted}
 use Rattle.fact_chain.specs.Passing.{IsAnswerBy, IsPassed, answer_by, number_of_answer}
 
 -- ---- a callee of given results
@@ -37,7 +37,7 @@ scripted callee results is = by callee.asked
 pub with_outcome : (m : WasmModule) (t : Tables) (second : HostCall) (params results : List Value) (callee : Scripted) (r : Result HostOutcome HostError) → callee.results ≡ results
     → IfOk r (λ o. (s : CallShapes) → HasCallShapes t second s → IsOutcomeOf m t second s params (told callee) None o)
     → IfOk r (λ o. (s : CallShapes) → HasCallShapes t second s → HasNoCause s params callee.last (told callee))
-    → IfOk r (IsPassedOn m t second params results)
+    → IfOk r (IsSecondOutcome m t second params results)
 with_outcome m t second params results callee (Ok o) is outcome no_cause = record {
   answered = told callee;
   scripted = scripted callee results is;
@@ -60,7 +60,7 @@ too_much_by s results answered (inr some) h = subst (AnsweredTooMuch s) some h
 no_other : (last n : ℕ) → last ≤ 1 → 2 ≤ n → last ≡ n → ⊥
 no_other last n small other is = absurd (omega (arith, small, other, is))
 
-cause_by : (s : CallShapes) (params results : List Value) (last : ℕ) (answered : Option (List Value)) (e : HostError) → last ≤ 1 → IsScripted results answered → IsCause s params last answered e → IsCause s params 0 (Some results) e
+cause_by : (s : CallShapes) (params results : List Value) (last : ℕ) (answered : Option (List Value)) (e : HostError) → last ≤ 1 → IsScripted results answered → IsHostCause s params last answered e → IsHostCause s params 0 (Some results) e
 cause_by s params results last answered OutOfMemory small is h = tt
 cause_by s params results last answered Unsuited small is h = by h
   where
@@ -86,7 +86,7 @@ cause_by s params results last answered NoResults small is h = absurd (no_other 
 
 -- an error of a call with it
 pub with_error : (t : Tables) (second : HostCall) (params results : List Value) (callee : Scripted) (r : Result HostOutcome HostError) → callee.results ≡ results → callee.last ≤ 1
-    → IfErr r (λ e. (s : CallShapes) → HasCallShapes t second s → IsCause s params callee.last (told callee) e) → IfErr r (IsPassedError t second params results)
+    → IfErr r (λ e. (s : CallShapes) → HasCallShapes t second s → IsHostCause s params callee.last (told callee) e) → IfErr r (IsSecondError t second params results)
 with_error t second params results callee (Ok o) is small h = tt
 with_error t second params results callee (Err e) is small h = λ s shapes. cause_by s params results callee.last (told callee) e small (scripted callee results is) (h s shapes)
 
@@ -94,7 +94,7 @@ with_error t second params results callee (Err e) is small h = λ s shapes. caus
 
 -- its call has an outcome, whose results are answered
 pub kept_outcome : (m : WasmModule) (t : Tables) (second : HostCall) (given results : List Value) (o : HostOutcome) (values : Option (List Value)) (answer : Result (List Value) HostError)
-    → values ≡ o.results → answer ≡ answer_by values → IsPassedOn m t second given results o → IsPassed m t second given results (record { given = Some given; outcome = Some o; answer = answer })
+    → values ≡ o.results → answer ≡ answer_by values → IsSecondOutcome m t second given results o → IsPassed m t second given results (record { given = Some given; outcome = Some o; answer = answer })
 kept_outcome m t second given results o values answer copies is h =
     subst (λ a. IsPassed m t second given results (record { given = Some given; outcome = Some o; answer = a })) (sym (is ∙ ap answer_by copies)) (record {
       holds = (h, number o.results);
@@ -111,7 +111,7 @@ kept_outcome m t second given results o values answer copies is h =
     answered (Some vs) = refl
 
 -- its call ended with an error, or there was no memory for what came of it
-pub kept_error : (m : WasmModule) (t : Tables) (second : HostCall) (given results : List Value) (e : HostError) → IsPassedError t second given results e → IsPassed m t second given results (record { given = Some given; outcome = None; answer = Err e })
+pub kept_error : (m : WasmModule) (t : Tables) (second : HostCall) (given results : List Value) (e : HostError) → IsSecondError t second given results e → IsPassed m t second given results (record { given = Some given; outcome = None; answer = Err e })
 kept_error m t second given results e h = record { holds = (e, refl, h); given_is = inr refl; answer_is = refl }
 
 -- there was no memory for what it was given

@@ -8,20 +8,20 @@ use Rattle.fact_host.specs.declared.calling.HostOutcome.{HostOutcome}
 use Rattle.fact_host.specs.declared.callee.HostError.{HostError}
 use Rattle.fact_host.specs.declared.callee.HostError.TheVariants.{OutOfMemory, NoResults}
 use Rattle.fact_host.specs.Callees.{number_of_error}
-use Rattle.fact_host.specs.Contract.{AreLive, HasNoCause, IsCallable, IsCause, IsOutcomeOf}
+use Rattle.fact_host.specs.Contract.{AreTypesLive, HasNoCause, IsCallable, IsHostCause, IsOutcomeOf}
 use Rattle.fact_host.specs.Describes.{HasCallShapes}
 use Rattle.fact_host.specs.Rules.{CallShapes}
 
 -- ---- what is asked of the two calls
 
 -- A call that the host can run, of live types.
-pub record CanBeCalled (m : WasmModule) (t : Tables) (c : HostCall) : Type 0 where
+pub record CanBeRun (m : WasmModule) (t : Tables) (c : HostCall) : Type 0 where
   pub shapes : CallShapes
   pub callable : IsCallable m t c shapes
-  pub live : AreLive t c
+  pub live : AreTypesLive t c
 
 -- The callee of the first call has the function type with which the second one is called.
-pub record DoFit (first second : HostCall) : Type 0 where
+pub record AreJoined (first second : HostCall) : Type 0 where
   pub params : first.lift.params ≡ second.lower.params
   pub results : first.lift.results ≡ second.lower.results
 
@@ -31,16 +31,16 @@ pub record DoFit (first second : HostCall) : Type 0 where
 abbrev pub IsScripted : (results : List Value) → (answered : Option (List Value)) → Type 0
 IsScripted results answered = (answered ≡ None) ⊎ (answered ≡ Some results)
 
--- An outcome of a call with these parameters, whose callee answers these results.
-pub record IsPassedOn (m : WasmModule) (t : Tables) (second : HostCall) (params results : List Value) (o : HostOutcome) : Type 0 where
+-- An outcome of the second call with these parameters, whose own callee answers these results.
+pub record IsSecondOutcome (m : WasmModule) (t : Tables) (second : HostCall) (params results : List Value) (o : HostOutcome) : Type 0 where
   pub answered : Option (List Value)
   pub scripted : IsScripted results answered
   pub outcome : (s : CallShapes) → HasCallShapes t second s → IsOutcomeOf m t second s params answered None o
   pub no_cause : (s : CallShapes) → HasCallShapes t second s → HasNoCause s params 0 answered
 
--- Such a call ended with this error, which has a cause.
-abbrev pub IsPassedError : Tables → (second : HostCall) → (params results : List Value) → HostError → Type 0
-IsPassedError t second params results error = (s : CallShapes) → HasCallShapes t second s → IsCause s params 0 (Some results) error
+-- The second call ended with this error, which has a cause.
+abbrev pub IsSecondError : Tables → (second : HostCall) → (params results : List Value) → HostError → Type 0
+IsSecondError t second params results error = (s : CallShapes) → HasCallShapes t second s → IsHostCause s params 0 (Some results) error
 
 -- what the callee between answered: what the caller of the second call got
 abbrev pub passed_results : Option HostOutcome → Option (List Value)
@@ -57,5 +57,5 @@ IsNumberBy (Some values) last = last ≡ 0
 abbrev pub HasPassedOn : WasmModule → Tables → (second : HostCall) → (results : List Value) → (given : Option (List Value)) → (inner : Option HostOutcome) → (last : ℕ) → Type 0
 HasPassedOn m t second results None None last = (last ≡ 0) ⊎ (last ≡ number_of_error OutOfMemory)
 HasPassedOn m t second results None (Some o) last = ⊥
-HasPassedOn m t second results (Some params) None last = (error : HostError) × (last ≡ number_of_error error) × IsPassedError t second params results error
-HasPassedOn m t second results (Some params) (Some o) last = IsPassedOn m t second params results o × IsNumberBy o.results last
+HasPassedOn m t second results (Some params) None last = (error : HostError) × (last ≡ number_of_error error) × IsSecondError t second params results error
+HasPassedOn m t second results (Some params) (Some o) last = IsSecondOutcome m t second params results o × IsNumberBy o.results last

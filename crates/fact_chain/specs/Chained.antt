@@ -7,18 +7,18 @@ use Rattle.fact_values.specs.declared.value.Value.{Value}
 use Rattle.fact_host.specs.declared.calling.HostCall.{HostCall}
 use Rattle.fact_host.specs.declared.calling.HostOutcome.{HostOutcome}
 use Rattle.fact_host.specs.declared.callee.HostError.{HostError}
-use Rattle.fact_host.specs.Contract.{HasNoCause, IsCause, IsOutcomeOf, IsReachedBy}
+use Rattle.fact_host.specs.Contract.{HasNoCause, IsHostCause, IsOutcomeOf, IsReachedBy}
 use Rattle.fact_host.specs.Describes.{HasCallShapes}
 use Rattle.fact_host.specs.Rules.{CallShapes}
 use Rattle.fact_chain.specs.declared.chaining.Chained.{Chained}
-use Rattle.fact_chain.specs.Between.{HasPassedOn, IsPassedOn, passed_results}
+use Rattle.fact_chain.specs.Between.{HasPassedOn, IsSecondOutcome, passed_results}
 
 -- The second call was made exactly where the callee of the first one was given values, with these, and its caller got something.
 abbrev pub IsInner : WasmModule → Tables → (second : HostCall) → (results : List Value) → (params : Option (List Value)) → (inner : Option HostOutcome) → Type 0
 IsInner m t second results None None = Unit {0}
 IsInner m t second results None (Some o) = ⊥
 IsInner m t second results (Some params) None = ⊥
-IsInner m t second results (Some params) (Some o) = IsPassedOn m t second params results o × ((values : List Value) × (o.results ≡ Some values))
+IsInner m t second results (Some params) (Some o) = IsSecondOutcome m t second params results o × ((values : List Value) × (o.results ≡ Some values))
 
 -- What came of a chain with these arguments, whose last callee answers these results.
 pub record IsChained (m : WasmModule) (t : Tables) (first second : HostCall) (args results : List Value) (c : Chained) : Type 0 where
@@ -34,4 +34,4 @@ pub record IsChainCause (m : WasmModule) (t : Tables) (first second : HostCall) 
   pub last : ℕ
   pub passed : HasPassedOn m t second results given inner last
   pub reached : (s : CallShapes) → HasCallShapes t first s → IsReachedBy m t first s args given error
-  pub cause : (s : CallShapes) → HasCallShapes t first s → IsCause s args last (passed_results inner) error
+  pub cause : (s : CallShapes) → HasCallShapes t first s → IsHostCause s args last (passed_results inner) error

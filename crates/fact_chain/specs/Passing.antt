@@ -1,4 +1,4 @@
--- Cited by clauses of a callee between alone.
+-- Cited by clauses of the callee between (`Passing`) alone.
 -- What a callee between tells of its last call, and what stays of it.
 use Rattle.std.specs.Prelude.{◌≡◌, ℕ, List, Option, Some, None, Result, Ok, Err}
 use Rattle.fact_wasm.specs.declared.module.WasmModule.{WasmModule}
@@ -7,10 +7,10 @@ use Rattle.fact_values.specs.declared.value.Value.{Value}
 use Rattle.fact_host.specs.declared.calling.HostCall.{HostCall}
 use Rattle.fact_host.specs.declared.callee.HostError.{HostError}
 use Rattle.fact_host.specs.declared.callee.HostError.TheVariants.{NoResults}
-use Rattle.fact_host.specs.Callees.{IsGiven, number_of_error}
+use Rattle.fact_host.specs.Callees.{MayKeepGiven, number_of_error}
 use Rattle.fact_chain.specs.declared.passing.Passed.{Passed}
 use Rattle.fact_chain.specs.declared.passing.Passing.{Passing}
-use Rattle.fact_chain.specs.Between.{CanBeCalled, HasPassedOn, passed_results}
+use Rattle.fact_chain.specs.Between.{CanBeRun, HasPassedOn, passed_results}
 
 -- ---- what it tells
 
@@ -27,7 +27,7 @@ last_given p = p.given
 
 -- it can make the second call
 abbrev pub IsReady : Passing → Type 0
-IsReady p = CanBeCalled p.module.now p.types.now p.second.now
+IsReady p = CanBeRun p.module.now p.types.now p.second.now
 
 -- what it keeps is what came of its last call
 abbrev pub IsPassing : Passing → Type 0
@@ -64,5 +64,5 @@ IsAnswerBy results (Err error) = results ≡ None
 -- What came of a call with these parameters.
 pub record IsPassed (m : WasmModule) (t : Tables) (second : HostCall) (params results : List Value) (p : Passed) : Type 0 where
   pub holds : HasPassedOn m t second results p.given p.outcome (number_of_answer p.answer)
-  pub given_is : IsGiven p.given params
+  pub given_is : MayKeepGiven p.given params
   pub answer_is : IsAnswerBy (passed_results p.outcome) p.answer

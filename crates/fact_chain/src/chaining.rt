@@ -1,7 +1,7 @@
 //! A call through two adapters.
 
 ghost use Rattle.std.specs.Prelude.{IfErr, IfOk};
-ghost use Rattle.fact_chain.specs.Between.{DoFit, CanBeCalled};
+ghost use Rattle.fact_chain.specs.Between.{AreJoined, CanBeRun};
 ghost use Rattle.fact_chain.specs.Chained.{IsChainCause, IsChained};
 
 use crate::passing::{Passing, copied};
@@ -28,8 +28,8 @@ fn chain_to(
     args: &[Value],
     results: Seq<Value>,
 ) -> Result<Chained, HostError>
-    requires first { CanBeCalled «module».now types.now first.now }
-    requires second { CanBeCalled «module».now types.now second.now }
+    requires first { CanBeRun «module».now types.now first.now }
+    requires second { CanBeRun «module».now types.now second.now }
     ensures chained { IfOk result (IsChained «module».now types.now first.now second.now args.now results) }
     ensures cause { IfErr result (IsChainCause «module».now types.now first.now second.now args.now results) }
 {
@@ -57,9 +57,9 @@ pub fn chain(
     args: &[Value],
     results: &[Value],
 ) -> Result<Chained, HostError>
-    requires first { CanBeCalled «module».now types.now first.now }
-    requires second { CanBeCalled «module».now types.now second.now }
-    requires fit { DoFit first.now second.now }
+    requires first { CanBeRun «module».now types.now first.now }
+    requires second { CanBeRun «module».now types.now second.now }
+    requires joined { AreJoined first.now second.now }
     ensures chained { IfOk result (IsChained «module».now types.now first.now second.now args.now results.now) }
     ensures cause { IfErr result (IsChainCause «module».now types.now first.now second.now args.now results.now) }
 {

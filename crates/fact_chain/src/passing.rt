@@ -6,7 +6,7 @@ ghost use Rattle.fact_values.specs.declared.value.Value.{Value as a_value};
 ghost use Rattle.fact_wasm.specs.declared.module.WasmModule.{WasmModule as a_module};
 ghost use Rattle.fact_host.specs.declared.calling.HostCall.{HostCall as a_call};
 ghost use Rattle.fact_host.specs.Contract.{IsFresh};
-ghost use Rattle.fact_chain.specs.Between.{CanBeCalled, IsPassedError, IsPassedOn};
+ghost use Rattle.fact_chain.specs.Between.{CanBeRun, IsSecondError, IsSecondOutcome};
 ghost use Rattle.fact_chain.specs.Passing.{IsPassed, IsPassing, IsPassingTo, IsReady, StaysPassing, answer_by, last_answer, last_error, last_given, number_of_answer};
 
 use fact_abi::Value;
@@ -35,9 +35,9 @@ fn call_scripted(
     params: &[Value],
     results: Seq<Value>,
 ) -> Result<HostOutcome, HostError>
-    requires { CanBeCalled «module».now types.now second.now }
-    ensures outcome { IfOk result (IsPassedOn «module».now types.now second.now params.now results) }
-    ensures error { IfErr result (IsPassedError types.now second.now params.now results) }
+    requires { CanBeRun «module».now types.now second.now }
+    ensures outcome { IfOk result (IsSecondOutcome «module».now types.now second.now params.now results) }
+    ensures error { IfErr result (IsSecondError types.now second.now params.now results) }
 {
     let mut callee = Scripted::new(results);
     let answer = call(alloc, types, module, second, params, &mut callee);
@@ -54,9 +54,9 @@ fn pass_on(
     params: &[Value],
     results: &[Value],
 ) -> Result<HostOutcome, HostError>
-    requires { CanBeCalled «module».now types.now second.now }
-    ensures outcome { IfOk result (IsPassedOn «module».now types.now second.now params.now results.now) }
-    ensures error { IfErr result (IsPassedError types.now second.now params.now results.now) }
+    requires { CanBeRun «module».now types.now second.now }
+    ensures outcome { IfOk result (IsSecondOutcome «module».now types.now second.now params.now results.now) }
+    ensures error { IfErr result (IsSecondError types.now second.now params.now results.now) }
 {
     match copied(alloc, results) {
         Ok(copies) => call_scripted(alloc, types, module, second, params, copies),
@@ -94,7 +94,7 @@ fn answer_of(values: Option<Seq<Value>>) -> Result<Seq<Value>, HostError>
 
 /// What a second call comes to that has an outcome.
 fn kept_of(alloc: Global, given: Seq<Value>, outcome: HostOutcome) -> Passed
-    ensures { (m : a_module) (t : the_tables) (second : a_call) (results : List a_value) → IsPassedOn m t second given results outcome → IsPassed m t second given results result }
+    ensures { (m : a_module) (t : the_tables) (second : a_call) (results : List a_value) → IsSecondOutcome m t second given results outcome → IsPassed m t second given results result }
 {
     match copied_results(alloc, &outcome) {
         Ok(values) => Passed {
@@ -122,7 +122,7 @@ fn second_call_with(
     given: Seq<Value>,
     results: &[Value],
 ) -> Passed
-    requires { CanBeCalled «module».now types.now second.now }
+    requires { CanBeRun «module».now types.now second.now }
     ensures { IsPassed «module».now types.now second.now given results.now result }
 {
     let passed = pass_on(alloc, types, module, second, given.as_slice(), results);
@@ -145,7 +145,7 @@ fn second_call(
     params: &[Value],
     results: &[Value],
 ) -> Passed
-    requires { CanBeCalled «module».now types.now second.now }
+    requires { CanBeRun «module».now types.now second.now }
     ensures { IsPassed «module».now types.now second.now params.now results.now result }
 {
     match copied(alloc, params) {
@@ -191,7 +191,7 @@ impl<'a> Passing<'a> {
         second: &'a HostCall,
         results: Seq<Value>,
     ) -> Passing<'a>
-        requires { CanBeCalled «module».now types.now second.now }
+        requires { CanBeRun «module».now types.now second.now }
         ensures fresh { IsFresh (last_error result) (last_answer result) (last_given result) }
         ensures passes { IsPassingTo «module».now types.now second.now results result }
         ensures holds { IsPassing result }

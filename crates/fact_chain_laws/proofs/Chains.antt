@@ -22,10 +22,10 @@ use Rattle.fact_host.specs.declared.calling.HostCall.{HostCall}
 use Rattle.fact_host.specs.declared.calling.HostOutcome.{HostOutcome}
 use Rattle.fact_host.specs.Callees.{number_of_error}
 use Rattle.fact_host.specs.Called.{called_params, called_results, carried_from, handle_count}
-use Rattle.fact_host.specs.Contract.{AnsweredTooMuch, AnsweredUnsuited, AreOfTypes, AreSuited, IsCallable, IsCause, IsOutcomeOf, IsReached, IsReachedBy}
+use Rattle.fact_host.specs.Contract.{AnsweredTooMuch, AnsweredUnsuited, AreOfTypes, AreSuited, IsCallable, IsHostCause, IsOutcomeOf, IsReached, IsReachedBy}
 use Rattle.fact_host.specs.Rules.{CallShapes}
 use Rattle.fact_chain.specs.declared.chaining.Chained.{Chained}
-use Rattle.fact_chain.specs.Between.{DoFit, HasPassedOn, IsNumberBy, IsPassedOn, passed_results}
+use Rattle.fact_chain.specs.Between.{AreJoined, HasPassedOn, IsNumberBy, IsSecondOutcome, passed_results}
 use Rattle.fact_chain.specs.Chained.{IsChainCause, IsChained, IsInner}
 use Rattle.fact_call_laws.specs.Carrying.{CallsAdapter, CallHasCarried, HostsAsk, HostsCarry, IsPromised}
 use Rattle.fact_call_laws.proofs.Setting.{one_shapes}
@@ -33,22 +33,22 @@ use Rattle.fact_chain_laws.specs.Chains.{FitBothWays, HasChained, HasComeTo, IsO
 use Rattle.fact_chain_laws.proofs.Lists.{carried_through, count_few, fitting_weight, lists_carried, types_carried, types_formed}
 use Rattle.fact_chain_laws.proofs.Reaching.{given_carried}
 
--- what the second call was given
-pub record Passed (m : WasmModule) (t : Tables) (second : HostCall) (results : List Value) (c : Chained) (inner : HostOutcome) : Type 0 where
+-- what the second call was given, and its outcome
+pub record HasSecondOutcome (m : WasmModule) (t : Tables) (second : HostCall) (results : List Value) (c : Chained) (inner : HostOutcome) : Type 0 where
   pub params : List Value
   pub given : c.outer.params ≡ Some params
-  pub passed : IsPassedOn m t second params results inner
+  pub passed : IsSecondOutcome m t second params results inner
 
 module _ (m : WasmModule) (is : List Import) (u : AdapterTunables) (adapters : List LinkedAdapter) (a b : LinkedAdapter) (f g : ℕ) (t : Tables) (first second : HostCall) (s z : CallShapes) (args results : List Value)
     (promised_a : IsPromised m is u a adapters f) (promised_b : IsPromised m is u b adapters g) (calls_a : CallsAdapter m is t first a f) (calls_b : CallsAdapter m is t second b g) (callable_a : IsCallable m t first s) (callable_b : IsCallable m t second z)
-    (do_fit : DoFit first second) (args_are : AreOfTypes s.lower_params args) (results_are : AreOfTypes z.lift_results results) (carry : HostsCarry) (ask : HostsAsk) where
+    (joined : AreJoined first second) (args_are : AreOfTypes s.lower_params args) (results_are : AreOfTypes z.lift_results results) (carry : HostsCarry) (ask : HostsAsk) where
   -- ---- types
 
   params_same : s.lift_params ≡ z.lower_params
-  params_same = one_shapes t second.lower.params s.lift_params z.lower_params (subst (λ tys. HaveShapes t tys s.lift_params) do_fit.params callable_a.shapes.lift_params) callable_b.shapes.lower_params
+  params_same = one_shapes t second.lower.params s.lift_params z.lower_params (subst (λ tys. HaveShapes t tys s.lift_params) joined.params callable_a.shapes.lift_params) callable_b.shapes.lower_params
 
   results_same : s.lift_results ≡ z.lower_results
-  results_same = one_shapes t second.lower.results s.lift_results z.lower_results (subst (λ tys. HaveShapes t tys s.lift_results) do_fit.results callable_a.shapes.lift_results) callable_b.shapes.lower_results
+  results_same = one_shapes t second.lower.results s.lift_results z.lower_results (subst (λ tys. HaveShapes t tys s.lift_results) joined.results callable_a.shapes.lift_results) callable_b.shapes.lower_results
 
   -- the checks of plans have looked at the types of both adapters
   given_checked : AreWellFormedTypes s.lower_params
@@ -164,7 +164,7 @@ module _ (m : WasmModule) (is : List Import) (u : AdapterTunables) (adapters : L
 
   -- ---- an outcome of the second call
 
-  module _ (params : List Value) (o : HostOutcome) (passed : IsPassedOn m t second params results o) where
+  module _ (params : List Value) (o : HostOutcome) (passed : IsSecondOutcome m t second params results o) where
     passed_suited : AreSuited z params
     passed_suited = (passed.no_cause z callable_b.shapes).suited
 
@@ -181,7 +181,7 @@ module _ (m : WasmModule) (is : List Import) (u : AdapterTunables) (adapters : L
   -- ---- a chain whose second call was made
 
   module _ (c : Chained) (chained : IsChained m t first second args results c) (results_fit : fits z.lift_results z.lower_results results ≡ true) (inner : HostOutcome) (made : c.inner ≡ Some inner) where
-    passed_by : (o : Option (List Value)) → c.outer.params ≡ o → Passed m t second results c inner
+    passed_by : (o : Option (List Value)) → c.outer.params ≡ o → HasSecondOutcome m t second results c inner
     passed_by None r =
         let none : IsInner m t second results None (Some inner) = subst (λ x. IsInner m t second results x (Some inner)) r (subst (λ x. IsInner m t second results c.outer.params x) made chained.inner) in
         absurd none
@@ -189,7 +189,7 @@ module _ (m : WasmModule) (is : List Import) (u : AdapterTunables) (adapters : L
         let some : IsInner m t second results (Some params) (Some inner) = subst (λ x. IsInner m t second results x (Some inner)) r (subst (λ x. IsInner m t second results c.outer.params x) made chained.inner) in
         record { params = params; given = r; passed = some.0 }
 
-    between : Passed m t second results c inner
+    between : HasSecondOutcome m t second results c inner
     between = passed_by c.outer.params refl
 
     suited : AreSuited s args
@@ -321,7 +321,7 @@ module _ (m : WasmModule) (is : List Import) (u : AdapterTunables) (adapters : L
     fit_back_types = back_types fit.between fit.back (between_types, fit.between_fits) fit.results_fit fit.back_is
 
     -- the second call has no cause of an error, where it was given what was passed on
-    no_second : (e : HostError) → IsCause z fit.between 0 (Some results) e → e ≡ OutOfMemory
+    no_second : (e : HostError) → IsHostCause z fit.between 0 (Some results) e → e ≡ OutOfMemory
     no_second OutOfMemory h = refl
     no_second Unsuited h = absurd (by h)
       where
@@ -370,7 +370,7 @@ module _ (m : WasmModule) (is : List Import) (u : AdapterTunables) (adapters : L
     ends_none None (Some o) last h r = absurd h
     ends_none (Some params) None last h r =
         let same = same_between params r in
-        let none : h.0 ≡ OutOfMemory = no_second h.0 (subst (λ vs. IsCause z vs 0 (Some results) h.0) same (h.2 z callable_b.shapes)) in
+        let none : h.0 ≡ OutOfMemory = no_second h.0 (subst (λ vs. IsHostCause z vs 0 (Some results) h.0) same (h.2 z callable_b.shapes)) in
         let few : last ≡ number_of_error OutOfMemory = h.1 ∙ ap number_of_error none in
         record { few = omega (arith, few); suited = λ n. n; fitting = λ n. n }
     ends_none (Some params) (Some o) last h r =
@@ -381,7 +381,7 @@ module _ (m : WasmModule) (is : List Import) (u : AdapterTunables) (adapters : L
 
     module _ (error : HostError) (cause : IsChainCause m t first second args results error) where
       -- no error but want of memory has a cause
-      without : EndsNone cause.last (passed_results cause.inner) → (e : HostError) → IsCause s args cause.last (passed_results cause.inner) e → e ≡ OutOfMemory
+      without : EndsNone cause.last (passed_results cause.inner) → (e : HostError) → IsHostCause s args cause.last (passed_results cause.inner) e → e ≡ OutOfMemory
       without x OutOfMemory h = refl
       without x Unsuited h = absurd (by h)
         where

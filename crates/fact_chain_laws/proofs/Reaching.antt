@@ -46,7 +46,7 @@ use Rattle.fact_host.specs.Roles.{IsRoleBy, is_place, role_by_place}
 use Rattle.fact_host.specs.Rules.{AreAnswers, CallShapes, side_bytes}
 use Rattle.fact_emit.specs.ImportSection.{mentions}
 use Rattle.fact_function_laws.specs.Names.{AreCalls, IsNamedLog, places_in}
-use Rattle.fact_function_laws.specs.Runs.{IsHonestToTrapSoFar, IsTypedRun}
+use Rattle.fact_function_laws.specs.Runs.{IsHonestUntilTrapSoFar, IsTypedRun}
 use Rattle.fact_function_laws.proofs.ImportNumbers.{named_log}
 use Rattle.fact_function_laws.proofs.LoggedImports.{run_told}
 use Rattle.fact_call_laws.specs.Carrying.{CallsAdapter, IsPromised}
@@ -156,7 +156,7 @@ module _ (m : WasmModule) (is : List Import) (u : AdapterTunables) (a : LinkedAd
   calls_are : named_calls names log ≡ before ++ last_call ∷ []
   calls_are = ap (named_calls names) h.log_is ∙ map_on (λ (e : Event). call_by (names e.func) e.args e.before e.answer) h.front (h.event ∷ [])
 
-  to_trap : IsHonestToTrapSoFar m is a h.args h.first run.log
+  to_trap : IsHonestUntilTrapSoFar m is a h.args h.first run.log
   to_trap = record {
     typed = typed;
     calls = named_calls names log;
@@ -181,7 +181,7 @@ module _ (m : WasmModule) (is : List Import) (u : AdapterTunables) (a : LinkedAd
 
   transferred : IsTransferred a.lower.params a.lift.params (params_given (places_in m is) a h.args h.first) (params_passed (places_in m is) a last_call) before
   unfolding to_trap
-  transferred = promised.behaves.passes h.args h.first (answers_of log) steps_given to_trap promised.no_debug may_leave before last_call [] calls_are what
+  transferred = promised.behaves.callee_is_given h.args h.first (answers_of log) steps_given to_trap promised.no_debug may_leave before last_call [] calls_are what
 
   -- ---- values
 

@@ -19,7 +19,7 @@ use Rattle.fact_host.specs.Called.{called_params, called_results}
 use Rattle.fact_host.specs.Contract.{AreOfTypes, IsCallable}
 use Rattle.fact_host.specs.Rules.{CallShapes}
 use Rattle.fact_chain.specs.declared.chaining.Chained.{Chained}
-use Rattle.fact_chain.specs.Between.{DoFit}
+use Rattle.fact_chain.specs.Between.{AreJoined}
 use Rattle.fact_chain.specs.Chained.{IsChainCause, IsChained}
 use Rattle.fact_call_laws.specs.Carrying.{CallsAdapter, IsPromised}
 
@@ -90,7 +90,7 @@ ChainsCarry =
     (m : WasmModule) (is : List Import) (u : AdapterTunables) (adapters : List LinkedAdapter) (a b : LinkedAdapter) (f g : ℕ)
     (t : Tables) (first second : HostCall) (s z : CallShapes) (args results : List Value) (c : Chained)
     → IsPromised m is u a adapters f → IsPromised m is u b adapters g → CallsAdapter m is t first a f → CallsAdapter m is t second b g
-    → IsCallable m t first s → IsCallable m t second z → DoFit first second
+    → IsCallable m t first s → IsCallable m t second z → AreJoined first second
     → AreOfTypes s.lower_params args → AreOfTypes z.lift_results results → fits z.lift_results z.lower_results results ≡ true
     → IsChained m t first second args results c → HasComeTo s z args results c c.inner
 
@@ -100,6 +100,6 @@ ChainsEnd =
     (m : WasmModule) (is : List Import) (u : AdapterTunables) (adapters : List LinkedAdapter) (a b : LinkedAdapter) (f g : ℕ)
     (t : Tables) (first second : HostCall) (s z : CallShapes) (args results : List Value) (error : HostError)
     → IsPromised m is u a adapters f → IsPromised m is u b adapters g → CallsAdapter m is t first a f → CallsAdapter m is t second b g
-    → IsCallable m t first s → IsCallable m t second z → DoFit first second
+    → IsCallable m t first s → IsCallable m t second z → AreJoined first second
     → AreOfTypes s.lower_params args → AreOfTypes z.lift_results results
     → IsChainCause m t first second args results error → (error ≡ OutOfMemory) ⊎ IsOverOneWay s z args results

@@ -9,9 +9,9 @@ use Rattle.fact_host.specs.declared.callee.HostError.{HostError}
 use Rattle.fact_host.specs.declared.callee.HostError.TheVariants.{OutOfMemory}
 use Rattle.fact_host.specs.declared.calling.HostCall.{HostCall}
 use Rattle.fact_host.specs.declared.calling.HostOutcome.{HostOutcome}
-use Rattle.fact_host.specs.Contract.{AreLive}
+use Rattle.fact_host.specs.Contract.{AreTypesLive}
 use Rattle.fact_chain.specs.declared.chaining.Chained.{Chained}
-use Rattle.fact_chain.specs.Between.{CanBeCalled}
+use Rattle.fact_chain.specs.Between.{CanBeRun}
 use Rattle.fact_chain.specs.Chained.{IsChainCause, IsChained}
 use Rattle.fact_types.proofs.ShapeLaws.{same_some}
 use Rattle.fact_module.specs.declared.fusion.Fused.{Fused}
@@ -26,17 +26,17 @@ use Rattle.fact_chain_mode.specs.ChainTexts.{TellsChain}
 
 module _ (fuel : ℕ) (p : FusePlan) (a b : LinkedAdapter) (t : Tables) (f : Fused) (first second : HostCall) (values : Values) (h : AreHosted fuel p a b t f first second values) where
   -- the host can make both calls
-  pub first_can : AreLive t first → CanBeCalled f.module t first
+  pub first_can : AreTypesLive t first → CanBeRun f.module t first
   first_can live = record { shapes = shapes_of a; callable = h.first_call.callable; live = live }
 
-  pub second_can : AreLive t second → CanBeCalled f.module t second
+  pub second_can : AreTypesLive t second → CanBeRun f.module t second
   second_can live = record { shapes = shapes_of b; callable = h.second_call.callable; live = live }
 
   -- an error that is no want of memory
   is_over : ChainsEnd → (error : HostError) → IsChainCause f.module t first second values.args values.results error → (error ≡ OutOfMemory → ⊥) → IsOverOneWay (shapes_of a) (shapes_of b) values.args values.results
   is_over end error cause other =
       by (end f.module f.imports (quiet_tunables fuel p) (adapters_of p) a b h.first_call.function h.second_call.function t first second (shapes_of a) (shapes_of b) values.args values.results error
-      h.first_call.promised h.second_call.promised h.first_call.calls h.second_call.calls h.first_call.callable h.second_call.callable h.fit h.args_typed h.results_typed cause)
+      h.first_call.promised h.second_call.promised h.first_call.calls h.second_call.calls h.first_call.callable h.second_call.callable h.joined h.args_typed h.results_typed cause)
     where
       by : (error ≡ OutOfMemory) ⊎ IsOverOneWay (shapes_of a) (shapes_of b) values.args values.results → IsOverOneWay (shapes_of a) (shapes_of b) values.args values.results
       by (inl e) = absurd (other e)
@@ -56,7 +56,7 @@ module _ (fuel : ℕ) (p : FusePlan) (a b : LinkedAdapter) (t : Tables) (f : Fus
     comes : HasComeTo (shapes_of a) (shapes_of b) values.args values.results c c.inner
     comes =
         carry f.module f.imports (quiet_tunables fuel p) (adapters_of p) a b h.first_call.function h.second_call.function t first second (shapes_of a) (shapes_of b) values.args values.results c
-        h.first_call.promised h.second_call.promised h.first_call.calls h.second_call.calls h.first_call.callable h.second_call.callable h.fit h.args_typed h.results_typed h.results_fit chained
+        h.first_call.promised h.second_call.promised h.first_call.calls h.second_call.calls h.first_call.callable h.second_call.callable h.joined h.args_typed h.results_typed h.results_fit chained
 
     comes_so : (o : Option HostOutcome) → c.inner ≡ o → HasComeTo (shapes_of a) (shapes_of b) values.args values.results c o
     comes_so o e = subst (HasComeTo (shapes_of a) (shapes_of b) values.args values.results c) e comes
@@ -68,7 +68,7 @@ module _ (fuel : ℕ) (p : FusePlan) (a b : LinkedAdapter) (t : Tables) (f : Fus
         let same : k.inner ≡ o = same_some c.inner k.inner o k.made e in
         ((k.seen, subst (λ (x : HostOutcome). x.params ≡ Some k.seen) same k.params), (k.got, k.results))
 
-    module _ (first_live : AreLive t first) (second_live : AreLive t second) where
+    module _ (first_live : AreTypesLive t first) (second_live : AreTypesLive t second) where
       tells : (text : List ℕ) (o : HostOutcome) (e : c.inner ≡ Some o) → TellsOutcomes t first second c.outer o text → TellsChain fuel p a b values.args values.results text
       tells text o e told =
           let k = (comes_so (Some o) e).1 in
@@ -94,7 +94,7 @@ module _ (fuel : ℕ) (p : FusePlan) (a b : LinkedAdapter) (t : Tables) (f : Fus
               second = second;
               second_calls = h.second_call.calls;
               second_can = second_can second_live;
-              fit = h.fit;
+              joined = h.joined;
               chained = c;
               is_chained = chained;
               outer_count_is = refl;

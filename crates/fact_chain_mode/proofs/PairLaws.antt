@@ -23,12 +23,12 @@ use Rattle.fact_plan_types.proofs.HandleLaws.{same_shape-exact, same_shape-refl}
 use Rattle.fact_plan_types.proofs.TupleLaws.{OneIndex}
 use Rattle.fact_adapter_rules.specs.Adapters.{adapters_of}
 use Rattle.fact_host.specs.declared.calling.HostCall.{HostCall}
-use Rattle.fact_chain.specs.Between.{DoFit}
+use Rattle.fact_chain.specs.Between.{AreJoined}
 use Rattle.fact_actions.specs.Running.{ImportPlaces}
 use Rattle.fact_host.specs.Describes.{DescribesHostSide}
 use Rattle.fact_call_laws.proofs.Setting.{one_shapes}
 use Rattle.fact_call_mode.specs.Calls.{callable_named}
-use Rattle.fact_chain_mode.specs.ChainReplies.{LacksOne}
+use Rattle.fact_chain_mode.specs.ChainReplies.{LacksOneName}
 use Rattle.fact_chain_mode.specs.ChainTexts.{LeadsNowhere, are_same_types, leads_to}
 
 -- ---- types that are the same
@@ -81,8 +81,8 @@ all_true true false z e = absurd (false≢true e)
 all_true false y z e = absurd (false≢true e)
 
 -- two calls of adapters, the first of which leads to the second
-pub calls_fit : (t : Tables) → OneIndex t → (p : ImportPlaces) (a b : LinkedAdapter) (first second : HostCall) → DescribesHostSide t first.lift p a.lift → DescribesHostSide t second.lower p b.lower → leads_to a b ≡ true → DoFit first second
-calls_fit t one p a b first second lift lower e =
+pub calls_are_joined : (t : Tables) → OneIndex t → (p : ImportPlaces) (a b : LinkedAdapter) (first second : HostCall) → DescribesHostSide t first.lift p a.lift → DescribesHostSide t second.lower p b.lower → leads_to a b ≡ true → AreJoined first second
+calls_are_joined t one p a b first second lift lower e =
     let same = all_true _ (are_same_types a.lift.params b.lower.params) (are_same_types a.lift.results b.lower.results) e in
     record {
       params = types_by_shapes t one first.lift.params second.lower.params a.lift.params b.lower.params lift.params lower.params same.0;
@@ -96,7 +96,7 @@ nowhere_by (Some a) None h = tt
 nowhere_by (Some a) (Some b) (inl e) = absurd (none_some (Some a) a e refl)
 nowhere_by (Some a) (Some b) (inr e) = absurd (none_some (Some b) b e refl)
 
-pub lacks_one : (p : FusePlan) (first second : List ℕ) → LacksOne p first second → LeadsNowhere (callable_named first (adapters_of p)) (callable_named second (adapters_of p))
+pub lacks_one : (p : FusePlan) (first second : List ℕ) → LacksOneName p first second → LeadsNowhere (callable_named first (adapters_of p)) (callable_named second (adapters_of p))
 lacks_one p first second h = nowhere_by (callable_named first (adapters_of p)) (callable_named second (adapters_of p)) h
 
 -- the one does not lead to the other

@@ -5,7 +5,7 @@ use Rattle.fact_plan.specs.declared.fault.PlanFault.{PlanFault}
 use Rattle.fact_plan.specs.declared.plan.FusePlan.{FusePlan}
 use Rattle.fact_plan.specs.Fault.{at_step, ◌>>=◌}
 use Rattle.fact_plan.specs.Plan.{plan_in}
-use Rattle.fact_plan.specs.Read.{field, known_keys, required_keys, text_in}
+use Rattle.fact_plan.specs.Parts.{field, known_keys, required_keys, text_in}
 use Rattle.fact_call_mode.specs.Inputs.{any_in}
 
 -- the keys, in the order in which they are read

@@ -20,7 +20,7 @@ use Rattle.fact_host.specs.declared.calling.HostCall.{HostCall}
 use Rattle.fact_host.specs.declared.calling.HostOutcome.{HostOutcome}
 use Rattle.fact_host.specs.Contract.{AreOfTypes}
 use Rattle.fact_chain.specs.declared.chaining.Chained.{Chained}
-use Rattle.fact_chain.specs.Between.{DoFit}
+use Rattle.fact_chain.specs.Between.{AreJoined}
 use Rattle.fact_module.specs.declared.fusion.Fused.{Fused}
 use Rattle.fact_module.specs.Fused.{IsFused}
 use Rattle.fact_chain_laws.specs.Chains.{FitBothWays, IsOverOneWay}
@@ -53,11 +53,11 @@ IsReplyToInput fuel i reply.OutOfMemory = Unit {0}
 abbrev pub IsReplyToChain : (fuel : ℕ) → (bytes : List ℕ) → CallReply → Type 0
 IsReplyToChain fuel bytes r = IsReplyToBytes chain_input (IsReplyToInput fuel) bytes r
 
-abbrev pub IsReplyToValue : (fuel : ℕ) → Data → CallReply → Type 0
-IsReplyToValue fuel d r = IsReplyToData chain_input (IsReplyToInput fuel) d r
+abbrev pub IsReplyToJson : (fuel : ℕ) → Data → CallReply → Type 0
+IsReplyToJson fuel d r = IsReplyToData chain_input (IsReplyToInput fuel) d r
 
--- Values that are read do not fit on one of their ways.
-pub record AreOver (a b : LinkedAdapter) (i : ChainInput) : Type 0 where
+-- Values that are read by the types of two adapters do not fit on one of their ways.
+pub record AreOverOneWay (a b : LinkedAdapter) (i : ChainInput) : Type 0 where
   pub args : List Value
   pub results : List Value
   pub values : AreChainValues a b i args results
@@ -78,13 +78,13 @@ IsReplyToPair fuel a b i (reply.BadPlan f) = ⊥
 IsReplyToPair fuel a b i (reply.Refused e) = ⊥
 IsReplyToPair fuel a b i reply.NotCallable = leads_to a b ≡ false
 IsReplyToPair fuel a b i (reply.BadValue f) = (leads_to a b ≡ true) × IsNotMemory f × AreBadChainValues a b i f
-IsReplyToPair fuel a b i reply.OverLimit = (leads_to a b ≡ true) × AreOver a b i
+IsReplyToPair fuel a b i reply.OverLimit = (leads_to a b ≡ true) × AreOverOneWay a b i
 IsReplyToPair fuel a b i (reply.Page text) = (leads_to a b ≡ true) × TellsPair fuel a b i (string_bytes text)
 IsReplyToPair fuel a b i reply.OutOfMemory = Unit {0}
 
 -- what values come to with which nothing is chained
 abbrev pub IsReplyToValues : (a b : LinkedAdapter) → ChainInput → CallReply → Type 0
-IsReplyToValues a b i r = IsReplyToRead (chain_args a i) (chain_results b i) (AreOver a b i) r
+IsReplyToValues a b i r = IsReplyToRead (chain_args a i) (chain_results b i) (AreOverOneWay a b i) r
 
 -- what the chain of two adapters with values comes to
 abbrev pub IsToldChain : (fuel : ℕ) → FusePlan → (a b : LinkedAdapter) → Values → CallReply → Type 0
@@ -105,8 +105,8 @@ input_of x = input_with x.plan x.asked
 -- ---- adapters
 
 -- one of two names is that of no adapter of a plan that can be called
-abbrev pub LacksOne : FusePlan → (first second : List ℕ) → Type 0
-LacksOne p first second = (callable_named first (adapters_of p) ≡ None) ⊎ (callable_named second (adapters_of p) ≡ None)
+abbrev pub LacksOneName : FusePlan → (first second : List ℕ) → Type 0
+LacksOneName p first second = (callable_named first (adapters_of p) ≡ None) ⊎ (callable_named second (adapters_of p) ≡ None)
 
 -- The adapters at two places are those of two names that can be called.
 pub record AreAtPlaces (p : FusePlan) (first second : List ℕ) (x : Places) : Type 0 where
@@ -144,7 +144,7 @@ pub record AreHosted (fuel : ℕ) (p : FusePlan) (a b : LinkedAdapter) (t : Tabl
   pub fused : IsFused f (without_debug fuel p)
   pub first_call : IsCallOf fuel p a t f first
   pub second_call : IsCallOf fuel p b t f second
-  pub fit : DoFit first second
+  pub joined : AreJoined first second
   pub args_typed : AreOfTypes a.lower.params values.args
   pub results_typed : AreOfTypes b.lift.results values.results
   pub results_fit : fits b.lift.results b.lower.results values.results ≡ true

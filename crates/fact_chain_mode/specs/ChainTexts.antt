@@ -18,7 +18,7 @@ use Rattle.fact_host.specs.declared.calling.HostCall.{HostCall}
 use Rattle.fact_host.specs.declared.calling.HostOutcome.{HostOutcome}
 use Rattle.fact_host.specs.Called.{called_params, called_results}
 use Rattle.fact_chain.specs.declared.chaining.Chained.{Chained}
-use Rattle.fact_chain.specs.Between.{DoFit, CanBeCalled}
+use Rattle.fact_chain.specs.Between.{AreJoined, CanBeRun}
 use Rattle.fact_chain.specs.Chained.{IsChained}
 use Rattle.fact_assembly.specs.Exports.{exported_as}
 use Rattle.fact_module.specs.declared.fusion.Fused.{Fused}
@@ -104,7 +104,7 @@ pub record HasChain (i : ChainInput) : Type 0 where
 
 -- The runs of two adapters of a plan make so many calls of the outside, in some outcomes that the contract of `chain` allows for these arguments and
 -- a last callee that answers these results.
-pub record MakeCalls (fuel : ℕ) (p : FusePlan) (a b : LinkedAdapter) (args results : List Value) (outer_count inner_count : ℕ) : Type 0 where
+pub record MakeChainCalls (fuel : ℕ) (p : FusePlan) (a b : LinkedAdapter) (args results : List Value) (outer_count inner_count : ℕ) : Type 0 where
   pub fused : Fused
   pub is_fused : IsFused fused (without_debug fuel p)
   pub outer_func : ℕ
@@ -114,11 +114,11 @@ pub record MakeCalls (fuel : ℕ) (p : FusePlan) (a b : LinkedAdapter) (args res
   pub tables : Tables
   pub first : HostCall
   pub first_calls : CallsAdapter fused.«module» fused.imports tables first a outer_func
-  pub first_can : CanBeCalled fused.«module» tables first
+  pub first_can : CanBeRun fused.«module» tables first
   pub second : HostCall
   pub second_calls : CallsAdapter fused.«module» fused.imports tables second b inner_func
-  pub second_can : CanBeCalled fused.«module» tables second
-  pub fit : DoFit first second
+  pub second_can : CanBeRun fused.«module» tables second
+  pub joined : AreJoined first second
   pub chained : Chained
   pub is_chained : IsChained fused.«module» tables first second args results chained
   pub outer_count_is : outer_count ≡ length chained.outer.outcome.log
@@ -143,7 +143,7 @@ pub record TellsChain (fuel : ℕ) (p : FusePlan) (a b : LinkedAdapter) (args re
   pub got_are : called_results a.lower.params a.lift.params b.lift.results a.lower.results args results ≡ Some got
   pub outer_count : ℕ
   pub inner_count : ℕ
-  pub make : MakeCalls fuel p a b args results outer_count inner_count
+  pub make : MakeChainCalls fuel p a b args results outer_count inner_count
   pub text_is : text ≡ chain_text b.lift.params seen a.lower.results got outer_count inner_count
 
 -- It tells the chain of the adapters and the values of an input.

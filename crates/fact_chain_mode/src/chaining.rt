@@ -2,9 +2,9 @@
 
 ghost use Rattle.std.specs.Prelude.{◌≤◌, length};
 ghost use Rattle.serde_json.specs.View.{view};
+ghost use Rattle.fact_plan.specs.Inputs.{limit};
 ghost use Rattle.fact_adapter_rules.specs.FirstFault.{IsFaultlessPlan};
-ghost use Rattle.fact_call_mode.specs.Calls.{limit};
-ghost use Rattle.fact_chain_mode.specs.ChainReplies.{AreAtPlaces, ArePaired, IsReplyToChain, IsReplyToInput, IsReplyToPair, IsReplyToValue, IsToldChain, MayBeChained, input_with};
+ghost use Rattle.fact_chain_mode.specs.ChainReplies.{AreAtPlaces, ArePaired, IsReplyToChain, IsReplyToInput, IsReplyToPair, IsReplyToJson, IsToldChain, MayBeChained, input_with};
 
 use crate::hosting::chain_told;
 use crate::input::{Asked, Input, read_input};
@@ -129,7 +129,7 @@ fn reply_to_input(alloc: Global, plan: FusePlan, asked: &Asked<'_>, fuel: u32) -
 /// What a JSON value comes to.
 fn reply_to_value(alloc: Global, json: &Json, fuel: u32) -> CallReply
     requires { 1 ≤ fuel }
-    ensures { IsReplyToValue fuel (view json.now) result }
+    ensures { IsReplyToJson fuel (view json.now) result }
 {
     match read_input(alloc, json) {
         Ok(input) => {

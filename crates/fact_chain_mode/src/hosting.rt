@@ -4,7 +4,7 @@ ghost use Rattle.std.specs.Prelude.{◌≡◌, ℕ, List, Some};
 ghost use Rattle.fact_types.specs.Adapters.{LinkedAdapter};
 ghost use Rattle.fact_plan.specs.declared.plan.FusePlan.{FusePlan as a_plan};
 ghost use Rattle.fact_values.specs.declared.value.Value.{Value as a_value};
-ghost use Rattle.fact_host.specs.Contract.{AreLive};
+ghost use Rattle.fact_host.specs.Contract.{AreTypesLive};
 ghost use Rattle.fact_host.specs.declared.calling.HostOutcome.{HostOutcome as an_outcome};
 ghost use Rattle.fact_chain_mode.specs.ChainReplies.{AreHosted, CanBeChained, IsReplyToError, IsReplyToOutcomes, IsToldChain};
 
@@ -31,8 +31,8 @@ fn reply_to_outcomes(
     second: &HostCall,
     chained: &Chained,
 ) -> CallReply
-    requires first_live { AreLive types.now first.now }
-    requires second_live { AreLive types.now second.now }
+    requires first_live { AreTypesLive types.now first.now }
+    requires second_live { AreTypesLive types.now second.now }
     requires there { (o : an_outcome) → chained.now.inner ≡ Some o → ((vs : List a_value) × (o.params ≡ Some vs)) × ((vs : List a_value) × (chained.now.outer.results ≡ Some vs)) }
     ensures { IsReplyToOutcomes types.now first.now second.now chained.now result }
 {
@@ -66,8 +66,8 @@ fn told(
     second: &HostCall,
     values: Values,
 ) -> CallReply
-    requires first_live { AreLive types.now first.now }
-    requires second_live { AreLive types.now second.now }
+    requires first_live { AreTypesLive types.now first.now }
+    requires second_live { AreTypesLive types.now second.now }
     requires hosted { (fuel : ℕ) × (p : a_plan) × (a : LinkedAdapter) × (b : LinkedAdapter) × AreHosted fuel p a b types.now fused.now first.now second.now values }
     ensures { (fuel : ℕ) (p : a_plan) (a b : LinkedAdapter) → AreHosted fuel p a b types.now fused.now first.now second.now values → IsToldChain fuel p a b values result }
 {

@@ -3,7 +3,7 @@
 ghost use Rattle.std.specs.Prelude.{◌≡◌, Ok, Err, MatchResult};
 ghost use Rattle.serde_json.specs.View.{view};
 ghost use Rattle.fact_plan.specs.Fault.{UnlessMemory};
-ghost use Rattle.fact_plan.specs.Read.{field, text_in};
+ghost use Rattle.fact_plan.specs.Parts.{field, text_in};
 ghost use Rattle.fact_chain_mode.specs.ChainInputs.{chain_input, chain_input_in};
 ghost use Rattle.fact_chain_mode.specs.ChainReplies.{input_of};
 
@@ -31,7 +31,7 @@ pub(crate) struct Input<'a> {
 }
 
 /// The name that the value of a key of an object is, which has to be there.
-#[tactic(auto, unfolding(fact_plan::specs::Read::text_in))]
+#[tactic(auto, unfolding(fact_plan::specs::Parts::text_in))]
 fn name_at<'a>(alloc: Global, json: &'a Json, key: &str) -> Result<&'a str, PlanFault>
     ensures { MatchResult result (λ name. field text_in key.now (view json.now) ≡ Ok name.now) (λ e. UnlessMemory e (field text_in key.now (view json.now) ≡ Err e)) }
 {

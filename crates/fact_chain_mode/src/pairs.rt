@@ -8,7 +8,7 @@ ghost use Rattle.fact_adapter_rules.specs.FirstFault.{IsFaultlessPlan};
 ghost use Rattle.fact_adapter_rules.specs.Linked.{HasSides};
 ghost use Rattle.fact_plan_types.specs.PlanTypes.{AreTypesOf};
 ghost use Rattle.fact_call_mode.specs.Replies.{AreLinked};
-ghost use Rattle.fact_chain_mode.specs.ChainReplies.{AreAtPlaces, ArePaired, LacksOne};
+ghost use Rattle.fact_chain_mode.specs.ChainReplies.{AreAtPlaces, ArePaired, LacksOneName};
 ghost use Rattle.fact_chain_mode.specs.ChainTexts.{are_same_types, leads_to as leads_to_next};
 
 use fact_adapter_rules::Adapter;
@@ -36,7 +36,7 @@ pub(crate) struct Pair {
 /// The places of the sync adapters between two instances that have these names, where there are both.
 pub(crate) fn places_of(plan: &FusePlan, first: &str, second: &str) -> Option<Places>
     requires { AreLinked plan.now }
-    ensures { MatchOption result (LacksOne plan.now first.now second.now) (AreAtPlaces plan.now first.now second.now) }
+    ensures { MatchOption result (LacksOneName plan.now first.now second.now) (AreAtPlaces plan.now first.now second.now) }
 {
     let first = callable_place(plan, first)?;
     let second = callable_place(plan, second)?;

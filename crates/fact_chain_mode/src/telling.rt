@@ -5,7 +5,7 @@ ghost use Rattle.fact_types.specs.Functions.{HaveShapes};
 ghost use Rattle.fact_types.specs.Shapes.{Shape};
 ghost use Rattle.fact_types.specs.Tables.{IsLive};
 ghost use Rattle.fact_values.specs.declared.value.Value.{Value as a_value};
-ghost use Rattle.fact_host.specs.Contract.{AreLive, AreOfTypes};
+ghost use Rattle.fact_host.specs.Contract.{AreTypesLive, AreOfTypes};
 ghost use Rattle.fact_chain_mode.specs.ChainReplies.{TellsOutcomes};
 ghost use Rattle.fact_chain_mode.specs.ChainTexts.{calls_line, chain_text};
 
@@ -56,8 +56,8 @@ pub(crate) fn outcomes_text(
     outer: &HostOutcome,
     inner: &HostOutcome,
 ) -> Result<String, OutOfMemory>
-    requires first_live { AreLive types.now first.now }
-    requires second_live { AreLive types.now second.now }
+    requires first_live { AreTypesLive types.now first.now }
+    requires second_live { AreTypesLive types.now second.now }
     requires params { (vs : List a_value) × (inner.now.params ≡ Some vs) }
     requires results { (vs : List a_value) × (outer.now.results ≡ Some vs) }
     ensures { IfOk result (λ text. TellsOutcomes types.now first.now second.now outer.now inner.now (string_bytes text)) }

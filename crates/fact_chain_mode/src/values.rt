@@ -1,4 +1,4 @@
-//! The values of an input.
+//! The values of the input of a chain.
 
 ghost use Rattle.std.specs.Prelude.{◌<◌, MatchResult, Ok, length};
 ghost use Rattle.fact_types.specs.Adapters.{LinkedAdapter};

@@ -22,7 +22,7 @@ use Rattle.fact_machine.specs.Machine.{func_import}
 use Rattle.fact_machine.specs.Typing.{declares_numbers, function_type, is_memory_type, is_typed_body, is_typed_import, is_typed_export, are_distinct, is_typed_function, typed_function}
 use Rattle.fact_machine.proofs.Tests.{first_of, second_of, both}
 use Rattle.fact_check.specs.Imports.{IsPageSize, IsRow}
-use Rattle.fact_check.specs.Accepted.{AreAdapterImports, AreTypedFunctions, HasCause, IsAdapterModule, IsCause, IsErrorOrMemory, IsFirstForeign, IsFirstIllTyped, IsFirstRepeated, IsRepeated}
+use Rattle.fact_check.specs.Accepted.{AreAdapterImports, AreTypedFunctions, HasCause, IsAdapterModule, IsCause, IsErrorOrMemory, IsFirstForeign, IsFirstIllTyped, IsFirstRepeated, IsRepeatedExport}
 use Rattle.fact_check.specs.Causes.{IsFaultless}
 use Rattle.fact_check.specs.declared.error.CheckError.{CheckError}
 use Rattle.fact_check.specs.declared.error.CheckError.TheVariants as error
@@ -148,7 +148,7 @@ exports_typed m (e ∷ es) h k named = both (function_there m e.func h k named.0
 
 -- ---- names
 
-distinct : (es : List WasmExport) → ((n : ℕ) → IsRepeated es n → ⊥) → are_distinct es ≡ true
+distinct : (es : List WasmExport) → ((n : ℕ) → IsRepeatedExport es n → ⊥) → are_distinct es ≡ true
 distinct [] none = refl
 distinct (e ∷ es) none = both (ap not (by_any (list_any (λ d. bytes_eq e.name d.name) es) refl)) (distinct es (λ n r. none (suc n) (record { export = r.export; there = r.there; place = suc r.place; before = omega (arith, r.before); earlier = r.earlier; earlier_there = r.earlier_there; same_name = r.same_name })))
   where

@@ -10,8 +10,8 @@ use Rattle.fact_wasm.specs.declared.types.ValType.{ValType}
 use Rattle.fact_wasm.specs.declared.types.FuncType.{FuncType}
 use Rattle.fact_wasm.specs.declared.module.ImportType.TheVariants as import
 use Rattle.fact_wasm.specs.declared.module.WasmImport.{WasmImport}
-use Rattle.fact_check.specs.Imports.{AreNumbers, IsFunctionRow, IsNumbered, IsRow, IsTranscoder, function, functions_in, memories_in, operation_of, origin_of, prepare_types, transcoder_type}
-use Rattle.fact_check.specs.Plain.{memories_text}
+use Rattle.fact_check.specs.Imports.{AreNumbers, IsFunctionRow, IsNumbered, IsRow, IsTranscoderRow, function, functions_in, memories_in, operation_of, origin_of, prepare_types, transcoder_type}
+use Rattle.fact_check.specs.NameNumbers.{memories_text}
 use Rattle.fact_check.specs.Sections.{IsSectionOf}
 use Rattle.fact_check.specs.declared.imports.Operation.{Operation}
 use Rattle.fact_check.specs.declared.section.Section.{Section}
@@ -58,7 +58,7 @@ prepares_nothing ty p = ap (λ (t : FuncType). length t.results) p.2
 -- ---- transcoders
 
 -- the parts of a name are those that a transcoder's name has
-pub transcoder_parts : (memories : List Bool) (name description rest : List ℕ) (ty : FuncType) → name ≡ description ++ 32 ∷ rest → HasNoSpace description → (t : IsTranscoder memories name ty) → (description ≡ t.description) × (rest ≡ memories_text t.from t.to)
+pub transcoder_parts : (memories : List Bool) (name description rest : List ℕ) (ty : FuncType) → name ≡ description ++ 32 ∷ rest → HasNoSpace description → (t : IsTranscoderRow memories name ty) → (description ≡ t.description) × (rest ≡ memories_text t.from t.to)
 transcoder_parts memories name description rest ty e apart t = same_parts description t.description rest (memories_text t.from t.to) apart (description_apart t.description t.operation t.described) (sym e ∙ t.named)
 
 pub memories_same : (f t f' t' : ℕ) → f < 2 ^ 32 → t < 2 ^ 32 → f' < 2 ^ 32 → t' < 2 ^ 32 → memories_text f t ≡ memories_text f' t' → (f ≡ f') × (t ≡ t')
@@ -71,7 +71,7 @@ memories_same f t f' t' a b c d e =
 -- the one transcoder that a name may be
 pub transcoder_decided : (memories : List Bool) (name description rest : List ℕ) (ty : FuncType) (o : Operation) (from to : ℕ) (from64 to64 b : Bool)
     → name ≡ description ++ 32 ∷ rest → HasNoSpace description → operation_of description ≡ Some o → rest ≡ memories_text from to → from < 2 ^ 32 → to < 2 ^ 32 → slice_get memories from ≡ Some from64 → slice_get memories to ≡ Some to64
-    → Decides b (ty ≡ transcoder_type o from64 to64) → Decides b (IsTranscoder memories name ty)
+    → Decides b (ty ≡ transcoder_type o from64 to64) → Decides b (IsTranscoderRow memories name ty)
 transcoder_decided memories name description rest ty o from to from64 to64 b e apart described is small small' there there' d = (
   λ t. record {
     description = description;
@@ -125,7 +125,7 @@ no_operation d d' o none same h = nothing (none ∙ ap operation_of same ∙ h)
     nothing e = absurd cc
 
 -- memories that are not there
-pub no_memory : (memories : List Bool) (from to : ℕ) → from < 2 ^ 32 → to < 2 ^ 32 → (name : List ℕ) (ty : FuncType) (t : IsTranscoder memories name ty) → memories_text from to ≡ memories_text t.from t.to
+pub no_memory : (memories : List Bool) (from to : ℕ) → from < 2 ^ 32 → to < 2 ^ 32 → (name : List ℕ) (ty : FuncType) (t : IsTranscoderRow memories name ty) → memories_text from to ≡ memories_text t.from t.to
     → (None ≡ slice_get memories from → ⊥) × (None ≡ slice_get memories to → ⊥)
 no_memory memories from to small small' name ty t e =
     let m = memories_same from to t.from t.to small small' t.from_small t.to_small e in

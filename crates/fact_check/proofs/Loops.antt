@@ -14,7 +14,7 @@ use Rattle.fact_wasm.specs.declared.module.WasmExport.{WasmExport}
 use Rattle.fact_wasm.specs.declared.module.WasmModule.{WasmModule}
 use Rattle.fact_machine.specs.Typing.{is_typed_function, typed_function}
 use Rattle.fact_check.specs.Imports.{IsRow, IsAdapterImport}
-use Rattle.fact_check.specs.Accepted.{IsRepeated}
+use Rattle.fact_check.specs.Accepted.{IsRepeatedExport}
 
 -- what holds below a number, and of it
 pub below_more : (P : ℕ → Type 0) (i j : ℕ) → j ≡ i + 1 → ((k : ℕ) → k < i → P k) → P i → (k : ℕ) → k < j → P k
@@ -69,12 +69,12 @@ some_before (y ∷ xs) (suc n) f (suc k) x lt e h = either (f y) (some_before xs
     either false q = q
 
 -- a name among the exports before
-pub repeated : (es : List WasmExport) (n : ℕ) (e : WasmExport) → slice_get es n ≡ Some e → list_any (λ (d : WasmExport). bytes_eq e.name d.name) (take n es) ≡ true → IsRepeated es n
+pub repeated : (es : List WasmExport) (n : ℕ) (e : WasmExport) → slice_get es n ≡ Some e → list_any (λ (d : WasmExport). bytes_eq e.name d.name) (take n es) ≡ true → IsRepeatedExport es n
 repeated es n e there h =
     let r = any_before es n (λ (d : WasmExport). bytes_eq e.name d.name) h in
     record { export = e; there = there; place = r.at; before = r.before; earlier = r.item; earlier_there = r.is_there; same_name = sym ((bytes_eq-Decides e.name r.item.name).0 r.passes) }
 
-pub not_repeated : (es : List WasmExport) (n : ℕ) (e : WasmExport) → slice_get es n ≡ Some e → list_any (λ (d : WasmExport). bytes_eq e.name d.name) (take n es) ≡ false → IsRepeated es n → ⊥
+pub not_repeated : (es : List WasmExport) (n : ℕ) (e : WasmExport) → slice_get es n ≡ Some e → list_any (λ (d : WasmExport). bytes_eq e.name d.name) (take n es) ≡ false → IsRepeatedExport es n → ⊥
 not_repeated es n e there h r =
     let same : r.export ≡ e = some_same (sym r.there ∙ there) in
     false≢true (sym h ∙ some_before es n (λ (d : WasmExport). bytes_eq e.name d.name) r.place r.earlier r.before r.earlier_there

@@ -10,7 +10,7 @@ use Rattle.std.proofs.lemmas.List.{append_cancel_left}
 use Rattle.std.proofs.lemmas.Fmt.{decimal_digit, decimal_nonempty, first_decimal, decimal_injective, decimal-digits_value, decimal_is_IsNumeral}
 use Rattle.std.proofs.lemmas.Str.Parse.{numerals_by_value, tells_digits, without_leading_plus_none}
 use Rattle.fact_machine.proofs.Tests.{first_of, second_of, both}
-use Rattle.fact_check.specs.Plain.{is_plain}
+use Rattle.fact_check.specs.NameNumbers.{is_plain}
 use Rattle.fact_check.specs.Imports.{IsNumbered}
 
 -- ---- the form of a number

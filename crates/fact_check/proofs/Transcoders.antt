@@ -13,7 +13,7 @@ use Rattle.std.proofs.lemmas.Slice.Eq.{bytes_eq-Decides}
 use Rattle.std.proofs.lemmas.Str.Parse.{tells_digits}
 use Rattle.fact_machine.proofs.Tests.{first_of, second_of}
 use Rattle.fact_check.specs.Imports.{operation_of}
-use Rattle.fact_check.specs.Plain.{memories_text}
+use Rattle.fact_check.specs.NameNumbers.{memories_text}
 use Rattle.fact_check.specs.declared.imports.Operation.{Operation}
 use Rattle.fact_check.specs.declared.imports.Operation.TheVariants as operation
 

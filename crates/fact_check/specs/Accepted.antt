@@ -46,7 +46,7 @@ pub record IsFirstIllTyped (m : WasmModule) (n : ℕ) : Type 0 where
   pub before : AreTypedFunctions m n
 
 -- the nth export has the name of an earlier one
-pub record IsRepeated (exports : List WasmExport) (n : ℕ) : Type 0 where
+pub record IsRepeatedExport (exports : List WasmExport) (n : ℕ) : Type 0 where
   pub export : WasmExport
   pub there : slice_get exports n ≡ Some export
   pub place : ℕ
@@ -57,8 +57,8 @@ pub record IsRepeated (exports : List WasmExport) (n : ℕ) : Type 0 where
 
 -- and it is the first of these
 pub record IsFirstRepeated (exports : List WasmExport) (n : ℕ) : Type 0 where
-  pub is_repeated : IsRepeated exports n
-  pub before : (k : ℕ) → k < n → IsRepeated exports k → ⊥
+  pub is_repeated : IsRepeatedExport exports n
+  pub before : (k : ℕ) → k < n → IsRepeatedExport exports k → ⊥
 
 -- what is wrong with a module: the first import that is none, behind those the first function that is ill typed, and behind those the
 -- first export whose name an earlier one has

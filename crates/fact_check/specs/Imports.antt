@@ -1,5 +1,6 @@
 -- What adapter modules import: the rows by which each import of one is named and typed, whatever plan it was made for (Component
--- Model, canonical ABI, "Canonical ABI options" and "Canonical Definitions"; the names are those of this project's modules).
+-- Model, canonical ABI, "Canonical ABI options" and "Canonical Definitions"; the names are those of this project's modules). The types
+-- of realloc, callbacks and transcoders are said here once more, so that a check of bytes trusts no table of types.
 use Rattle.std.specs.Prelude.{◌≡◌, ℕ, ◌<◌, ◌≤◌, ◌^◌, Bool, true, false, ◌⊎◌, List, [], ◌∷◌, ◌++◌, Option, Some, None, codes, length, slice_get, take, if◌then◌else◌}
 use Rattle.std.specs.List.{filter_map, list_all}
 use Rattle.std.specs.Str.{bytes_eq}
@@ -107,7 +108,7 @@ transcoder_type operation.Narrow from to = function (address_type from ∷ addre
 transcoder_type operation.Widening from to = function (address_type from ∷ address_type from ∷ address_type to ∷ address_type to ∷ address_type to ∷ []) (address_type to ∷ [])
 
 -- A transcoder of an operation, between two of these memories.
-pub record IsTranscoder (memories : List Bool) (name : List ℕ) (ty : FuncType) : Type 0 where
+pub record IsTranscoderRow (memories : List Bool) (name : List ℕ) (ty : FuncType) : Type 0 where
   pub description : List ℕ
   pub operation : Operation
   pub from : ℕ
@@ -164,7 +165,7 @@ IsNamedFunction functions memories name ty origin.Realloc = IsNumbered (codes "f
 IsNamedFunction functions memories name ty origin.Callback = IsNumbered (codes "f") functions name × (ty ≡ callback_type)
 IsNamedFunction functions memories name ty origin.Callee = AreNumbers ty.params × AreNumbers ty.results
 IsNamedFunction functions memories name ty origin.PostReturn = AreNumbers ty.params × (ty.results ≡ [])
-IsNamedFunction functions memories name ty origin.Transcode = IsTranscoder memories name ty
+IsNamedFunction functions memories name ty origin.Transcode = IsTranscoderRow memories name ty
 IsNamedFunction functions memories name ty origin.Sync =
     BeginsWith (codes "[prepare-call]") name × ((params : List ValType) × AreNumbers params × (ty ≡ function (prepare_types ++ params) []))
 IsNamedFunction functions memories name ty origin.Async = BeginsWith (codes "[start-call]") name × ((ty.params ≡ start_types) × AreNumbers ty.results)

@@ -2,7 +2,7 @@ pub mod Accepted
 pub mod Causes
 pub mod Constants
 pub mod Imports
+pub mod NameNumbers
 pub mod Operands
-pub mod Plain
 pub mod Sections
 pub mod Soundness

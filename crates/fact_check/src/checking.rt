@@ -2,7 +2,7 @@
 
 ghost use Rattle.std.specs.Prelude.{◌≡◌, ◌<◌, ◌^◌, ℕ, [], IfOk, IfErr, MatchOption, length};
 ghost use Rattle.fact_wasm.specs.declared.module.WasmModule.{WasmModule};
-ghost use Rattle.fact_check.specs.Accepted.{AreAdapterImports, AreTypedFunctions, HasCause, IsAccepted, IsCause, IsErrorOrMemory, IsFirstForeign, IsFirstIllTyped, IsFirstRepeated, IsModuleOrMemory, IsRepeated};
+ghost use Rattle.fact_check.specs.Accepted.{AreAdapterImports, AreTypedFunctions, HasCause, IsAccepted, IsCause, IsErrorOrMemory, IsFirstForeign, IsFirstIllTyped, IsFirstRepeated, IsModuleOrMemory, IsRepeatedExport};
 ghost use Rattle.fact_check.specs.Causes.{IsFaultless};
 ghost use Rattle.fact_check.specs.declared.error.CheckError.{CheckError};
 ghost use Rattle.fact_check.specs.declared.error.CheckError.TheVariants as error;
@@ -66,7 +66,7 @@ fn first_ill_typed(
 /// The first export whose name an earlier one has.
 fn first_repeated(alloc: Global, exports: &[WasmExport]) -> Result<Option<u32>, OutOfMemory>
     requires { length exports.now < 2 ^ 32 }
-    ensures { IfOk result (λ first. MatchOption first ((n : ℕ) → IsRepeated exports.now n → ⊥) (IsFirstRepeated exports.now)) }
+    ensures { IfOk result (λ first. MatchOption first ((n : ℕ) → IsRepeatedExport exports.now n → ⊥) (IsFirstRepeated exports.now)) }
 {
     let mut names = BTreeSet::new(alloc);
     let mut place = 0;

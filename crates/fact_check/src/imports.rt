@@ -7,8 +7,8 @@ ghost use Rattle.fact_machine.specs.Typing.{is_number};
 ghost use Rattle.fact_wasm.specs.declared.types.ValType.{ValType};
 ghost use Rattle.fact_wasm.specs.declared.module.WasmImport.{WasmImport};
 ghost use Rattle.fact_check.specs.Sections.{IsSectionOf};
-ghost use Rattle.fact_check.specs.Plain.{is_plain, memories_text};
-ghost use Rattle.fact_check.specs.Imports.{AreNumbers, BeginsWith, IsFunctionRow, IsNamedFunction, IsNumbered, IsRow, IsTranscoder, fixed_signature, function, last_trap, operation_of, origin_of, prepare_types, realloc_type, start_types, transcoder_type, type_of_signature};
+ghost use Rattle.fact_check.specs.NameNumbers.{is_plain, memories_text};
+ghost use Rattle.fact_check.specs.Imports.{AreNumbers, BeginsWith, IsFunctionRow, IsNamedFunction, IsNumbered, IsRow, IsTranscoderRow, fixed_signature, function, last_trap, operation_of, origin_of, prepare_types, realloc_type, start_types, transcoder_type, type_of_signature};
 
 use crate::context::address_type;
 use crate::section::Section;
@@ -244,7 +244,7 @@ pub fn memories_of(text: &str) -> Option<(u32, u32)>
 
 /// Whether a function has the name and the type of a transcoder between two of these memories.
 fn is_transcoder(memories: &Seq<bool>, name: &str, ty: &FuncType) -> bool
-    ensures { IsTrue result ↔ IsTranscoder memories.now name.now ty.now }
+    ensures { IsTrue result ↔ IsTranscoderRow memories.now name.now ty.now }
 {
     let Some((description, rest)) = name.split_once(' ') else {
         return false;

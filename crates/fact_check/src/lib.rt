@@ -1,4 +1,9 @@
 //! A checker of adapter modules: [`check`] says of bytes whether they spell one, by its imports and by the types of its code, or why not.
+//!
+//! - The check (`checking`): of the imports (`imports`, kept by kinds in `section`), of the names of exports, and of the code.
+//! - Code: `typing`, in a `context` of what stands around it (with the functions that are `exported`), over the types of `operands` and `locals`; `plain` has
+//!   instructions of one type.
+//! - `constants` reads the constants of code, and `laws` has what follows of modules that pass.
 #![tactic(auto)]
 
 mod checking;

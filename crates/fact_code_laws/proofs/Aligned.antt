@@ -33,8 +33,8 @@ use Rattle.fact_code_laws.proofs.Blocks.{guard}
 use Rattle.fact_code_laws.proofs.TypingLaws.{typed_next, typed_one}
 use Rattle.fact_code_laws.proofs.TypedRows.{takes_plain, takes_local_get}
 use Rattle.fact_code_laws.proofs.TypedShapes.{takes_guard}
-use Rattle.fact_types.specs.declared.widths.MemoryWidth.{MemoryWidth}
-use Rattle.fact_types.specs.declared.widths.MemoryWidth.TheVariants.{Memory32, Memory64}
+use Rattle.fact_types.specs.declared.extents.MemoryWidth.{MemoryWidth}
+use Rattle.fact_types.specs.declared.extents.MemoryWidth.TheVariants.{Memory32, Memory64}
 use Rattle.fact_types.specs.declared.abi.CanonicalAbiInfo.{CanonicalAbiInfo}
 
 -- ---- alignments

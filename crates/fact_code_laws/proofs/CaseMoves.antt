@@ -9,7 +9,7 @@ use Rattle.fact_machine.proofs.RowLaws.{leaves_i32_const}
 use Rattle.fact_actions.specs.Actions.{Action, Give, ◌>>=◌}
 use Rattle.fact_actions.specs.Moves.{padded}
 use Rattle.fact_actions.specs.Sides.{LiftLowerOptions, Source, Target, Slots, Into, zeros, write_number}
-use Rattle.fact_code_laws.specs.Cases.{tag_code, zero_code}
+use Rattle.fact_code_laws.specs.Cases.{discriminant_code, zero_code}
 use Rattle.fact_code_laws.specs.Does.{Locals, Onward, held_types, Does}
 use Rattle.fact_code_laws.specs.Places.{Setting, Slot, From, To, ToLocals, ToMemory, AreHeld, StandsAt, AreFree, MayGo, Stood, KeepsLocals, InRooms, AreDistinctSlots, Moves, Number, size_of, limit_of, Writable, ToTyped, FromUsed, ToUsed, to_past, code_behind}
 use Rattle.fact_code_laws.specs.Typed.{OnStack, IsTyped}
@@ -35,10 +35,10 @@ tag_written o size k (Slots []) = refl
 tag_written o size k (Slots (t ∷ ts)) = refl
 tag_written o size k (Into a) = let same : a + 0 ≡ a = omega arith in ap (λ b. write_number o size (Into b) k) same
 
-tag_spot : (n : Number) (k : ℕ) (to : To) → tag_code n k (to_spot 1 0 to) ≡ tag_code n k to
+tag_spot : (n : Number) (k : ℕ) (to : To) → discriminant_code n k (to_spot 1 0 to) ≡ discriminant_code n k to
 tag_spot n k (ToLocals []) = refl
 tag_spot n k (ToLocals (s ∷ ss)) = refl
-tag_spot n k (ToMemory memory base offset) = let same : offset + 0 ≡ offset = omega arith in ap (λ b. tag_code n k (ToMemory memory base b)) same
+tag_spot n k (ToMemory memory base offset) = let same : offset + 0 ≡ offset = omega arith in ap (λ b. discriminant_code n k (ToMemory memory base b)) same
 
 -- as many slots are left over as values are
 left_over : (used : ℕ → Bool) (ls ls' : Locals) (n : ℕ) (ss : List Slot) (ts : List ValType) (vs : List CoreValue) → AreFree used ls ss ts → AreHeld ls' (take n ss) vs → drop (length vs) ts ≡ drop n ts
@@ -62,7 +62,7 @@ module _ (S : Setting) (used : ℕ → Bool) (to : To) (n : Number) (k : ℕ) wh
     pub typed : ToTyped S.locals S.to64 (to_spot 1 0 to)
 
   module _ (h : IsTag) where
-    moves_tag : (from : From) → Moves S used 4 0 from (to_spot 1 0 to) (λ s d. write_number S.to (size_of n) d k) (tag_code n k to)
+    moves_tag : (from : From) → Moves S used 4 0 from (to_spot 1 0 to) (λ s d. write_number S.to (size_of n) d k) (discriminant_code n k to)
     moves_tag from = subst (λ c. Moves S used 4 0 from (to_spot 1 0 to) (λ s d. write_number S.to (size_of n) d k) c) (tag_spot n k to) (record {
       effect = λ ls s d e st g rooms.
           let lt : k < limit_of n = subst (λ m. k < m) (sym h.narrow.below) h.number in
@@ -124,15 +124,15 @@ module _ (S : Setting) (used : ℕ → Bool) (from : From) (to : To) (n : Number
   tag_then : {code : List Instr} {spare : ℕ} {f : List CoreValue → Action (List CoreValue)} (ls : Locals) (s : Source) (d : Target) → held_types ls ≡ S.locals → StandsAt ls S.from64 from s → MayGo used ls S.to64 to d → InRooms S ls from to
       → ((tag : List CoreValue) (ls1 : Locals) → KeepsLocals used ls ls1 → Stood ls1 (to_spot 1 0 to) tag → MayGo tagged ls1 S.to64 (to_past 1 to) (target_past 1 d)
       → Does S.whole S.places Onward 32 spare [] ls1 code (f tag) (λ vs. []) (λ vs ls'. Stood ls' to vs × KeepsLocals used ls ls'))
-      → Does S.whole S.places Onward 36 spare [] ls (tag_code n k to ++ code) (write_number S.to (size_of n) d k >>= f) (λ vs. []) (λ vs ls'. Stood ls' to vs × KeepsLocals used ls ls')
+      → Does S.whole S.places Onward 36 spare [] ls (discriminant_code n k to ++ code) (write_number S.to (size_of n) d k >>= f) (λ vs. []) (λ vs ls'. Stood ls' to vs × KeepsLocals used ls ls')
   tag_then ls s d e st g rooms go =
       within (omega arith) (in_turn
-      (subst (λ q. Does S.whole S.places Onward 4 0 [] ls (tag_code n k to) q (λ vs. []) (λ vs ls'. Stood ls' (to_spot 1 0 to) vs × KeepsLocals used ls ls')) (tag_written S.to (size_of n) k d)
+      (subst (λ q. Does S.whole S.places Onward 4 0 [] ls (discriminant_code n k to) q (λ vs. []) (λ vs ls'. Stood ls' (to_spot 1 0 to) vs × KeepsLocals used ls ls')) (tag_written S.to (size_of n) k d)
       ((moves_tag S used to n k h from).effect ls s (target_spot 1 0 d) e st (goes_spot S.to64 used ls 1 0 to d g) (rooms_spot 1 0 from to rooms)))
       (λ tag ls1 r. go tag ls1 r.1 r.0 (goes_past S.to64 used ls1 1 0 to d apart (goes_kept r.1 S.to64 to d tu g))))
 
   -- A case that carries nothing: its number, and zeros.
-  pub moves_bare_case : MayZero S.locals (to_past 1 to) → Moves S used 300 0 from to (λ s d. write_number S.to (size_of n) d k >>= (λ tag. Give (padded d tag))) (tag_code n k to ++ zero_code (to_past 1 to))
+  pub moves_bare_case : MayZero S.locals (to_past 1 to) → Moves S used 300 0 from to (λ s d. write_number S.to (size_of n) d k >>= (λ tag. Give (padded d tag))) (discriminant_code n k to ++ zero_code (to_past 1 to))
   moves_bare_case z = record {
     effect = λ ls s d e st g rooms.
         within (omega arith) (tag_then ls s d e st g rooms (λ tag ls1 keeps stood g1.
@@ -165,7 +165,7 @@ module _ (S : Setting) (used : ℕ → Bool) (from : From) (to : To) (n : Number
     -- A case with a payload: its number, the payload, and zeros.
     pub moves_some_case : {act : Source → Target → Action (List CoreValue)} {payload : List Instr} → FromUsed used from → IsApartAt room_count (to_past 1 to) → MayZero S.locals rest_to
         → Moves S tagged 0 100 (from_part count 1 bytes from) payload_to act payload
-        → Moves S used 300 0 from to (λ s d. write_number S.to (size_of n) d k >>= (λ tag. act (source_part count 1 bytes s) (target_spot room_count room (target_past 1 d)) >>= (λ vs. Give (padded d (tag ++ vs))))) (tag_code n k to ++ (payload ++ zero_code rest_to))
+        → Moves S used 300 0 from to (λ s d. write_number S.to (size_of n) d k >>= (λ tag. act (source_part count 1 bytes s) (target_spot room_count room (target_past 1 d)) >>= (λ vs. Give (padded d (tag ++ vs))))) (discriminant_code n k to ++ (payload ++ zero_code rest_to))
     moves_some_case {act} {payload} fu apart' z m = record {
       effect = λ ls s d e st g rooms.
           within {spare = 0} (omega arith) (tag_then {spare = 0} ls s d e st g rooms (λ tag ls1 keeps stood g1.

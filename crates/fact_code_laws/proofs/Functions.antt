@@ -192,7 +192,7 @@ module _ {M : WasmModule} {f : ℕ} {args : List CoreValue} {func : WasmFunc} {t
         → RunsAs M f args state answers extra spare (λ a. reverse (out a)) e
     runs_so {e} ty d = run_of_ends e (d.by ty [])
 
--- ---- plain inlining
+-- ---- outcomes without a word of code
 
 named : (p : ImportPlaces) (o : Outcome) (end : End) (w : World) (cs : List Call) → o ≡ outcome_of (reached end w) → log_of w ≡ map (call_event p) cs → o ≡ numbered_outcome p (record { end = end; state = w.state; log = cs })
 named p o end w cs e l = e ∙ ap (λ log. record { end = end; state = w.state; log = log }) l

@@ -6,7 +6,7 @@ use Rattle.fact_wasm.specs.declared.module.WasmModule.{WasmModule}
 use Rattle.fact_types.specs.declared.outside.CoreDef.{CoreDef}
 use Rattle.fact_types.specs.declared.outside.Trap.TheVariants.{ListOutOfBounds}
 use Rattle.fact_types.specs.declared.import.Import.TheVariants as import
-use Rattle.fact_types.specs.declared.widths.Extent.{Extent}
+use Rattle.fact_types.specs.declared.extents.Extent.{Extent}
 use Rattle.fact_types.specs.Adapters.{is_wide}
 use Rattle.fact_types.specs.Shapes.{k_list, k_map, s_node, Members}
 use Rattle.fact_types.specs.Signatures.{address as pointer_type, pointer_bytes, width}

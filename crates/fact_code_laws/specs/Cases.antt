@@ -6,9 +6,9 @@ use Rattle.fact_wasm.specs.declared.instr.Instr.{Instr}
 use Rattle.fact_wasm.specs.declared.instr.Instr.TheVariants as I
 use Rattle.fact_code_laws.specs.Places.{Slot, To, ToLocals, ToMemory, Number, code_before, code_behind}
 
--- the number of a case into its place
-abbrev pub tag_code : Number → (number : ℕ) → To → List Instr
-tag_code n number to = code_before to ++ (I.I32Const number ∷ code_behind n to)
+-- the discriminant, which is the number of a case, into its place
+abbrev pub discriminant_code : Number → (number : ℕ) → To → List Instr
+discriminant_code n number to = code_before to ++ (I.I32Const number ∷ code_behind n to)
 
 abbrev pub zero_const : ValType → Instr
 zero_const val.I64 = I.I64Const 0

@@ -48,7 +48,7 @@ RunsAs M f args state answers extra spare results (Strayed weight calls w) = Run
 abbrev pub numbered_outcome : ImportPlaces → NamedOutcome → Outcome
 numbered_outcome p o = record { end = o.end; state = o.state; log = map (call_event p) o.log }
 
--- From some number of steps on, the outcome of a run is that of plain inlining.
+-- From some number of steps on, the outcome of a run is this one, which names calls by their imports and says nothing of code.
 pub record IsPlainRun (M : WasmModule) (p : ImportPlaces) (f : ℕ) (args : List CoreValue) (state : MachineState) (answers : List Answer) (o : NamedOutcome) : Type 0 where
   pub steps : ℕ
   pub is : (n : ℕ) → steps ≤ n → run_of M f args state answers n ≡ numbered_outcome p o

@@ -7,8 +7,8 @@ use Rattle.fact_types.specs.declared.outside.CoreDef.{CoreDef}
 use Rattle.fact_types.specs.declared.outside.CoreDef.TheVariants as def
 use Rattle.fact_types.specs.declared.import.Import.{Import}
 use Rattle.fact_types.specs.declared.import.Import.TheVariants as known
+use Rattle.fact_types.specs.TranscoderNames.{transcode_name}
 use Rattle.fact_emit.specs.Runtime.{slot_name, trap_number}
-use Rattle.fact_emit.specs.TranscoderNames.{transcode_name}
 
 -- a core definition: an export by its instance and its name in lower-case hex
 abbrev pub def_text : CoreDef → List ℕ

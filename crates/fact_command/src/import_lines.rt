@@ -1,8 +1,8 @@
 //! The printed lines of what a module imports.
 
 ghost use Rattle.std.specs.Prelude.{◌≡◌, ◌++◌, IfOk, codes, string_bytes};
+ghost use Rattle.fact_types.specs.TranscoderNames.{transcode_name as transcode_name_of};
 ghost use Rattle.fact_command.specs.ImportLines.{def_text, import_lines, import_text, memory_text, optional_text, width_text};
-ghost use Rattle.fact_emit.specs.TranscoderNames.{transcode_name as transcode_name_of};
 
 use fact_emit::{slot_name, transcode_name, trap_number};
 use fact_entity::EntityRef;
@@ -81,8 +81,8 @@ fn start_call_text(
     format!(in alloc; "start-call {callback} {post_return}")
 }
 
-/// An import, by what it stands for.
-fn import_text(alloc: Global, import: &Import) -> Result<String, OutOfMemory>
+/// An import, by what it stands for: the line of it, without a newline.
+pub fn import_text(alloc: Global, import: &Import) -> Result<String, OutOfMemory>
     ensures { IfOk result (λ text. string_bytes text ≡ import_text import.now) }
 {
     match import {

@@ -8,6 +8,6 @@ mod refusal;
 mod status;
 
 pub use command::{CommandOptions, command_of};
-pub use import_lines::with_import_lines;
+pub use import_lines::{import_text, with_import_lines};
 pub use refusal::refusal_line;
 pub use status::Status;

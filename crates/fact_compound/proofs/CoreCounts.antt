@@ -13,8 +13,8 @@ use Rattle.fact_types.specs.declared.sizes.DiscriminantSize.{DiscriminantSize}
 use Rattle.fact_types.specs.declared.sizes.DiscriminantSize.TheVariants.{Size1 as one_byte, Size2 as two_bytes, Size4 as four_bytes}
 use Rattle.fact_types.specs.declared.sizes.FlagsSize.{FlagsSize}
 use Rattle.fact_types.specs.declared.sizes.FlagsSize.TheVariants.{Size0, Size1, Size2, Size4Plus}
-use Rattle.fact_types.specs.declared.widths.MemoryWidth.{MemoryWidth}
-use Rattle.fact_types.specs.declared.widths.MemoryWidth.TheVariants.{Memory32}
+use Rattle.fact_types.specs.declared.extents.MemoryWidth.{MemoryWidth}
+use Rattle.fact_types.specs.declared.extents.MemoryWidth.TheVariants.{Memory32}
 use Rattle.fact_types.specs.Flat.{value_type}
 use Rattle.fact_types.specs.FlatShapes.{joined, times, flat_plain, flat_by, flat, flat_members, flat_any, flat_each, when_upto, IsCountedBy, IsCounted, AreCounted}
 use Rattle.fact_types.specs.Layout.{extents, aligned, discriminant_bytes, discriminant_size, flags_extent, flags_flat, flags_size, greatest_align, greatest_size, payloads, variant_layout}

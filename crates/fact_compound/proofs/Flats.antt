@@ -7,7 +7,7 @@ use Rattle.std.proofs.lemmas.List.{length-append}
 use Rattle.fact_wasm.specs.declared.types.ValType.{ValType}
 use Rattle.fact_types.specs.declared.flats.FlatType.{FlatType}
 use Rattle.fact_types.specs.declared.flats.FlatType.TheVariants as flat_type
-use Rattle.fact_types.specs.declared.widths.MemoryWidth.{MemoryWidth}
+use Rattle.fact_types.specs.declared.extents.MemoryWidth.{MemoryWidth}
 use Rattle.fact_types.specs.Flat.{value_type, flat_within}
 use Rattle.fact_types.specs.FlatShapes.{flat, flat_members, upto, flat_types, after_flat, flat_each, when_upto, AreCounted}
 use Rattle.fact_types.proofs.CountLaws.{count_is_length}

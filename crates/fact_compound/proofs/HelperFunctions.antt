@@ -14,7 +14,7 @@ use Rattle.fact_machine.specs.Typed.{are_values}
 use Rattle.fact_machine.specs.Typing.{address_type, is_typed_function, local_types}
 use Rattle.fact_machine.specs.declared.types.CoreValue.{CoreValue}
 use Rattle.fact_machine.proofs.Tests.{both}
-use Rattle.fact_types.specs.declared.widths.MemoryWidth.{MemoryWidth}
+use Rattle.fact_types.specs.declared.extents.MemoryWidth.{MemoryWidth}
 use Rattle.fact_types.specs.FlatShapes.{IsCounted, flat}
 use Rattle.fact_types.specs.Shapes.{Shape, layout_of}
 use Rattle.fact_types.proofs.CountLaws.{count_is_length}

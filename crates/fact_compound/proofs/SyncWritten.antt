@@ -30,7 +30,7 @@ use Rattle.fact_emit.proofs.BarrierMoves.{barrier_emits, grew_barrier}
 use Rattle.fact_emit.proofs.Emitting.{emits_before, emits_then, emits_wrote, grew_on}
 use Rattle.fact_compound.specs.Asks.{AsksFor}
 use Rattle.fact_steps.proofs.RangedSteps.{call_ranged, pushed_ranged, started_ranged, zero_ranged}
-use Rattle.fact_steps.specs.Code.{back_code, call_code, enter_code, exit_code, finish_code, pushed_code, started_code, zero_code}
+use Rattle.fact_steps.specs.Code.{back_code, call_code, enter_code, exit_code, finish_code, pushed_code, started_code, zero_flags_code}
 use Rattle.fact_steps.specs.Steps.{CanFinish, ChecksMayLeave, EntersCall, ExitsCall, KnowsRuntimeIf, RestoresAndFinishes}
 use Rattle.fact_compound.specs.Code.{cleared_code}
 use Rattle.fact_compound.specs.Described.{CanMoveTuple, linear_of}
@@ -103,16 +103,16 @@ record ResultsOn (d : AdapterData) (debug : Bool) (o : CallOptions) (l : SyncPla
 
 record ExitOn (d : AdapterData) (debug : Bool) (o : CallOptions) (l : SyncPlaces) (taken : ℕ → Bool) (rs ss : List Shape) (M : WasmModule) (p : ImportPlaces) (locals : List ValType) (code : List Instr) : Type 0 where
   results : List Instr
-  is : code ≡ exit_code o.told (p.function import.ExitSyncCall) ++ (zero_code d.lower.flags.number ++ (results ++ (back_code d.lower.flags.number l.saved ++ finish_code o.context (number_if_any d.lift.post_return) (slots_of p l.callee_context) (slots_of p l.own_context) l.given)))
+  is : code ≡ exit_code o.told (p.function import.ExitSyncCall) ++ (zero_flags_code d.lower.flags.number ++ (results ++ (back_code d.lower.flags.number l.saved ++ finish_code o.context (number_if_any d.lift.post_return) (slots_of p l.callee_context) (slots_of p l.own_context) l.given)))
   exits : KnowsRuntimeIf o.told M p runtime.ExitSyncCall
   finishes : CanFinish d.lift.post_return o.context l.callee_context l.own_context M p
   moves_results : MovesResults d debug o.concurrency l.given l.results l.args taken ss rs M p locals results
 
 -- the flags are set back behind the results
-back_assoc : (flags saved : ℕ) (front results finish : List Instr) → front ++ (zero_code flags ++ (results ++ (back_code flags saved ++ finish))) ≡ front ++ (cleared_code flags saved results ++ finish)
+back_assoc : (flags saved : ℕ) (front results finish : List Instr) → front ++ (zero_flags_code flags ++ (results ++ (back_code flags saved ++ finish))) ≡ front ++ (cleared_code flags saved results ++ finish)
 back_assoc flags saved front results finish = ap (λ c. front ++ I.I32Const 0 ∷ I.GlobalSet flags ∷ c) (sym (append_assoc results (back_code flags saved) finish))
 
-pub written_return : {t : Tables} (d : AdapterData) (debug : Bool) (o : CallOptions) (l : SyncPlaces) {before after : Fuel} {a b c e f g : Writer} → Emits a b (ReadsSlots o.context l.callee_context) → Emits b c (ExitsCall o.told) → Wrote c e (zero_code d.lower.flags.number)
+pub written_return : {t : Tables} (d : AdapterData) (debug : Bool) (o : CallOptions) (l : SyncPlaces) {before after : Fuel} {a b c e f g : Writer} → Emits a b (ReadsSlots o.context l.callee_context) → Emits b c (ExitsCall o.told) → Wrote c e (zero_flags_code d.lower.flags.number)
     → MovedResults t d debug o.concurrency l.given l.results l.args before after e f → Emits f g (RestoresAndFinishes d.lower.flags.number l.saved d.lift.post_return o.context l.callee_context l.own_context l.given) → WrittenReturn t d debug o l before after a g
 written_return {t} d debug o l {before} {after} {a} {b} {c} {e} {f} {g} x1 x2 x3 x4 x5 =
     let zero = emits_wrote (zero_ranged d.lower.flags.number) x3 in
@@ -139,10 +139,10 @@ written_return {t} d debug o l {before} {after} {a} {b} {c} {e} {f} {g} x1 x2 x3
             moves_results = z.moves_results;
           })
           x1
-          (emits_then {P = ExitsCall o.told} {Q = ResultsOn d debug o l (taken_in a) rs ss (zero_code d.lower.flags.number)}
+          (emits_then {P = ExitsCall o.told} {Q = ResultsOn d debug o l (taken_in a) rs ss (zero_flags_code d.lower.flags.number)}
           (λ M p locals code more y z. record { results = z.results; is = λ i. y.is i ++ z.is i; exits = y.has; finishes = z.finishes; moves_results = z.moves_results })
           x2
-          (emits_then {P = Is (zero_code d.lower.flags.number)} {Q = ResultsOn d debug o l (taken_in a) rs ss []} (λ M p locals code more y z. record { results = z.results; is = λ i. y i ++ z.is i; finishes = z.finishes; moves_results = z.moves_results })
+          (emits_then {P = Is (zero_flags_code d.lower.flags.number)} {Q = ResultsOn d debug o l (taken_in a) rs ss []} (λ M p locals code more y z. record { results = z.results; is = λ i. y i ++ z.is i; finishes = z.finishes; moves_results = z.moves_results })
           zero
           (emits_then {Q = RestoresAndFinishes d.lower.flags.number l.saved d.lift.post_return o.context l.callee_context l.own_context l.given}
           (λ M p locals code more y z. record { results = code; is = ap (λ c. code ++ c) z.is; finishes = z.can; moves_results = y }) results x5)));

@@ -11,7 +11,7 @@ ghost use Rattle.fact_compound.specs.Passed.{MovedPart};
 
 use crate::adapters::AdapterData;
 use crate::entries::compile_entry;
-use crate::functions::{add_locals, function_of, params_of};
+use crate::functions::{add_locals, finish_function, params_of};
 use crate::tuples::{are_flat_results, move_params, move_results, tuples_of};
 use fact_builder::ComponentTypesBuilder;
 use fact_emit::{ModuleSections, TypedLocal, Writer};
@@ -22,15 +22,15 @@ use fact_wasm::{FuncName, OutOfMemory, ValType, WasmFunc};
 use std::alloc::Global;
 use std::mem;
 
-/// The function of an async adapter that moves the parameters when the callee is to start, or the one that moves the results that the
-/// callee returned.
+/// A part of an async adapter, which has a function: the one that moves the parameters when the callee is to start, or the one that moves the results
+/// that the callee returned.
 #[derive(Clone, Copy, PartialEq, Eq)]
 pub enum AsyncPart {
     Start,
     Return,
 }
 
-/// The locals of such a function: those of all arguments; those of the values, which are the first ones, since the return pointer may
+/// The locals of the function of a part: those of all arguments; those of the values, which are the first ones, since the return pointer may
 /// stand behind them; that of the saved flags; and those of what it gives.
 #[derive(Clone, Copy)]
 pub struct PartLocals<'a> {
@@ -40,7 +40,7 @@ pub struct PartLocals<'a> {
     pub given: &'a [TypedLocal],
 }
 
-/// The name that such a function is exported by.
+/// The name that the function of a part is exported by.
 fn part_name(alloc: Global, part: AsyncPart, adapter: &str) -> Result<String, OutOfMemory>
     ensures { IfOk result (λ name. string_bytes name ≡ name_of_part part adapter.now) }
 {
@@ -50,7 +50,7 @@ fn part_name(alloc: Global, part: AsyncPart, adapter: &str) -> Result<String, Ou
     }
 }
 
-/// Its core signature.
+/// The core signature of the function of a part.
 fn part_signature(
     types: &ComponentTypesBuilder,
     adapter: &AdapterData,
@@ -98,7 +98,7 @@ fn part_values<'a>(
     }
 }
 
-/// Moves the values.
+/// Moves the values of a part: the parameters, or the results.
 fn move_part(
     types: &ComponentTypes,
     builder: &ComponentTypesBuilder,
@@ -148,7 +148,7 @@ fn move_part(
     }
 }
 
-/// Writes what such a function does, and leaves what it gives on the operand stack.
+/// Writes what the function of a part does, and leaves what it gives on the operand stack.
 fn put_part(
     types: &ComponentTypes,
     builder: &ComponentTypesBuilder,
@@ -184,7 +184,7 @@ fn put_part(
     Ok(())
 }
 
-/// Writes the body of such a function, with its locals, in a writer without locals and code.
+/// Writes the body of the function of a part, with its locals, in a writer without locals and code.
 fn write_part_body(
     types: &ComponentTypes,
     builder: &ComponentTypesBuilder,
@@ -229,7 +229,7 @@ fn write_part_body(
     Ok(())
 }
 
-/// Writes such a function, of the type of a number, over a module, to which it may add imports of functions of the runtime.
+/// Writes the function of a part, of the type of a number, over a module, to which it may add imports of functions of the runtime.
 fn write_part(
     types: &ComponentTypes,
     builder: &ComponentTypesBuilder,
@@ -262,22 +262,11 @@ fn write_part(
         part,
         signature,
     );
-    let (new_sections, code, locals) = w.into_parts();
-    drop(mem::replace(sections, new_sections));
-    match written {
-        Ok(()) => {
-            let function = function_of(alloc, code, locals, signature.params.len(), ty)?;
-            Ok(function)
-        }
-        Err(error) => {
-            drop(code);
-            drop(locals);
-            Err(error)
-        }
-    }
+    let function = finish_function(w, written, sections, signature.params.len(), ty)?;
+    Ok(function)
 }
 
-/// Compiles such a function over the types of a builder, and answers its number among the functions that the module defines.
+/// Compiles the function of a part over the types of a builder, and answers its number among the functions that the module defines.
 fn compile_part(
     types: &ComponentTypesBuilder,
     sections: &mut ModuleSections,

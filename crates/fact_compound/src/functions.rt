@@ -1,6 +1,6 @@
 //! The functions of adapters, put into a module ([`compile`]); those of sync adapters are here, with their locals, and others beside.
 
-ghost use Rattle.std.specs.Prelude.{IfOk, OnOk, ◌≡◌, ◌-◌, ◌<◌, ◌++◌, ◌&&◌, ◌||◌, ◌∷◌, [], false, drop, length, map, take};
+ghost use Rattle.std.specs.Prelude.{IfOk, IsOk, OnOk, ◌≡◌, ◌-◌, ◌<◌, ◌++◌, ◌&&◌, ◌||◌, ◌∷◌, [], false, drop, length, map, take};
 ghost use Rattle.fact_machine.specs.Typing.{local_types};
 ghost use Rattle.fact_emit.specs.Places.{slots_of_locals};
 ghost use Rattle.fact_compound.specs.Settings.{OnlySectionsChanged};
@@ -27,7 +27,8 @@ use fact_wasm::{FuncName, Instr, OutOfMemory, Seq, ValType, WasmFunc};
 use std::alloc::Global;
 use std::mem;
 
-/// The locals of a sync adapter, as `SyncLocals` has them.
+/// The locals of a sync adapter, as they are added; [`SyncLocals`], whose fields have the same names, lends them to its code. `core` has none where the
+/// parameters are handed on as they are.
 #[derive(Drop)]
 pub struct AdapterLocals {
     pub args: Vec<TypedLocal>,
@@ -52,8 +53,8 @@ pub(crate) fn add_locals(w: &mut Writer, types: &[ValType]) -> Result<Vec<TypedL
     Ok(locals)
 }
 
-/// The types of the callee's parameters that need locals of their own.
-fn core_types(types: &[ValType], passed: bool) -> &[ValType]
+/// The types of the callee's parameters, which need locals of their own unless they are handed on as they are.
+fn types_unless_passed(types: &[ValType], passed: bool) -> &[ValType]
     ensures { result.now ≡ unless_passed passed types.now }
 {
     if passed { &types[..0] } else { types }
@@ -88,7 +89,7 @@ fn add_sync_locals(
     let args = add_locals(w, lower.params.as_slice())?;
     let saved = w.add_local(ValType::I32)?;
     let lift_saved = w.add_local(ValType::I32)?;
-    let core = add_locals(w, core_types(lift.params.as_slice(), passed))?;
+    let core = add_locals(w, types_unless_passed(lift.params.as_slice(), passed))?;
     let given = add_locals(w, lift.results.as_slice())?;
     let callee_context = add_context(w, context)?;
     let results = add_locals(w, lower.results.as_slice())?;
@@ -119,7 +120,7 @@ pub(crate) fn params_of(args: &[TypedLocal], flat: bool) -> &[TypedLocal]
     if flat { args } else { all_but_last(args) }
 }
 
-/// The locals of the callee's parameters.
+/// The locals of the callee's parameters: the adapter's own where they are handed on as they are.
 fn core_of<'a>(passed: bool, params: &'a [TypedLocal], core: &'a [TypedLocal]) -> &'a [TypedLocal]
     ensures { slots_of_locals result.now ≡ core_slots passed (slots_of_locals params.now) (slots_of_locals core.now) }
 {
@@ -223,7 +224,7 @@ fn locals_behind(locals: &[Local], params: usize) -> &[Local]
 }
 
 /// The function of a code and of locals, of which the first are the parameters.
-pub(crate) fn function_of(
+fn function_of(
     alloc: Global,
     code: Vec<Instr>,
     locals: Vec<Local>,
@@ -244,6 +245,37 @@ pub(crate) fn function_of(
         }),
         Err(error) => {
             drop(code);
+            Err(error)
+        }
+    }
+}
+
+/// The function of what a writer holds, of which the first locals are so many parameters, or none where what was to be written was not. The
+/// module that the writer held goes back to its place in either case.
+pub(crate) fn finish_function(
+    w: Writer,
+    written: Result<(), OutOfMemory>,
+    sections: &mut ModuleSections,
+    params: usize,
+    ty: u32,
+) -> Result<WasmFunc, OutOfMemory>
+    ensures sections { sections.new ≡ w.sections }
+    ensures written { OnOk result (IsOk written) }
+    ensures ty { IfOk result (λ f. f.ty ≡ ty) }
+    ensures body { IfOk result (λ f. f.body ≡ w.code.items) }
+    ensures locals { IfOk result (λ f. local_types f.locals ≡ map (λ (l : local_is.Local). l.ty) (drop params w.locals.items)) }
+{
+    let alloc = w.alloc;
+    let (new_sections, code, locals) = w.into_parts();
+    drop(mem::replace(sections, new_sections));
+    match written {
+        Ok(()) => {
+            let function = function_of(alloc, code, locals, params, ty)?;
+            Ok(function)
+        }
+        Err(error) => {
+            drop(code);
+            drop(locals);
             Err(error)
         }
     }
@@ -273,19 +305,8 @@ fn write_function(
     let written = write_body(
         types, builder, &mut w, &mut fuel, adapter, debug, options, lower, lift,
     );
-    let (new_sections, code, locals) = w.into_parts();
-    drop(mem::replace(sections, new_sections));
-    match written {
-        Ok(()) => {
-            let function = function_of(alloc, code, locals, lower.params.len(), ty)?;
-            Ok(function)
-        }
-        Err(error) => {
-            drop(code);
-            drop(locals);
-            Err(error)
-        }
-    }
+    let function = finish_function(w, written, sections, lower.params.len(), ty)?;
+    Ok(function)
 }
 
 /// What a side's core signature hangs on, of a sync side.
@@ -318,17 +339,17 @@ fn either(first: bool, second: bool) -> bool
 
 /// What the code of an adapter asks of the runtime.
 fn call_options(
-    types: &ComponentTypesBuilder,
+    builder: &ComponentTypesBuilder,
     adapter: &AdapterData,
     concurrency: bool,
     exceptions: bool,
 ) -> CallOptions
-    requires { adapter.now.lower.ty.number < length types.now.tables.functions }
-    ensures { AsksCalls types.now.tables adapter.now concurrency exceptions result }
+    requires { adapter.now.lower.ty.number < length builder.now.tables.functions }
+    ensures { AsksCalls builder.now.tables adapter.now concurrency exceptions result }
 {
-    let tables = types.component_types();
+    let tables = builder.component_types();
     let (params, _) = tuples_of(tables, adapter.lower.ty);
-    let lends = types.ty_contains_borrow_resource(&InterfaceType::Tuple(params));
+    let lends = builder.ty_contains_borrow_resource(&InterfaceType::Tuple(params));
     let posts = adapter.lift.post_return.is_some();
     let entered = both(concurrency, !adapter.transparent);
     CallOptions {
@@ -341,7 +362,7 @@ fn call_options(
 
 /// Compiles a sync adapter over the types of a builder: see `compile`.
 fn compile_sync(
-    types: &ComponentTypesBuilder,
+    builder: &ComponentTypesBuilder,
     sections: &mut ModuleSections,
     adapter: &AdapterData,
     debug: bool,
@@ -349,17 +370,17 @@ fn compile_sync(
     exceptions: bool,
     fuel: u32,
 ) -> Result<(), OutOfMemory>
-    requires can { CanBeCompiled types.now.tables adapter.now sections.old }
+    requires can { CanBeCompiled builder.now.tables adapter.now sections.old }
     requires ahead { length sections.old.functions < sections.old.numbered }
-    ensures { OnOk result (AskingSync types.now.tables adapter.now debug concurrency exceptions fuel sections.old sections.new) }
+    ensures { OnOk result (AskingSync builder.now.tables adapter.now debug concurrency exceptions fuel sections.old sections.new) }
 {
-    let lower = types.lower_signature(&sync_side(&adapter.lower))?;
-    let lift = types.lift_signature(&sync_side(&adapter.lift))?;
+    let lower = builder.lower_signature(&sync_side(&adapter.lower))?;
+    let lift = builder.lift_signature(&sync_side(&adapter.lift))?;
     let ty = sections.function(lower.params.as_slice(), lower.results.as_slice())?;
-    let tables = types.component_types();
-    let options = call_options(types, adapter, concurrency, exceptions);
+    let tables = builder.component_types();
+    let options = call_options(builder, adapter, concurrency, exceptions);
     let function = write_function(
-        tables, types, sections, adapter, debug, options, &lower, &lift, ty, fuel,
+        tables, builder, sections, adapter, debug, options, &lower, &lift, ty, fuel,
     )?;
     let number = sections.define(function)?;
     sections.export(adapter.name.as_str(), FuncName::Defined(number))?;

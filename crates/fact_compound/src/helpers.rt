@@ -8,7 +8,7 @@ ghost use Rattle.fact_emit.specs.StringPieces.{AreSidesImported};
 ghost use Rattle.fact_compound.specs.Asks.{CanBeWritten, sides_between};
 ghost use Rattle.fact_compound.specs.Helpers.{AreWritable, CompiledHelpers, IsHelperSignature, IsTurn, WroteHelper, WroteHelperBody, WroteHelpers, is_on_stack as is_on_stack_at, results_of_helper, target_params as target_params_of};
 
-use crate::functions::{add_locals, function_of, params_of};
+use crate::functions::{add_locals, finish_function, params_of};
 use crate::tuples::{tuple_source, tuple_target};
 use fact_builder::ComponentTypesBuilder;
 use fact_emit::{Helper, HelperLocation, HelperType, ModuleSections, Sides, Writer};
@@ -145,19 +145,8 @@ fn write_helper(
         concurrency,
         &signature,
     );
-    let (new_sections, code, locals) = w.into_parts();
-    drop(mem::replace(sections, new_sections));
-    match body_written {
-        Ok(()) => {
-            let function = function_of(alloc, code, locals, signature.params.len(), ty)?;
-            Ok(function)
-        }
-        Err(error) => {
-            drop(code);
-            drop(locals);
-            Err(error)
-        }
-    }
+    let function = finish_function(w, body_written, sections, signature.params.len(), ty)?;
+    Ok(function)
 }
 
 /// A function without code, which stands in the place of one whose code is still to be written.

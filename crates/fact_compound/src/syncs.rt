@@ -86,7 +86,7 @@ fn put_call(
     Ok(())
 }
 
-/// Writes the steps behind that call. The results stay in their locals.
+/// Writes the steps behind the call of the callee. The results stay in their locals.
 fn put_return(
     types: &ComponentTypes,
     builder: &ComponentTypesBuilder,
@@ -152,7 +152,7 @@ fn put_steps(
     Ok(())
 }
 
-/// Writes all steps, in a barrier.
+/// Writes all steps of a sync adapter, in a barrier.
 fn put_barred(
     types: &ComponentTypes,
     builder: &ComponentTypesBuilder,

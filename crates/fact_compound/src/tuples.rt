@@ -121,11 +121,11 @@ pub fn move_params(
     let sides = adapter.params_sides(debug, concurrency);
     let (from, _) = tuples_of(types, adapter.lower.ty);
     let (to, _) = tuples_of(types, adapter.lift.ty);
-    let given_flat = are_flat_params(types, from, adapter.lower.options.async_);
+    let source_flat = are_flat_params(types, from, adapter.lower.options.async_);
     let flat = are_flat_values(types, to, MAX_FLAT_PARAMS);
-    let source = tuple_source(given_flat, params);
+    let source = tuple_source(source_flat, params);
     let target = tuple_target(flat, core, core);
-    check_tuple_area(types, w, sides.from, from, given_flat, last_of(params))?;
+    check_tuple_area(types, w, sides.from, from, source_flat, last_of(params))?;
     ask_tuple_area(types, w, concurrency, sides.to, to, flat, last_of(core))?;
     move_tuple(types, builder, w, fuel, sides, from, to, source, target)?;
     Ok(())

@@ -5,7 +5,7 @@ use Rattle.fact_entity.specs.declared.id.Id.{Id}
 use Rattle.fact_entity.specs.declared.table.SourceResources.{SourceResources}
 use Rattle.fact_entity.specs.declared.table.SourceInstanceTypes.{SourceInstanceTypes}
 use Rattle.fact_entity.specs.declared.table.SourceFuncTypes.{SourceFuncTypes}
-use Rattle.fact_entity.specs.declared.source.ComponentAnyTypeId.TheVariants as any
+use Rattle.fact_entity.specs.declared.source_ids.ComponentAnyTypeId.TheVariants as any
 use Rattle.fact_source.specs.declared.defined.ComponentValType.{ComponentValType}
 use Rattle.fact_source.specs.declared.items.ComponentEntityType.TheVariants as entity
 use Rattle.fact_source.specs.declared.items.SourceInstance.{SourceInstance}

@@ -6,7 +6,7 @@ use Rattle.std.proofs.lemmas.List.Quantifiers.{position-Some}
 use Rattle.std.proofs.lemmas.Option.{slice_get-get_or}
 use Rattle.fact_entity.specs.declared.error.PushError.TheVariants.{TooLarge}
 use Rattle.fact_entity.specs.Places.{IsInterned}
-use Rattle.fact_convert.specs.Interning.{HasEntry, CanGrow, Interns, LacksRoom}
+use Rattle.fact_convert.specs.Interning.{HasEntry, CanGrow, Interns, LacksEntryRoom}
 
 -- ---- a value that is looked for in a list
 
@@ -65,5 +65,5 @@ exactly_at eq exact xs ys v i d =
     at ∙ ap Some (sym (exact v x e))
 
 -- it is not there, and there is no room for it
-pub no_room : {X : Type 0} (eq : X → X → Bool) → ((x : X) → eq x x ≡ true) → (xs : List X) (v : X) → (position (eq v) xs ≡ None) × (length xs ≡ 4294967295) → LacksRoom xs v
+pub no_room : {X : Type 0} (eq : X → X → Bool) → ((x : X) → eq x x ≡ true) → (xs : List X) (v : X) → (position (eq v) xs ≡ None) × (length xs ≡ 4294967295) → LacksEntryRoom xs v
 no_room eq same xs v (n, full) = ((λ x. any_placed (eq v) xs n (found_any (eq v) xs x.0 v x.1 (same v))), full)

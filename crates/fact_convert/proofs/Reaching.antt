@@ -5,7 +5,7 @@ use Rattle.std.proofs.lemmas.Option.{get_or_from_slice_get, slice_get_within}
 use Rattle.fact_entity.specs.declared.id.Id.{Id}
 use Rattle.fact_entity.specs.declared.table.SourceInstanceTypes.{SourceInstanceTypes}
 use Rattle.fact_entity.specs.declared.table.SourceComponentTypes.{SourceComponentTypes}
-use Rattle.fact_entity.specs.declared.source.ComponentAnyTypeId.TheVariants as any
+use Rattle.fact_entity.specs.declared.source_ids.ComponentAnyTypeId.TheVariants as any
 use Rattle.fact_source.specs.declared.items.ComponentEntityType.{ComponentEntityType}
 use Rattle.fact_source.specs.declared.items.ComponentEntityType.TheVariants as entity
 use Rattle.fact_source.specs.declared.items.SourceItem.{SourceItem}

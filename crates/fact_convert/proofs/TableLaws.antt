@@ -30,7 +30,7 @@ use Rattle.fact_builder.specs.declared.error.BuildError.TheVariants.{TooLarge}
 use Rattle.fact_builder.specs.Errors.{build_error}
 use Rattle.fact_convert.specs.Conversion.{BuilderGrows}
 use Rattle.fact_convert.specs.BuilderTables.{tables_of, with_tables}
-use Rattle.fact_convert.specs.Interning.{Interns, LacksRoom}
+use Rattle.fact_convert.specs.Interning.{Interns, LacksEntryRoom}
 use Rattle.fact_convert.specs.Performing.{Performs, Fails}
 use Rattle.fact_convert.specs.Progress.{Comes}
 use Rattle.fact_convert.specs.Tasks.{Task}
@@ -81,5 +81,5 @@ comes_interned T s a b m F e i j k d at rest keeps t performs f =
 
 pub comes_full : {X K Y : Type 0} (T : Interned X) (s : SourceTables) (a : Builder) (m : Task) (ms : List Task) (F : Builder → Y → Type 0) (e : X) (res : Result K PushError) (x : PushError) → res ≡ Err x
     → ((res ≡ Err push.TooLarge) ↔ ((position (T.eq e) (T.get a.tables) ≡ None) × (length (T.get a.tables) ≡ 4294967295)))
-    → (LacksRoom (T.get (tables_of a)) e → Fails s a m TooLarge) → Comes s a (m ∷ ms) F a (Err (build_error x))
+    → (LacksEntryRoom (T.get (tables_of a)) e → Fails s a m TooLarge) → Comes s a (m ∷ ms) F a (Err (build_error x))
 comes_full T s a m ms F e res x q t fails = comes_refused s a m ms F x (λ z. fails (no_room T.eq T.same (T.get a.tables) e (t.0 (q ∙ ap Err z))))

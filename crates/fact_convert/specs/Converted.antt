@@ -3,8 +3,8 @@ use Rattle.std.specs.Prelude.{ℕ, suc, ◌≡◌, List, map, Some, option_to_li
 use Rattle.std.specs.List.{AllZip}
 use Rattle.fact_entity.specs.declared.id.Id.{Id}
 use Rattle.fact_entity.specs.declared.table.ModuleInternedTypes.{ModuleInternedTypes}
-use Rattle.fact_entity.specs.declared.source.ComponentAnyTypeId.{ComponentAnyTypeId}
-use Rattle.fact_entity.specs.declared.source.ComponentAnyTypeId.TheVariants as any
+use Rattle.fact_entity.specs.declared.source_ids.ComponentAnyTypeId.{ComponentAnyTypeId}
+use Rattle.fact_entity.specs.declared.source_ids.ComponentAnyTypeId.TheVariants as any
 use Rattle.fact_wasm.specs.declared.types.ValType.{ValType}
 use Rattle.fact_source.specs.declared.defined.ComponentValType.{ComponentValType}
 use Rattle.fact_source.specs.declared.defined.ComponentValType.TheVariants as val

@@ -28,7 +28,7 @@ type_of_export (item.Instance i) = def.ComponentInstance i
 type_of_export (item.AnyType d) = d
 
 -- What a component names is there: the items of its exports, and the types of its imports and items.
-pub record IsLiveComponent (t : Tables) (c : Component) : Type 0 where
+pub record NamesLiveItems (t : Tables) (c : Component) : Type 0 where
   pub exports : All (λ x. x.1.number < length c.export_items) c.exports
   pub imports : AreLiveExterns t c.import_types
   pub items : All (λ x. IsLiveDef t (type_of_export x)) c.export_items

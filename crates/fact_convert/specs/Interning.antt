@@ -14,5 +14,5 @@ abbrev pub Interns : {X : Type 0} → List X → X → List X → Type 0
 Interns xs e ys = (HasEntry xs e × (ys ≡ xs)) ⊎ ((HasEntry xs e → ⊥) × CanGrow xs × (ys ≡ xs ++ e ∷ []))
 
 -- The entry is not there, and its table cannot grow.
-abbrev pub LacksRoom : {X : Type 0} → List X → X → Type 0
-LacksRoom xs e = (HasEntry xs e → ⊥) × (length xs ≡ 4294967295)
+abbrev pub LacksEntryRoom : {X : Type 0} → List X → X → Type 0
+LacksEntryRoom xs e = (HasEntry xs e → ⊥) × (length xs ≡ 4294967295)

@@ -27,7 +27,7 @@ use Rattle.fact_builder.specs.Known.{kept_table, registration, new_table}
 use Rattle.fact_convert.specs.Appended.{AreLastInTurn}
 use Rattle.fact_convert.specs.Converted.{IsTypeFrom, IsFuncFrom, IsModuleFrom, IsItemFrom, IsDefFrom}
 use Rattle.fact_convert.specs.BuilderTables.{tables_of, with_tables}
-use Rattle.fact_convert.specs.Interning.{CanGrow, Interns, LacksRoom}
+use Rattle.fact_convert.specs.Interning.{CanGrow, Interns, LacksEntryRoom}
 use Rattle.fact_convert.specs.Merging.{merged}
 use Rattle.fact_convert.specs.SourceShapes.{SourceKind, of_kind, of_future, of_stream, SourceNode, source_node, placed_values}
 use Rattle.fact_convert.specs.Tasks.{Task, registers, takes_table, makes_error_context, makes_type, makes_handles, makes_tuple, makes_func, makes_core, appends_module, appends_instance, appends_component, refuses}
@@ -107,16 +107,16 @@ pub record CannotBeMadeFrom (s : SourceTables) (c : Builder) (k : Kind) (xs : Li
 
 abbrev pub LacksRoomForNode : SourceTables → Builder → List (List ℕ × Option ComponentValType) → SourceKind → Type 0
 LacksRoomForNode s c xs (of_kind k) = CannotBeMadeFrom s c k xs
-LacksRoomForNode s c xs of_future = (p : Option InterfaceType) × AreMembersFrom s c xs (([], p) ∷ []) × LacksRoom (tables_of c).futures (record { payload = p })
-LacksRoomForNode s c xs of_stream = (p : Option InterfaceType) × AreMembersFrom s c xs (([], p) ∷ []) × LacksRoom (tables_of c).streams (record { payload = p })
+LacksRoomForNode s c xs of_future = (p : Option InterfaceType) × AreMembersFrom s c xs (([], p) ∷ []) × LacksEntryRoom (tables_of c).futures (record { payload = p })
+LacksRoomForNode s c xs of_stream = (p : Option InterfaceType) × AreMembersFrom s c xs (([], p) ∷ []) × LacksEntryRoom (tables_of c).streams (record { payload = p })
 
 abbrev pub LacksRoomForType : SourceTables → Builder → Option SourceNode → Type 0
 LacksRoomForType s c None = ⊥
 LacksRoomForType s c (Some n) = LacksRoomForNode s c n.members n.kind
 
 abbrev pub LacksRoomForHandles : SourceTables → Builder → List (List ℕ × Option ComponentValType) → SourceKind → Option (Id RuntimeComponentInstances) → Type 0
-LacksRoomForHandles s c xs of_future (Some n) = (i : Id TypeFutures) × (f : TypeFuture) × (slice_get (tables_of c).futures i.number ≡ Some f) × AreMembersFrom s c xs (([], f.payload) ∷ []) × LacksRoom (tables_of c).future_tables (record { ty = i; instance = n })
-LacksRoomForHandles s c xs of_stream (Some n) = (i : Id TypeStreams) × (f : TypeStream) × (slice_get (tables_of c).streams i.number ≡ Some f) × AreMembersFrom s c xs (([], f.payload) ∷ []) × LacksRoom (tables_of c).stream_tables (record { ty = i; instance = n })
+LacksRoomForHandles s c xs of_future (Some n) = (i : Id TypeFutures) × (f : TypeFuture) × (slice_get (tables_of c).futures i.number ≡ Some f) × AreMembersFrom s c xs (([], f.payload) ∷ []) × LacksEntryRoom (tables_of c).future_tables (record { ty = i; instance = n })
+LacksRoomForHandles s c xs of_stream (Some n) = (i : Id TypeStreams) × (f : TypeStream) × (slice_get (tables_of c).streams i.number ≡ Some f) × AreMembersFrom s c xs (([], f.payload) ∷ []) × LacksEntryRoom (tables_of c).stream_tables (record { ty = i; instance = n })
 LacksRoomForHandles s c xs k n = ⊥
 
 abbrev pub LacksRoomForHandlesOf : SourceTables → Builder → Option SourceNode → Type 0
@@ -125,7 +125,7 @@ LacksRoomForHandlesOf s c (Some n) = LacksRoomForHandles s c n.members n.kind c.
 
 abbrev pub LacksRoomForErrorContext : Builder → Option (Id RuntimeComponentInstances) → Type 0
 LacksRoomForErrorContext c None = ⊥
-LacksRoomForErrorContext c (Some n) = LacksRoom (tables_of c).error_context_tables (record { instance = n })
+LacksRoomForErrorContext c (Some n) = LacksEntryRoom (tables_of c).error_context_tables (record { instance = n })
 
 -- There is no room for what must be added, or it does not fit.
 abbrev pub LacksRoomFor : SourceTables → Builder → Task → Type 0
@@ -135,8 +135,8 @@ LacksRoomFor s c makes_error_context = LacksRoomForErrorContext c c.resources.in
 LacksRoomFor s c (makes_type d) = LacksRoomForType s c (source_node d)
 LacksRoomFor s c (makes_handles d) = LacksRoomForHandlesOf s c (source_node d)
 LacksRoomFor s c (makes_tuple vs) = CannotBeMadeFrom s c k_tuple (placed_values 0 vs)
-LacksRoomFor s c (makes_func f) = (g : TypeFunc) × IsFuncFrom s c f g × LacksRoom (tables_of c).functions g
-LacksRoomFor s c (makes_core params results) = LacksRoom c.module_types (record { params = params; results = results })
+LacksRoomFor s c (makes_func f) = (g : TypeFunc) × IsFuncFrom s c f g × LacksEntryRoom (tables_of c).functions g
+LacksRoomFor s c (makes_core params results) = LacksEntryRoom c.module_types (record { params = params; results = results })
 LacksRoomFor s c (appends_module m) = length (tables_of c).modules ≡ 4294967295
 LacksRoomFor s c (appends_instance x) = length (tables_of c).component_instances ≡ 4294967295
 LacksRoomFor s c (appends_component x) = length (tables_of c).components ≡ 4294967295

@@ -2,7 +2,7 @@
 use Rattle.std.specs.Prelude.{ℕ, zero, suc, List, [], ◌∷◌, ◌++◌, map, length, flat_map, Option, Some, None, option_to_list, slice_get}
 use Rattle.fact_entity.specs.declared.id.Id.{Id}
 use Rattle.fact_entity.specs.declared.table.SourceResources.{SourceResources}
-use Rattle.fact_entity.specs.declared.source.ComponentAnyTypeId.TheVariants as any
+use Rattle.fact_entity.specs.declared.source_ids.ComponentAnyTypeId.TheVariants as any
 use Rattle.fact_wasm.specs.declared.types.ValType.{ValType}
 use Rattle.fact_source.specs.declared.defined.PrimitiveValType.TheVariants as word
 use Rattle.fact_source.specs.declared.defined.ComponentValType.{ComponentValType}

@@ -8,7 +8,7 @@ ghost use Rattle.fact_builder.specs.Builder.{Builder};
 ghost use Rattle.fact_convert.specs.Conversion.{BuilderGrows, ConvertsDefined, ConvertsEntity, ConvertsErrorContext, ConvertsFunc, ConvertsItem, IsReadyFor};
 ghost use Rattle.fact_convert.specs.Converted.{entity_of};
 ghost use Rattle.fact_convert.specs.BuilderTables.{tables_of};
-ghost use Rattle.fact_convert.specs.Finished.{Finishes, IsLiveComponent};
+ghost use Rattle.fact_convert.specs.Finished.{Finishes, NamesLiveItems};
 
 use crate::component::Component;
 use crate::finish::finish_with;
@@ -117,7 +117,7 @@ pub trait Conversions: Sized {
         self,
         component: &Component,
     ) -> Result<(ComponentTypes, TypeComponentIndex), BuildError>
-        requires { IsLiveComponent (builder self).tables component.now }
+        requires { NamesLiveItems (builder self).tables component.now }
         ensures { Finishes (builder self) component.now result };
 }
 

@@ -2,7 +2,7 @@
 
 ghost use Rattle.std.specs.Prelude.{◌≡◌, ◌<◌, IfOk, All, length, map};
 ghost use Rattle.std.specs.List.{AllZip};
-ghost use Rattle.fact_convert.specs.Finished.{type_of_export as type_of, IsLiveComponent, IsExternOf, Finishes, FinishesWith};
+ghost use Rattle.fact_convert.specs.Finished.{type_of_export as type_of, NamesLiveItems, IsExternOf, Finishes, FinishesWith};
 ghost use Rattle.fact_convert.specs.Merging.{merged};
 
 use crate::component::{Component, Export};
@@ -20,7 +20,7 @@ pub(crate) fn finish_with(
     mut builder: ComponentTypesBuilder,
     component: &Component,
 ) -> Result<(ComponentTypes, TypeComponentIndex), BuildError>
-    requires { IsLiveComponent builder.tables component.now }
+    requires { NamesLiveItems builder.tables component.now }
     ensures { Finishes builder component.now result }
 {
     let index = push_whole(alloc, &mut builder, component);
@@ -40,7 +40,7 @@ fn push_whole(
     builder: &mut ComponentTypesBuilder,
     component: &Component,
 ) -> Result<TypeComponentIndex, BuildError>
-    requires { IsLiveComponent builder.old.tables component.now }
+    requires { NamesLiveItems builder.old.tables component.now }
     ensures { FinishesWith builder.old component.now builder.new result }
 {
     let imports = import_types_of(alloc, component)?;

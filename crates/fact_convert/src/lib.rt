@@ -1,5 +1,9 @@
 //! What conversions make of the types of a source, and what the end of a builder makes of a component: calls of
 //! `ComponentTypesBuilder`, by the trait [`Conversions`].
+//!
+//! - The calls: `conversions` and, of the end, `finish`, over a `component`.
+//! - Types of values (`values`, with `members`, `names` and `handles`), functions (`funcs`), modules (`modules`), and imports and exports (`items`), whose
+//!   resources are registered by `registers`.
 #![tactic(auto)]
 
 mod component;

@@ -16,7 +16,7 @@ use Rattle.fact_code_laws.specs.Choices.{all_of_chunks, chunk_codes, chunk_numbe
 use Rattle.fact_code_laws.specs.Code.{arms, cases_code, labels_from, trap_code, sum_code}
 use Rattle.fact_emit.specs.declared.writer.Writer.{Writer}
 use Rattle.fact_emit.specs.Asked.{AskedHelper, HasHelpers}
-use Rattle.fact_emit.specs.Bodies.{ChoosesCase, WroteChoice, code_of_bodies}
+use Rattle.fact_emit.specs.Choices.{ChoosesCase, WroteChoice, code_of_bodies}
 use Rattle.fact_emit.specs.Brought.{Brought}
 use Rattle.fact_emit.specs.Emits.{GrewAside, GrewAsideAsking, GrewAsking, EmitsAsking, Later}
 use Rattle.fact_emit.specs.Imports.{AreOnce}

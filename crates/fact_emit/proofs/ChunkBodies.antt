@@ -8,7 +8,7 @@ use Rattle.fact_wasm.specs.declared.instr.Instr.{Instr}
 use Rattle.fact_code_laws.specs.Choices.{all_of_chunks, chunk_number, full_chunk_code, place_in_chunk, IsChoice, InChunks}
 use Rattle.fact_code_laws.specs.Code.{cases_code, labels_from, sum_code}
 use Rattle.fact_code_laws.proofs.Choices.{length_of_chunks}
-use Rattle.fact_emit.specs.Bodies.{AreChunkCodes, HasChunks}
+use Rattle.fact_emit.specs.Choices.{AreChunkCodes, HasChunks}
 
 full_more : (chunks : List (List (List Instr))) (chunk : List (List Instr)) → AllByRecursion (λ c. length c ≡ 64) chunks → length chunk ≡ 64 → AllByRecursion (λ c. length c ≡ 64) (chunks ++ chunk ∷ [])
 full_more [] chunk full one = (one, tt)

@@ -8,7 +8,7 @@ use Rattle.fact_wasm.specs.declared.instr.Instr.TheVariants as I
 use Rattle.fact_wasm.specs.declared.types.ValType.{ValType}
 use Rattle.fact_wasm.specs.declared.types.ValType.TheVariants as val
 use Rattle.fact_wasm.specs.Ranges.{AreRanged}
-use Rattle.fact_code_laws.specs.Cases.{tag_code, zero_code, zero_const, zero_slots}
+use Rattle.fact_code_laws.specs.Cases.{discriminant_code, zero_code, zero_const, zero_slots}
 use Rattle.fact_code_laws.specs.Code.{length_code, pages_code, scaled_code, trap_code}
 use Rattle.fact_code_laws.specs.Places.{InMemory, Number, N8, N16, N32, N64, Off, Slot, To, ToLocals, ToMemory, code_before, code_behind, from_i32, from_i64, narrow, place_test, read_code, to_i32, to_i64, upper_test, widen}
 use Rattle.fact_code_laws.specs.Tests.{aligned_code, bounds_code, pointer_of_width}
@@ -113,7 +113,7 @@ pub zeros_ranged : (rest : To) → AreRanged 0 0 (zero_code rest)
 zeros_ranged (ToLocals slots) = slots_ranged slots
 zeros_ranged (ToMemory memory base offset) = tt
 
-pub tag_ranged : (n : Number) (number : ℕ) (dst : To) → AreRanged 0 0 (tag_code n number dst)
+pub tag_ranged : (n : Number) (number : ℕ) (dst : To) → AreRanged 0 0 (discriminant_code n number dst)
 tag_ranged n number dst =
     ranged_append 0 0 (code_before dst) (I.I32Const number ∷ code_behind n dst) (before_ranged dst)
     (ranged_append 0 0 (I.I32Const number ∷ []) (code_behind n dst) (ranged_none 0 0 (I.I32Const number ∷ []) (simp the_lemmas)) (behind_ranged n dst))

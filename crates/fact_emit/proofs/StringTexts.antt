@@ -19,7 +19,7 @@ use Rattle.fact_code_laws.specs.Tests.{read_into}
 use Rattle.fact_emit.specs.declared.places.Sides.{Sides}
 use Rattle.fact_emit.specs.declared.string_locals.StringLocals.{StringLocals}
 use Rattle.fact_emit.specs.declared.writer.Writer.{Writer}
-use Rattle.fact_emit.specs.Bodies.{code_of_bodies}
+use Rattle.fact_emit.specs.Choices.{code_of_bodies}
 use Rattle.fact_emit.specs.Checks.{ChecksRegion}
 use Rattle.fact_emit.specs.Emits.{Emits, Grew, GrewAside, Later}
 use Rattle.fact_emit.specs.Imports.{AreOnce}

@@ -20,6 +20,7 @@ use Rattle.fact_types.specs.declared.outside.MemoryOption.{MemoryOption}
 use Rattle.fact_types.specs.declared.outside.Transcode.{Transcode}
 use Rattle.fact_types.specs.Adapters.{LinkedAdapter, Side, is_async, is_crossing, is_wide, same_def}
 use Rattle.fact_types.specs.ImportTypes.{callback_type, post_return_type, realloc_type}
+use Rattle.fact_types.specs.TranscoderNames.{transcoder_name}
 use Rattle.fact_actions.specs.Adapters.{def_of_memory}
 use Rattle.fact_actions.specs.Sides.{options_of}
 use Rattle.fact_code_laws.specs.StringCode.{transcoder_type}
@@ -27,7 +28,6 @@ use Rattle.fact_emit.specs.declared.imported.RuntimeFunction.{RuntimeFunction}
 use Rattle.fact_emit.specs.declared.imported.RuntimeFunction.TheVariants as runtime
 use Rattle.fact_emit.specs.Runtime.{name_of_runtime, origin_of_runtime, type_of_runtime}
 use Rattle.fact_emit.specs.TaskTypes.{prepare_call_name, prepare_call_type, start_call_name, start_call_type}
-use Rattle.fact_emit.specs.TranscoderNames.{transcoder_name}
 
 -- ---- what the adapters mention
 
@@ -194,7 +194,7 @@ def_of _ = None
 
 -- ---- the calls by which async adapters hand their calls to the runtime
 
--- an async adapter between two instances, in whose stead the runtime calls the callee
+-- an async adapter (`is_async`) between two instances (`is_crossing`), in whose stead the runtime calls the callee
 abbrev pub is_awaited : LinkedAdapter → Bool
 is_awaited a = is_async a && is_crossing a
 

@@ -2,9 +2,9 @@ pub mod AdapterImports
 pub mod Areas
 pub mod Asked
 pub mod Barriers
-pub mod Bodies
 pub mod Brought
 pub mod Checks
+pub mod Choices
 pub mod DefImports
 pub mod Emits
 pub mod Fitting
@@ -37,7 +37,6 @@ pub mod StringPaths
 pub mod StringPieces
 pub mod TaskCalls
 pub mod TaskTypes
-pub mod TranscoderNames
 pub mod WidthLaws
 pub mod Widths
 pub mod Writers

@@ -13,6 +13,7 @@ use Rattle.fact_types.specs.declared.outside.CoreDef.{CoreDef}
 use Rattle.fact_types.specs.declared.outside.Trap.{Trap}
 use Rattle.fact_types.specs.declared.import.Import.{Import}
 use Rattle.fact_types.specs.declared.import.Import.TheVariants as known
+use Rattle.fact_types.specs.TranscoderNames.{transcoder_name}
 use Rattle.fact_code_laws.specs.StringCode.{transcoder_type}
 use Rattle.fact_emit.specs.declared.helpers.Helper.{Helper}
 use Rattle.fact_emit.specs.declared.imported.ImportedItem.{ImportedItem}
@@ -24,7 +25,6 @@ use Rattle.fact_emit.specs.declared.transcoders.Transcoder.{Transcoder}
 use Rattle.fact_emit.specs.ImportSection.{HasMemoryWidth, a_function, a_memory, a_global, imported_type, imports_of, sort_of}
 use Rattle.fact_emit.specs.Runtime.{import_of, name_of_runtime, origin_of_runtime, type_of_runtime}
 use Rattle.fact_emit.specs.TaskTypes.{prepare_call_type, start_call_type}
-use Rattle.fact_emit.specs.TranscoderNames.{transcoder_name}
 
 -- What `ModuleSections` holds: the sections of a module so far, and what its imports are. The exports of imported functions stand behind the others. Each
 -- helper that code asked for stands beside the number of its function. Functions below a number may be numbered ahead, before there is code of them.

@@ -121,7 +121,7 @@ fn check_address(
     Ok(())
 }
 
-/// The same of the place of a source.
+/// With debug checks on, traps where a source is in memory at a place that is not a multiple of an alignment.
 pub fn check_source(
     w: &mut Writer,
     debug: bool,
@@ -139,7 +139,7 @@ pub fn check_source(
     Ok(())
 }
 
-/// The same of the place of a target.
+/// With debug checks on, traps where a target is in memory at a place that is not a multiple of an alignment.
 pub fn check_target(
     w: &mut Writer,
     debug: bool,

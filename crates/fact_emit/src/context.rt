@@ -50,7 +50,7 @@ pub fn read_context(w: &mut Writer, is_on: bool, locals: ContextLocals) -> Resul
     Ok(())
 }
 
-/// Sets them to 0.
+/// Where the slots are looked at, sets them to 0.
 fn zero_context(w: &mut Writer, is_on: bool) -> Result<(), OutOfMemory>
     ensures { OnOk result (Emits w.old w.new (ZeroesSlots is_on)) }
 {
@@ -61,7 +61,7 @@ fn zero_context(w: &mut Writer, is_on: bool) -> Result<(), OutOfMemory>
     Ok(())
 }
 
-/// Saves them in locals, and sets them to 0.
+/// Where the slots are looked at, saves them in locals, and sets them to 0.
 pub fn save_context(w: &mut Writer, is_on: bool, locals: ContextLocals) -> Result<(), OutOfMemory>
     ensures { OnOk result (Emits w.old w.new (SavesSlots is_on locals)) }
 {
@@ -70,7 +70,7 @@ pub fn save_context(w: &mut Writer, is_on: bool, locals: ContextLocals) -> Resul
     Ok(())
 }
 
-/// Sets them to what locals hold.
+/// Where the slots are looked at, sets them to what locals hold.
 pub fn restore_context(
     w: &mut Writer,
     is_on: bool,

@@ -8,7 +8,7 @@ ghost use Rattle.fact_emit.specs.Imports.{AreOnce, Extended};
 ghost use Rattle.fact_emit.specs.DefImports.{IsDefImported};
 ghost use Rattle.fact_emit.specs.States.{OnlyTypesAdded};
 
-use crate::state::ModuleSections;
+use crate::sections::ModuleSections;
 use fact_entity::{EntityRef, RuntimeComponentInstanceIndex};
 use fact_types::CoreDef;
 use fact_wasm::{FuncType, ImportType, OutOfMemory, ValType};

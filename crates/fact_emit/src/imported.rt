@@ -24,7 +24,7 @@ pub enum RuntimeFunction {
 }
 
 impl RuntimeFunction {
-    /// It as an import.
+    /// The import that the function of the runtime is.
     pub fn import(self) -> Import
         ensures { result ≡ import_of self }
     {
@@ -83,7 +83,7 @@ pub enum ImportedItem {
 }
 
 impl TranscoderItem {
-    /// It as an import.
+    /// The import that the transcoder is.
     fn import(&self) -> Result<Import, OutOfMemory>
         ensures { IfOk result (λ i. i ≡ known.Transcode self.now.op self.now.from self.now.from64 self.now.to self.now.to64) }
     {
@@ -98,7 +98,7 @@ impl TranscoderItem {
 }
 
 impl StartCallItem {
-    /// It as an import.
+    /// The import that the start-call is.
     fn import(&self) -> Result<Import, OutOfMemory>
         ensures { IfOk result (λ i. i ≡ known.StartCall self.now.callback self.now.post_return) }
     {
@@ -110,7 +110,7 @@ impl StartCallItem {
 }
 
 impl PrepareCallItem {
-    /// It as an import.
+    /// The import that the prepare-call is.
     fn import(&self) -> Result<Import, OutOfMemory>
         ensures { IfOk result (λ i. i ≡ known.PrepareCall self.now.memory) }
     {
@@ -121,7 +121,7 @@ impl PrepareCallItem {
 }
 
 impl ImportedItem {
-    /// It as an import.
+    /// The import that the item is.
     pub fn import(&self) -> Result<Import, OutOfMemory>
         ensures { IfOk result (λ i. i ≡ known_as self.now) }
     {

@@ -130,6 +130,8 @@ pub fn written_alignment(encoding: StringEncoding) -> u32
     }
 }
 
+// ---- single steps, each in front of the path that follows it
+
 fn limit(alloc: Global, factor: u32, next: Path) -> Result<Path, OutOfMemory>
     ensures { IfOk result (λ p. path_of p ≡ moves.Limit factor (path_of next)) }
 {
@@ -181,6 +183,8 @@ fn assert_that(alloc: Global, trap: Trap, test: PathTest, next: Path) -> Result<
 {
     Ok(Path::Assert(trap, test, Box::new(alloc, next)?))
 }
+
+// ---- stretches that several paths have
 
 /// A region of so many bytes for each unit of the source, and a transcoder over all of it.
 fn whole(alloc: Global, bytes: u32, op: Transcode, next: Path) -> Result<Path, OutOfMemory>
@@ -263,6 +267,8 @@ fn compact_to_compact(alloc: Global) -> Result<Path, OutOfMemory>
     let asserted = assert_that(alloc, trap, PathTest::KeepsUnits, chosen)?;
     whole(alloc, 2, Transcode::Utf16ToCompactProbablyUtf16, asserted)
 }
+
+// ---- whole paths, by the form of the source
 
 fn from_utf8(alloc: Global, to: StringEncoding) -> Result<Path, OutOfMemory>
     ensures { IfOk result (λ p. path_of p ≡ moves.path moves.AsUtf8 to) }

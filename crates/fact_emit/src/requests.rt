@@ -1,6 +1,6 @@
 //! Requests of memory for lists and areas: calls of realloc, and the check of what it answers.
 
-ghost use Rattle.std.specs.Prelude.{IsTrue, OnOk, ◌≡◌, ◌∷◌, [], ◌++◌, ◌<◌};
+ghost use Rattle.std.specs.Prelude.{OnOk, ◌≡◌, ◌∷◌, [], ◌++◌, ◌<◌};
 ghost use Rattle.fact_wasm.specs.declared.instr.Instr.TheVariants as I;
 ghost use Rattle.fact_wasm.specs.declared.types.ValType.TheVariants as val;
 ghost use Rattle.fact_code_laws.specs.Lists.{const_code, address_code, ask_code, bytes_code};
@@ -15,7 +15,6 @@ use crate::context::{ContextLocals, restore_context, save_context};
 use crate::numbers::{put_narrowed, put_scaled, put_widened};
 use crate::places::LinearMemory;
 use crate::pointers::{AreaLocals, check_region, pointer_number};
-use crate::state::ModuleSections;
 use crate::writer::Writer;
 use fact_types::Trap;
 use fact_wasm::{FuncName, Instr, OutOfMemory, ValType};
@@ -31,17 +30,7 @@ pub struct NewRegion {
     pub context: ContextLocals,
 }
 
-/// Whether a side's realloc, where it has one, is among the functions that were imported.
-pub fn is_realloc_imported(imports: &ModuleSections, linear: LinearMemory) -> bool
-    ensures { IsTrue result → IsReallocImported linear imports.now }
-{
-    match linear.realloc {
-        Some(place) => imports.has_function(place),
-        None => true,
-    }
-}
-
-/// A number as wide as addresses.
+/// Pushes a number that is as wide as addresses.
 pub fn put_const(w: &mut Writer, memory64: bool, number: u32) -> Result<(), OutOfMemory>
     ensures { OnOk result (Wrote w.old w.new (const_code memory64 number ∷ [])) }
 {
@@ -52,7 +41,7 @@ pub fn put_const(w: &mut Writer, memory64: bool, number: u32) -> Result<(), OutO
     }
 }
 
-/// An address out of a local of type i64.
+/// Pushes the address that a local of type i64 holds.
 pub fn put_address(w: &mut Writer, memory64: bool, local: u32) -> Result<(), OutOfMemory>
     ensures { OnOk result (Wrote w.old w.new (address_code memory64 local)) }
 {
@@ -61,7 +50,7 @@ pub fn put_address(w: &mut Writer, memory64: bool, local: u32) -> Result<(), Out
     Ok(())
 }
 
-/// An address into a local of type i64.
+/// An address off the operand stack into a local of type i64.
 fn keep_address(w: &mut Writer, memory64: bool, local: u32) -> Result<(), OutOfMemory>
     ensures { OnOk result (Wrote w.old w.new (widen (pointer_of_width memory64) val.I64 ++ I.LocalSet local ∷ [])) }
 {
@@ -71,7 +60,7 @@ fn keep_address(w: &mut Writer, memory64: bool, local: u32) -> Result<(), OutOfM
 }
 
 /// Calls realloc of this place for a new region of an alignment, and of as many bytes as a local says.
-fn put_call(
+fn put_realloc(
     w: &mut Writer,
     memory64: bool,
     align: u32,
@@ -93,7 +82,7 @@ fn put_ask(w: &mut Writer, linear: LinearMemory, align: u32, bytes: u32) -> Resu
     ensures { OnOk result (Wrote w.old w.new (ask_code_if linear.realloc linear.memory64 align bytes)) }
 {
     match linear.realloc {
-        Some(place) => put_call(w, linear.memory64, align, bytes, place),
+        Some(place) => put_realloc(w, linear.memory64, align, bytes, place),
         None => w.put(Instr::Unreachable),
     }
 }

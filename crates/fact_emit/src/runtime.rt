@@ -10,7 +10,7 @@ ghost use Rattle.fact_emit.specs.Runtime.{import_of, name_of_runtime, origin_of_
 ghost use Rattle.fact_emit.specs.States.{HasType, IsImported, IsRuntimeImported, IsTrapImported, OnlyTypesAdded, import_as};
 
 use crate::imported::{ImportedItem, RuntimeFunction};
-use crate::state::ModuleSections;
+use crate::sections::ModuleSections;
 use fact_types::{Trap, UnsafeIntrinsic};
 use fact_wasm::{ImportType, OutOfMemory, ValType};
 use std::alloc::Global;
@@ -48,7 +48,7 @@ pub fn slot_name(slot: UnsafeIntrinsic) -> &'static str
     }
 }
 
-/// The module that the import of a function of the runtime names.
+/// The module name of the import of a function of the runtime.
 fn origin(function: RuntimeFunction) -> &'static str
     ensures { result.now ≡ origin_of_runtime function }
 {
@@ -65,7 +65,7 @@ fn origin(function: RuntimeFunction) -> &'static str
     }
 }
 
-/// Its name there.
+/// The name of the import of a function of the runtime.
 fn name(alloc: Global, function: RuntimeFunction) -> Result<String, OutOfMemory>
     ensures { IfOk result (λ name. string_bytes name ≡ name_of_runtime function) }
 {

@@ -32,7 +32,7 @@ const MOST_STRING_BYTES: u32 = 2_147_483_647;
 /// What is left of a length without bit 31, which tells UTF-16 from Latin-1.
 const BELOW_TAG: u64 = 2_147_483_647;
 
-/// An i64 as an address.
+/// An i64 on the operand stack as an address.
 pub fn to_address(w: &mut Writer, memory64: bool) -> Result<(), OutOfMemory>
     ensures { OnOk result (Wrote w.old w.new (to_address_code memory64)) }
 {
@@ -40,7 +40,7 @@ pub fn to_address(w: &mut Writer, memory64: bool) -> Result<(), OutOfMemory>
     Ok(())
 }
 
-/// An address as an i64.
+/// An address on the operand stack as an i64.
 fn from_address(w: &mut Writer, memory64: bool) -> Result<(), OutOfMemory>
     ensures { OnOk result (Wrote w.old w.new (from_address_code memory64)) }
 {
@@ -84,7 +84,7 @@ fn put_amount(
     }
 }
 
-/// An address into a local.
+/// An address off the operand stack into a local, as an i64.
 pub fn keep(w: &mut Writer, memory64: bool, local: u32) -> Result<(), OutOfMemory>
     ensures { OnOk result (Wrote w.old w.new (keep_code memory64 local)) }
 {

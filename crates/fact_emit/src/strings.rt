@@ -13,7 +13,7 @@ ghost use Rattle.fact_emit.specs.StringPaths.{AreLimitsSome, path_of, path_test_
 ghost use Rattle.fact_emit.specs.StringPieces.{AreSidesImported, NeedsBoth, StringPiece, WroteString};
 ghost use Rattle.fact_emit.specs.Writers.{Wrote};
 
-use crate::bodies::put_either;
+use crate::choices::put_either;
 use crate::pairs::{read_pair, write_pair};
 use crate::passes::put_pass;
 use crate::paths::{Path, PathTest, TextForm, path_to};

@@ -8,7 +8,7 @@ ghost use Rattle.fact_emit.specs.TaskCalls.{IsFunctionThere, IsMemoryThere, IsPr
 ghost use Rattle.fact_emit.specs.TaskTypes.{prepare_call_type, prepare_fixed_types};
 
 use crate::imported::{ImportedItem, PrepareCallItem, StartCallItem};
-use crate::state::ModuleSections;
+use crate::sections::ModuleSections;
 use fact_entity::{FuncIndex, MemoryIndex};
 use fact_types::CoreDef;
 use fact_wasm::{ImportType, OutOfMemory, Seq, ValType};
@@ -78,11 +78,8 @@ impl ModuleSections {
         }
     }
 
-    /// The same of a memory.
-    fn copied_memory_if_any(
-        &self,
-        place: Option<MemoryIndex>,
-    ) -> Result<Option<CoreDef>, OutOfMemory>
+    /// A copy of the definition of the memory of a place among the imported memories, where there is a place, which is there.
+    fn copied_memory(&self, place: Option<MemoryIndex>) -> Result<Option<CoreDef>, OutOfMemory>
         ensures { IfOk result (λ def. IsMemoryThere self.now place def) }
     {
         let Some(place) = place else {
@@ -118,7 +115,7 @@ impl ModuleSections {
         ensures { IfOk result (λ item. IsPrepareItem self.now memory params.now item) }
     {
         Ok(ImportedItem::PrepareCall(PrepareCallItem {
-            memory: self.copied_memory_if_any(memory)?,
+            memory: self.copied_memory(memory)?,
             params: copied_types(self.alloc(), params)?,
             place: self.next_function(),
         }))

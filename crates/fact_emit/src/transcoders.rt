@@ -3,15 +3,15 @@
 ghost use Rattle.std.specs.Prelude.{◌≡◌, ℕ, ◌⊎◌, ◌++◌, ◌∷◌, [], IfOk, OnErr, OnOk, Some, slice_get, string_bytes};
 ghost use Rattle.fact_wasm.specs.CoreTypes.{HasNoTwins, IsOnlyPlaceOfType};
 ghost use Rattle.fact_wasm.specs.declared.types.FuncType.{FuncType};
+ghost use Rattle.fact_types.specs.TranscoderNames.{transcode_name as transcode_name_of};
 ghost use Rattle.fact_emit.specs.Imports.{AreOnce, Extended, HasTranscoder};
 ghost use Rattle.fact_emit.specs.ImportSection.{imported_type};
 ghost use Rattle.fact_emit.specs.State.{IsItemOf};
 ghost use Rattle.fact_emit.specs.States.{AreMemoriesImported, HaveMemoryWidths, IsTranscoderImported, OnlyTypesAdded, name_of_transcoder, type_of_transcoder};
-ghost use Rattle.fact_emit.specs.TranscoderNames.{transcode_name as transcode_name_of};
 
 use crate::core_imports::address;
 use crate::imported::{ImportedItem, TranscoderItem};
-use crate::state::ModuleSections;
+use crate::sections::ModuleSections;
 use fact_entity::{EntityRef, MemoryIndex};
 use fact_types::{FixedEncoding, Transcode};
 use fact_wasm::{CoreTypes, ImportType, OutOfMemory, Text, ValType};
@@ -56,7 +56,7 @@ impl Transcoder {
         Ok(Text::from_string(name))
     }
 
-    /// The same as a string.
+    /// The name of its import, as a string.
     fn name_text(&self, alloc: Global) -> Result<String, OutOfMemory>
         ensures { IfOk result (λ name. string_bytes name ≡ name_of_transcoder self.now) }
     {

@@ -2,13 +2,12 @@
 
 ghost use Rattle.std.specs.Prelude.{IsTrue, IfOk, IfSome, OnOk, ◌≡◌, ◌++◌, ◌∷◌, [], true, Some, slice_get};
 ghost use Rattle.fact_types.specs.declared.import.Import.TheVariants as import;
-ghost use Rattle.fact_emit.specs.Imports.{AreOnce};
 ghost use Rattle.fact_machine.specs.Typing.{is_number};
 ghost use Rattle.fact_emit.specs.States.{AreMemoriesImported, HaveMemoryWidths};
 ghost use Rattle.fact_emit.specs.Writers.{Wrote, AddedLocal, Began, EndedBody, Took, Freed, TookRuntime, TookTranscoder, TookTrap, Same, free_local_of, taken_in};
 
 use crate::imported::RuntimeFunction;
-use crate::state::ModuleSections;
+use crate::sections::ModuleSections;
 use crate::transcoders::Transcoder;
 use fact_types::Trap;
 use fact_wasm::{Instr, OutOfMemory, Seq, ValType};
@@ -22,7 +21,7 @@ pub struct Local {
     pub in_use: bool,
 }
 
-/// The code of a function so far, its locals, the parameters first, and the module around it (`imports`). A local that was freed
+/// The code of a function so far, its locals, the parameters first, and the module around it. A local that was freed
 /// is taken again for its type, the last freed first.
 #[derive(Drop)]
 pub struct Writer {
@@ -35,21 +34,6 @@ pub struct Writer {
 }
 
 impl Writer {
-    /// No code, no locals and no imports yet. It takes no memory.
-    pub fn new(alloc: Global) -> Writer
-        ensures code { result.code.items ≡ [] }
-        ensures locals { result.locals.items ≡ [] }
-        ensures once { AreOnce result.sections }
-    {
-        Writer {
-            alloc,
-            sections: ModuleSections::new(alloc),
-            code: Vec::new(alloc),
-            locals: Vec::new(alloc),
-            free: Vec::new(alloc),
-        }
-    }
-
     /// No code and no locals yet, of a function of this module. It takes no memory.
     pub fn over(alloc: Global, sections: ModuleSections) -> Writer
         ensures sections { result.sections ≡ sections }

@@ -1,4 +1,4 @@
-//! Index types, each the key type of one table.
+//! The index types that other types hold, each the key type of one table.
 
 use crate::id::Id;
 use crate::table;

@@ -12,7 +12,7 @@ mod interner;
 mod key;
 mod map;
 mod pairs;
-mod source;
+mod source_ids;
 pub mod table;
 
 pub use error::PushError;
@@ -31,7 +31,7 @@ pub use interner::Interner;
 pub use key::EntityRef;
 pub use map::PrimaryMap;
 pub use pairs::Iter;
-pub use source::{
+pub use source_ids::{
     ComponentAnyTypeId, ComponentCoreModuleTypeId, ComponentDefinedTypeId, ComponentFuncTypeId,
     ComponentInstanceTypeId, ComponentTypeId, ResourceId,
 };

@@ -28,8 +28,8 @@ use Rattle.fact_actions.specs.Plain.{ended_sync, named_outcome}
 use Rattle.fact_actions.specs.Regions.{landed, params_landing, sync_moved_on}
 use Rattle.fact_actions.specs.Running.{Call, Ended, Gave, Halted, Strayed, calls_in, is_state, moved_weight, world_in}
 use Rattle.fact_actions.proofs.Barriers.{sync_runs_follow}
-use Rattle.fact_actions.proofs.Confines.{confined, requests_give_up_live}
-use Rattle.fact_actions.proofs.Ordered.{ordered_calls}
+use Rattle.fact_actions.proofs.Confines.{writes_are_confined, requests_give_up_live}
+use Rattle.fact_actions.proofs.Ordered.{calls_are_ordered}
 use Rattle.fact_actions.proofs.Stays.{typed_runs_stay}
 use Rattle.fact_code_laws.specs.Runs.{RunReturns, RunsAs}
 use Rattle.fact_action_laws.specs.Faithful.{IsFaithful, IsInLimits, IsTransferred, WhereGiven, params_given, params_passed, whole_weight}
@@ -38,18 +38,18 @@ use Rattle.fact_action_laws.proofs.Stopping.{AreReturned}
 use Rattle.fact_action_laws.specs.Answerable.{CanBeAnswered}
 use Rattle.fact_action_laws.specs.Premises.{KnowsMemories}
 use Rattle.fact_action_laws.specs.ReadTexts.{AreValuesThere, ReadTexts}
-use Rattle.fact_action_laws.specs.Requested.{AreRequested, StopsFinishing}
+use Rattle.fact_action_laws.specs.Requested.{AsksForValues, StopsFinishing}
 use Rattle.fact_action_laws.proofs.AdapterRanges.{transcoders_are_ranged, transcoders_can_be_answered}
 use Rattle.fact_action_laws.proofs.AdapterReads.{transcoders_read_texts}
 use Rattle.fact_action_laws.specs.PassingChecks.{PassChecks}
 use Rattle.fact_action_laws.proofs.ChecksPass.{adapters_come_to_end}
 use Rattle.fact_action_laws.proofs.Finished.{adapters_are_faithful, adapters_weigh}
 use Rattle.fact_action_laws.proofs.Prefixes.{callees_are_given}
-use Rattle.fact_action_laws.proofs.Requests.{requests_are_called_for}
+use Rattle.fact_action_laws.proofs.AdapterRequests.{requests_are_called_for}
 use Rattle.fact_function_laws.specs.Functions.{IsAdapterFunction, core_results, start_results}
 use Rattle.fact_function_laws.specs.Laws.{FunctionsBehave}
 use Rattle.fact_function_laws.specs.Names.{places_in, AreCalls}
-use Rattle.fact_function_laws.specs.Runs.{CallNoTrap, EndsSoon, HasAsked, IsHonestSoFar, IsHonestToTrapSoFar, IsNamedPlainRun, IsOver, IsTypedRun}
+use Rattle.fact_function_laws.specs.Runs.{CallNoTrap, EndsSoon, HasAsked, IsHonestSoFar, IsHonestUntilTrapSoFar, IsNamedPlainRun, IsOver, IsTypedRun}
 use Rattle.fact_function_laws.proofs.Fronts.{stays}
 use Rattle.fact_function_laws.proofs.ImportNumbers.{places_name, as_many}
 use Rattle.fact_function_laws.proofs.TypedCalls.{are_places, named_types}
@@ -58,7 +58,7 @@ use Rattle.fact_function_laws.proofs.Outcomes.{GaveResults, gave_results, gives_
 use Rattle.fact_function_laws.proofs.OwnAnswers.{HasCalled, has_called, its_answers}
 use Rattle.fact_function_laws.proofs.OwnWrites.{own_front}
 use Rattle.fact_function_laws.proofs.Rooms.{has_room}
-use Rattle.fact_function_laws.proofs.TrapsLast.{no_trap_called}
+use Rattle.fact_function_laws.proofs.TrapsLast.{adapter_calls_no_trap}
 use Rattle.fact_wasm.specs.declared.types.FuncType.{FuncType}
 use Rattle.fact_machine.specs.Typed.{are_values}
 use Rattle.fact_actions.specs.TypedAnswers.{result_types}
@@ -125,7 +125,7 @@ module _ (m : WasmModule) (is : List Import) (u : AdapterTunables) (a : LinkedAd
     is_confined : (cs : List Call) → AreCalls m is (at steps).log cs
         → AreOwnWrites (places_in m is) (sync_moved_on a args) (landed (params_landing a)) (room_in (places_in m is) (landed (params_landing a)) before) (trace_of m f args before answers steps) cs
     is_confined cs are =
-        let whole = confined (places_in m is) u a args before answers h.checked.own_callee (has_room (places_in m is) a h.checked) in
+        let whole = writes_are_confined (places_in m is) u a args before answers h.checked.own_callee (has_room (places_in m is) a h.checked) in
         let log : calls (trace_of m f args before answers steps ++ front.more) ≡ map (call_event (places_in m is)) (calls_in end) = ap calls (sym front.is) ∙ (ends_in.follows args (first_world before answers)).log in
         own_front m is (sync_moved_on a args) (landed (params_landing a)) (room_in (places_in m is) (landed (params_landing a)) before) (trace_of m f args before answers steps) front.more (calls_in end) log
         (subst (λ es. AreOwnWrites (places_in m is) (sync_moved_on a args) (landed (params_landing a)) (room_in (places_in m is) (landed (params_landing a)) before) es (calls_in end)) front.is whole) cs
@@ -178,7 +178,7 @@ module _ (m : WasmModule) (is : List Import) (u : AdapterTunables) (a : LinkedAd
 
     is_ordered : (calls : List Call) → AreCalls m is (at steps).log calls → AreOrderedCalls (places_in m is) u a before calls (at steps).state
     is_ordered calls are =
-        let ordered = ordered_calls (places_in m is) u a args (first_world before answers) gave.world gave.weight gave.calls results gave.is in
+        let ordered = calls_are_ordered (places_in m is) u a args (first_world before answers) gave.world gave.weight gave.calls results gave.is in
         subst (λ cs. AreOrderedCalls (places_in m is) u a before cs (at steps).state) (sym (gave_calls calls are))
         (subst (λ s. AreOrderedCalls (places_in m is) u a before gave.calls s) (sym its_state) ordered)
 
@@ -214,8 +214,8 @@ module _ (m : WasmModule) (is : List Import) (u : AdapterTunables) (a : LinkedAd
     abbrev given : GaveResults end results
     given = gave steps results honest.typed returns
 
-    carries : IsFaithful (places_in m is) a args before honest.calls results (at steps).state
-    carries =
+    is_faithful : IsFaithful (places_in m is) a args before honest.calls results (at steps).state
+    is_faithful =
         let whole = adapters_are_faithful (places_in m is) u a args (first_world before answers) h.checked h.sync_sides run_is_honest in
         let faithful : IsFaithful (places_in m is) a args before given.calls results given.world.state = subst (λ (e : Ended (List CoreValue)). WhereGiven e (λ cs vs w. IsFaithful (places_in m is) a args before cs vs w.state)) given.is whole in
         subst (λ cs. IsFaithful (places_in m is) a args before cs results (at steps).state) (sym (gave_calls steps results honest.typed returns honest.calls honest.are_calls))
@@ -232,19 +232,19 @@ module _ (m : WasmModule) (is : List Import) (u : AdapterTunables) (a : LinkedAd
 
   -- ---- requests
 
-  asked_by : (e : Ended (List CoreValue)) → IsStraight e → AreRequested (places_in m is) u a args before e → HasAsked (places_in m is) u a args before (named_outcome e).end (calls_in e)
+  asked_by : (e : Ended (List CoreValue)) → IsStraight e → AsksForValues (places_in m is) u a args before e → HasAsked (places_in m is) u a args before (named_outcome e).end (calls_in e)
   asked_by (Gave n cs vs w) s r = r
   asked_by (Halted n cs Trap w) s r = r
   asked_by (Halted n cs Throw w) s r = r
   asked_by (Halted n cs Lack w) s r = r
   asked_by (Strayed n cs w) s r = absurd s
 
-  asked_so_far : (e : Ended (List CoreValue)) → IsStraight e → AreRequested (places_in m is) u a args before e → HasAsked (places_in m is) u a args before Going (calls_in e)
+  asked_so_far : (e : Ended (List CoreValue)) → IsStraight e → AsksForValues (places_in m is) u a args before e → HasAsked (places_in m is) u a args before Going (calls_in e)
   asked_so_far (Gave n cs vs w) s r = λ may. StopsFinishing r
   asked_so_far (Halted n cs t w) s r = r
   asked_so_far (Strayed n cs w) s r = absurd s
 
-  asks : (steps : ℕ) (honest : IsHonestToTrapSoFar m is a args before (at steps).log) → HasAsked (places_in m is) u a args before (at steps).end honest.calls
+  asks : (steps : ℕ) (honest : IsHonestUntilTrapSoFar m is a args before (at steps).log) → HasAsked (places_in m is) u a args before (at steps).end honest.calls
   asks steps honest = elim (over_or_going (at steps).end) [ inl ended ↦ asked (ended_is_over ended) | inr going ↦ subst (λ e. HasAsked (places_in m is) u a args before e honest.calls) (sym going) asked_going ]
     where
       asked : (at steps).end ≢ Going → HasAsked (places_in m is) u a args before (at steps).end honest.calls
@@ -263,16 +263,16 @@ module _ (m : WasmModule) (is : List Import) (u : AdapterTunables) (a : LinkedAd
           let requested = requests_are_called_for (places_in m is) u a args (first_world before (its_answers m f args before answers steps)) h.checked honest_end in
           subst (HasAsked (places_in m is) u a args before Going) (sym same) (asked_so_far (so_far steps) e.goes_straight requested)
 
-  passes : (steps : ℕ) (honest : IsHonestToTrapSoFar m is a args before (at steps).log) → u.debug ≡ false → flag_in (places_in m is) a.lower.instance before.globals ≢ I32 0
+  callee_is_given : (steps : ℕ) (honest : IsHonestUntilTrapSoFar m is a args before (at steps).log) → u.debug ≡ false → flag_in (places_in m is) a.lower.instance before.globals ≢ I32 0
       → (front : List Call) (callee : Call) (behind : List Call) → honest.calls ≡ front ++ (callee ∷ behind) → callee.what ≡ import.CoreDef a.callee
       → IsTransferred a.lower.params a.lift.params (params_given (places_in m is) a args before) (params_passed (places_in m is) a callee) front
-  passes steps honest off may front callee behind parted called =
+  callee_is_given steps honest off may front callee behind parted called =
       let e = called_so_far steps honest.typed in
       let same = e.its_calls honest.calls honest.are_calls in
       callees_are_given (places_in m is) u a args (first_world before (its_answers m f args before answers steps)) off may h.checked h.sync_sides
       (honest_at (so_far steps) steps honest.typed e.goes_straight honest.calls same honest.honest) front callee behind (sym same ∙ parted) called
 
-  reads_texts : (steps : ℕ) (honest : IsHonestToTrapSoFar m is a args before (at steps).log) → flag_in (places_in m is) a.lower.instance before.globals ≢ I32 0
+  reads_texts : (steps : ℕ) (honest : IsHonestUntilTrapSoFar m is a args before (at steps).log) → flag_in (places_in m is) a.lower.instance before.globals ≢ I32 0
       → AreValuesThere (places_in m is) a args before honest.calls → ReadTexts (places_in m is) honest.calls
   reads_texts steps honest may there =
       let e = called_so_far steps honest.typed in
@@ -289,7 +289,7 @@ module _ (m : WasmModule) (is : List Import) (u : AdapterTunables) (a : LinkedAd
       let same = e.its_calls honest.calls honest.are_calls in
       let returned = honest_returned (places_in m is) a (sync_moved_on a args) (landed (params_landing a)) honest.calls honest.honest in
       let gives = gives_or_lacks end e.goes_straight (subst IsOver (ends_so steps e) over) in
-      subst CallNoTrap (sym same) (no_trap_called u a (places_in m is) args (first_world before answers) (subst AreReturned same returned) gives)
+      subst CallNoTrap (sym same) (adapter_calls_no_trap u a (places_in m is) args (first_world before answers) (subst AreReturned same returned) gives)
 
   -- ---- runs that come to their end
 
@@ -319,16 +319,16 @@ pub functions_behave : FunctionsBehave
 functions_behave m is u a adapters f h = record {
   plain = λ args before answers typed. plain m is u a adapters f h args before answers typed;
   not_stuck = λ args before answers steps typed. never_stuck m is u a adapters f h args before answers steps typed;
-  carries = λ args before answers steps results honest returns. carries m is u a adapters f h args before answers steps results honest returns;
+  is_faithful = λ args before answers steps results honest returns. is_faithful m is u a adapters f h args before answers steps results honest returns;
   takes_few_steps = λ args before answers steps results honest returns. takes_few_steps m is u a adapters f h args before answers steps results honest returns;
   is_ordered = λ args before answers steps results calls typed are returns. is_ordered m is u a adapters f h args before answers steps results typed returns calls are;
-  asks = λ args before answers steps honest. asks m is u a adapters f h args before answers steps honest;
-  passes = λ args before answers steps honest off may front callee behind parted called. passes m is u a adapters f h args before answers steps honest off may front callee behind parted called;
+  requests_are_called_for = λ args before answers steps honest. asks m is u a adapters f h args before answers steps honest;
+  callee_is_given = λ args before answers steps honest off may front callee behind parted called. callee_is_given m is u a adapters f h args before answers steps honest off may front callee behind parted called;
   reads_texts = λ args before answers steps honest may there. reads_texts m is u a adapters f h args before answers steps honest may there;
   calls_no_trap = λ args before answers steps honest over. calls_no_trap m is u a adapters f h args before answers steps honest over;
   is_confined = λ args before answers steps cs typed are. is_confined m is u a adapters f h args before answers steps typed cs are;
   gives_up_live = λ args before answers steps cs typed are. gives_up_live m is u a adapters f h args before answers steps cs typed are;
   is_ranged = λ args before answers steps cs typed are honest. is_ranged m is u a adapters f h args before answers steps cs typed are honest;
   can_be_answered = λ args before answers steps cs typed are honest. can_be_answered m is u a adapters f h args before answers steps cs typed are honest;
-  ends = λ args before answers honest pass limits. ends m is u a adapters f h args before answers honest pass limits;
+  comes_to_end = λ args before answers honest pass limits. ends m is u a adapters f h args before answers honest pass limits;
 }

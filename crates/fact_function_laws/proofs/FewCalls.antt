@@ -41,7 +41,7 @@ front_no_trap m is (e ∷ log) more (c ∷ cs) (d ∷ ds) h g none =
 
 pub runs_stay_short : RunsStayShort
 runs_stay_short m is u a f args before answers h given =
-    let ends = h.ends args before answers given.honest given.checks given.limits in
+    let ends = h.comes_to_end args before answers given.honest given.checks given.limits in
     let soon : EndsSoon m is a args before (run_of m f args before answers ends.0) = ends.1 in
     let over = over_not_going (run_of m f args before answers ends.0).end soon.over in
     record {

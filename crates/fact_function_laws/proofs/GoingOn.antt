@@ -33,7 +33,7 @@ module _ (m : WasmModule) (is : List Import) (u : AdapterTunables) (a : LinkedAd
   one_more answers More g go = by_end soon.over
     where
       ends : (steps : ℕ) × EndsSoon m is a args before (after answers steps)
-      ends = h.ends args before answers g.answered.honest g.answered.checks g.answered.limits
+      ends = h.comes_to_end args before answers g.answered.honest g.answered.checks g.answered.limits
 
       soon : EndsSoon m is a args before (after answers ends.0)
       soon = ends.1

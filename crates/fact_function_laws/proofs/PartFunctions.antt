@@ -29,7 +29,7 @@ use Rattle.fact_actions.specs.Regions.{landed, moved_on}
 use Rattle.fact_actions.specs.Running.{ImportPlaces, Call, Ended, Gave, Halted, Strayed, calls_in, is_state, moved_weight, run, world_in}
 use Rattle.fact_actions.specs.Calls.{HasOwnCallee}
 use Rattle.fact_actions.specs.TypedAnswers.{HasPlaces, HaveCoreTypes, result_types}
-use Rattle.fact_actions.proofs.Confines.{return_confined, start_confined}
+use Rattle.fact_actions.proofs.Confines.{return_writes_are_confined, start_writes_are_confined}
 use Rattle.fact_actions.proofs.Follows.{runs_follow}
 use Rattle.fact_actions.proofs.Ordered.{return_is_transfer, start_is_transfer}
 use Rattle.fact_actions.proofs.Stays.{typed_returns_stay, typed_starts_stay}
@@ -42,16 +42,16 @@ use Rattle.fact_action_laws.proofs.Starts.{starts_faithful, starts_weigh}
 use Rattle.fact_action_laws.proofs.ChecksPass.{returns_come_to_end, starts_come_to_end}
 use Rattle.fact_action_laws.specs.Answerable.{CanBeAnswered}
 use Rattle.fact_action_laws.specs.Premises.{KnowsMemories}
-use Rattle.fact_action_laws.specs.Requested.{AsksFor}
+use Rattle.fact_action_laws.specs.Requested.{AsksForParts}
 use Rattle.fact_action_laws.specs.Trapped.{AreHonestUntilTrap}
 use Rattle.fact_action_laws.proofs.AdapterRanges.{return_transcoders_are_ranged, return_transcoders_can_be_answered, start_transcoders_are_ranged, start_transcoders_can_be_answered}
 use Rattle.fact_action_laws.proofs.Finished.{texts_move}
-use Rattle.fact_action_laws.proofs.FlaggedRequests.{asks_so_far, return_requests_are_called_for, start_requests_are_called_for}
+use Rattle.fact_action_laws.proofs.AsyncRequests.{asks_so_far, return_requests_are_called_for, start_requests_are_called_for}
 use Rattle.fact_emit.specs.ImportSection.{mentions}
 use Rattle.fact_compound.specs.AsyncParts.{part_action, part_type}
 use Rattle.fact_compound.specs.declared.asyncs.AsyncPart.{AsyncPart}
 use Rattle.fact_compound.specs.declared.asyncs.AsyncPart.TheVariants as part
-use Rattle.fact_function_laws.specs.AsyncRuns.{AreHonestIn, AreRangedIn, AreThereIn, HasAskedFor, HasMoved, IsClearedTransfer, IsHonestIn, IsHonestToTrapIn, IsOverIn, IsTypedIn, part_landing, part_transfer, part_weight, request_parts, PassesChecksIn}
+use Rattle.fact_function_laws.specs.AsyncRuns.{AreHonestIn, AreRangedIn, AreThereIn, HasAskedIn, HasMoved, IsClearedTransfer, IsHonestIn, IsHonestUntilTrapIn, IsOverIn, IsTypedIn, part_landing, part_transfer, part_weight, request_parts, PassesChecksIn}
 use Rattle.fact_function_laws.specs.Functions.{IsPartFunctionOf, core_results, start_results}
 use Rattle.fact_function_laws.specs.Laws.{PartFunctionsTransfer}
 use Rattle.fact_function_laws.specs.Names.{places_in, AreCalls}
@@ -82,8 +82,8 @@ module _ (p : ImportPlaces) (u : AdapterTunables) (a : LinkedAdapter) where
     AreHonestFrom x Honest = IsHonestFrom p (part_type x a).params Honest args before (come_to x)
 
     part_confined : (x : AsyncPart) → HasOwnCallee a → HasRoomForValues a → IsConfinedFrom p moved_on (part_landing x a args) before (come_to x)
-    part_confined part.Start own room = start_confined p u a args before answers own room
-    part_confined part.Return own room = return_confined p u a args before answers own room
+    part_confined part.Start own room = start_writes_are_confined p u a args before answers own room
+    part_confined part.Return own room = return_writes_are_confined p u a args before answers own room
 
     part_ranged : (x : AsyncPart) → HasOwnCallee a → KnowsMemories p a → is_state p before ≡ true → IsStraight (come_to x) → HaveHonestTranscoders p (calls_in (come_to x)) → AreRangedIn x p a args (calls_in (come_to x))
     part_ranged part.Start own memories = start_transcoders_are_ranged p u a args (first_world before answers) own memories
@@ -105,7 +105,7 @@ module _ (p : ImportPlaces) (u : AdapterTunables) (a : LinkedAdapter) where
     part_weighed part.Start checked h = starts_weigh p u a args (first_world before answers) checked (texts_move p u a checked) h
     part_weighed part.Return checked h = returns_weigh p u a args (first_world before answers) checked (texts_move p u a checked) h
 
-    part_asked : (x : AsyncPart) → KnowsMemories p a → AreHonestFrom x (AreHonestUntilTrap (AreHonestIn x p a args)) → AsksFor (part_transfer x u a) (part_landing x a args) (request_parts x p u a args before) (come_to x)
+    part_asked : (x : AsyncPart) → KnowsMemories p a → AreHonestFrom x (AreHonestUntilTrap (AreHonestIn x p a args)) → AsksForParts (part_transfer x u a) (part_landing x a args) (request_parts x p u a args before) (come_to x)
     part_asked part.Start memories h = start_requests_are_called_for p u a args (first_world before answers) memories h
     part_asked part.Return memories h = return_requests_are_called_for p u a args (first_world before answers) memories h
 
@@ -246,8 +246,8 @@ module _ (x : AsyncPart) (m : WasmModule) (is : List Import) (u : AdapterTunable
       abbrev given : GaveResults end results
       given = gave steps results honest.typed returns
 
-      carries : HasMoved x p a args before honest.calls results (at steps).state
-      carries =
+      is_faithful : HasMoved x p a args before honest.calls results (at steps).state
+      is_faithful =
           subst (λ cs. HasMoved x p a args before cs results (at steps).state) (sym (gave_calls steps results honest.typed returns honest.calls honest.are_calls))
           (subst (λ s. HasMoved x p a args before given.calls results s) (sym (its_state steps results honest.typed returns))
           (subst (λ (e : Ended (List CoreValue)). WhereGiven e (λ cs vs w. HasMoved x p a args before cs vs w.state)) given.is (part_moved p u a args before answers x h.checked run_is_honest)))
@@ -260,8 +260,8 @@ module _ (x : AsyncPart) (m : WasmModule) (is : List Import) (u : AdapterTunable
 
     -- ---- requests
 
-    asked_by : (e : Ended (List CoreValue)) → IsStraight e → AsksFor (part_transfer x u a) (part_landing x a args) (request_parts x p u a args before) e
-        → HasAskedFor (part_transfer x u a) (part_landing x a args) (request_parts x p u a args before) (named_outcome e).end (calls_in e)
+    asked_by : (e : Ended (List CoreValue)) → IsStraight e → AsksForParts (part_transfer x u a) (part_landing x a args) (request_parts x p u a args before) e
+        → HasAskedIn (part_transfer x u a) (part_landing x a args) (request_parts x p u a args before) (named_outcome e).end (calls_in e)
     asked_by (Gave n cs vs w) s r = r.0
     asked_by (Halted n cs Trap w) s r = r.0
     asked_by (Halted n cs Throw w) s r = r.0
@@ -269,9 +269,9 @@ module _ (x : AsyncPart) (m : WasmModule) (is : List Import) (u : AdapterTunable
     asked_by (Strayed n cs w) s r = absurd s
 
     abbrev Asked : End → List Call → Type 0
-    Asked e cs = HasAskedFor (part_transfer x u a) (part_landing x a args) (request_parts x p u a args before) e cs
+    Asked e cs = HasAskedIn (part_transfer x u a) (part_landing x a args) (request_parts x p u a args before) e cs
 
-    asks : (steps : ℕ) (honest : IsHonestToTrapIn x m is a args before (at steps).log) → Asked (at steps).end honest.calls
+    asks : (steps : ℕ) (honest : IsHonestUntilTrapIn x m is a args before (at steps).log) → Asked (at steps).end honest.calls
     asks steps honest = elim (over_or_going (at steps).end) [ inl done ↦ asked (λ q. subst HasEnded q done) | inr going ↦ subst (λ e. Asked e honest.calls) (sym going) asked_going ]
       where
         asked : (at steps).end ≢ Going → Asked (at steps).end honest.calls
@@ -314,13 +314,13 @@ pub part_functions_transfer : PartFunctionsTransfer
 part_functions_transfer x m is u a adapters f h = record {
   plain = λ args before answers typed. plain x m is u a adapters f h args before answers typed;
   not_stuck = λ args before answers steps typed. not_stuck m is (places_in m is) _ adapters f (part_type x a) 1000 _ (ends_in x m is u a adapters f h) args before answers steps typed;
-  carries = λ args before answers steps results honest returns. carries x m is u a adapters f h args before answers steps results honest returns;
+  is_faithful = λ args before answers steps results honest returns. is_faithful x m is u a adapters f h args before answers steps results honest returns;
   takes_few_steps = λ args before answers steps results honest returns. takes_few_steps x m is u a adapters f h args before answers steps results honest returns;
   is_transfer = λ args before answers steps results cs typed are returns. is_transfer x m is u a adapters f h args before answers steps results typed returns cs are;
-  asks = λ args before answers steps honest. asks x m is u a adapters f h args before answers steps honest;
+  requests_are_called_for = λ args before answers steps honest. asks x m is u a adapters f h args before answers steps honest;
   calls_no_trap = λ args before answers steps honest over. calls_no_trap x m is u a adapters f h args before answers steps honest over;
   is_confined = λ args before answers steps cs typed are. is_confined x m is u a adapters f h args before answers steps cs typed are;
   is_ranged = λ args before answers steps cs typed are honest. is_ranged x m is u a adapters f h args before answers steps cs typed are honest;
   can_be_answered = λ args before answers steps cs typed are honest. can_be_answered x m is u a adapters f h args before answers steps cs typed are honest;
-  ends = λ args before answers pass honest there. ends x m is u a adapters f h args before answers pass honest there;
+  comes_to_end = λ args before answers pass honest there. ends x m is u a adapters f h args before answers pass honest there;
 }

@@ -10,7 +10,7 @@ use Rattle.fact_actions.specs.Confined.{AreValidTypes, HasElements, HasElementsB
 use Rattle.fact_actions.specs.Running.{ImportPlaces}
 use Rattle.fact_actions.proofs.ValidTypes.{valid_types_serve}
 use Rattle.fact_action_laws.specs.FaithfulLaws.{AreWellFormedTypes, IsCheckedAdapter}
-use Rattle.fact_action_laws.specs.Law.{AreTyped, AreWellFormed, IsWellFormed, IsWellFormedBy}
+use Rattle.fact_action_laws.specs.MoveTerms.{AreTyped, AreWellFormed, IsWellFormed, IsWellFormedBy}
 
 -- a name that a list of members has is that of a member with a type
 some_payload : (ms : Members) (x : List ℕ) (xs : List (List ℕ)) → names_of ms ≡ x ∷ xs → AreTyped ms → 1 ≤ length (payloads (layouts_of ms))

@@ -245,5 +245,5 @@ module _ (u : AdapterTunables) (a : LinkedAdapter) where
       absurd (thrown (none_before cs (calls_in e) (none_threw AreReturned (λ ds r. r) (cs ++ calls_in e) (inl (subst AreReturned (calls_behind n cs e) returned)))) tt)
   guarded_last p true (Strayed n cs w) h thrown returned x = absurd x
 
-  pub no_trap_called : (p : ImportPlaces) (args : List CoreValue) (w : World) → AreReturned (calls_in (ended_sync p u a args w)) → GivesOrLacks (ended_sync p u a args w) → CallNoTrap (calls_in (ended_sync p u a args w))
-  no_trap_called p args w returned x = guarded_last p u.exceptions (run p (sync u a args) w) ((sync_last args).at p w) (never_thrown p (sync u a args) w) returned x
+  pub adapter_calls_no_trap : (p : ImportPlaces) (args : List CoreValue) (w : World) → AreReturned (calls_in (ended_sync p u a args w)) → GivesOrLacks (ended_sync p u a args w) → CallNoTrap (calls_in (ended_sync p u a args w))
+  adapter_calls_no_trap p args w returned x = guarded_last p u.exceptions (run p (sync u a args) w) ((sync_last args).at p w) (never_thrown p (sync u a args) w) returned x

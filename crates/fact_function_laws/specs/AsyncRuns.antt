@@ -30,7 +30,7 @@ use Rattle.fact_actions.specs.Requests.{RequestPart, AreRequests}
 use Rattle.fact_actions.specs.Running.{ImportPlaces, Call}
 use Rattle.fact_actions.specs.Sides.{Transfer, options_of}
 use Rattle.fact_action_laws.specs.Faithful.{ParamsAreThere, params_given, weight_of_values}
-use Rattle.fact_action_laws.specs.TransferLaws.{HandedAreThere, HasHandedResults, HasStarted, results_handed}
+use Rattle.fact_action_laws.specs.TransferLaws.{TakenAreThere, HasHandedResults, HasHandedParams, results_taken}
 use Rattle.fact_action_laws.specs.Answerable.{CanBeAnswered}
 use Rattle.fact_action_laws.specs.Requested.{params_parts, results_parts}
 use Rattle.fact_action_laws.specs.PassingChecks.{ParamsPassChecks, ResultsPassChecks}
@@ -66,7 +66,7 @@ AreRangedIn part.Return p a args calls = AreRangedReturn p a args calls
 -- the values at its source, and what they weigh
 abbrev pub part_values : AsyncPart → ImportPlaces → LinkedAdapter → (args : List CoreValue) → MachineState → Option (List Value)
 part_values part.Start p a args first = params_given p a args first
-part_values part.Return p a args first = results_handed p a args first
+part_values part.Return p a args first = results_taken p a args first
 
 abbrev pub source_types : AsyncPart → LinkedAdapter → List Shape
 source_types part.Start a = a.lower.params
@@ -78,7 +78,7 @@ part_weight x p a args first = weight_of_values (source_types x a) (part_values 
 -- They are there within limits, and the return area, where there is one, is sound.
 abbrev pub AreThereIn : AsyncPart → ImportPlaces → LinkedAdapter → (args : List CoreValue) → MachineState → Type 0
 AreThereIn part.Start p a args first = ParamsAreThere p a args first
-AreThereIn part.Return p a args first = HandedAreThere p a args first × IsAreaSound p a args first
+AreThereIn part.Return p a args first = TakenAreThere p a args first × IsAreaSound p a args first
 
 -- and with debug checks on, what these ask of core values holds of its own
 abbrev pub PassesChecksIn : AsyncPart → AdapterTunables → LinkedAdapter → (args : List CoreValue) → Type 0
@@ -92,7 +92,7 @@ request_parts part.Return p u a args first = results_parts p u a args args first
 
 -- What was given, or written into the return area, stands for them, carried, and is canonical.
 abbrev pub HasMoved : AsyncPart → ImportPlaces → LinkedAdapter → (args : List CoreValue) → (first : MachineState) → List Call → (given : List CoreValue) → (last : MachineState) → Type 0
-HasMoved part.Start p a args first calls given last = HasStarted p a args first calls given last
+HasMoved part.Start p a args first calls given last = HasHandedParams p a args first calls given last
 HasMoved part.Return p a args first calls given last = HasHandedResults p a args first calls given last
 
 -- Its calls are those of a transfer, while the flags of the instance that values go to are 0, which are then what they were before.
@@ -109,14 +109,15 @@ abbrev pub IsHonestIn : AsyncPart → WasmModule → List Import → LinkedAdapt
 IsHonestIn x m is a args before log = HasCallsFrom m is (part_type x a).params (AreHonestIn x (places_in m is) a args) args before log
 
 -- honest but for the last call, which may be answered by a trap
-abbrev pub IsHonestToTrapIn : AsyncPart → WasmModule → List Import → LinkedAdapter → (args : List CoreValue) → MachineState → List Event → Type 0
-IsHonestToTrapIn x m is a args before log = HasCallsFrom m is (part_type x a).params (AreHonestUntilTrap (AreHonestIn x (places_in m is) a args)) args before log
+abbrev pub IsHonestUntilTrapIn : AsyncPart → WasmModule → List Import → LinkedAdapter → (args : List CoreValue) → MachineState → List Event → Type 0
+IsHonestUntilTrapIn x m is a args before log = HasCallsFrom m is (part_type x a).params (AreHonestUntilTrap (AreHonestIn x (places_in m is) a args)) args before log
 
--- What the calls of a run have asked of realloc: where it returned all that its values call for, and where it stopped or goes on a front of that.
-abbrev pub HasAskedFor : Transfer → Landing → List RequestPart → End → List Call → Type 0
-HasAskedFor tr l xs (Returned results) calls = AreRequests tr l xs calls
-HasAskedFor tr l xs Stuck calls = ⊥
-HasAskedFor tr l xs end calls = BeginRequestsSoFar tr l xs calls
+-- What the calls of such a run have asked of the realloc of its destination: where it returned all that its values call for, and where it stopped or
+-- goes on a front of that.
+abbrev pub HasAskedIn : Transfer → Landing → List RequestPart → End → List Call → Type 0
+HasAskedIn tr l xs (Returned results) calls = AreRequests tr l xs calls
+HasAskedIn tr l xs Stuck calls = ⊥
+HasAskedIn tr l xs end calls = BeginRequestsSoFar tr l xs calls
 
 -- A run that is over, with no more outside calls than values of this weight account for.
 pub record IsOverIn (weight : ℕ) (o : Outcome) : Type 0 where
@@ -134,7 +135,7 @@ pub record Transfers (x : AsyncPart) (m : WasmModule) (is : List Import) (u : Ad
       → IsTypedIn x m a args before (run_of m f args before answers steps).log
       → (run_of m f args before answers steps).end ≢ Stuck
   -- An honest run that returned carried the values, which stand canonically where they arrived.
-  pub carries : (args : List CoreValue) (before : MachineState) (answers : List Answer) (steps : ℕ) (results : List CoreValue)
+  pub is_faithful : (args : List CoreValue) (before : MachineState) (answers : List Answer) (steps : ℕ) (results : List CoreValue)
       → (h : IsHonestIn x m is a args before (run_of m f args before answers steps).log)
       → (run_of m f args before answers steps).end ≡ Returned results
       → HasMoved x (places_in m is) a args before h.calls results (run_of m f args before answers steps).state
@@ -151,9 +152,9 @@ pub record Transfers (x : AsyncPart) (m : WasmModule) (is : List Import) (u : Ad
       → IsClearedTransfer x (places_in m is) u.concurrency a before calls (run_of m f args before answers steps).state
   -- After any number of steps an honest run has asked of realloc what its values call for, in order; and so has one whose last call was
   -- answered by a trap.
-  pub asks : (args : List CoreValue) (before : MachineState) (answers : List Answer) (steps : ℕ)
-      → (h : IsHonestToTrapIn x m is a args before (run_of m f args before answers steps).log)
-      → HasAskedFor (part_transfer x u a) (part_landing x a args) (request_parts x (places_in m is) u a args before) (run_of m f args before answers steps).end h.calls
+  pub requests_are_called_for : (args : List CoreValue) (before : MachineState) (answers : List Answer) (steps : ℕ)
+      → (h : IsHonestUntilTrapIn x m is a args before (run_of m f args before answers steps).log)
+      → HasAskedIn (part_transfer x u a) (part_landing x a args) (request_parts x (places_in m is) u a args before) (run_of m f args before answers steps).end h.calls
   -- Where an honest run returned, or an answer is lacking, it has called no trap.
   pub calls_no_trap : (args : List CoreValue) (before : MachineState) (answers : List Answer) (steps : ℕ)
       → (h : IsHonestIn x m is a args before (run_of m f args before answers steps).log)
@@ -179,7 +180,7 @@ pub record Transfers (x : AsyncPart) (m : WasmModule) (is : List Import) (u : Ad
       → CanBeAnswered (places_in m is) calls
   -- Where all answers are honest and the values exist within limits, the run ends; with debug checks on, where besides at each node of
   -- the values every i64 in the place of 32 bits has an upper half of 0.
-  pub ends : (args : List CoreValue) (before : MachineState) (answers : List Answer)
+  pub comes_to_end : (args : List CoreValue) (before : MachineState) (answers : List Answer)
       → PassesChecksIn x u a args
       → ((steps : ℕ) → IsHonestIn x m is a args before (run_of m f args before answers steps).log)
       → AreThereIn x (places_in m is) a args before

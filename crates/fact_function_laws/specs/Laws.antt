@@ -60,7 +60,7 @@ NoSecondCall =
 
 -- A run of an adapter's function whose answers are all honest, where the caller may leave and the values exist within limits, and
 -- with debug checks on are as these ask.
-pub record IsAnswered (m : WasmModule) (is : List Import) (u : AdapterTunables) (a : LinkedAdapter) (f : ℕ) (args : List CoreValue) (before : MachineState) (answers : List Answer) : Type 0 where
+pub record IsAnsweredInLimits (m : WasmModule) (is : List Import) (u : AdapterTunables) (a : LinkedAdapter) (f : ℕ) (args : List CoreValue) (before : MachineState) (answers : List Answer) : Type 0 where
   pub honest : (steps : ℕ) → IsHonestSoFar m is a args before (run_of m f args before answers steps).log
   pub checks : (steps : ℕ) → PassChecks u a args (honest steps).calls
   pub limits : (steps : ℕ) → IsInLimits (places_in m is) a args before (honest steps).calls
@@ -80,14 +80,14 @@ pub record StaysShort (m : WasmModule) (is : List Import) (a : LinkedAdapter) (f
 abbrev pub RunsStayShort : Type 0
 RunsStayShort =
     (m : WasmModule) (is : List Import) (u : AdapterTunables) (a : LinkedAdapter) (f : ℕ) (args : List CoreValue) (before : MachineState) (answers : List Answer)
-    → Behaves m is u a f → IsAnswered m is u a f args before answers → StaysShort m is a f args before answers
+    → Behaves m is u a f → IsAnsweredInLimits m is u a f args before answers → StaysShort m is a f args before answers
 
 -- ---- runs that lack an answer
 
--- Answers to an adapter's function as `IsAnswered` says, the values of which weigh at most so much. Wherever the run lacks one more, there is one
+-- Answers to an adapter's function as `IsAnsweredInLimits` says, the values of which weigh at most so much. Wherever the run lacks one more, there is one
 -- of which something holds.
 pub record IsFollowed (m : WasmModule) (is : List Import) (u : AdapterTunables) (a : LinkedAdapter) (f : ℕ) (args : List CoreValue) (before : MachineState) (most : ℕ) (answers : List Answer) (More : Answer → Type 0) : Type 0 where
-  pub answered : IsAnswered m is u a f args before answers
+  pub answered : IsAnsweredInLimits m is u a f args before answers
   pub light : (steps : ℕ) (calls : List Call) → AreCalls m is (run_of m f args before answers steps).log calls → whole_weight (places_in m is) a args before calls ≤ most
   pub next : (steps : ℕ) → (run_of m f args before answers steps).end ≡ Lacks → (answer : Answer) × More answer
 
@@ -123,7 +123,7 @@ AnsweredAtOne =
     (m : WasmModule) (is : List Import) (u : AdapterTunables) (a : LinkedAdapter) (f : ℕ) (args : List CoreValue) (before : MachineState) (answers : List Answer) (last : ℕ)
     → MakesNoMoreCalls m f args before answers last
     → (h : IsHonestSoFar m is a args before (run_of m f args before answers last).log) → PassChecks u a args h.calls → IsInLimits (places_in m is) a args before h.calls
-    → IsAnswered m is u a f args before answers
+    → IsAnsweredInLimits m is u a f args before answers
 
 -- So it is with the answers to a function that moves the values of one part of an async adapter.
 abbrev pub PartAnsweredAtOne : Type 0

@@ -32,7 +32,7 @@ use Rattle.fact_code_laws.specs.Runs.{IsPlainRun, numbered_outcome}
 use Rattle.fact_action_laws.specs.Faithful.{IsFaithful, IsInLimits, IsTransferred, params_given, params_passed, whole_weight}
 use Rattle.fact_action_laws.specs.Answerable.{CanBeAnswered}
 use Rattle.fact_action_laws.specs.ReadTexts.{AreValuesThere, ReadTexts}
-use Rattle.fact_action_laws.specs.Requested.{AreFinished, AreSoFar}
+use Rattle.fact_action_laws.specs.Requested.{HaveAskedForAll, HaveAskedSoFar}
 use Rattle.fact_action_laws.specs.Trapped.{AreHonestUntilTrap}
 use Rattle.fact_action_laws.specs.PassingChecks.{PassChecks}
 use Rattle.fact_function_laws.specs.Names.{places_in, AreCalls}
@@ -64,8 +64,8 @@ abbrev pub IsHonestSoFar : WasmModule → List Import → LinkedAdapter → (arg
 IsHonestSoFar m is a args before log = HasCallsSoFar m is a (AreHonestSync (places_in m is) a args) args before log
 
 -- So it is but for the last one, which may be a trap.
-abbrev pub IsHonestToTrapSoFar : WasmModule → List Import → LinkedAdapter → (args : List CoreValue) → MachineState → List Event → Type 0
-IsHonestToTrapSoFar m is a args before log = HasCallsSoFar m is a (AreHonestUntilTrap (AreHonestSync (places_in m is) a args)) args before log
+abbrev pub IsHonestUntilTrapSoFar : WasmModule → List Import → LinkedAdapter → (args : List CoreValue) → MachineState → List Event → Type 0
+IsHonestUntilTrapSoFar m is a args before log = HasCallsSoFar m is a (AreHonestUntilTrap (AreHonestSync (places_in m is) a args)) args before log
 
 -- ---- traps
 
@@ -90,8 +90,8 @@ pub record EndsSoon (m : WasmModule) (is : List Import) (a : LinkedAdapter) (arg
   pub are_calls : AreCalls m is o.log calls
   pub few : length o.log ≤ 30 * (whole_weight (places_in m is) a args before calls + 1)
 
--- From some number of steps on, a run has the outcome of plain inlining, where the module has its imports at these places, and each event of
--- its log is the call that stands there.
+-- From some number of steps on, a run has this outcome, where the module has its imports at these places, and each event of its log is the call that
+-- stands there.
 pub record IsNamedRun (m : WasmModule) (is : List Import) (p : ImportPlaces) (f : ℕ) (args : List CoreValue) (before : MachineState) (answers : List Answer) (o : NamedOutcome) : Type 0 where
   pub plain : IsPlainRun m p f args before answers o
   pub are_calls : AreCalls m is (numbered_outcome p o).log o.log
@@ -100,11 +100,11 @@ abbrev pub IsNamedPlainRun : WasmModule → List Import → (f : ℕ) → (args 
 IsNamedPlainRun m is f args before answers o = IsNamedRun m is (places_in m is) f args before answers o
 
 -- What the calls of a run have asked of realloc: where it returned all that its values call for, and where it stopped or goes on a front of
--- that, if the lower side may leave.
+-- that, if the lower side may leave. `HasAskedIn` of AsyncRuns.antt says it of one transfer, and not that no region that is cut grows.
 abbrev pub HasAsked : ImportPlaces → AdapterTunables → LinkedAdapter → (args : List CoreValue) → MachineState → End → List Call → Type 0
-HasAsked p u a args first (Returned results) calls = AreFinished p u a args first calls
+HasAsked p u a args first (Returned results) calls = HaveAskedForAll p u a args first calls
 HasAsked p u a args first Stuck calls = ⊥
-HasAsked p u a args first end calls = flag_in p a.lower.instance first.globals ≢ I32 0 → AreSoFar p u a args first calls
+HasAsked p u a args first end calls = flag_in p a.lower.instance first.globals ≢ I32 0 → HaveAskedSoFar p u a args first calls
 
 -- ---- what every run of a sync adapter between two instances does
 
@@ -119,7 +119,7 @@ pub record Behaves (m : WasmModule) (is : List Import) (u : AdapterTunables) (a 
       → (run_of m f args before answers steps).end ≢ Stuck
   -- An honest run that returned began with the caller set to be left, called the callee once, and carried arguments and results,
   -- which stand canonically where they arrived.
-  pub carries : (args : List CoreValue) (before : MachineState) (answers : List Answer) (steps : ℕ) (results : List CoreValue)
+  pub is_faithful : (args : List CoreValue) (before : MachineState) (answers : List Answer) (steps : ℕ) (results : List CoreValue)
       → (h : IsHonestSoFar m is a args before (run_of m f args before answers steps).log)
       → (run_of m f args before answers steps).end ≡ Returned results
       → IsFaithful (places_in m is) a args before h.calls results (run_of m f args before answers steps).state
@@ -136,19 +136,19 @@ pub record Behaves (m : WasmModule) (is : List Import) (u : AdapterTunables) (a 
       → AreOrderedCalls (places_in m is) u a before calls (run_of m f args before answers steps).state
   -- After any number of steps an honest run has asked of realloc what its values call for, in order; and so has one whose last call was
   -- answered by a trap, be it one for a region that no memory can give.
-  pub asks : (args : List CoreValue) (before : MachineState) (answers : List Answer) (steps : ℕ)
-      → (h : IsHonestToTrapSoFar m is a args before (run_of m f args before answers steps).log)
+  pub requests_are_called_for : (args : List CoreValue) (before : MachineState) (answers : List Answer) (steps : ℕ)
+      → (h : IsHonestUntilTrapSoFar m is a args before (run_of m f args before answers steps).log)
       → HasAsked (places_in m is) u a args before (run_of m f args before answers steps).end h.calls
   -- Without debug checks, the callee of such a run was given the arguments, carried to its types, be it the one that was answered by a trap.
-  pub passes : (args : List CoreValue) (before : MachineState) (answers : List Answer) (steps : ℕ)
-      → (h : IsHonestToTrapSoFar m is a args before (run_of m f args before answers steps).log)
+  pub callee_is_given : (args : List CoreValue) (before : MachineState) (answers : List Answer) (steps : ℕ)
+      → (h : IsHonestUntilTrapSoFar m is a args before (run_of m f args before answers steps).log)
       → u.debug ≡ false → flag_in (places_in m is) a.lower.instance before.globals ≢ I32 0
       → (front : List Call) (callee : Call) (behind : List Call) → h.calls ≡ front ++ (callee ∷ behind) → callee.what ≡ import.CoreDef a.callee
       → IsTransferred a.lower.params a.lift.params (params_given (places_in m is) a args before) (params_passed (places_in m is) a callee) front
   -- Where the values of such a run are there on the side that they come from, each transcoder that it has called is to read a whole text, the last
   -- one too, and has the room that it needs where it widens what is there.
   pub reads_texts : (args : List CoreValue) (before : MachineState) (answers : List Answer) (steps : ℕ)
-      → (h : IsHonestToTrapSoFar m is a args before (run_of m f args before answers steps).log)
+      → (h : IsHonestUntilTrapSoFar m is a args before (run_of m f args before answers steps).log)
       → flag_in (places_in m is) a.lower.instance before.globals ≢ I32 0
       → AreValuesThere (places_in m is) a args before h.calls
       → ReadTexts (places_in m is) h.calls
@@ -184,7 +184,7 @@ pub record Behaves (m : WasmModule) (is : List Import) (u : AdapterTunables) (a 
       → CanBeAnswered (places_in m is) calls
   -- Where all answers are honest, the caller may leave, and the values exist within limits, the run ends, by a return or for want of an answer; with debug checks on,
   -- where besides at each node of the values every i64 in the place of 32 bits has an upper half of 0.
-  pub ends : (args : List CoreValue) (before : MachineState) (answers : List Answer)
+  pub comes_to_end : (args : List CoreValue) (before : MachineState) (answers : List Answer)
       → (h : (steps : ℕ) → IsHonestSoFar m is a args before (run_of m f args before answers steps).log)
       → ((steps : ℕ) → PassChecks u a args (h steps).calls)
       → ((steps : ℕ) → IsInLimits (places_in m is) a args before (h steps).calls)

@@ -1,9 +1,9 @@
 -- How large the values of generated types are, and how deep the types nest.
 use Rattle.std.proofs.Common.{ℕ, zero, suc, ◌+◌, ◌*◌, ◌<◌, ◌≤◌, max, Bool, true, false, [], ◌∷◌, arith, inl, inr}
 use Rattle.fact_types.specs.declared.abi.CanonicalAbiInfo.{CanonicalAbiInfo}
-use Rattle.fact_types.specs.declared.widths.Extent.{Extent}
-use Rattle.fact_types.specs.declared.widths.MemoryWidth.{MemoryWidth}
-use Rattle.fact_types.specs.declared.widths.MemoryWidth.TheVariants.{Memory32, Memory64}
+use Rattle.fact_types.specs.declared.extents.Extent.{Extent}
+use Rattle.fact_types.specs.declared.extents.MemoryWidth.{MemoryWidth}
+use Rattle.fact_types.specs.declared.extents.MemoryWidth.TheVariants.{Memory32, Memory64}
 use Rattle.fact_types.specs.Layout.{aligned, extent, pointer_pair_layout, record_extent}
 use Rattle.fact_types.specs.Shapes.{Shape, layout_of}
 use Rattle.fact_types.specs.Valid.{nesting}

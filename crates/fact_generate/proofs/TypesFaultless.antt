@@ -10,7 +10,7 @@ use Rattle.fact_plan.specs.declared.plan.PlanFunc.{PlanFunc}
 use Rattle.fact_plan.specs.declared.plan.FusePlan.{FusePlan}
 use Rattle.fact_plan_types.specs.Faults.{Fault, unknown_index, bad_type, too_large, bad_options, type_mismatch, bad_memory, bad_signature, import_conflict, duplicate_name, HaveNoFault}
 use Rattle.fact_plan_types.specs.PlanShapes.{plan_shapes}
-use Rattle.fact_plan_types.specs.PlanTypes.{AreFaultless}
+use Rattle.fact_plan_types.specs.PlanTypes.{HasFaultlessTypes}
 use Rattle.fact_plan_types.specs.TypeRules.{FuncHas, HasFuncFault, HasTypeFault, IsErrorContext, IsFrom, LacksTable, TypeHas, param_shapes, param_types, result_shapes, types_in}
 use Rattle.fact_generate.specs.Forms.{adapter_form, types_for}
 use Rattle.fact_generate.specs.Generated.{generated, instance_of, most_generated, with_function}
@@ -165,7 +165,7 @@ funcs-without-fault n few j g h =
     (subst (λ (i : ℕ). slice_get p.funcs i ≡ Some has.0) side.1 has.1)
     (subst (λ (i : ℕ). FuncHas p i has.0 (param_shapes p has.0) (result_shapes p has.0) g) side.1 has.2)
 
-pub types-faultless : (n : ℕ) → n ≤ most_generated → AreFaultless (generated n)
+pub types-faultless : (n : ℕ) → n ≤ most_generated → HasFaultlessTypes (generated n)
 types-faultless n l = record {
   types = types-without-fault (generated n) (omega (arith, types-few n, l)) (types-are-sound n);
   funcs = funcs-without-fault n l;

@@ -25,8 +25,8 @@ use Rattle.fact_host.specs.declared.calling.HostCall.{HostCall}
 use Rattle.fact_host.specs.declared.calling.HostSide.{HostSide}
 use Rattle.fact_host.specs.declared.roles.Role.{Role}
 use Rattle.fact_host.specs.declared.roles.Role.TheVariants as of
-use Rattle.fact_host.specs.Hosts.{IsTranscoded, both_listed, event_by, number_types}
-use Rattle.fact_host.specs.Rules.{Answers, AreBytes, AreOfCoreTypes, CallShapes, memory_at, with_memory_at, cursor_of, raised, live_without, AskedRegion, asked_of, stays, next_region, given_at, after_region, bytes_after_region, MustRefuse, OtherTransfer, NoAlignment, NotLive, NoRoom, MustStop, told_of, IsHonestlyMade, Leaves, AnswersBy, ReallocsBy, ReallocsIn, TranscodesBy}
+use Rattle.fact_host.specs.Hosts.{IsTranscodedByHost, both_listed, event_by, number_types}
+use Rattle.fact_host.specs.Rules.{Answers, AreWrittenBytes, AreOfCoreTypes, CallShapes, memory_at, with_memory_at, cursor_of, raised, live_without, AskedRegion, asked_of, stays, next_region, given_at, after_region, bytes_after_region, MustRefuse, OtherTransfer, NoAlignment, NotLive, NoRoom, MustStop, told_of, IsHonestlyMade, LeavesKnown, AnswersBy, ReallocsBy, ReallocsIn, TranscodesBy}
 
 -- ---- answers
 
@@ -34,7 +34,7 @@ pub returned_same : (rs vs : List CoreValue) (s t : MachineState) → Returns rs
 returned_same rs vs s t e = (cc, cc)
 
 -- a call that must be answered by a trap, and is
-pub by_trap : {Must : Type 0} {Leave : Leaves} (k k' : Known) (e : Event) → e.answer ≡ Traps → Must → AnswersBy Must Leave k e k'
+pub by_trap : {Must : Type 0} {Leave : LeavesKnown} (k k' : Known) (e : Event) → e.answer ≡ Traps → Must → AnswersBy Must Leave k e k'
 by_trap k k' e is must = record {
   traps = ((λ q. must), (λ m. is));
   returns = λ results after q. (let z : Returns results after ≡ Traps = sym q ∙ is in absurd cc);
@@ -42,7 +42,7 @@ by_trap k k' e is must = record {
 }
 
 -- one that must not, and is answered so
-pub by_return : {Must : Type 0} {Leave : Leaves} (k k' : Known) (e : Event) (results : List CoreValue) (after : MachineState) → e.answer ≡ Returns results after → (Must → ⊥) → Leave after results k' → AnswersBy Must Leave k e k'
+pub by_return : {Must : Type 0} {Leave : LeavesKnown} (k k' : Known) (e : Event) (results : List CoreValue) (after : MachineState) → e.answer ≡ Returns results after → (Must → ⊥) → Leave after results k' → AnswersBy Must Leave k e k'
 by_return {Must} {Leave} k k' e results after is never leaves = record {
   traps = ((λ q. (let z : Returns results after ≡ Traps = sym is ∙ q in absurd cc)), (λ m. absurd (never m)));
   returns = λ rs s q.
@@ -166,7 +166,7 @@ abbrev pub TranscodesAs : Told → Known → Transcode → (from : ℕ) → (fro
 TranscodesAs t k o from from64 to to64 e k' =
     AnswersBy (MustStop o (memory_at e.before from) (memory_at e.before to) t)
     (λ after rs j. (bytes : List ℕ) × IsHonestlyMade o (memory_at e.before from) (memory_at e.before to) t bytes (map bits_of rs)
-    × AreBytes bytes × AreOfCoreTypes (transcode_types (transcode_kind o) from64 to64) rs × (after ≡ with_memory_at e.before to (put_at (memory_at e.before to) t.to bytes)) × (j ≡ k)) k e k'
+    × AreWrittenBytes bytes × AreOfCoreTypes (transcode_types (transcode_kind o) from64 to64) rs × (after ≡ with_memory_at e.before to (put_at (memory_at e.before to) t.to bytes)) × (j ≡ k)) k e k'
 
 -- what a transcoder is told, as it was read
 pub told_is : (t : Told) (e : Event) → t.from ≡ nth_number e.args 0 → t.units ≡ nth_number e.args 1 → t.to ≡ nth_number e.args 2 → t.room ≡ nth_number e.args 3 → t.latin1 ≡ nth_number e.args 4 → t ≡ told_of e
@@ -179,7 +179,7 @@ pub transcodes_stop : (t : Told) (k : Known) (o : Transcode) (from : ℕ) (from6
 transcodes_stop t k o from from64 to to64 e is must = by_trap k k e is must
 
 pub transcodes_made : (t : Told) (k : Known) (o : Transcode) (from : ℕ) (from64 : Bool) (to : ℕ) (to64 : Bool) (e : Event) (bytes : List ℕ) (first second : Option ℕ) (results : List CoreValue) (state : MachineState)
-    → e.answer ≡ Returns results state → IsTranscoded o (memory_at e.before from) (memory_at e.before to) t bytes (both_listed first second) → map bits_of results ≡ both_listed first second
+    → e.answer ≡ Returns results state → IsTranscodedByHost o (memory_at e.before from) (memory_at e.before to) t bytes (both_listed first second) → map bits_of results ≡ both_listed first second
     → AreOfCoreTypes (number_types from64 to64 first second) results → state ≡ with_memory_at e.before to (put_at (memory_at e.before to) t.to bytes) → TranscodesAs t k o from from64 to to64 e k
 transcodes_made t k o from from64 to to64 e bytes first second results state is made bits typed left =
     by_return k k e results state is made.goes_on

@@ -24,9 +24,9 @@ use Rattle.fact_check.specs.Imports.{IsPageSize, IsRow}
 use Rattle.fact_host.specs.declared.calling.HostCall.{HostCall}
 use Rattle.fact_host.specs.declared.calling.HostSide.{HostSide}
 use Rattle.fact_host.specs.Begun.{DiffersIn, IsFirstState, first_value}
-use Rattle.fact_host.specs.Contract.{HasFirstMemory, HasFirstOthers, HasMeans, ones}
+use Rattle.fact_host.specs.Contract.{HasFirstMemory, HasFirstOthers, HasSideMeans, ones}
 use Rattle.fact_host.specs.Roles.{is_place}
-use Rattle.fact_host.specs.Rules.{AreBytes, bytes_of_memory, memory_at, side_bytes, with_memory_at}
+use Rattle.fact_host.specs.Rules.{AreWrittenBytes, bytes_of_memory, memory_at, side_bytes, with_memory_at}
 
 -- ---- imports of adapter modules
 
@@ -60,7 +60,7 @@ adapter_plain m is = all_plain m.imports (λ n w e.
 
 -- as many bytes as a memory has as a run begins
 abbrev pub IsFirstBytes : List ℕ → Type 0
-IsFirstBytes bytes = ((length bytes ≡ 0) ⊎ (length bytes ≡ 65536)) × AreBytes bytes
+IsFirstBytes bytes = ((length bytes ≡ 0) ⊎ (length bytes ≡ 65536)) × AreWrittenBytes bytes
 
 whole_by : (page : Option ℕ) (n : ℕ) → IsPageSize page → (n ≡ 0) ⊎ (n ≡ 65536) → n % page_bytes page ≡ 0
 whole_by page n (inl p) (inl e) = ap (λ z. n % page_bytes z) p ∙ ap (λ z. z % page_bytes None) e
@@ -168,7 +168,7 @@ length_by : (b : Bool) → (◌≡◌ {A = ℕ} (cond b 65536 0) 0) ⊎ (◌≡�
 length_by true = inr refl
 length_by false = inl refl
 
-zeros_are_bytes : (bytes : List ℕ) → All (λ b. b ≡ 0) bytes → AreBytes bytes
+zeros_are_bytes : (bytes : List ℕ) → All (λ b. b ≡ 0) bytes → AreWrittenBytes bytes
 zeros_are_bytes bytes h = All-from_get_or (λ b. b < 256) bytes 0 (λ i lt. let z : get_or bytes i 0 ≡ 0 = All-get_or (λ b. b ≡ 0) bytes i 0 lt h in omega (arith, z))
 
 all_first : (ms : List (List ℕ)) → ((n : ℕ) → n < length ms → IsFirstBytes (get_or ms n [])) → AreFirst ms
@@ -191,7 +191,7 @@ state_typed m s is count each globals = record {
 -- ---- and behind the arguments
 
 -- a memory of the new state, by whether it is the one that was written
-behind_bytes : (s : MachineState) (k : ℕ) (bytes : List ℕ) → AreBytes bytes → length (memory_at (with_memory_at s k bytes) k) ≡ length (memory_at s k)
+behind_bytes : (s : MachineState) (k : ℕ) (bytes : List ℕ) → AreWrittenBytes bytes → length (memory_at (with_memory_at s k bytes) k) ≡ length (memory_at s k)
     → ((n : ℕ) → n < length s.memories → IsFirstBytes (memory_at s n)) → (n : ℕ) → n < length s.memories → IsFirstBytes (memory_at (with_memory_at s k bytes) n)
 behind_bytes s k bytes are same each n lt = by (nat_eq n k) refl
   where
@@ -201,7 +201,7 @@ behind_bytes s k bytes are same each n lt = by (nat_eq n k) refl
         let here : memory_at (with_memory_at s k bytes) k ≡ bytes = get_or-set_same s.memories k bytes [] (omega (arith, lt, is)) in
         let was : (length (memory_at s n) ≡ 0) ⊎ (length (memory_at s n) ≡ 65536) = (each n lt).0 in
         subst (λ z. IsFirstBytes (memory_at (with_memory_at s k bytes) z)) (sym is)
-        (subst (λ z. (z ≡ 0) ⊎ (z ≡ 65536)) (sym (same ∙ ap (λ z. length (memory_at s z)) (sym is))) was, subst AreBytes (sym here) are)
+        (subst (λ z. (z ≡ 0) ⊎ (z ≡ 65536)) (sym (same ∙ ap (λ z. length (memory_at s z)) (sym is))) was, subst AreWrittenBytes (sym here) are)
     by false e =
         let other : n ≢ k = λ q. true≢false (sym (eq-eqb n k q) ∙ e) in
         subst IsFirstBytes (sym (get_or-set_other s.memories k n bytes [] other)) (each n lt)
@@ -258,14 +258,14 @@ or_right true b e = refl
 or_right false b e = e
 
 -- the memories of both sides are a page's bytes long
-pub first_lift : (m : WasmModule) (c : HostCall) (s : MachineState) → IsFirstState c m.imports s → HasMeans m c.lift → (n : ℕ) → c.lift.memory ≡ Some n → length (memory_at s n) ≡ 65536
+pub first_lift : (m : WasmModule) (c : HostCall) (s : MachineState) → IsFirstState c m.imports s → HasSideMeans m c.lift → (n : ℕ) → c.lift.memory ≡ Some n → length (memory_at s n) ≡ 65536
 first_lift m c s first means n e =
     let kind = means.memory n e in
     let there : n < length (filter_map type_of_memory m.imports) = memory_there m.imports n _ kind.1 in
     first.lengths n (omega (arith, there, first.count))
     ∙ ap (λ b. cond b 65536 0) (or_left (is_place c.lift.memory n) (is_place c.lower.memory n) (ap (λ o. is_place o n) e ∙ place_there n))
 
-pub first_lower : (m : WasmModule) (c : HostCall) (s : MachineState) → IsFirstState c m.imports s → HasMeans m c.lower → (n : ℕ) → c.lower.memory ≡ Some n → length (memory_at s n) ≡ 65536
+pub first_lower : (m : WasmModule) (c : HostCall) (s : MachineState) → IsFirstState c m.imports s → HasSideMeans m c.lower → (n : ℕ) → c.lower.memory ≡ Some n → length (memory_at s n) ≡ 65536
 first_lower m c s first means n e =
     let kind = means.memory n e in
     let there : n < length (filter_map type_of_memory m.imports) = memory_there m.imports n _ kind.1 in
@@ -288,11 +288,11 @@ same_lengths (Some k) before state d same n = by (nat_eq n k) refl
     by true e = let is : n ≡ k = eqb-true n k e in ap (λ z. length (memory_at state z)) is ∙ same ∙ ap (λ z. length (memory_at before z)) (sym is)
     by false e = ap (λ z. length (memory_at z n)) d.1 ∙ ap length (get_or-set_other before.memories k n d.0 [] (λ q. true≢false (sym (eq-eqb n k q) ∙ e)))
 
-pub begun_lift : (m : WasmModule) (c : HostCall) (before state : MachineState) → IsFirstState c m.imports before → HasMeans m c.lift → DiffersIn c.lower.memory before state
+pub begun_lift : (m : WasmModule) (c : HostCall) (before state : MachineState) → IsFirstState c m.imports before → HasSideMeans m c.lift → DiffersIn c.lower.memory before state
     → length (side_bytes c.lower state) ≡ length (side_bytes c.lower before) → HasFirstMemory c.lift state
 begun_lift m c before state first means differs same = has_first c.lift state (λ n e. same_lengths c.lower.memory before state differs same n ∙ first_lift m c before first means n e)
 
-pub begun_lower : (m : WasmModule) (c : HostCall) (before state : MachineState) → IsFirstState c m.imports before → HasMeans m c.lower → DiffersIn c.lower.memory before state
+pub begun_lower : (m : WasmModule) (c : HostCall) (before state : MachineState) → IsFirstState c m.imports before → HasSideMeans m c.lower → DiffersIn c.lower.memory before state
     → length (side_bytes c.lower state) ≡ length (side_bytes c.lower before) → HasFirstMemory c.lower state
 begun_lower m c before state first means differs same = has_first c.lower state (λ n e. same_lengths c.lower.memory before state differs same n ∙ first_lower m c before first means n e)
 

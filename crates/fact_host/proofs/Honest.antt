@@ -42,7 +42,7 @@ use Rattle.fact_host.specs.declared.calling.HostCall.{HostCall}
 use Rattle.fact_host.specs.declared.calling.HostSide.{HostSide}
 use Rattle.fact_host.specs.declared.roles.Role.{Role}
 use Rattle.fact_host.specs.declared.roles.Role.TheVariants as role
-use Rattle.fact_host.specs.Contract.{NamesEachOnce, AreDistinct, if_named}
+use Rattle.fact_host.specs.Contract.{NamesEachOnce, AreDistinctPlaces, if_named}
 use Rattle.fact_host.specs.Beginning.{IsNamedMemory}
 use Rattle.fact_host.specs.HonestLaws.{HasRole, AnswersAreHonest}
 use Rattle.fact_host.specs.Describes.{Describes, IsImportOf, named_calls}
@@ -219,7 +219,7 @@ module _ (m : WasmModule) (t : Tables) (c : HostCall) (p : ImportPlaces) (a : Li
   distinct : (n : ℕ) → c.lift.memory ≡ Some n → c.lower.memory ≡ Some n → ⊥
   distinct n e g = by c.lift.memory c.lower.memory e g once.memories
     where
-      by : (o u : Option ℕ) → o ≡ Some n → u ≡ Some n → AreDistinct (if_named o ++ if_named u) → ⊥
+      by : (o u : Option ℕ) → o ≡ Some n → u ≡ Some n → AreDistinctPlaces (if_named o ++ if_named u) → ⊥
       by None u e g h = absurd cc
       by (Some i) None e g h = absurd cc
       by (Some i) (Some j) e g h =
@@ -452,7 +452,7 @@ module _ (m : WasmModule) (t : Tables) (c : HostCall) (p : ImportPlaces) (a : Li
   lower_not_post : (i j : ℕ) → c.lower.realloc ≡ Some i → c.post_return ≡ Some j → i ≢ j
   lower_not_post i j e g = by c.lift.realloc c.lower.realloc c.post_return e g (once.functions.1)
     where
-      by : (o u v : Option ℕ) → u ≡ Some i → v ≡ Some j → AreDistinct (if_named o ++ (if_named u ++ if_named v)) → i ≢ j
+      by : (o u v : Option ℕ) → u ≡ Some i → v ≡ Some j → AreDistinctPlaces (if_named o ++ (if_named u ++ if_named v)) → i ≢ j
       by None None v e g h = absurd cc
       by None (Some l) v e g h = let same : l ≡ i = cc in λ q. not_last l j v g h.0 (same ∙ q)
       by (Some o) None v e g h = absurd cc
@@ -461,7 +461,7 @@ module _ (m : WasmModule) (t : Tables) (c : HostCall) (p : ImportPlaces) (a : Li
   lift_not_post : (i j : ℕ) → c.lift.realloc ≡ Some i → c.post_return ≡ Some j → i ≢ j
   lift_not_post i j e g = by c.lift.realloc c.lower.realloc c.post_return e g (once.functions.1)
     where
-      by : (o u v : Option ℕ) → o ≡ Some i → v ≡ Some j → AreDistinct (if_named o ++ (if_named u ++ if_named v)) → i ≢ j
+      by : (o u v : Option ℕ) → o ≡ Some i → v ≡ Some j → AreDistinctPlaces (if_named o ++ (if_named u ++ if_named v)) → i ≢ j
       by None u v e g h = absurd cc
       by (Some l) u v e g h = let same : l ≡ i = cc in λ q. not_behind l j u v g h.0 (same ∙ q)
 

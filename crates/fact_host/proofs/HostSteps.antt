@@ -13,7 +13,7 @@ use Rattle.fact_host.specs.declared.host.Host.{Host}
 use Rattle.fact_host.specs.declared.known.Known.{Known}
 use Rattle.fact_host.specs.declared.roles.Role.{Role}
 use Rattle.fact_host.specs.declared.roles.Role.TheVariants as role
-use Rattle.fact_host.specs.Callees.{IsGiven, number_of_error}
+use Rattle.fact_host.specs.Callees.{MayKeepGiven, number_of_error}
 use Rattle.fact_host.specs.Contract.{AnsweredTooMuch, AnsweredUnsuited}
 use Rattle.fact_host.specs.Describes.{HasCallShapes}
 use Rattle.fact_host.specs.Hosts.{event_by}
@@ -40,7 +40,7 @@ error_cause s t OverLimit e = inl e
 error_cause s t NoResults e = e
 
 pub error_ends : (k : Known) (c : HostCall) (s : CallShapes) (t : Told) (params : List Value) (before : MachineState) (answer : Answer) (k' : Known) (error : HostError) (e : Option HostError)
-    → e ≡ Some error → t.last ≡ number_of_error error → IsGiven t.given params → answer ≡ Traps → IsAnswered k c s t params before answer k' e
+    → e ≡ Some error → t.last ≡ number_of_error error → MayKeepGiven t.given params → answer ≡ Traps → IsAnswered k c s t params before answer k' e
 error_ends k c s t params before answer k' error e is last given traps = subst (IsAnswered k c s t params before answer k') (sym is) (error_cause s t error last, given, traps)
 
 -- values of the callee that are not taken end it too
@@ -51,12 +51,12 @@ refusal_cause s t values OverLimit answered none r = inr (none, subst (AnsweredT
 refusal_cause s t values NoResults answered none r = absurd r
 
 pub refusal_ends : (k : Known) (c : HostCall) (s : CallShapes) (t : Told) (params : List Value) (before : MachineState) (answer : Answer) (k' : Known) (values : List Value) (error : HostError) (e : Option HostError)
-    → e ≡ Some error → t.answered ≡ Some values → t.last ≡ 0 → IsRefusal s values error → IsGiven t.given params → answer ≡ Traps → IsAnswered k c s t params before answer k' e
+    → e ≡ Some error → t.answered ≡ Some values → t.last ≡ 0 → IsRefusal s values error → MayKeepGiven t.given params → answer ≡ Traps → IsAnswered k c s t params before answer k' e
 refusal_ends k c s t params before answer k' values error e is answered none r given traps = subst (IsAnswered k c s t params before answer k') (sym is) (refusal_cause s t values error answered none r, given, traps)
 
 -- others are answered by the rules
 pub taken_answered : (k : Known) (c : HostCall) (s : CallShapes) (t : Told) (params : List Value) (before : MachineState) (answer : Answer) (k' : Known) (values : List Value) (e : Option HostError)
-    → e ≡ None → t.answered ≡ Some values → t.last ≡ 0 → IsGiven t.given params → (AnsweredUnsuited s (Some values) → ⊥) × (AnsweredTooMuch s (Some values) → ⊥) → IsAnswerOf k c s values before answer k'
+    → e ≡ None → t.answered ≡ Some values → t.last ≡ 0 → MayKeepGiven t.given params → (AnsweredUnsuited s (Some values) → ⊥) × (AnsweredTooMuch s (Some values) → ⊥) → IsAnswerOf k c s values before answer k'
     → IsAnswered k c s t params before answer k' e
 taken_answered k c s t params before answer k' values e is answered none given taken h =
     subst (IsAnswered k c s t params before answer k') (sym is) (values, answered, none, given, record { suited = taken.0; fits = taken.1; is_answer = h })

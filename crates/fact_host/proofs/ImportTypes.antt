@@ -15,6 +15,7 @@ use Rattle.fact_wasm.specs.declared.module.WasmModule.{WasmModule}
 use Rattle.fact_types.specs.declared.outside.FixedEncoding.TheVariants.{Utf8, Utf16, Latin1}
 use Rattle.fact_types.specs.declared.outside.Transcode.{Transcode}
 use Rattle.fact_types.specs.declared.outside.Transcode.TheVariants as op
+use Rattle.fact_types.specs.TranscoderNames.{transcode_name}
 use Rattle.fact_types.specs.Signatures.{address}
 use Rattle.fact_machine.specs.Machine.{func_import, memory_import}
 use Rattle.fact_machine.specs.Typed.{type_of_import}
@@ -22,8 +23,8 @@ use Rattle.fact_machine.specs.Typing.{address_type}
 use Rattle.fact_machine.proofs.Tests.{first_of, second_of}
 use Rattle.fact_check.specs.Accepted.{IsAdapterModule}
 use Rattle.fact_check.specs.Imports.{IsAdapterImport, IsFunctionRow, IsRow, fixed_signature, functions_in, memories_in, operation_of, origin_of, transcoder_type}
-use Rattle.fact_check.specs.Imports.{IsTranscoder as IsCheckedTranscoder}
-use Rattle.fact_check.specs.Plain.{memories_text}
+use Rattle.fact_check.specs.Imports.{IsTranscoderRow as IsCheckedTranscoder}
+use Rattle.fact_check.specs.NameNumbers.{memories_text}
 use Rattle.fact_check.specs.declared.imports.Operation.{Operation}
 use Rattle.fact_check.specs.declared.imports.Operation.TheVariants as operation
 use Rattle.fact_check.proofs.ImportRows.{memories_same}
@@ -32,7 +33,7 @@ use Rattle.fact_actions.specs.Transcoders.{transcode_kind, transcode_types}
 use Rattle.fact_host.specs.declared.calling.HostCall.{HostCall}
 use Rattle.fact_host.specs.declared.roles.Role.{Role}
 use Rattle.fact_host.specs.declared.roles.Role.TheVariants as role
-use Rattle.fact_host.specs.Roles.{IsNamedRole, IsRole, IsRoleBy, IsTranscoder, has_names, function_imports, is_function, is_place, is_slot, is_told, is_transfer, operation_name}
+use Rattle.fact_host.specs.Roles.{IsNamedRole, IsRole, IsRoleBy, IsTranscoder, has_names, function_imports, is_function, is_place, is_slot, is_told, is_transfer}
 use Rattle.fact_host.proofs.Answering.{address_is}
 use Rattle.fact_host.proofs.RoleNames.{operation_apart}
 
@@ -223,7 +224,7 @@ one_address b = ap (λ (x : ValType). x ∷ []) (address_is b)
 two_addresses : (f t : Bool) → address_type f ∷ address_type t ∷ [] ≡ address f ∷ address t ∷ []
 two_addresses f t = λ i. address_is f i ∷ address_is t i ∷ []
 
-operation_gives : (o : Transcode) (p : Operation) (f t : Bool) → operation_of (operation_name o) ≡ Some p → Gives o f t p
+operation_gives : (o : Transcode) (p : Operation) (f t : Bool) → operation_of (transcode_name o) ≡ Some p → Gives o f t p
 unfolding operation_of
 operation_gives (op.Copy Utf8) p f t e = as_operation (op.Copy Utf8) f t operation.Exact p e refl
 operation_gives (op.Copy Utf16) p f t e = as_operation (op.Copy Utf16) f t operation.Exact p e refl
@@ -246,8 +247,8 @@ transcoder_type_is m n w h o from from64 to to64 t =
     let before : List WasmImport = take h.place m.imports in
     let c : IsCheckedTranscoder (memories_in before) w.name h.ty =
     transcoder_row (functions_in before) (memories_in before) w.name h.ty (subst (λ x. IsFunctionRow (functions_in before) (memories_in before) (origin_of x) w.name h.ty) t.origin h.row) in
-    let parts : (c.description ≡ operation_name o) × (memories_text c.from c.to ≡ memories_text from to) =
-    same_parts c.description (operation_name o) (memories_text c.from c.to) (memories_text from to) (description_apart c.description c.operation c.described) (operation_apart o) (sym c.named ∙ t.name) in
+    let parts : (c.description ≡ transcode_name o) × (memories_text c.from c.to ≡ memories_text from to) =
+    same_parts c.description (transcode_name o) (memories_text c.from c.to) (memories_text from to) (description_apart c.description c.operation c.described) (operation_apart o) (sym c.named ∙ t.name) in
     let numbers : (c.from ≡ from) × (c.to ≡ to) = memories_same c.from c.to from to c.from_small c.to_small t.from_small t.to_small parts.1 in
     let source = memory_there m.imports h.place c.from c.from64 c.from_there in
     let target = memory_there m.imports h.place c.to c.to64 c.to_there in

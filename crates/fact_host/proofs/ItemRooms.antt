@@ -16,8 +16,8 @@ use Rattle.fact_types.specs.declared.sizes.DiscriminantSize.{DiscriminantSize}
 use Rattle.fact_types.specs.declared.sizes.DiscriminantSize.TheVariants.{Size1 as one_byte, Size2 as two_bytes, Size4 as four_bytes}
 use Rattle.fact_types.specs.declared.sizes.FlagsSize.{FlagsSize}
 use Rattle.fact_types.specs.declared.sizes.FlagsSize.TheVariants.{Size0, Size1, Size2, Size4Plus}
-use Rattle.fact_types.specs.declared.widths.MemoryWidth.{MemoryWidth}
-use Rattle.fact_types.specs.declared.widths.MemoryWidth.TheVariants.{Memory32, Memory64}
+use Rattle.fact_types.specs.declared.extents.MemoryWidth.{MemoryWidth}
+use Rattle.fact_types.specs.declared.extents.MemoryWidth.TheVariants.{Memory32, Memory64}
 use Rattle.fact_types.proofs.ShapeLaws.{none_some, same_some}
 use Rattle.fact_values.specs.declared.side.SideAbi.{SideAbi}
 use Rattle.fact_values.specs.declared.value.HandleKind.{HandleKind}
@@ -33,7 +33,7 @@ use Rattle.fact_values.specs.Numbers.{Plain, boolean, unsigned, signed, float32,
 use Rattle.fact_values.specs.Opened.{fields_in, members_in, elements_in, map_entries_in, case_in, number_of_handle}
 use Rattle.fact_values.specs.Places.{first_layout, element_layout, width_of, typed_names}
 use Rattle.fact_action_laws.specs.Items.{ValueItem, HandleItem, TextItem, of_some, chars_in, handle_item, items_plain, items, items_fields, items_case, items_places, items_element, region_item}
-use Rattle.fact_action_laws.specs.Law.{AreTyped, IsWellFormed, AreWellFormed}
+use Rattle.fact_action_laws.specs.MoveTerms.{AreTyped, IsWellFormed, AreWellFormed}
 use Rattle.fact_action_laws.proofs.Counted.{member_named, named_known, zip_parts}
 use Rattle.fact_action_laws.proofs.Distinct.{distinct_later, each_agrees, places_agree}
 use Rattle.fact_action_laws.proofs.Weights.{In, in_at, less_of, fields_in_source}

@@ -49,9 +49,9 @@ use Rattle.fact_host.specs.declared.calling.HostOutcome.{HostOutcome}
 use Rattle.fact_host.specs.declared.known.Known.{Known}
 use Rattle.fact_host.specs.declared.roles.Role.{Role}
 use Rattle.fact_host.specs.declared.roles.Role.TheVariants as role
-use Rattle.fact_host.specs.Beginning.{Begins, IsNamedMemory}
+use Rattle.fact_host.specs.Beginning.{BeginsHosting, IsNamedMemory}
 use Rattle.fact_host.specs.Begun.{AreBegun, CanBegin, IsBegun, IsFirstState, first_cursor}
-use Rattle.fact_host.specs.Contract.{AnswerLifts, AnsweredTooMuch, AnsweredUnsuited, AreLive, AreSuited, HasNoCause, IsCallable, IsCause, IsFirstKnown, IsNameable, IsOutcomeOf, area_room, params_reached, results_reached, steps_given}
+use Rattle.fact_host.specs.Contract.{AnswerLifts, AnsweredTooMuch, AnsweredUnsuited, AreTypesLive, AreSuited, HasNoCause, IsCallable, IsHostCause, IsFirstKnown, IsNameable, IsOutcomeOf, area_room, params_reached, results_reached, steps_given}
 use Rattle.fact_host.specs.Describes.{Describes, HasCallShapes}
 use Rattle.fact_host.specs.HonestLaws.{AnswersAreTyped, HasRole}
 use Rattle.fact_host.specs.Hosts.{AreAnswersUntil}
@@ -85,7 +85,7 @@ same_call_shapes t c s z h g = λ i. record {
 pub callable_by : (m : WasmModule) (t : Tables) (c : HostCall) (z s : CallShapes) → IsCallable m t c z → HasCallShapes t c s → IsCallable m t c s
 callable_by m t c z s h g = subst (IsCallable m t c) (same_call_shapes t c z s h.shapes g) h
 
-pub sound_of : (m : WasmModule) (t : Tables) (c : HostCall) (s : CallShapes) → IsCallable m t c s → AreLive t c → IsSoundCall t c
+pub sound_of : (m : WasmModule) (t : Tables) (c : HostCall) (s : CallShapes) → IsCallable m t c s → AreTypesLive t c → IsSoundCall t c
 sound_of m t c s h live = record {
   shapes = s;
   shaped = h.shapes;
@@ -160,7 +160,7 @@ places_callee m t c s roles h have n = (
       subst (RoleAt roles n) own x.1),
 )
 
-pub hosting_of : (m : WasmModule) (t : Tables) (c : HostCall) (s : CallShapes) (roles : List Role) → IsCallable m t c s → AreLive t c → HaveRoles m c 0 (function_imports m) roles → IsHosting t c roles
+pub hosting_of : (m : WasmModule) (t : Tables) (c : HostCall) (s : CallShapes) (roles : List Role) → IsCallable m t c s → AreTypesLive t c → HaveRoles m c 0 (function_imports m) roles → IsHosting t c roles
 hosting_of m t c s roles h live have = record { sound = sound_of m t c s h live; callee = places_callee m t c s roles h have }
 
 -- ---- what came of the callee
@@ -206,7 +206,7 @@ module _ (h : Hosted) (s : CallShapes) (t : Told) (events : List Event) (k : Kno
   }
 
 -- why a callee's call ends the whole call, where it could begin
-pub cause_of : (s : CallShapes) (args : List Value) (t : Told) (error : HostError) → AreSuited s args → IsCalleeCause s t error → IsCause s args t.last t.answered error
+pub cause_of : (s : CallShapes) (args : List Value) (t : Told) (error : HostError) → AreSuited s args → IsCalleeCause s t error → IsHostCause s args t.last t.answered error
 cause_of s args t OutOfMemory suited h = tt
 cause_of s args t Unsuited suited h = inr (suited, h)
 cause_of s args t OverLimit suited h = inr (suited, h)
@@ -333,7 +333,7 @@ module _ (m : WasmModule) (t : Tables) (c : HostCall) (s : CallShapes) (values :
         by None q kept = subst (λ o. AllByRecursion (IsOut n) (areas o)) (sym (flats_are ∙ none_flat q)) (out (subst Kept q kept), tt)
         by (Some fs) q kept = subst (λ o. AllByRecursion (IsOut n) (areas o)) (sym (flats_are ∙ (some_flat fs q).1)) tt
 
-    pub begins_at : Begins c a args (lengths_of state) (first_known cursors)
+    pub begins_at : BeginsHosting c a args (lengths_of state) (first_known cursors)
     begins_at = record {
       live = refl;
       returned = refl;

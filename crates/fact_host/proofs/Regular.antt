@@ -20,7 +20,7 @@ use Rattle.fact_host.specs.declared.calling.HostSide.{HostSide}
 use Rattle.fact_host.specs.declared.roles.Role.{Role}
 use Rattle.fact_host.specs.declared.roles.Role.TheVariants as role
 use Rattle.fact_host.specs.declared.known.Known.{Known}
-use Rattle.fact_host.specs.Rules.{memory_at, with_memory_at, AskedRegion, asked_of, stays, next_region, MustRefuse, NoRoom, moved_bytes, bytes_after_region, DestinationOutside, AnswersBy, CallShapes, Answers, AreAnswers, ReallocsAt, StoresAt, Leaves}
+use Rattle.fact_host.specs.Rules.{memory_at, with_memory_at, AskedRegion, asked_of, stays, next_region, MustRefuse, NoRoom, moved_bytes, bytes_after_region, DestinationOutside, AnswersBy, CallShapes, Answers, AreAnswers, ReallocsAt, StoresAt, LeavesKnown}
 
 -- the memories of a state have these lengths
 abbrev pub HasLengths : List ℕ → MachineState → Type 0
@@ -46,7 +46,7 @@ not_traps : (rs : List CoreValue) (st : MachineState) → Returns rs st ≡ Trap
 not_traps rs st q = cc
 
 -- what every answer leaves, every call leaves
-by_answer : {Must : Type 0} {Leave : Leaves} (k k' : Known) (e : Event) → AnswersBy Must Leave k e k'
+by_answer : {Must : Type 0} {Leave : LeavesKnown} (k k' : Known) (e : Event) → AnswersBy Must Leave k e k'
     → ((results : List CoreValue) (after : MachineState) → (Must → ⊥) → Leave after results k' → lengths_of after ≡ lengths_of e.before)
     → lengths_behind (lengths_of e.before) e.answer ≡ lengths_of e.before
 by_answer {Must} k k' e rule all = by e.answer refl

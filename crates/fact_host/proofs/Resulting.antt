@@ -20,7 +20,7 @@ use Rattle.fact_host.specs.Contract.{AreOfTypes, HaveNeeds}
 use Rattle.fact_host.specs.Describes.{HasCallShapes}
 use Rattle.fact_host.specs.Hosts.{event_by, cursor_in, left_known, left_state}
 use Rattle.fact_host.specs.Lawful.{IsAnswerOf, called_known}
-use Rattle.fact_host.specs.Rules.{CallShapes, MayLackRoom, MustNotCall, Again, NoParams, NoRoomForResults, StoresAt, StoresResults, AreBytes, bytes_of_memory, memory_at, params_of, side_bytes, with_memory_at}
+use Rattle.fact_host.specs.Rules.{CallShapes, MayLackRoom, MustNotCall, Again, NoParams, NoRoomForResults, StoresAt, StoresResults, AreWrittenBytes, bytes_of_memory, memory_at, params_of, side_bytes, with_memory_at}
 use Rattle.fact_host.proofs.Answering.{by_return, by_trap, returned_same}
 use Rattle.fact_host.proofs.Hosting.{trap_stands}
 use Rattle.fact_host.proofs.TupleRooms.{tuple_room_most, tuple_room_none}
@@ -77,7 +77,7 @@ module _ (k : Known) (c : HostCall) (s : CallShapes) (values : List Value) (befo
   returned_left (Some n) cursor = refl
 
   stored_at : (o : Option ℕ) (cores : List CoreValue) (bytes : List ℕ) (cursor most : ℕ)
-      → AreBytes bytes → AreLowered c.lift.abi 1 s.lift_results values cores (cursor_in o k) cursor (bytes_of_memory o before) bytes → tuple_room c.lift.abi 1 s.lift_results values ≤ most
+      → AreWrittenBytes bytes → AreLowered c.lift.abi 1 s.lift_results values cores (cursor_in o k) cursor (bytes_of_memory o before) bytes → tuple_room c.lift.abi 1 s.lift_results values ≤ most
       → StoresAt k (left_known o (called_known k) cursor) before (left_state o before bytes) most o
   stored_at None cores bytes cursor most are l le = (refl, refl)
   stored_at (Some n) cores bytes cursor most are l le =
@@ -87,7 +87,7 @@ module _ (k : Known) (c : HostCall) (s : CallShapes) (values : List Value) (befo
 
   -- They were lowered.
   pub answer_taken : (cores : List CoreValue) (bytes : List ℕ) (low cursor : ℕ) (first : List ℕ) (answer : Answer) (k' : Known)
-      → AreBytes bytes → low ≡ cursor_in c.lift.memory (called_known k) → first ≡ bytes_of_memory c.lift.memory before
+      → AreWrittenBytes bytes → low ≡ cursor_in c.lift.memory (called_known k) → first ≡ bytes_of_memory c.lift.memory before
       → AreLowered c.lift.abi 1 s.lift_results values cores low cursor first bytes
       → answer ≡ Returns cores (left_state c.lift.memory before bytes) → k' ≡ left_known c.lift.memory (called_known k) cursor
       → IsAnswerOf k c s values before answer k'

@@ -1,19 +1,19 @@
 -- What the names of imports say of transcoders.
 use Rattle.std.proofs.Common.{◌≡◌, ◌<◌, ◌^◌, ℕ, Bool, List, ◌∷◌, ◌++◌, Some, None, refl, sym, ap, ◌∙◌}
 use Rattle.std.specs.Prelude.{codes}
-use Rattle.std.specs.Fmt.{decimal}
 use Rattle.fact_types.specs.declared.outside.FixedEncoding.TheVariants.{Utf8, Utf16, Latin1}
 use Rattle.fact_types.specs.declared.outside.Transcode.{Transcode}
 use Rattle.fact_types.specs.declared.outside.Transcode.TheVariants as op
+use Rattle.fact_types.specs.TranscoderNames.{transcode_name, transcoder_name}
 use Rattle.fact_wasm.specs.declared.module.WasmImport.{WasmImport}
 use Rattle.fact_wasm.specs.declared.module.WasmModule.{WasmModule}
 use Rattle.fact_machine.specs.Machine.{memory_import}
-use Rattle.fact_check.specs.Plain.{memories_text}
+use Rattle.fact_check.specs.NameNumbers.{memories_text}
 use Rattle.fact_check.proofs.ImportRows.{memories_same}
 use Rattle.fact_check.proofs.Transcoders.{HasNoSpace, same_parts, tested}
-use Rattle.fact_host.specs.Roles.{IsTranscoder, operation_name}
+use Rattle.fact_host.specs.Roles.{IsTranscoder}
 
-pub operation_apart : (o : Transcode) → HasNoSpace (operation_name o)
+pub operation_apart : (o : Transcode) → HasNoSpace (transcode_name o)
 operation_apart (op.Copy Utf8) = tested (codes "utf8-to-utf8") refl
 operation_apart (op.Copy Utf16) = tested (codes "utf16-to-utf16") refl
 operation_apart (op.Copy Latin1) = tested (codes "latin1-to-latin1") refl
@@ -29,12 +29,12 @@ operation_apart op.Utf8ToUtf16 = tested (codes "utf8-to-utf16") refl
 
 -- the parts of a transcoder's name
 pub parts : (m : WasmModule) (w : WasmImport) (o : Transcode) (from : ℕ) (from64 : Bool) (to : ℕ) (to64 : Bool) (description rest : List ℕ)
-    → w.name ≡ description ++ 32 ∷ rest → HasNoSpace description → IsTranscoder m w o from from64 to to64 → (description ≡ operation_name o) × (rest ≡ memories_text from to)
-parts m w o from from64 to to64 description rest e h t = same_parts description (operation_name o) rest (memories_text from to) h (operation_apart o) (sym e ∙ t.name)
+    → w.name ≡ description ++ 32 ∷ rest → HasNoSpace description → IsTranscoder m w o from from64 to to64 → (description ≡ transcode_name o) × (rest ≡ memories_text from to)
+parts m w o from from64 to to64 description rest e h t = same_parts description (transcode_name o) rest (memories_text from to) h (operation_apart o) (sym e ∙ t.name)
 
-pub whole_name : (name description rest : List ℕ) (o : Transcode) (from to : ℕ) → name ≡ description ++ 32 ∷ rest → description ≡ operation_name o → rest ≡ memories_text from to
-    → name ≡ operation_name o ++ (codes " (mem" ++ (decimal from ++ (codes " => mem" ++ (decimal to ++ codes ")"))))
-whole_name name description rest o from to e d r = e ∙ ap (λ l. l ++ 32 ∷ rest) d ∙ ap (λ l. operation_name o ++ 32 ∷ l) r
+pub whole_name : (name description rest : List ℕ) (o : Transcode) (from to : ℕ) → name ≡ description ++ 32 ∷ rest → description ≡ transcode_name o → rest ≡ memories_text from to
+    → name ≡ transcoder_name o from to
+whole_name name description rest o from to e d r = e ∙ ap (λ l. l ++ 32 ∷ rest) d ∙ ap (λ l. transcode_name o ++ 32 ∷ l) r
 
 -- a memory that is not there is none of a transcoder's
 pub no_from : (m : WasmModule) (w : WasmImport) (o : Transcode) (from : ℕ) (from64 : Bool) (to : ℕ) (to64 : Bool) → memory_import m.imports from ≡ None → IsTranscoder m w o from from64 to to64 → ⊥

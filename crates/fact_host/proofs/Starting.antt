@@ -10,7 +10,7 @@ use Rattle.std.proofs.lemmas.Slice.Zip.{AllZip-long}
 use Rattle.indexmap.proofs.SetLemmas.{AllZip-push}
 use Rattle.fact_wasm.specs.declared.types.ValType.{ValType}
 use Rattle.fact_types.specs.declared.flats.FlatType.{FlatType}
-use Rattle.fact_types.specs.declared.widths.MemoryWidth.{MemoryWidth}
+use Rattle.fact_types.specs.declared.extents.MemoryWidth.{MemoryWidth}
 use Rattle.fact_types.specs.Flat.{value_type}
 use Rattle.fact_types.specs.FlatShapes.{flat, flat_all, flat_each, flat_types, after_flat, upto, when_upto, pointer}
 use Rattle.fact_types.specs.Shapes.{Shape}
@@ -36,7 +36,7 @@ use Rattle.fact_host.specs.Begun.{CanBegin, DiffersIn, HaveArea, HaveAreaBy, IsA
 use Rattle.fact_host.specs.Contract.{IsHostAreaSound, area_room}
 use Rattle.fact_host.specs.Describes.{HasCallShapes}
 use Rattle.fact_host.specs.Hosts.{left_state}
-use Rattle.fact_host.specs.Rules.{AreBytes, CallShapes, bytes_of_memory, side_bytes}
+use Rattle.fact_host.specs.Rules.{AreWrittenBytes, CallShapes, bytes_of_memory, side_bytes}
 use Rattle.fact_host.proofs.Resulting.{left_bytes}
 use Rattle.fact_host.proofs.TupleRooms.{tuple_room_most, tuple_room_none}
 
@@ -138,7 +138,7 @@ module _ (c : HostCall) (s : CallShapes) (values : List Value) (before : Machine
           let most = tuple_room_most c.lower.abi 16 s.lower_params s.lift_params values in
           absurd (omega (arith, less, start, most, few, long))
 
-  differs_by : (o : Option ℕ) (bytes : List ℕ) → AreBytes bytes → DiffersIn o before (left_state o before bytes)
+  differs_by : (o : Option ℕ) (bytes : List ℕ) → AreWrittenBytes bytes → DiffersIn o before (left_state o before bytes)
   differs_by None bytes are = refl
   differs_by (Some n) bytes are = (bytes, refl, are)
 
@@ -185,7 +185,7 @@ module _ (c : HostCall) (s : CallShapes) (values : List Value) (before : Machine
           (more_members c.lower.abi bytes 0 s.lower_params cores more (omega (arith, as_many cores cursor bytes l, count_flat fs e, ap length (all_is (width_of c.lower.abi) 16 s.lower_params fs e))) (subst (λ o. Forms bytes o cores) e l.forms))
 
   -- No return area: results are flat.
-  pub begun_flat : (cores : List CoreValue) (cursor : ℕ) (bytes : List ℕ) (fs : List FlatType) (state : MachineState) → flat_all (width_of c.lower.abi) 1 s.lower_results ≡ Some fs → AreBytes bytes → Stored cores cursor bytes
+  pub begun_flat : (cores : List CoreValue) (cursor : ℕ) (bytes : List ℕ) (fs : List FlatType) (state : MachineState) → flat_all (width_of c.lower.abi) 1 s.lower_results ≡ Some fs → AreWrittenBytes bytes → Stored cores cursor bytes
       → state ≡ left_state c.lower.memory before bytes → IsBegun c s values before state cores cursor
   begun_flat cores cursor bytes fs state e are l is = subst (λ st. IsBegun c s values before st cores cursor) (sym is) (record {
     differs = differs_by c.lower.memory bytes are;
@@ -232,7 +232,7 @@ module _ (c : HostCall) (s : CallShapes) (values : List Value) (before : Machine
   pointer_to place = core_of (pointer (width_of c.lower.abi)) place
 
   -- A return area stands behind them, or behind the memory.
-  pub begun_behind : (cores : List CoreValue) (low place cursor : ℕ) (bytes : List ℕ) (state : MachineState) → flat_all (width_of c.lower.abi) 1 s.lower_results ≡ None → AreBytes bytes → Stored cores low bytes → IsAside c.lower.abi s.lower_results place low cursor bytes
+  pub begun_behind : (cores : List CoreValue) (low place cursor : ℕ) (bytes : List ℕ) (state : MachineState) → flat_all (width_of c.lower.abi) 1 s.lower_results ≡ None → AreWrittenBytes bytes → Stored cores low bytes → IsAside c.lower.abi s.lower_results place low cursor bytes
       → state ≡ left_state c.lower.memory before bytes → IsBegun c s values before state (cores ++ core_of (pointer (width_of c.lower.abi)) place ∷ []) cursor
   begun_behind cores low place cursor bytes state e are l aside is = subst (λ st. IsBegun c s values before st (cores ++ pointer_to place ∷ []) cursor) (sym is) (record {
     differs = differs_by c.lower.memory bytes are;
@@ -293,7 +293,7 @@ module _ (c : HostCall) (s : CallShapes) (values : List Value) (before : Machine
 
   -- With a return area, where there is to be one.
   pub begun : (cores args : List CoreValue) (first : List ℕ) (from_here low cursor : ℕ) (bytes : List ℕ) (state : MachineState) → from_here ≡ 0 → first ≡ side_bytes c.lower before
-      → AreLowered c.lower.abi 16 s.lower_params values cores from_here low first bytes → AreBytes bytes → HaveArea c.lower.abi s.lower_results cores args low cursor bytes
+      → AreLowered c.lower.abi 16 s.lower_params values cores from_here low first bytes → AreWrittenBytes bytes → HaveArea c.lower.abi s.lower_results cores args low cursor bytes
       → state ≡ left_state c.lower.memory before bytes → IsBegun c s values before state args cursor
   begun cores args first from_here low cursor bytes state at of l are area is = by (flat_all (width_of c.lower.abi) 1 s.lower_results) refl area
     where

@@ -14,7 +14,7 @@ use Rattle.fact_action_laws.proofs.Bounds.{length_text}
 use Rattle.fact_action_laws.proofs.Encoded.{AreSmallBytes, encoded}
 use Rattle.fact_host.specs.declared.transcoders.Told.{Told}
 use Rattle.fact_host.specs.Hosts.{IsMadeOf}
-use Rattle.fact_host.specs.Rules.{AreBytes, IsHonestlyMade, MustStop, LatinOutside, Overflows, DestinationOutside, told_room, units_read}
+use Rattle.fact_host.specs.Rules.{AreWrittenBytes, IsHonestlyMade, MustStop, LatinOutside, Overflows, DestinationOutside, told_room, units_read}
 
 -- ---- numbers of units
 
@@ -48,11 +48,11 @@ low_all text n all low = subst (AreSpelled Latin1) (take_all n text (omega (arit
 
 -- ---- what is read
 
-small : (bytes : List ℕ) → AreBytes bytes → AreSmallBytes bytes
+small : (bytes : List ℕ) → AreWrittenBytes bytes → AreSmallBytes bytes
 small bytes h i = elim (cases_lt i (length bytes)) [ inl lt ↦ All-get_or (λ b. b < 256) bytes i 0 lt h | inr ge ↦ (let e = get_or-eq_default bytes 0 ge in omega (arith, e)) ]
 
 -- what is decoded is spelled so
-pub spelled_read : (e : FixedEncoding) (bytes units : List ℕ) (o : Option (List ℕ)) → o ≡ decoded e bytes → AreBytes bytes → units ≡ bytes → IfSome o (λ text. (units ≡ spelled_text e text) × AreSpelled e text)
+pub spelled_read : (e : FixedEncoding) (bytes units : List ℕ) (o : Option (List ℕ)) → o ≡ decoded e bytes → AreWrittenBytes bytes → units ≡ bytes → IfSome o (λ text. (units ≡ spelled_text e text) × AreSpelled e text)
 spelled_read e bytes units None is are same = tt
 spelled_read e bytes units (Some text) is are same = let s = encoded e bytes text (small bytes are) (sym is) in (same ∙ s.is, s.can)
 

@@ -14,8 +14,8 @@ use Rattle.fact_actions.specs.Transcoders.{TranscodeKind, AllUnits, Counted, Fit
 use Rattle.fact_action_laws.proofs.Decoded.{one_text}
 use Rattle.fact_action_laws.proofs.Splits.{can_parts, no_low_left}
 use Rattle.fact_host.specs.declared.transcoders.Told.{Told}
-use Rattle.fact_host.specs.Hosts.{IsTranscoded, IsMadeOf, IsPass, FitsDestination}
-use Rattle.fact_host.specs.Rules.{AreBytes, IsHonestlyMade, MustStop, SourceOutside, Malformed, LatinOutside, Overflows, DestinationOutside, told_room, units_read}
+use Rattle.fact_host.specs.Hosts.{IsTranscodedByHost, IsMadeOf, IsPass, FitsDestination}
+use Rattle.fact_host.specs.Rules.{AreWrittenBytes, IsHonestlyMade, MustStop, SourceOutside, Malformed, LatinOutside, Overflows, DestinationOutside, told_room, units_read}
 use Rattle.fact_host.proofs.Passing.{one_pass}
 
 -- ---- texts that other encodings can spell
@@ -269,7 +269,7 @@ same_text x a b e p q = let z : Some a ≡ Some b = sym p ∙ q in cc
 -- What is made of the text that is read, is an honest answer, if its bytes have their places.
 pub made_is : (o : Transcode) (source destination : List ℕ) (t : Told) (text bytes numbers : List ℕ) → units_read o source t ≡ spelled_text (from_encoding o) text → AreSpelled (from_encoding o) text
     → decoded (from_encoding o) (units_read o source t) ≡ Some text → t.from + unit_bytes (from_encoding o) * t.units ≤ length source
-    → IsMadeOf o text destination t bytes numbers → FitsDestination o destination t → t.to + length bytes ≤ length destination → AreBytes bytes → IsTranscoded o source destination t bytes numbers
+    → IsMadeOf o text destination t bytes numbers → FitsDestination o destination t → t.to + length bytes ≤ length destination → AreWrittenBytes bytes → IsTranscodedByHost o source destination t bytes numbers
 made_is o source destination t text bytes numbers is can some there h within inside are = record {
   honest = honest;
   are_bytes = are;

@@ -9,8 +9,8 @@ use Rattle.fact_types.specs.declared.abi.CanonicalAbiInfo.{CanonicalAbiInfo}
 use Rattle.fact_types.specs.declared.flats.FlatType.{FlatType}
 use Rattle.fact_types.specs.declared.interface.InterfaceType.{InterfaceType}
 use Rattle.fact_types.specs.declared.interface.InterfaceType.TheVariants as ty
-use Rattle.fact_types.specs.declared.widths.MemoryWidth.{MemoryWidth}
-use Rattle.fact_types.specs.declared.widths.MemoryWidth.TheVariants.{Memory32, Memory64}
+use Rattle.fact_types.specs.declared.extents.MemoryWidth.{MemoryWidth}
+use Rattle.fact_types.specs.declared.extents.MemoryWidth.TheVariants.{Memory32, Memory64}
 use Rattle.fact_types.specs.FlatShapes.{flat_all}
 use Rattle.fact_types.specs.Layout.{extent}
 use Rattle.fact_types.specs.PointerPairs.{is_string, pointer_pair_by, has_pointer_pair, have_pointer_pair, any_pointer_pair}

@@ -32,36 +32,36 @@ use Rattle.fact_host.specs.declared.calling.HostSide.{HostSide}
 use Rattle.fact_host.specs.declared.known.Known.{Known}
 use Rattle.fact_host.specs.declared.roles.Role.{Role}
 use Rattle.fact_host.specs.declared.roles.Role.TheVariants as role
-use Rattle.fact_host.specs.Contract.{HasMeans, HasSyncTypes}
+use Rattle.fact_host.specs.Contract.{HasSideMeans, HasSyncTypes}
 use Rattle.fact_host.specs.HonestLaws.{AnswersAreTyped, HasRole}
 use Rattle.fact_host.specs.Roles.{function_imports}
-use Rattle.fact_host.specs.Rules.{AreBytes, AreOfCoreTypes, memory_at, with_memory_at, AskedRegion, asked_of, stays, next_region, moved_bytes, bytes_after_region, AnswersBy, CallShapes, Answers, AreAnswers, ReallocsAt, StoresAt, Leaves}
+use Rattle.fact_host.specs.Rules.{AreWrittenBytes, AreOfCoreTypes, memory_at, with_memory_at, AskedRegion, asked_of, stays, next_region, moved_bytes, bytes_after_region, AnswersBy, CallShapes, Answers, AreAnswers, ReallocsAt, StoresAt, LeavesKnown}
 use Rattle.fact_host.proofs.ImportTypes.{IsAt, is_at, slot_results, told_results, transcoder_results, transfer_results}
 use Rattle.fact_host.proofs.Regular.{answers_stay}
 
 -- ---- bytes
 
-put_bytes : (bytes : List ℕ) (at : ℕ) (chunk : List ℕ) → AreBytes bytes → AreBytes chunk → AreBytes (put_at bytes at chunk)
+put_bytes : (bytes : List ℕ) (at : ℕ) (chunk : List ℕ) → AreWrittenBytes bytes → AreWrittenBytes chunk → AreWrittenBytes (put_at bytes at chunk)
 put_bytes bytes at chunk h g =
     All-append (λ b. b < 256) (take at bytes) (chunk ++ drop (at + length chunk) bytes) (All-take (λ b. b < 256) at bytes h) (All-append (λ b. b < 256) chunk (drop (at + length chunk) bytes) g (All-drop (λ b. b < 256) (at + length chunk) bytes h))
 
-moved_are : (bytes : List ℕ) (to : ℕ) (q : AskedRegion) → AreBytes bytes → AreBytes (moved_bytes bytes to q)
+moved_are : (bytes : List ℕ) (to : ℕ) (q : AskedRegion) → AreWrittenBytes bytes → AreWrittenBytes (moved_bytes bytes to q)
 moved_are bytes to q h = put_bytes bytes to (take (min q.old.size q.size) (drop q.old.at bytes)) h (All-take (λ b. b < 256) (min q.old.size q.size) (drop q.old.at bytes) (All-drop (λ b. b < 256) q.old.at bytes h))
 
-region_are : (bytes : List ℕ) (to : ℕ) (q : AskedRegion) (b : Bool) → AreBytes bytes → AreBytes (if b then bytes else moved_bytes bytes to q)
+region_are : (bytes : List ℕ) (to : ℕ) (q : AskedRegion) (b : Bool) → AreWrittenBytes bytes → AreWrittenBytes (if b then bytes else moved_bytes bytes to q)
 region_are bytes to q true h = h
 region_are bytes to q false h = moved_are bytes to q h
 
 -- ---- states
 
 module _ (m : WasmModule) (s : MachineState) (typed : TypedState m s) where
-  bytes_at : (n : ℕ) → AreBytes (memory_at s n)
+  bytes_at : (n : ℕ) → AreWrittenBytes (memory_at s n)
   bytes_at n = elim (cases_lt n (length s.memories)) [
     | inl lt ↦ memory_bytes m s typed n (memory_at s n) (slice_get-get_or s.memories n [] lt)
-    | inr ge ↦ subst AreBytes (sym (get_or-eq_default s.memories [] ge)) (All-nil (λ b. b < 256))
+    | inr ge ↦ subst AreWrittenBytes (sym (get_or-eq_default s.memories [] ge)) (All-nil (λ b. b < 256))
   ]
 
-  typed_with : (n : ℕ) (bytes : List ℕ) → AreBytes bytes → length bytes ≡ length (memory_at s n) → TypedState m (with_memory_at s n bytes)
+  typed_with : (n : ℕ) (bytes : List ℕ) → AreWrittenBytes bytes → length bytes ≡ length (memory_at s n) → TypedState m (with_memory_at s n bytes)
   typed_with n bytes are long = elim (cases_lt n (length s.memories)) [
     | inl lt ↦ memory_with m s typed n (memory_at s n) bytes (slice_get-get_or s.memories n [] lt) are long
     | inr ge ↦ subst (λ ms. TypedState m (record { memories = ms; globals = s.globals })) (sym (set_past s.memories n bytes ge)) typed
@@ -101,7 +101,7 @@ given : (m : WasmModule) (n : ℕ) (t : FuncType) (ts : List ValType) (results :
 given m n t ts results is gives h = subst (λ o. AreResults o results) (sym is) (subst (λ us. AreOfCoreTypes us results) (sym gives) h)
 
 -- What every answer leaves is typed, where the lengths of memories stay.
-by_answer : {Must : Type 0} {Leave : Leaves} (m : WasmModule) (k k' : Known) (e : Event) → AnswersBy Must Leave k e k' → lengths_behind (lengths_of e.before) e.answer ≡ lengths_of e.before
+by_answer : {Must : Type 0} {Leave : LeavesKnown} (m : WasmModule) (k k' : Known) (e : Event) → AnswersBy Must Leave k e k' → lengths_behind (lengths_of e.before) e.answer ≡ lengths_of e.before
     → ((results : List CoreValue) (after : MachineState) → lengths_of after ≡ lengths_of e.before → Leave after results k' → AreResults (type_of_import m e.func) results × TypedState m after)
     → TypedAnswer m e.func e.before e.answer
 by_answer m k k' e rule stay all = by e.answer refl
@@ -118,7 +118,7 @@ on_trap : (m : WasmModule) (e : Event) → e.answer ≡ Traps → TypedAnswer m 
 on_trap m e q = subst (TypedAnswer m e.func e.before) (sym q) tt
 
 -- one memory is another
-left_typed : (m : WasmModule) (s after : MachineState) (n : ℕ) (bytes : List ℕ) → TypedState m s → lengths_of after ≡ lengths_of s → after ≡ with_memory_at s n bytes → AreBytes bytes → TypedState m after
+left_typed : (m : WasmModule) (s after : MachineState) (n : ℕ) (bytes : List ℕ) → TypedState m s → lengths_of after ≡ lengths_of s → after ≡ with_memory_at s n bytes → AreWrittenBytes bytes → TypedState m after
 left_typed m s after n bytes typed long is are = elim (cases_lt n (length s.memories)) [
   | inl lt ↦ subst (TypedState m) (sym is) (typed_with m s typed n bytes are (own lt))
   | inr ge ↦ subst (TypedState m) (sym (is ∙ ap (λ ms. record { memories = ms; globals = s.globals }) (set_past s.memories n bytes ge))) typed
@@ -127,8 +127,8 @@ left_typed m s after n bytes typed long is are = elim (cases_lt n (length s.memo
     own : n < length s.memories → length bytes ≡ length (memory_at s n)
     own lt = ap length (sym (get_or-set_same s.memories n bytes [] lt)) ∙ ap (λ (x : MachineState). length (memory_at x n)) (sym is) ∙ as_long_at s after n long
 
-module _ (m : WasmModule) (c : HostCall) (s : CallShapes) (answered : Option (List Value)) (adapter : IsAdapterModule m) (types : HasSyncTypes m c s) (lower : HasMeans m c.lower) (lift : HasMeans m c.lift) where
-  reallocs : (side : HostSide) (b : Bool) (k k' : Known) (e : Event) → HasMeans m side → side.realloc ≡ Some e.func → TypedState m e.before → lengths_behind (lengths_of e.before) e.answer ≡ lengths_of e.before
+module _ (m : WasmModule) (c : HostCall) (s : CallShapes) (answered : Option (List Value)) (adapter : IsAdapterModule m) (types : HasSyncTypes m c s) (lower : HasSideMeans m c.lower) (lift : HasSideMeans m c.lift) where
+  reallocs : (side : HostSide) (b : Bool) (k k' : Known) (e : Event) → HasSideMeans m side → side.realloc ≡ Some e.func → TypedState m e.before → lengths_behind (lengths_of e.before) e.answer ≡ lengths_of e.before
       → (n : Option ℕ) → ReallocsAt k side b e k' n → TypedAnswer m e.func e.before e.answer
   reallocs side b k k' e means is typed stay None rule = on_trap m e rule
   reallocs side b k k' e means is typed stay (Some n) rule =

@@ -14,7 +14,7 @@ IsNamedMemory c n = (c.lift.memory ≡ Some n) ⊎ (c.lower.memory ≡ Some n)
 
 -- What a host knows as a run begins: no region is live, and cursors lie in their memories, that of the lower side behind the return area, where
 -- this does not lie behind the memory.
-pub record Begins (c : HostCall) (a : LinkedAdapter) (args : List CoreValue) (lengths : List ℕ) (k : Known) : Type 0 where
+pub record BeginsHosting (c : HostCall) (a : LinkedAdapter) (args : List CoreValue) (lengths : List ℕ) (k : Known) : Type 0 where
   pub live : k.live ≡ []
   pub returned : k.returned ≡ false
   pub area : (n : ℕ) → c.lower.memory ≡ Some n → AllByRecursion (λ r. (r.at + r.size ≤ cursor_of k n) ⊎ (get_or lengths n 0 ≤ r.at)) (return_area a args)

@@ -27,7 +27,7 @@ use Rattle.fact_lowering.specs.Lowered.{IsAside}
 use Rattle.fact_lowering.specs.Lowerings.{core_of}
 use Rattle.fact_lowering.specs.Room.{room}
 use Rattle.fact_host.specs.Roles.{is_place}
-use Rattle.fact_host.specs.Rules.{AreBytes, CallShapes, memory_at, side_bytes, with_memory_at}
+use Rattle.fact_host.specs.Rules.{AreWrittenBytes, CallShapes, memory_at, side_bytes, with_memory_at}
 use Rattle.fact_lowering.specs.TextForms.{TupleIsByForm}
 
 -- ---- the first state
@@ -84,7 +84,7 @@ pub record CanBegin (c : HostCall) (s : CallShapes) (values : List Value) (state
 -- one state is another but for the bytes of a memory, if there is one
 abbrev pub DiffersIn : Option ℕ → (before after : MachineState) → Type 0
 DiffersIn None before after = after ≡ before
-DiffersIn (Some n) before after = (bytes : List ℕ) × (after ≡ with_memory_at before n bytes) × AreBytes bytes
+DiffersIn (Some n) before after = (bytes : List ℕ) × (after ≡ with_memory_at before n bytes) × AreWrittenBytes bytes
 
 -- the return area, where there is one, lies before the cursor, or behind the memory
 abbrev pub IsAreaKept : HostCall → CallShapes → (args : List CoreValue) → MachineState → (cursor : ℕ) → Type 0

@@ -13,8 +13,8 @@ number_of_error OverLimit = 3
 number_of_error NoResults = 4
 
 -- what the last call was given is kept or not
-abbrev pub IsGiven : Option (List Value) → (params : List Value) → Type 0
-IsGiven given params = (given ≡ None) ⊎ (given ≡ Some params)
+abbrev pub MayKeepGiven : Option (List Value) → (params : List Value) → Type 0
+MayKeepGiven given params = (given ≡ None) ⊎ (given ≡ Some params)
 
 -- What stays of a scripted callee: what it answers is the same, and its one error is a want of memory.
 pub record IsSameScript (first last : Scripted) : Type 0 where

@@ -42,7 +42,7 @@ use Rattle.fact_host.specs.declared.calling.HostSide.{HostSide}
 use Rattle.fact_host.specs.declared.calling.HostOutcome.{HostOutcome}
 use Rattle.fact_host.specs.declared.callee.HostError.{HostError}
 use Rattle.fact_host.specs.declared.callee.HostError.TheVariants.{OutOfMemory, Unsuited, OverLimit, NoResults}
-use Rattle.fact_host.specs.Beginning.{Begins}
+use Rattle.fact_host.specs.Beginning.{BeginsHosting}
 use Rattle.fact_host.specs.Describes.{Describes, HasCallShapes, named_calls}
 use Rattle.fact_host.specs.Roles.{IsRole, function_imports}
 use Rattle.fact_lowering.specs.Room.{fits, room}
@@ -53,7 +53,7 @@ use Rattle.fact_host.specs.Rules.{AreAnswers, CallShapes, cursor_of, memory_at, 
 -- ---- what is asked of a call
 
 -- a memory that a side names has its width, and a realloc its type; there is none without a memory
-pub record HasMeans (m : WasmModule) (h : HostSide) : Type 0 where
+pub record HasSideMeans (m : WasmModule) (h : HostSide) : Type 0 where
   pub memory : (n : ℕ) → h.memory ≡ Some n → (pages : Option ℕ) × (memory_import m.imports n ≡ Some (h.abi.memory64, pages))
   pub realloc : (n : ℕ) → h.realloc ≡ Some n → type_of_import m n ≡ Some (realloc_type h.abi.memory64)
   pub with_memory : h.memory ≡ None → h.realloc ≡ None
@@ -66,14 +66,14 @@ if_named (Some n) = n ∷ []
 abbrev pub function_places : HostCall → List ℕ
 function_places c = c.callee ∷ (if_named c.lift.realloc ++ (if_named c.lower.realloc ++ if_named c.post_return))
 
-abbrev pub AreDistinct : List ℕ → Type 0
-AreDistinct [] = Unit {0}
-AreDistinct (n ∷ ns) = (list_any (nat_eq n) ns ≡ false) × AreDistinct ns
+abbrev pub AreDistinctPlaces : List ℕ → Type 0
+AreDistinctPlaces [] = Unit {0}
+AreDistinctPlaces (n ∷ ns) = (list_any (nat_eq n) ns ≡ false) × AreDistinctPlaces ns
 
 -- No two places of a kind name the same import.
 pub record NamesEachOnce (c : HostCall) : Type 0 where
-  pub functions : AreDistinct (function_places c)
-  pub memories : AreDistinct (if_named c.lift.memory ++ if_named c.lower.memory)
+  pub functions : AreDistinctPlaces (function_places c)
+  pub memories : AreDistinctPlaces (if_named c.lift.memory ++ if_named c.lower.memory)
   pub flags : c.lift.flags ≢ c.lower.flags
 
 -- a function type with the parameters and the results of a signature
@@ -113,8 +113,8 @@ pub record IsCallable (m : WasmModule) (t : Tables) (c : HostCall) (s : CallShap
   pub adapter : IsAdapterModule m
   pub named : All (IsNameable m) (function_places c)
   pub shapes : HasCallShapes t c s
-  pub lower_means : HasMeans m c.lower
-  pub lift_means : HasMeans m c.lift
+  pub lower_means : HasSideMeans m c.lower
+  pub lift_means : HasSideMeans m c.lift
   pub needs : HaveNeeds c s
   pub once : NamesEachOnce c
   pub types : HasSyncTypes m c s
@@ -122,7 +122,7 @@ pub record IsCallable (m : WasmModule) (t : Tables) (c : HostCall) (s : CallShap
   pub results_agree : AgreesPlaces (tuple_members s.lift_results) (tuple_members s.lower_results)
 
 -- the types that a call names are live
-pub record AreLive (t : Tables) (c : HostCall) : Type 0 where
+pub record AreTypesLive (t : Tables) (c : HostCall) : Type 0 where
   pub lower_params : All (IsLive t) c.lower.params
   pub lower_results : All (IsLive t) c.lower.results
   pub lift_params : All (IsLive t) c.lift.params
@@ -154,13 +154,13 @@ abbrev pub AreSuited : CallShapes → (args : List Value) → Type 0
 AreSuited s args = AreOfTypes s.lower_params args × (fits s.lower_params s.lift_params args ≡ true)
 
 -- Why a call ends with an error; want of memory may always be.
-abbrev pub IsCause : CallShapes → (args : List Value) → (last : ℕ) → (answered : Option (List Value)) → HostError → Type 0
-IsCause s args last answered OutOfMemory = Unit {0}
-IsCause s args last answered Unsuited =
+abbrev pub IsHostCause : CallShapes → (args : List Value) → (last : ℕ) → (answered : Option (List Value)) → HostError → Type 0
+IsHostCause s args last answered OutOfMemory = Unit {0}
+IsHostCause s args last answered Unsuited =
     (AreOfTypes s.lower_params args → ⊥) ⊎ (AreSuited s args × ((last ≡ 2) ⊎ ((last ≡ 0) × AnsweredUnsuited s answered)))
-IsCause s args last answered OverLimit =
+IsHostCause s args last answered OverLimit =
     (AreOfTypes s.lower_params args × (fits s.lower_params s.lift_params args ≡ false)) ⊎ (AreSuited s args × ((last ≡ 3) ⊎ ((last ≡ 0) × AnsweredTooMuch s answered)))
-IsCause s args last answered NoResults = AreSuited s args × (last ≡ 4)
+IsHostCause s args last answered NoResults = AreSuited s args × (last ≡ 4)
 
 -- ---- how a run begins
 
@@ -252,7 +252,7 @@ pub record IsOutcomeOf (m : WasmModule) (t : Tables) (c : HostCall) (s : CallSha
   pub lift_memory : HasFirstMemory c.lift first
   pub other_memories : HasFirstOthers c first
   pub area : IsHostAreaSound c s args first
-  pub begins : (p : ImportPlaces) (a : LinkedAdapter) (names : ℕ → Import) → Describes m t c p a names → Begins c a args (lengths_of first) known
+  pub begins : (p : ImportPlaces) (a : LinkedAdapter) (names : ℕ → Import) → Describes m t c p a names → BeginsHosting c a args (lengths_of first) known
   -- Each answer that is no trap is honest, whatever adapter the call is described as.
   pub honest : (p : ImportPlaces) (a : LinkedAdapter) (names : ℕ → Import) → Describes m t c p a names → AreHonestUntilTrap (AreHonestSync p a args) (named_calls names o.outcome.log)
   -- The arguments stand for the values, and the callee's answer for what it answered.

@@ -20,7 +20,7 @@ use Rattle.fact_actions.specs.Sides.{options_of, side_abi}
 use Rattle.fact_action_laws.specs.Faithful.{params_given}
 use Rattle.fact_action_laws.specs.FaithfulLaws.{IsCheckedAdapter, HasSyncSides}
 use Rattle.fact_action_laws.specs.Items.{items}
-use Rattle.fact_action_laws.specs.Law.{IsWellFormed}
+use Rattle.fact_action_laws.specs.MoveTerms.{IsWellFormed}
 use Rattle.fact_action_laws.specs.Requested.{params_parts, results_parts}
 use Rattle.fact_action_laws.specs.Rooms.{items_bytes, requests_bytes, AllCutsShrink}
 use Rattle.fact_lowering.specs.Room.{measured, measured_places, inner_room, room}

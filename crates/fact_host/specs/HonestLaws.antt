@@ -18,8 +18,8 @@ use Rattle.fact_actions.specs.Running.{ImportPlaces}
 use Rattle.fact_action_laws.specs.Trapped.{AreHonestUntilTrap}
 use Rattle.fact_host.specs.declared.calling.HostCall.{HostCall}
 use Rattle.fact_host.specs.declared.roles.Role.{Role}
-use Rattle.fact_host.specs.Beginning.{Begins}
-use Rattle.fact_host.specs.Contract.{HasMeans, HasSyncTypes, NamesEachOnce}
+use Rattle.fact_host.specs.Beginning.{BeginsHosting}
+use Rattle.fact_host.specs.Contract.{HasSideMeans, HasSyncTypes, NamesEachOnce}
 use Rattle.fact_host.specs.Describes.{Describes, named_calls}
 use Rattle.fact_host.specs.Roles.{IsRole, function_imports}
 use Rattle.fact_host.specs.declared.known.Known.{Known}
@@ -35,7 +35,7 @@ abbrev pub AnswersAreHonest : Type 0
 AnswersAreHonest =
     (m : WasmModule) (t : Tables) (c : HostCall) (p : ImportPlaces) (a : LinkedAdapter) (names : ℕ → Import) (s : CallShapes)
     (args : List CoreValue) (lengths : List ℕ) (answered : Option (List Value)) (k : Known) (log : List Event)
-    → Describes m t c p a names → NamesEachOnce c → Begins c a args lengths k
+    → Describes m t c p a names → NamesEachOnce c → BeginsHosting c a args lengths k
     → AreAnswers (HasRole m c) c s answered k log → SeeLengths lengths log → TrapIsLast log
     → AreHonestUntilTrap (AreHonestSync p a args) (named_calls names log)
 
@@ -44,5 +44,5 @@ AnswersAreHonest =
 abbrev pub AnswersAreTyped : Type 0
 AnswersAreTyped =
     (m : WasmModule) (c : HostCall) (s : CallShapes) (answered : Option (List Value)) (k : Known) (log : List Event)
-    → IsAdapterModule m → HasSyncTypes m c s → HasMeans m c.lower → HasMeans m c.lift
+    → IsAdapterModule m → HasSyncTypes m c s → HasSideMeans m c.lower → HasSideMeans m c.lift
     → AreAnswers (HasRole m c) c s answered k log → SeeTyped m log → All (λ e. TypedAnswer m e.func e.before e.answer) log

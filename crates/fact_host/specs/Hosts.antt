@@ -16,7 +16,7 @@ use Rattle.fact_host.specs.declared.calling.HostCall.{HostCall}
 use Rattle.fact_host.specs.declared.known.Known.{Known}
 use Rattle.fact_host.specs.declared.roles.Role.{Role}
 use Rattle.fact_host.specs.declared.transcoders.Told.{Told}
-use Rattle.fact_host.specs.Rules.{AreBytes, CallShapes, Answers, IsHonestlyMade, MustStop, cursor_of, raised, told_room, with_memory_at}
+use Rattle.fact_host.specs.Rules.{AreWrittenBytes, CallShapes, Answers, IsHonestlyMade, MustStop, cursor_of, raised, told_room, with_memory_at}
 
 -- a call of the nth imported function that is answered so
 abbrev pub event_by : (func : ℕ) → (args : List CoreValue) → MachineState → Answer → Event
@@ -58,9 +58,9 @@ AreAnswersUntil Named c s answered k [] last = last ≡ k
 AreAnswersUntil Named c s answered k (e ∷ es) last = (r : Role) × Named e.func r × (k' : Known) × Answers c s answered r k e k' × AreAnswersUntil Named c s answered k' es last
 
 -- What a transcoder makes is an honest answer, of bytes that have their places, and nothing stops it.
-pub record IsTranscoded (o : Transcode) (source destination : List ℕ) (t : Told) (bytes numbers : List ℕ) : Type 0 where
+pub record IsTranscodedByHost (o : Transcode) (source destination : List ℕ) (t : Told) (bytes numbers : List ℕ) : Type 0 where
   pub honest : IsHonestlyMade o source destination t bytes numbers
-  pub are_bytes : AreBytes bytes
+  pub are_bytes : AreWrittenBytes bytes
   pub inside : t.to + length bytes ≤ length destination
   pub goes_on : MustStop o source destination t → ⊥
 

@@ -21,8 +21,8 @@ use Rattle.fact_host.specs.declared.host.Host.{Host}
 use Rattle.fact_host.specs.declared.known.Known.{Known}
 use Rattle.fact_host.specs.declared.roles.Role.{Role}
 use Rattle.fact_host.specs.declared.roles.Role.TheVariants as role
-use Rattle.fact_host.specs.Callees.{IsGiven}
-use Rattle.fact_host.specs.Contract.{AreLive, HaveNeeds, AnsweredUnsuited, AnsweredTooMuch, AnswerLifts, IsCallee, IsFresh, first_call, params_reached, steps_given}
+use Rattle.fact_host.specs.Callees.{MayKeepGiven}
+use Rattle.fact_host.specs.Contract.{AreTypesLive, HaveNeeds, AnsweredUnsuited, AnsweredTooMuch, AnswerLifts, IsCallee, IsFresh, first_call, params_reached, steps_given}
 use Rattle.fact_host.specs.Describes.{HasCallShapes}
 use Rattle.fact_host.specs.Hosts.{AreAnswersUntil, event_by}
 use Rattle.fact_host.specs.Roles.{HaveRoles, function_imports}
@@ -41,7 +41,7 @@ PlacesCallee c roles = (n : ℕ) → RoleAt roles n role.Callee ↔ (n ≡ c.cal
 pub record IsSoundCall (t : Tables) (c : HostCall) : Type 0 where
   pub shapes : CallShapes
   pub shaped : HasCallShapes t c shapes
-  pub live : AreLive t c
+  pub live : AreTypesLive t c
   pub agree : (s : CallShapes) → HasCallShapes t c s → AgreesPlaces (tuple_members s.lift_results) (tuple_members s.lower_results)
   pub needs : (s : CallShapes) → HasCallShapes t c s → HaveNeeds c s
 
@@ -122,7 +122,7 @@ pub record WasGiven (h : Hosted) (s : CallShapes) (given : Option (List Value)) 
   pub traps : event.answer ≡ Traps
   pub params : List Value
   pub lifts : params_of h.call s.lift_params event ≡ Some params
-  pub given_is : IsGiven given params
+  pub given_is : MayKeepGiven given params
 
 -- An error ends the whole call, of which the callee's call is the cause. Want of memory tells nothing.
 abbrev pub IsEndedBy : Hosted → CallShapes → Told → List Event → HostError → Type 0
@@ -166,8 +166,8 @@ pub record IsTakenCall (k : Known) (c : HostCall) (s : CallShapes) (values : Lis
 
 -- What came of asking a callee, when so much was known: what it answered is taken, or there is an error that ends the call.
 abbrev pub IsAnswered : (k : Known) → HostCall → CallShapes → Told → (params : List Value) → MachineState → Answer → (k' : Known) → Option HostError → Type 0
-IsAnswered k c s t params before answer k' None = (values : List Value) × (t.answered ≡ Some values) × (t.last ≡ 0) × IsGiven t.given params × IsTakenCall k c s values before answer k'
-IsAnswered k c s t params before answer k' (Some error) = IsCalleeCause s t error × IsGiven t.given params × (answer ≡ Traps)
+IsAnswered k c s t params before answer k' None = (values : List Value) × (t.answered ≡ Some values) × (t.last ≡ 0) × MayKeepGiven t.given params × IsTakenCall k c s values before answer k'
+IsAnswered k c s t params before answer k' (Some error) = IsCalleeCause s t error × MayKeepGiven t.given params × (answer ≡ Traps)
 
 -- ---- hosts
 

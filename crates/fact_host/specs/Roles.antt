@@ -1,37 +1,20 @@
 -- What the imported functions of an adapter module are to a host: by the places that a call names, and by their names.
-use Rattle.std.specs.Prelude.{◌≡◌, ℕ, suc, ◌<◌, ◌^◌, ◌++◌, ◌&&◌, ◌||◌, nat_eq, Bool, true, false, List, [], ◌∷◌, Option, Some, None, codes, filter, if◌then◌else◌}
-use Rattle.std.specs.Fmt.{decimal}
+use Rattle.std.specs.Prelude.{◌≡◌, ℕ, suc, ◌<◌, ◌^◌, ◌&&◌, ◌||◌, nat_eq, Bool, true, false, List, [], ◌∷◌, Option, Some, None, codes, filter, if◌then◌else◌}
 use Rattle.std.specs.Str.{bytes_eq}
 use Rattle.fact_wasm.specs.declared.module.ImportType.TheVariants as import
 use Rattle.fact_wasm.specs.declared.module.WasmImport.{WasmImport}
 use Rattle.fact_wasm.specs.declared.module.WasmModule.{WasmModule}
-use Rattle.fact_types.specs.declared.outside.FixedEncoding.TheVariants.{Utf8, Utf16, Latin1}
 use Rattle.fact_types.specs.declared.outside.Transcode.{Transcode}
-use Rattle.fact_types.specs.declared.outside.Transcode.TheVariants as op
+use Rattle.fact_types.specs.TranscoderNames.{transcoder_name}
 use Rattle.fact_host.specs.declared.calling.HostCall.{HostCall}
 use Rattle.fact_host.specs.declared.roles.Role.{Role}
 use Rattle.fact_host.specs.declared.roles.Role.TheVariants as role
 use Rattle.fact_machine.specs.Machine.{memory_import}
 
--- the name of a transcoder's operation
-abbrev pub operation_name : Transcode → List ℕ
-operation_name (op.Copy Utf8) = codes "utf8-to-utf8"
-operation_name (op.Copy Utf16) = codes "utf16-to-utf16"
-operation_name (op.Copy Latin1) = codes "latin1-to-latin1"
-operation_name op.Latin1ToUtf16 = codes "latin1-to-utf16"
-operation_name op.Latin1ToUtf8 = codes "latin1-to-utf8"
-operation_name op.Utf16ToCompactProbablyUtf16 = codes "utf16-to-compact-probably-utf16"
-operation_name op.Utf16ToCompactUtf16 = codes "utf16-to-compact-utf16"
-operation_name op.Utf16ToLatin1 = codes "utf16-to-latin1"
-operation_name op.Utf16ToUtf8 = codes "utf16-to-utf8"
-operation_name op.Utf8ToCompactUtf16 = codes "utf8-to-compact-utf16"
-operation_name op.Utf8ToLatin1 = codes "utf8-to-latin1"
-operation_name op.Utf8ToUtf16 = codes "utf8-to-utf16"
-
 -- An imported function is a transcoder of an operation between two memories that are imported, of these widths; their numbers have 32 bits.
 pub record IsTranscoder (m : WasmModule) (w : WasmImport) (o : Transcode) (from : ℕ) (from64 : Bool) (to : ℕ) (to64 : Bool) : Type 0 where
   pub origin : w.module ≡ codes "transcode"
-  pub name : w.name ≡ operation_name o ++ (codes " (mem" ++ (decimal from ++ (codes " => mem" ++ (decimal to ++ codes ")"))))
+  pub name : w.name ≡ transcoder_name o from to
   pub from_small : from < 2 ^ 32
   pub to_small : to < 2 ^ 32
   pub from_pages : Option ℕ

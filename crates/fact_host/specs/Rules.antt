@@ -48,8 +48,8 @@ abbrev pub with_memory_at : MachineState → ℕ → List ℕ → MachineState
 with_memory_at s n bytes = record { memories = slice_set s.memories n bytes; globals = s.globals }
 
 -- what is written are bytes, and results are of core types
-abbrev pub AreBytes : List ℕ → Type 0
-AreBytes bytes = All (λ b. b < 256) bytes
+abbrev pub AreWrittenBytes : List ℕ → Type 0
+AreWrittenBytes bytes = All (λ b. b < 256) bytes
 
 abbrev pub AreOfCoreTypes : List ValType → List CoreValue → Type 0
 AreOfCoreTypes types results = AllZip (λ v t. IsValue v t) results types
@@ -173,7 +173,7 @@ abbrev pub StoresAt : (k k' : Known) (before after : MachineState) (most : ℕ) 
 StoresAt k k' before after most None = (after ≡ before) × (k' ≡ record k { live = []; returned = true })
 StoresAt k k' before after most (Some n) =
     (bytes : List ℕ) × (cursor : ℕ) × (after ≡ with_memory_at before n bytes) × (k' ≡ record (raised k n cursor) { live = []; returned = true })
-    × AreBytes bytes × (length bytes ≡ length (memory_at before n)) × (take (cursor_of k n) bytes ≡ take (cursor_of k n) (memory_at before n))
+    × AreWrittenBytes bytes × (length bytes ≡ length (memory_at before n)) × (take (cursor_of k n) bytes ≡ take (cursor_of k n) (memory_at before n))
     × (cursor_of k n ≤ cursor) × (cursor ≤ cursor_of k n + most) × (cursor ≤ length bytes)
 
 pub record StoresResults (k : Known) (c : HostCall) (rs us : List Shape) (values : List Value) (before after : MachineState) (results : List CoreValue) (k' : Known) : Type 0 where
@@ -183,17 +183,17 @@ pub record StoresResults (k : Known) (c : HostCall) (rs us : List Shape) (values
 -- ---- answers
 
 -- what is left of a state, a list of results and what the host knows then
-abbrev pub Leaves : Type 1
-Leaves = MachineState → List CoreValue → Known → Type 0
+abbrev pub LeavesKnown : Type 1
+LeavesKnown = MachineState → List CoreValue → Known → Type 0
 
 -- A call is answered by a trap exactly where it must be, and else so.
-pub record AnswersBy (Must : Type 0) (Leave : Leaves) (k : Known) (e : Event) (k' : Known) : Type 0 where
+pub record AnswersBy (Must : Type 0) (Leave : LeavesKnown) (k : Known) (e : Event) (k' : Known) : Type 0 where
   pub traps : (e.answer ≡ Traps) ↔ Must
   pub returns : (results : List CoreValue) (after : MachineState) → e.answer ≡ Returns results after → Leave after results k'
   pub never_throws : e.answer ≢ Throws
 
-abbrev pub LeavesAll : Event → Known → List CoreValue → Leaves
-LeavesAll e k results after rs k' = (after ≡ e.before) × (rs ≡ results) × (k' ≡ k)
+abbrev pub LeavesAllKnown : Event → Known → List CoreValue → LeavesKnown
+LeavesAllKnown e k results after rs k' = (after ≡ e.before) × (rs ≡ results) × (k' ≡ k)
 
 -- a realloc of the nth memory
 abbrev pub ReallocsIn : Known → (n : ℕ) → (memory64 is_destination : Bool) → Event → Known → Type 0
@@ -214,7 +214,7 @@ abbrev pub TranscodesBy : Known → Transcode → (from : ℕ) → (from64 : Boo
 TranscodesBy k o from from64 to to64 e k' =
     AnswersBy (MustStop o (memory_at e.before from) (memory_at e.before to) (told_of e))
     (λ after rs j. (bytes : List ℕ) × IsHonestlyMade o (memory_at e.before from) (memory_at e.before to) (told_of e) bytes (map bits_of rs)
-    × AreBytes bytes × AreOfCoreTypes (transcode_types (transcode_kind o) from64 to64) rs × (after ≡ with_memory_at e.before to (put_at (memory_at e.before to) (nth_number e.args 2) bytes)) × (j ≡ k)) k e k'
+    × AreWrittenBytes bytes × AreOfCoreTypes (transcode_types (transcode_kind o) from64 to64) rs × (after ≡ with_memory_at e.before to (put_at (memory_at e.before to) (nth_number e.args 2) bytes)) × (j ≡ k)) k e k'
 
 -- The shapes of the types of a call.
 pub record CallShapes : Type 0 where
@@ -235,12 +235,12 @@ abbrev pub Answers : HostCall → CallShapes → (answered : Option (List Value)
 Answers c s answered role.Callee k e k' = CallsBy k c s answered e k'
 Answers c s answered role.LiftRealloc k e k' = ReallocsBy k c.lift (if k.returned then false else true) e k'
 Answers c s answered role.LowerRealloc k e k' = ReallocsBy k c.lower k.returned e k'
-Answers c s answered role.PostReturn k e k' = AnswersBy ⊥ (LeavesAll e k []) k e k'
+Answers c s answered role.PostReturn k e k' = AnswersBy ⊥ (LeavesAllKnown e k []) k e k'
 Answers c s answered (role.Transcoder o from from64 to to64) k e k' = TranscodesBy k o from from64 to to64 e k'
 Answers c s answered role.Transfer k e k' =
-    AnswersBy ⊥ (λ after rs j. AreOfCoreTypes (ty.I32 ∷ []) rs × LeavesAll e (record k { transfers = suc k.transfers }) (I32 (suc k.transfers) ∷ []) after rs j) k e k'
-Answers c s answered role.Slot k e k' = AnswersBy ⊥ (LeavesAll e k (I32 0 ∷ [])) k e k'
-Answers c s answered role.Told k e k' = AnswersBy ⊥ (LeavesAll e k []) k e k'
+    AnswersBy ⊥ (λ after rs j. AreOfCoreTypes (ty.I32 ∷ []) rs × LeavesAllKnown e (record k { transfers = suc k.transfers }) (I32 (suc k.transfers) ∷ []) after rs j) k e k'
+Answers c s answered role.Slot k e k' = AnswersBy ⊥ (LeavesAllKnown e k (I32 0 ∷ [])) k e k'
+Answers c s answered role.Told k e k' = AnswersBy ⊥ (LeavesAllKnown e k []) k e k'
 Answers c s answered role.Refused k e k' = e.answer ≡ Traps
 
 -- The calls of a log are answered so, one after another, where the nth imported function is so.

@@ -5,7 +5,7 @@ ghost use Rattle.fact_types.specs.Functions.{HaveShapes};
 ghost use Rattle.fact_types.specs.Shapes.{Shape};
 ghost use Rattle.fact_lowering.specs.Lowered.{AreAllLive, CanStore};
 ghost use Rattle.fact_host.specs.Begun.{CanBegin, HaveArea, IsBegun, MakesMore, IsFirstState, IsStarted, first_cursor, first_length, first_value};
-ghost use Rattle.fact_host.specs.Contract.{AreLive, AreSuited, IsCallable};
+ghost use Rattle.fact_host.specs.Contract.{AreTypesLive, AreSuited, IsCallable};
 ghost use Rattle.fact_host.specs.Describes.{HasCallShapes};
 ghost use Rattle.fact_host.specs.Rules.{CallShapes};
 
@@ -108,7 +108,7 @@ pub fn begin(
     call: &HostCall,
     args: &[Value],
 ) -> Result<Begun, OutOfMemory>
-    requires live { AreLive types.now call.now }
+    requires live { AreTypesLive types.now call.now }
     requires shaped { (s : CallShapes) × HasCallShapes types.now call.now s }
     requires can { (s : CallShapes) → HasCallShapes types.now call.now s → CanBegin call.now s args.now state.now }
     ensures { IfOk result (λ run. (s : CallShapes) → HasCallShapes types.now call.now s → IsBegun call.now s args.now state.now run.state run.args run.cursor) }
@@ -173,7 +173,7 @@ pub fn start(
     args: &[Value],
 ) -> Result<Started, OutOfMemory>
     requires callable { (s : CallShapes) × IsCallable «module».now types.now call.now s }
-    requires live { AreLive types.now call.now }
+    requires live { AreTypesLive types.now call.now }
     requires suited { (s : CallShapes) → HasCallShapes types.now call.now s → AreSuited s args.now }
     ensures { IfOk result (λ run. (s : CallShapes) → HasCallShapes types.now call.now s → IsStarted «module».now.imports call.now s args.now run.begun.state run.begun.args run.begun.cursor run.cursors) }
 {

@@ -3,7 +3,7 @@
 ghost use Rattle.std.specs.Prelude.{List, ℕ, ◌≡◌, Some, None, true, false, if◌then◌else◌, IfErr, IfOk};
 ghost use Rattle.std.specs.declared.option.Option.{Option};
 ghost use Rattle.fact_values.specs.declared.value.Value.{Value as a_value};
-ghost use Rattle.fact_host.specs.Callees.{IsGiven, IsSameScript, number_of_error};
+ghost use Rattle.fact_host.specs.Callees.{MayKeepGiven, IsSameScript, number_of_error};
 ghost use Rattle.fact_host.specs.declared.callee.HostError.TheVariants.{OutOfMemory};
 
 use fact_abi::Value;
@@ -71,7 +71,7 @@ pub trait Callee {
     fn called(&mut self, params: &[Value]) -> Result<Seq<Value>, HostError>
         requires { ready self.old }
         ensures ready { ready self.new }
-        ensures given { IsGiven (given self.new) params.now }
+        ensures given { MayKeepGiven (given self.new) params.now }
         ensures answers { IfOk result (λ values. answered self.new ≡ Some values) }
         ensures no_error { IfOk result (λ values. last self.new ≡ 0) }
         ensures no_answer { IfErr result (λ error. answered self.new ≡ None) }

@@ -3,7 +3,7 @@
 ghost use Rattle.std.specs.Prelude.{◌≡◌, ◌≢◌, ◌++◌, ℕ, List, IfErr, IfOk};
 ghost use Rattle.fact_machine.specs.Causes.{answers_of};
 ghost use Rattle.fact_machine.specs.Machine.{run_of};
-ghost use Rattle.fact_host.specs.Contract.{AreLive, AreSuited, HasNoCause, IsCallable, IsCause, IsFresh, IsOutcomeOf, IsReachedBy, results_reached, steps_given};
+ghost use Rattle.fact_host.specs.Contract.{AreTypesLive, AreSuited, HasNoCause, IsCallable, IsHostCause, IsFresh, IsOutcomeOf, IsReachedBy, results_reached, steps_given};
 ghost use Rattle.fact_host.specs.Describes.{HasCallShapes};
 ghost use Rattle.fact_host.specs.Lawful.{CameOf, HasGivenBy, IsCalleeCause, IsHosting, IsLawfulHost, IsSameHost, told_by};
 ghost use Rattle.fact_host.specs.Rules.{CallShapes};
@@ -37,7 +37,7 @@ fn results_of(
     args: &[CoreValue],
     outcome: &Outcome,
 ) -> Result<Option<Seq<Value>>, OutOfMemory>
-    requires { AreLive types.now call.now }
+    requires { AreTypesLive types.now call.now }
     ensures { IfOk result (λ values. (s : CallShapes) → HasCallShapes types.now call.now s → values ≡ results_reached call.now s args.now outcome.now.end outcome.now.state) }
 {
     let End::Returned(results) = &outcome.end else {
@@ -100,7 +100,7 @@ fn run_on_host<C: Callee>(
     callee: &mut C,
 ) -> Result<HostRun, HostError>
     requires callable { (s : CallShapes) × IsCallable «module».now types.now call.now s }
-    requires live { AreLive types.now call.now }
+    requires live { AreTypesLive types.now call.now }
     requires fresh { IsFresh (C.last callee.old) (C.answered callee.old) (C.given callee.old) }
     requires ready { C.ready callee.old }
     ensures stays { (first : C) → C.stays first callee.old → C.stays first callee.new }
@@ -154,12 +154,12 @@ pub fn call<C: Callee>(
     callee: &mut C,
 ) -> Result<HostOutcome, HostError>
     requires callable { (s : CallShapes) × IsCallable «module».now types.now call.now s }
-    requires live { AreLive types.now call.now }
+    requires live { AreTypesLive types.now call.now }
     requires fresh { IsFresh (C.last callee.old) (C.answered callee.old) (C.given callee.old) }
     requires ready { C.ready callee.old }
     ensures outcome { IfOk result (λ o. (s : CallShapes) → HasCallShapes types.now call.now s → IsOutcomeOf «module».now types.now call.now s args.now (C.answered callee.new) (C.given callee.new) o) }
     ensures no_cause { IfOk result (λ o. (s : CallShapes) → HasCallShapes types.now call.now s → HasNoCause s args.now (C.last callee.new) (C.answered callee.new)) }
-    ensures cause { IfErr result (λ e. (s : CallShapes) → HasCallShapes types.now call.now s → IsCause s args.now (C.last callee.new) (C.answered callee.new) e) }
+    ensures cause { IfErr result (λ e. (s : CallShapes) → HasCallShapes types.now call.now s → IsHostCause s args.now (C.last callee.new) (C.answered callee.new) e) }
     ensures reached { IfErr result (λ e. (s : CallShapes) → HasCallShapes types.now call.now s → IsReachedBy «module».now types.now call.now s args.now (C.given callee.new) e) }
     // Where the arguments cannot be carried, the callee is not asked.
     ensures unasked { (s : CallShapes) → HasCallShapes types.now call.now s → (AreSuited s args.now → ⊥) → IsFresh (C.last callee.new) (C.answered callee.new) (C.given callee.new) }

@@ -2,6 +2,11 @@
 //!
 //! [`call`] stores the arguments of a call in a first state, runs the function of an adapter's module on the machine, and answers
 //! each of its outside calls. What the callee answers is left to a [`Callee`].
+//!
+//! - A call: its data (`calling`), how its run begins (`beginning`), and the whole of it (`calls`).
+//! - The host that answers outside calls: `host`, by what each import is to it (`roles`) and what it knows (`known`); its answers (`answers`) for realloc
+//!   (`allocator`) and transcoders (`transcoders`); the callee's (`callee`) are judged and stored (`results`).
+//! - Laws: `laws`, and `fitting` of the room that values take.
 #![tactic(auto)]
 
 mod allocator;

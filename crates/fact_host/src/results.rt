@@ -8,7 +8,7 @@ ghost use Rattle.fact_host.specs.Contract.{AreOfTypes, AnsweredTooMuch, Answered
 ghost use Rattle.fact_host.specs.Describes.{HasCallShapes};
 ghost use Rattle.fact_host.specs.Lawful.{IsAnswerOf, IsRefusal, IsSoundCall, called_known};
 ghost use Rattle.fact_host.specs.Hosts.{cursor_in, left_known, left_state};
-ghost use Rattle.fact_host.specs.Rules.{AreBytes, CallShapes, bytes_of_memory};
+ghost use Rattle.fact_host.specs.Rules.{AreWrittenBytes, CallShapes, bytes_of_memory};
 ghost use Rattle.fact_host.specs.declared.known.Known.{Known as what_is_known};
 
 use crate::answers::{memory_of, with_memory};
@@ -123,7 +123,7 @@ fn left(
     state: &MachineState,
 ) -> Result<Answer, OutOfMemory>
     ensures leaves { IfOk result (λ answer. (answer ≡ Answer.Returns results (left_state memory state.now store.bytes.items)) × (known.new ≡ left_known memory known.old store.cursor)) }
-    ensures bytes { AreBytes store.bytes.items }
+    ensures bytes { AreWrittenBytes store.bytes.items }
 {
     let Store { bytes, cursor } = store;
     if let Some(number) = memory {
@@ -140,7 +140,7 @@ pub fn with_bytes(
     bytes: Vec<u8>,
 ) -> Result<MachineState, OutOfMemory>
     ensures state { IfOk result (λ after. after ≡ left_state memory state.now bytes.items) }
-    ensures bytes { AreBytes bytes.items }
+    ensures bytes { AreWrittenBytes bytes.items }
 {
     are_bytes(bytes.as_slice());
     match memory {
@@ -151,7 +151,7 @@ pub fn with_bytes(
 
 /// Bytes are below 256.
 fn are_bytes(bytes: &[u8])
-    ensures { AreBytes bytes.now }
+    ensures { AreWrittenBytes bytes.now }
 {
     let _count = bytes.len();
 }

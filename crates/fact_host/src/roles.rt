@@ -2,8 +2,9 @@
 
 ghost use Rattle.std.specs.Prelude.{◌≡◌, ℕ, Bool, Some, None, IfOk, MatchOption};
 ghost use Rattle.fact_types.specs.declared.outside.Transcode.{Transcode as an_operation};
+ghost use Rattle.fact_types.specs.TranscoderNames.{transcode_name};
 ghost use Rattle.fact_machine.specs.Machine.{memory_import};
-ghost use Rattle.fact_host.specs.Roles.{HaveRoles, IsNamedRole, IsRole, IsTranscoder, has_names, function_imports, is_place, is_slot, is_told, is_transfer, operation_name, role_by_place};
+ghost use Rattle.fact_host.specs.Roles.{HaveRoles, IsNamedRole, IsRole, IsTranscoder, has_names, function_imports, is_place, is_slot, is_told, is_transfer, role_by_place};
 ghost use Rattle.std.specs.declared.option.Option.{Option as an_option};
 
 use crate::calling::HostCall;
@@ -180,7 +181,7 @@ fn transcoder_of(module: &WasmModule, import: &WasmImport) -> Option<Role>
 
 /// The operation of a name.
 fn operation_of(name: &str) -> Option<Transcode>
-    ensures { MatchOption result ((o : an_operation) → name.now ≡ operation_name o → ⊥) (λ o. name.now ≡ operation_name o) }
+    ensures { MatchOption result ((o : an_operation) → name.now ≡ transcode_name o → ⊥) (λ o. name.now ≡ transcode_name o) }
 {
     match name {
         "utf8-to-utf8" => Some(Transcode::Copy(FixedEncoding::Utf8)),

@@ -1,11 +1,11 @@
 //! Transcoders (canonical ABI, "Storing", `store_string_into_range`): text of one memory is written into another.
 
-ghost use Rattle.std.specs.Prelude.{◌≡◌, ◌≢◌, ◌⊎◌, ℕ, List, [], ◌+◌, ◌*◌, ◌^◌, ◌<◌, ◌≤◌, All, length, drop, get_or, take as first, IfOk, IfSome, IsNone, Some, bit_or, if◌then◌else◌};
+ghost use Rattle.std.specs.Prelude.{◌≡◌, ◌≢◌, ◌⊎◌, ℕ, List, [], ◌∷◌, ◌+◌, ◌*◌, ◌^◌, ◌<◌, ◌≤◌, All, length, drop, get_or, take as first, IfOk, IfSome, IsNone, Some, bit_or, if◌then◌else◌};
 ghost use Rattle.fact_types.specs.declared.outside.FixedEncoding.TheVariants as fixed;
 ghost use Rattle.fact_values.specs.Texts.{AreSpelled, char_spelling, decoded as decoded_text, spelled_text, unit_bytes as bytes_of_unit, units_of_text};
 ghost use Rattle.fact_actions.specs.Transcoders.{AllUnits, Counted, Fitting, Narrow, Tagged, Widening, from_encoding, to_encoding, transcode_kind, widened};
 ghost use Rattle.fact_host.specs.declared.transcoders.Told.{Told as what_is_told};
-ghost use Rattle.fact_host.specs.Hosts.{IsTranscoded, IsMadeOf, FitsDestination, both_listed};
+ghost use Rattle.fact_host.specs.Hosts.{IsTranscodedByHost, IsMadeOf, FitsDestination, both_listed};
 ghost use Rattle.fact_host.specs.Rules.{MustStop, units_read};
 
 use fact_abi::decoded;
@@ -120,7 +120,7 @@ pub fn transcode(
     told: &Told,
 ) -> Result<Option<Transcoded>, OutOfMemory>
     ensures stops { IfOk result (λ o. IsNone o → MustStop op source.now destination.now told.now) }
-    ensures makes { IfOk result (λ o. IfSome o (λ made. IsTranscoded op source.now destination.now told.now made.bytes.items (both_listed made.first made.second))) }
+    ensures makes { IfOk result (λ o. IfSome o (λ made. IsTranscodedByHost op source.now destination.now told.now made.bytes.items (both_listed made.first made.second))) }
 {
     let Some(text) = text_read(alloc, op, source, told)? else {
         return Ok(None);
@@ -201,6 +201,28 @@ fn counted(alloc: Global, op: Transcode, text: &[char]) -> Result<Transcoded, Ou
     })
 }
 
+/// A front of a text in an encoding that can spell it; the units read, in the encoding of the whole text, and the bytes written.
+fn front_written(
+    alloc: Global,
+    from: FixedEncoding,
+    to: FixedEncoding,
+    front: &[char],
+) -> Result<Transcoded, OutOfMemory>
+    requires read { AreSpelled from front.now }
+    requires written { to ≡ fixed.Latin1 → AreSpelled fixed.Latin1 front.now }
+    ensures bytes { IfOk result (λ made. made.bytes.items ≡ spelled_text to front.now) }
+    ensures numbers { IfOk result (λ made. both_listed made.first made.second ≡ units_of_text from front.now ∷ length made.bytes.items ∷ []) }
+{
+    let bytes = spelled(alloc, to, front)?;
+    let read = units_in(alloc, from, front)?;
+    let written = bytes.len() as u64;
+    Ok(Transcoded {
+        bytes,
+        first: Some(read),
+        second: Some(written),
+    })
+}
+
 /// How many scalar values of a text have room, in bytes of UTF-8.
 fn count_that_fits(text: &[char], room: u64) -> usize
     ensures within { result ≤ length text.now }
@@ -230,14 +252,8 @@ fn fitting(
     ensures { IfOk result (λ made. (destination : List ℕ) (told : what_is_told) → told.room ≡ room → IsMadeOf op text.now destination told made.bytes.items (both_listed made.first made.second)) }
 {
     let front = &text[..count_that_fits(text, room)];
-    let bytes = spelled(alloc, FixedEncoding::Utf8, front)?;
-    let read = units_in(alloc, from_encoding(op), front)?;
-    let written = bytes.len() as u64;
-    Ok(Transcoded {
-        bytes,
-        first: Some(read),
-        second: Some(written),
-    })
+    let made = front_written(alloc, from_encoding(op), FixedEncoding::Utf8, front)?;
+    Ok(made)
 }
 
 /// How many scalar values of a text come before the first that is not below 256.
@@ -261,14 +277,8 @@ fn narrow(alloc: Global, op: Transcode, text: &[char]) -> Result<Transcoded, Out
     ensures { IfOk result (λ made. (destination : List ℕ) (told : what_is_told) → IsMadeOf op text.now destination told made.bytes.items (both_listed made.first made.second)) }
 {
     let front = &text[..count_of_low(text)];
-    let bytes = spelled(alloc, FixedEncoding::Latin1, front)?;
-    let read = units_in(alloc, from_encoding(op), front)?;
-    let written = bytes.len() as u64;
-    Ok(Transcoded {
-        bytes,
-        first: Some(read),
-        second: Some(written),
-    })
+    let made = front_written(alloc, from_encoding(op), FixedEncoding::Latin1, front)?;
+    Ok(made)
 }
 
 /// Latin-1 where all scalar values are below 256, else UTF-16, whose units are told with bit 31 set.

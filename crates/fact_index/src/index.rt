@@ -1,4 +1,4 @@
-//! Index types, each the key type of one table.
+//! The index types that no type here holds, each the key type of one table.
 
 use crate::table;
 use fact_entity::Id;

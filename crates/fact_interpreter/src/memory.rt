@@ -2,12 +2,12 @@
 
 ghost use Rattle.std.specs.Prelude.{◌≡◌, ◌+◌, ◌-◌, ◌<◌, ◌≤◌, ◌/◌, ◌%◌, ◌^◌, length, slice_get, slice_set, IfOk, IfSome, IsSomeAnd, MatchOption};
 ghost use Rattle.fact_machine.specs.Machine.{memory_import as memory_import_of, page_bytes, size_value as size_value_of, memory_size as memory_size_of};
-ghost use Rattle.fact_machine.specs.World.{number_of, bytes_of, put_at};
+ghost use Rattle.fact_machine.specs.World.{bytes_of, put_at};
 ghost use Rattle.fact_interpreter.specs.Running.{did_of, at, load_length, load_value, loaded, loading, store_length, store_number, store_row, storing, addressed};
 
 use crate::numeric::{extend_8_s, extend_16_s};
 use crate::running::{Running, Step};
-use fact_machine::{CoreValue, End, TraceEntry};
+use fact_machine::{CoreValue, End, TraceEntry, number_of_bytes};
 use fact_wasm::{ImportType, MemArg, Seq, WasmImport, WasmModule};
 
 /// What a load reads, and what it makes of it.
@@ -68,18 +68,6 @@ fn place(len: usize, base: u64, offset: u64, count: u32) -> Option<(usize, usize
     }
 }
 
-/// The number that bytes make, lowest first. There are at most 8.
-fn number(bytes: &[u8]) -> u64
-    requires { length bytes.now ≤ 8 }
-    ensures value { result ≡ number_of bytes.now }
-    ensures below { result < 256 ^ length bytes.now }
-{
-    match bytes {
-        [] => 0,
-        [low, rest @ ..] => u64::from(*low) + 0x100 * number(rest),
-    }
-}
-
 /// The number of bytes that a load reads.
 fn loaded_bytes(kind: LoadKind) -> u32
     ensures { result ≡ load_length kind }
@@ -118,7 +106,7 @@ fn load_at(run: &mut Running, kind: LoadKind, arg: MemArg, base: u64) -> Step
     let Some((start, end)) = place(memory.len(), base, arg.offset, loaded_bytes(kind)) else {
         return Ok(Some(End::Trapped));
     };
-    let read = number(&memory.as_slice()[start..end]);
+    let read = number_of_bytes(&memory.as_slice()[start..end]);
     run.stack.push(value(kind, read))?;
     Ok(None)
 }

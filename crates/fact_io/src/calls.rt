@@ -1,4 +1,4 @@
-//! Calls and faults that are counted. Some calls are to fail.
+//! The counters of sources and sinks in memory: how many calls there were, by which those of listed numbers fail, and how many of them failed.
 
 ghost use Rattle.std.specs.Prelude.{◌≡◌, ◌≤◌, ◌+◌, ◌↔◌, Contains, IsTrue};
 ghost use Rattle.fact_io.specs.Faults.{Rose, next_count};

@@ -6,8 +6,8 @@ use Rattle.fact_wasm.specs.declared.instr.Instr.{Instr}
 use Rattle.fact_wasm.specs.declared.module.WasmModule.{WasmModule}
 use Rattle.fact_machine.specs.declared.types.CoreValue.{CoreValue}
 use Rattle.fact_types.specs.declared.flats.FlatType.{FlatType}
-use Rattle.fact_types.specs.declared.widths.MemoryWidth.{MemoryWidth}
-use Rattle.fact_types.specs.declared.widths.MemoryWidth.TheVariants.{Memory32, Memory64}
+use Rattle.fact_types.specs.declared.extents.MemoryWidth.{MemoryWidth}
+use Rattle.fact_types.specs.declared.extents.MemoryWidth.TheVariants.{Memory32, Memory64}
 use Rattle.fact_types.specs.Fields.{Field, field_of}
 use Rattle.fact_types.specs.FlatShapes.{flat, flat_members, AreCounted}
 use Rattle.fact_types.specs.Shapes.{Shape, Members, typed, place_of, next_of, ends_of}

@@ -6,7 +6,7 @@ use Rattle.std.specs.List.{AllByRecursion}
 use Rattle.std.specs.Str.{bytes_eq}
 use Rattle.fact_wasm.proofs.Ranged.{all-append}
 use Rattle.fact_types.specs.declared.flats.FlatType.{FlatType}
-use Rattle.fact_types.specs.declared.widths.MemoryWidth.{MemoryWidth}
+use Rattle.fact_types.specs.declared.extents.MemoryWidth.{MemoryWidth}
 use Rattle.fact_types.specs.Agrees.{chosen}
 use Rattle.fact_types.specs.Fields.{Field, field_of}
 use Rattle.fact_types.specs.FlatShapes.{AreCounted, IsCounted, flat, flat_any, flat_members, joined, times}

@@ -11,8 +11,8 @@ use Rattle.fact_types.specs.declared.abi.CanonicalAbiInfo.{CanonicalAbiInfo}
 use Rattle.fact_types.specs.declared.import.Import.TheVariants as import
 use Rattle.fact_types.specs.declared.outside.UnsafeIntrinsic.TheVariants as slot
 use Rattle.fact_types.specs.declared.outside.Trap.TheVariants.{UnalignedPointer, ListOutOfBounds}
-use Rattle.fact_types.specs.declared.widths.MemoryWidth.{MemoryWidth}
-use Rattle.fact_types.specs.declared.widths.MemoryWidth.TheVariants.{Memory32, Memory64}
+use Rattle.fact_types.specs.declared.extents.MemoryWidth.{MemoryWidth}
+use Rattle.fact_types.specs.declared.extents.MemoryWidth.TheVariants.{Memory32, Memory64}
 use Rattle.fact_types.specs.FlatShapes.{pointer as flat_pointer}
 use Rattle.fact_types.specs.Layout.{extent, payloads, record_layout, pointer_pair_layout}
 use Rattle.fact_types.specs.Shapes.{k_tuple, k_list, k_map, s_node, Members, layouts_of, ends_of}

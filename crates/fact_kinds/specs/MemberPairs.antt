@@ -1,4 +1,3 @@
--- Cited by private clauses alone.
 -- The members of records and tuples: the places of those of a source, and which of them goes to which of a destination.
 use Rattle.std.specs.Prelude.{◌≡◌, ℕ, ◌+◌, List, [], length, Option, Some, None, slice_get}
 use Rattle.std.specs.Str.{bytes_eq}

@@ -2,7 +2,7 @@
 use Rattle.std.specs.Prelude.{◌≡◌, ℕ, suc, ◌≤◌, Bool, List, [], ◌∷◌, length, Option, Some, None}
 use Rattle.fact_types.specs.declared.fields.FieldPlace.{FieldPlace}
 use Rattle.fact_types.specs.declared.interface.InterfaceType.{InterfaceType}
-use Rattle.fact_types.specs.declared.widths.MemoryWidth.{MemoryWidth}
+use Rattle.fact_types.specs.declared.extents.MemoryWidth.{MemoryWidth}
 use Rattle.fact_types.specs.Fields.{Field, Finds}
 use Rattle.fact_types.specs.FlatShapes.{flat, IsCounted, AreCounted}
 use Rattle.fact_types.specs.Heights.{height}

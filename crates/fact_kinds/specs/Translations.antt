@@ -1,7 +1,7 @@
 -- What code asks for, and what it takes of the fuel of its function: what the translation of its types says (`translates` of fact_actions).
 use Rattle.std.specs.Prelude.{◌≡◌, ℕ, zero, suc, ◌≤◌, ◌-◌, Bool, true, List, length}
 use Rattle.std.specs.List.{AllZip}
-use Rattle.fact_types.specs.declared.widths.MemoryWidth.{MemoryWidth}
+use Rattle.fact_types.specs.declared.extents.MemoryWidth.{MemoryWidth}
 use Rattle.fact_types.specs.FlatShapes.{flat, IsCounted}
 use Rattle.fact_types.specs.PointerPairs.{has_pointer_pair}
 use Rattle.fact_types.specs.Shapes.{Shape, s_plain, s_node, Members, no_members, bare, typed}

@@ -1,5 +1,9 @@
 //! The code of each kind of type, its members aside: scalars, strings, flags and enums as a whole; of types with members what stands around
 //! their members and pairs them, with the fuel that code takes and the calls of helpers.
+//!
+//! - Values without members: `leaves`, by `strings` and `flags` (enums too), and by scalars of `fact_emit`.
+//! - Around members: records and tuples (`members`), variants, options and results (`sums`), lists (`lists`), maps (`maps`), lists of fixed length (`fixed`).
+//! - What all of them use: `layouts`, the debug checks of `places`, `fuel`, and the calls of `helpers`, whose functions `fact_compound` writes.
 #![tactic(auto)]
 
 mod fixed;
@@ -31,5 +35,6 @@ pub use maps::{entries, value_place};
 pub use members::{MemberPair, pair_fields, pair_members};
 pub use places::check_places;
 pub use sums::{
-    PairedCase, Sum, option_sum, payload_place, put_left_over, put_tag, result_sum, variant_sum,
+    PairedCase, Sum, option_sum, payload_place, put_discriminant, put_left_over, result_sum,
+    variant_sum,
 };

@@ -2,7 +2,7 @@
 
 ghost use Rattle.std.specs.Prelude.{IfOk, ◌≡◌, ◌∷◌, [], List, ℕ, map};
 ghost use Rattle.fact_types.specs.declared.interface.InterfaceType.TheVariants as ty;
-ghost use Rattle.fact_types.specs.declared.widths.MemoryWidth.TheVariants.{Memory32, Memory64};
+ghost use Rattle.fact_types.specs.declared.extents.MemoryWidth.TheVariants.{Memory32, Memory64};
 ghost use Rattle.fact_types.specs.Fields.{field_of, Finds};
 ghost use Rattle.fact_types.specs.Fits.{FieldFits};
 ghost use Rattle.fact_types.specs.Flat.{add_flat};

@@ -4,7 +4,7 @@ ghost use Rattle.std.specs.Prelude.{IfOk, OnOk, Some, [], ◌∷◌, ◌≡◌, 
 ghost use Rattle.fact_types.specs.Signatures.{width};
 ghost use Rattle.fact_types.specs.declared.interface.InterfaceType.TheVariants as ty;
 ghost use Rattle.fact_wasm.specs.declared.instr.Instr.TheVariants as I;
-ghost use Rattle.fact_code_laws.specs.Cases.{tag_code, zero_const, zero_slots, zero_code};
+ghost use Rattle.fact_code_laws.specs.Cases.{discriminant_code, zero_const, zero_slots, zero_code};
 ghost use Rattle.fact_emit.specs.Numbers.{number_sized};
 ghost use Rattle.fact_emit.specs.Parts.{bytes_by};
 ghost use Rattle.fact_emit.specs.Places.{slots_of_locals, to_of};
@@ -180,15 +180,15 @@ pub fn payload_place(info: VariantInfo, memory64: bool) -> u32
     }
 }
 
-/// Writes the number of a case to its place.
-pub fn put_tag(
+/// Writes a discriminant, the number of a case, to its place.
+pub fn put_discriminant(
     w: &mut Writer,
     linear: LinearMemory,
     size: NumberSize,
     number: u32,
     target: TargetPlace<'_>,
 ) -> Result<(), OutOfMemory>
-    ensures wrote { OnOk result (Wrote w.old w.new (tag_code (number_sized size) number (to_of linear target.entry))) }
+    ensures wrote { OnOk result (Wrote w.old w.new (discriminant_code (number_sized size) number (to_of linear target.entry))) }
     ensures below { number < 2 ^ 32 }
 {
     open(w, linear, target)?;

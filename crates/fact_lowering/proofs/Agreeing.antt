@@ -6,21 +6,21 @@ use Rattle.fact_machine.specs.World.{bytes_of, number_of, number_at, put_at, wit
 use Rattle.fact_machine.proofs.Bytes.{length-bytes_of, number_of-bytes_of}
 use Rattle.fact_machine.proofs.Places.{put_below, put_above, put_length, put_read}
 use Rattle.fact_values.specs.Numbers.{number_in}
-use Rattle.fact_lowering.specs.Lowered.{AgreeOutside, IsChanged, IsWritten, Rises}
+use Rattle.fact_lowering.specs.Lowered.{AgreeWithin, IsChanged, IsWritten, Rises}
 
 -- ---- memories that agree
 
-pub agree_same : (low high : ℕ) (m : List ℕ) → AgreeOutside low high m m
+pub agree_same : (low high : ℕ) (m : List ℕ) → AgreeWithin low high m m
 agree_same low high m = record { same_length = refl; each = λ j lo hi. refl }
 
-pub agree_then : {low high : ℕ} {a b c : List ℕ} → AgreeOutside low high a b → AgreeOutside low high b c → AgreeOutside low high a c
+pub agree_then : {low high : ℕ} {a b c : List ℕ} → AgreeWithin low high a b → AgreeWithin low high b c → AgreeWithin low high a c
 agree_then g h = record { same_length = g.same_length ∙ h.same_length; each = λ j lo hi. g.each j lo hi ∙ h.each j lo hi }
 
-pub agree_within : {low high : ℕ} {a b : List ℕ} (l h : ℕ) → low ≤ l → h ≤ high → AgreeOutside low high a b → AgreeOutside l h a b
+pub agree_within : {low high : ℕ} {a b : List ℕ} (l h : ℕ) → low ≤ l → h ≤ high → AgreeWithin low high a b → AgreeWithin l h a b
 agree_within l h le ge g = record { same_length = g.same_length; each = λ j lo hi. g.each j (omega (arith, le, lo)) (omega (arith, ge, hi)) }
 
 -- what lies outside of what was changed agrees
-pub changed_agree : {place size low high : ℕ} {a b : List ℕ} (l h : ℕ) → IsChanged place size low high a b → ((j : ℕ) → l ≤ j → j < h → ((j < place) ⊎ (place + size ≤ j)) × ((j < low) ⊎ (high ≤ j))) → AgreeOutside l h a b
+pub changed_agree : {place size low high : ℕ} {a b : List ℕ} (l h : ℕ) → IsChanged place size low high a b → ((j : ℕ) → l ≤ j → j < h → ((j < place) ⊎ (place + size ≤ j)) × ((j < low) ⊎ (high ≤ j))) → AgreeWithin l h a b
 changed_agree l h c out = record { same_length = c.same_length; each = λ j lo hi. let o = out j lo hi in c.kept j o.0 o.1 }
 
 -- the bytes of a range on which memories agree
@@ -35,7 +35,7 @@ same_part (x ∷ m) (y ∷ m') zero (suc n) l e =
     ap (λ z. z ∷ take n m) head ∙ ap (λ k. y ∷ k) tail
 same_part (x ∷ m) (y ∷ m') (suc a) (suc n) l e = same_part m m' a (suc n) (omega (arith, l)) (λ j lo hi. e (suc j) (omega (arith, lo)) (omega (arith, hi)))
 
-pub part_agrees : {m m' : List ℕ} (a n : ℕ) → AgreeOutside a (a + n) m m' → take n (drop a m) ≡ take n (drop a m')
+pub part_agrees : {m m' : List ℕ} (a n : ℕ) → AgreeWithin a (a + n) m m' → take n (drop a m) ≡ take n (drop a m')
 part_agrees {m} {m'} a n g = same_part m m' a n g.same_length g.each
 
 -- a number whose bytes are all there

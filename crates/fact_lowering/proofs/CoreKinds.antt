@@ -10,8 +10,8 @@ use Rattle.fact_types.specs.declared.flats.FlatType.{FlatType}
 use Rattle.fact_types.specs.declared.flats.FlatType.TheVariants.{I32}
 use Rattle.fact_types.specs.declared.interface.InterfaceType.{InterfaceType}
 use Rattle.fact_types.specs.declared.interface.InterfaceType.TheVariants as ty
-use Rattle.fact_types.specs.declared.widths.MemoryWidth.{MemoryWidth}
-use Rattle.fact_types.specs.declared.widths.MemoryWidth.TheVariants.{Memory32, Memory64}
+use Rattle.fact_types.specs.declared.extents.MemoryWidth.{MemoryWidth}
+use Rattle.fact_types.specs.declared.extents.MemoryWidth.TheVariants.{Memory32, Memory64}
 use Rattle.fact_types.specs.Agrees.{names_of}
 use Rattle.fact_types.specs.Flat.{join, value_type}
 use Rattle.fact_types.specs.FlatShapes.{flat, flat_any, flat_plain, joined, pointer}

@@ -9,7 +9,7 @@ use Rattle.fact_types.specs.Shapes.{Shape}
 use Rattle.fact_values.specs.declared.side.SideAbi.{SideAbi}
 use Rattle.fact_values.specs.declared.value.Value.{Value}
 use Rattle.fact_values.specs.Places.{Pair}
-use Rattle.fact_lowering.specs.Lowered.{AgreeOutside, IsChanged, IsWritten, IsLoweredTo, IsPut, ReadsBehind, own_room}
+use Rattle.fact_lowering.specs.Lowered.{AgreeWithin, IsChanged, IsWritten, IsLoweredTo, IsPut, ReadsBehind, own_room}
 
 pub below_or_not : (a b : ℕ) → (a < b) ⊎ (b ≤ a)
 below_or_not a zero = inr (omega arith)
@@ -18,10 +18,10 @@ below_or_not (suc a) (suc b) = elim (below_or_not a b) [ inl h ↦ inl (omega (a
 
 -- ---- memories that agree
 
-pub agree_part : {a b c d : ℕ} {x y : List ℕ} → AgreeOutside a d x y → a ≤ b → c ≤ d → AgreeOutside b c x y
+pub agree_part : {a b c d : ℕ} {x y : List ℕ} → AgreeWithin a d x y → a ≤ b → c ≤ d → AgreeWithin b c x y
 agree_part {a} {b} {c} {d} {x} {y} g le ge = record { same_length = g.same_length; each = λ j h k. g.each j (omega (arith, le, h)) (omega (arith, ge, k)) }
 
-pub agree_along : {a b : ℕ} {x y z : List ℕ} → AgreeOutside a b x y → AgreeOutside a b y z → AgreeOutside a b x z
+pub agree_along : {a b : ℕ} {x y z : List ℕ} → AgreeWithin a b x y → AgreeWithin a b y z → AgreeWithin a b x z
 agree_along {a} {b} {x} {y} {z} g h = record { same_length = g.same_length ∙ h.same_length; each = λ j p q. g.each j p q ∙ h.each j p q }
 
 -- what stood before a cursor, or behind the one after it, stays
@@ -29,7 +29,7 @@ module _ {low high : ℕ} {x y : List ℕ} (g : IsChanged low 0 low high x y) wh
   pub core_kept : (j : ℕ) → (j < low) ⊎ (high ≤ j) → get_or x j 0 ≡ get_or y j 0
   core_kept j h = g.kept j (elim (below_or_not j low) [ inl p ↦ inl p | inr p ↦ inr (omega (arith, p)) ]) h
 
-  pub agree_below : {a b : ℕ} → b ≤ low → AgreeOutside a b x y
+  pub agree_below : {a b : ℕ} → b ≤ low → AgreeWithin a b x y
   agree_below {a} {b} le = record { same_length = g.same_length; each = λ j p q. core_kept j (inl (omega (arith, q, le))) }
 
 pub changed_along : {low mid high : ℕ} {x y z : List ℕ} → low ≤ mid → mid ≤ high → IsChanged low 0 low mid x y → IsChanged mid 0 mid high y z → IsChanged low 0 low high x z
@@ -65,12 +65,12 @@ written_within {R} {low} {high} {most} {more} {x} {y} le w = record {
 pub both_written : {R S : List ℕ → Type 0} {low mid high most more : ℕ} {x y z : List ℕ} → IsWritten R low 0 low mid most x y → IsWritten S mid 0 mid high more y z → IsWritten (λ other. R other × S other) low 0 low high (most + more) x z
 both_written {R} {S} {low} {mid} {high} {most} {more} {x} {y} {z} v w = record {
   reads = λ other g h.
-      let kept : AgreeOutside low mid y z = agree_below w.changed (let e : mid ≤ mid = omega arith in e) in
-      let same : AgreeOutside low mid z other = agree_part h (let e : low ≤ low = omega arith in e) w.rises.up in
-      let here : AgreeOutside low mid y other = agree_along kept same in
-      let none : AgreeOutside low (low + 0) y other = agree_part here (let e : low ≤ low = omega arith in e) (let e : low + 0 ≤ mid = omega (arith, v.rises.up) in e) in
-      let there : AgreeOutside mid high z other = agree_part h v.rises.up (let e : high ≤ high = omega arith in e) in
-      let nothing : AgreeOutside mid (mid + 0) z other = agree_part h v.rises.up (let e : mid + 0 ≤ high = omega (arith, w.rises.up) in e) in
+      let kept : AgreeWithin low mid y z = agree_below w.changed (let e : mid ≤ mid = omega arith in e) in
+      let same : AgreeWithin low mid z other = agree_part h (let e : low ≤ low = omega arith in e) w.rises.up in
+      let here : AgreeWithin low mid y other = agree_along kept same in
+      let none : AgreeWithin low (low + 0) y other = agree_part here (let e : low ≤ low = omega arith in e) (let e : low + 0 ≤ mid = omega (arith, v.rises.up) in e) in
+      let there : AgreeWithin mid high z other = agree_part h v.rises.up (let e : high ≤ high = omega arith in e) in
+      let nothing : AgreeWithin mid (mid + 0) z other = agree_part h v.rises.up (let e : mid + 0 ≤ high = omega (arith, w.rises.up) in e) in
       (v.reads other none here, w.reads other nothing there);
   changed = changed_along v.rises.up w.rises.up v.changed w.changed;
   rises = record { up = omega (arith, v.rises.up, w.rises.up); few = omega (arith, v.rises.few, w.rises.few); inside = w.rises.inside };

@@ -8,7 +8,7 @@ use Rattle.fact_types.specs.declared.flats.FlatType.{FlatType}
 use Rattle.fact_types.specs.declared.flats.FlatType.TheVariants.{I32}
 use Rattle.fact_types.specs.declared.interface.InterfaceType.{InterfaceType}
 use Rattle.fact_types.specs.declared.interface.InterfaceType.TheVariants.{S64 as t_s64, U64 as t_u64, Float32 as t_float32, Float64 as t_float64, String as t_string}
-use Rattle.fact_types.specs.declared.widths.MemoryWidth.{MemoryWidth}
+use Rattle.fact_types.specs.declared.extents.MemoryWidth.{MemoryWidth}
 use Rattle.fact_types.specs.Agrees.{names_of}
 use Rattle.fact_types.specs.Flat.{join}
 use Rattle.fact_types.specs.FlatShapes.{after_flat, flat, flat_all, flat_any, flat_each, flat_members, flat_plain, flat_types, joined, times, upto, when_upto}

@@ -5,8 +5,8 @@ use Rattle.std.specs.List.{zip}
 use Rattle.std.proofs.lemmas.Bool.{le-leb}
 use Rattle.fact_types.specs.declared.interface.InterfaceType.{InterfaceType}
 use Rattle.fact_types.specs.declared.interface.InterfaceType.TheVariants as ty
-use Rattle.fact_types.specs.declared.widths.MemoryWidth.{MemoryWidth}
-use Rattle.fact_types.specs.declared.widths.MemoryWidth.TheVariants.{Memory32, Memory64}
+use Rattle.fact_types.specs.declared.extents.MemoryWidth.{MemoryWidth}
+use Rattle.fact_types.specs.declared.extents.MemoryWidth.TheVariants.{Memory32, Memory64}
 use Rattle.fact_types.specs.Agrees.{names_of}
 use Rattle.fact_types.specs.Shapes.{Kind, k_record, k_variant, k_list, k_tuple, k_map, k_flags, k_enum, k_option, k_result, k_fixed, k_future, k_stream, Shape, s_plain, s_node, Members, no_members, bare, typed}
 use Rattle.fact_types.specs.Options.{◌>>=◌}
@@ -21,7 +21,7 @@ use Rattle.fact_values.specs.Load.{load, load_plain, load_members, load_case, lo
 use Rattle.fact_values.specs.Numbers.{Plain, boolean, unsigned, signed, float32, float64, character, text, handle, nothing, plain_of, value_of_number, flags_of_number, number_in}
 use Rattle.fact_values.specs.Places.{width_of, extent_on, flags_bytes, element_extent, typed_names, Pair, pair_at, each_at}
 use Rattle.fact_values.specs.Texts.{lies_aligned}
-use Rattle.fact_lowering.specs.Lowered.{AgreeOutside, IsWritten, ReadsAt, ReadsMembers, ReadsEach, ReadsEntries, ReadsBehind}
+use Rattle.fact_lowering.specs.Lowered.{AgreeWithin, IsWritten, ReadsAt, ReadsMembers, ReadsEach, ReadsEntries, ReadsBehind}
 use Rattle.fact_lowering.specs.Lowerings.{ReadsCase}
 use Rattle.fact_lowering.specs.TextForms.{IsByFormAt, AreByFormAt, IsElementByFormAt, IsPlainByForm, StandsByForm, AreElementsByForm}
 use Rattle.fact_lowering.proofs.Agreeing.{written_both, written_also, number_written}

@@ -4,9 +4,9 @@ use Rattle.std.specs.Prelude.{max}
 use Rattle.std.proofs.lemmas.List.Elements.{All-head, All-tail}
 use Rattle.fact_types.specs.declared.abi.CanonicalAbiInfo.{CanonicalAbiInfo}
 use Rattle.fact_types.specs.declared.interface.InterfaceType.{InterfaceType}
-use Rattle.fact_types.specs.declared.widths.Extent.{Extent}
-use Rattle.fact_types.specs.declared.widths.MemoryWidth.{MemoryWidth}
-use Rattle.fact_types.specs.declared.widths.MemoryWidth.TheVariants.{Memory32, Memory64}
+use Rattle.fact_types.specs.declared.extents.Extent.{Extent}
+use Rattle.fact_types.specs.declared.extents.MemoryWidth.{MemoryWidth}
+use Rattle.fact_types.specs.declared.extents.MemoryWidth.TheVariants.{Memory32, Memory64}
 use Rattle.fact_types.specs.Functions.{HaveShapes}
 use Rattle.fact_types.specs.Layout.{aligned, end_of_fields, extent, extents, greatest_align, payloads, record_extent, record_layout}
 use Rattle.fact_types.specs.Shapes.{Shape, layout_of, layouts_of}

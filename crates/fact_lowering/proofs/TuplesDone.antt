@@ -6,8 +6,8 @@ use Rattle.fact_wasm.specs.declared.types.ValType.{ValType}
 use Rattle.fact_machine.specs.Typed.{IsValue}
 use Rattle.fact_machine.specs.declared.types.CoreValue.{CoreValue}
 use Rattle.fact_types.specs.declared.flats.FlatType.{FlatType}
-use Rattle.fact_types.specs.declared.widths.MemoryWidth.{MemoryWidth}
-use Rattle.fact_types.specs.declared.widths.MemoryWidth.TheVariants.{Memory32, Memory64}
+use Rattle.fact_types.specs.declared.extents.MemoryWidth.{MemoryWidth}
+use Rattle.fact_types.specs.declared.extents.MemoryWidth.TheVariants.{Memory32, Memory64}
 use Rattle.fact_types.specs.Flat.{value_type}
 use Rattle.fact_types.specs.FlatShapes.{flat_all, flat_each, pointer, when_upto}
 use Rattle.fact_types.specs.Layout.{aligned}
@@ -23,7 +23,7 @@ use Rattle.fact_values.specs.Lift.{bits_of, can_stand, number_as}
 use Rattle.fact_values.specs.Places.{extent_on, width_of}
 use Rattle.fact_values.specs.Tuples.{behind_only, lift_all, load_tuple, where_flat}
 use Rattle.fact_actions.specs.Adapters.{last_bits}
-use Rattle.fact_lowering.specs.Lowered.{AgreeOutside, AreLowered, IsLoweredTo, IsTakenFor, LacksRoom, Rises, own_rooms, tuple_room}
+use Rattle.fact_lowering.specs.Lowered.{AgreeWithin, AreLowered, IsLoweredTo, IsTakenFor, LacksRoom, Rises, own_rooms, tuple_room}
 use Rattle.fact_lowering.specs.Lowerings.{core_of}
 use Rattle.fact_lowering.specs.TextForms.{AreByForm, AreByFormAt}
 use Rattle.fact_lowering.specs.TupleSteps.{BehindLoweredOr, FlatLoweredOr, ReadsTuple, StandsBehind, TakenOr, TupleLoweredOr}
@@ -73,7 +73,7 @@ first_same n (x ∷ xs) [] e f = absurd (omega (arith, e))
 first_same zero (x ∷ xs) (y ∷ ys) e f = refl
 first_same (suc n) (x ∷ xs) (y ∷ ys) e f = (λ i. f 0 (let h : 0 < suc n = omega arith in h) i ∷ first_same n xs ys (let h : length xs ≡ length ys = omega (arith, e) in h) (λ j h. f (suc j) (let k : suc j < suc n = omega (arith, h) in k)) i)
 
-agree_itself : (low high : ℕ) (x : List ℕ) → AgreeOutside low high x x
+agree_itself : (low high : ℕ) (x : List ℕ) → AgreeWithin low high x x
 agree_itself low high x = record { same_length = refl; each = λ j p q. refl }
 
 -- ---- flat

@@ -6,7 +6,7 @@ use Rattle.fact_machine.specs.Typed.{IsValue}
 use Rattle.fact_types.specs.declared.flats.FlatType.{FlatType}
 use Rattle.fact_types.specs.Flat.{value_type}
 use Rattle.fact_types.specs.FlatShapes.{flat, joined, flat_all}
-use Rattle.fact_types.specs.declared.widths.Extent.{Extent}
+use Rattle.fact_types.specs.declared.extents.Extent.{Extent}
 use Rattle.fact_types.specs.Layout.{extent, payloads, record_layout}
 use Rattle.fact_types.specs.Shapes.{Kind, k_list, k_map, Shape, s_plain, s_node, Members, layouts_of}
 use Rattle.fact_types.specs.Signatures.{flat_params}
@@ -28,7 +28,7 @@ use Rattle.fact_lowering.specs.TextForms.{AreByForm, AreByFormAt, AreElementsByF
 -- ---- memories that agree
 
 -- two memories of one length are the same from one place up to another
-pub record AgreeOutside (low high : ℕ) (a b : List ℕ) : Type 0 where
+pub record AgreeWithin (low high : ℕ) (a b : List ℕ) : Type 0 where
   pub same_length : length a ≡ length b
   pub each : (j : ℕ) → low ≤ j → j < high → get_or a j 0 ≡ get_or b j 0
 
@@ -128,7 +128,7 @@ own_rooms side ms vs = measured_places (own_measure side) ms vs ms
 -- Something was written to a place and between two cursors: it is read in every memory that agrees there, nothing else changed, and the cursor rose
 -- by no more than so much.
 pub record IsWritten (Reads : List ℕ → Type 0) (place size low high most : ℕ) (before after : List ℕ) : Type 0 where
-  pub reads : (other : List ℕ) → AgreeOutside place (place + size) after other → AgreeOutside low high after other → Reads other
+  pub reads : (other : List ℕ) → AgreeWithin place (place + size) after other → AgreeWithin low high after other → Reads other
   pub changed : IsChanged place size low high before after
   pub rises : Rises low high most after
 

@@ -8,7 +8,7 @@ use Rattle.fact_types.specs.declared.flats.FlatType.TheVariants.{I32, I64, F32, 
 use Rattle.fact_types.specs.declared.interface.InterfaceType.{InterfaceType}
 use Rattle.fact_types.specs.declared.interface.InterfaceType.TheVariants.{S64, U64}
 use Rattle.fact_types.specs.Layout.{extent, flags_extent, flags_flat, flags_size}
-use Rattle.fact_types.specs.declared.widths.MemoryWidth.{MemoryWidth}
+use Rattle.fact_types.specs.declared.extents.MemoryWidth.{MemoryWidth}
 use Rattle.fact_types.specs.Shapes.{Members, s_node, plain_layout}
 use Rattle.fact_types.specs.Tables.{Tables, HasShape}
 use Rattle.fact_abi.specs.declared.nodes.Node.{Node}

@@ -310,8 +310,5 @@ fn joined_type(first: &[FlatType], second: &[FlatType], place: usize) -> Option<
 fn type_at(types: &[FlatType], place: usize) -> Option<FlatType>
     ensures { result ≡ slice_get types.now place }
 {
-    match types.get(place) {
-        Some(ty) => Some(*ty),
-        None => None,
-    }
+    types.get(place).copied()
 }

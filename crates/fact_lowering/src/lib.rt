@@ -1,5 +1,10 @@
 //! Values lowered into memories and core values (canonical ABI, "Storing" and "Flat Lowering"), so that `fact_abi::load` and `fact_abi::lift`
 //! give back what was stored; and how much room values take on their way.
+//!
+//! - Whole lists of parameters and results: `tuples` (lowered) and `lifted`.
+//! - A value: in core values (`lowering`, over `flats`), in memory (`storing`, into a `store`, at `places`); its parts: `numbers`, `flags`, texts
+//!   (`spelling`).
+//! - `room`: whether values fit the memories of a host.
 #![tactic(auto)]
 
 mod flags;

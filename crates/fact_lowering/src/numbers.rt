@@ -4,14 +4,11 @@ ghost use Rattle.std.specs.Prelude.{◌≡◌, ◌^◌, ◌<◌, ◌≤◌, pos}
 ghost use Rattle.std.specs.Int.{int_rem_euclid};
 ghost use Rattle.fact_machine.specs.Typed.{IsValue};
 ghost use Rattle.fact_machine.specs.Typing.{address_bits, address_operand, address_type};
-ghost use Rattle.fact_types.specs.declared.widths.MemoryWidth.{MemoryWidth};
 ghost use Rattle.fact_types.specs.Flat.{value_type};
-ghost use Rattle.fact_types.specs.Layout.{extent};
-ghost use Rattle.fact_types.specs.Shapes.{plain_layout};
 ghost use Rattle.fact_values.specs.declared.value.Value.{out-Value};
 ghost use Rattle.fact_values.specs.IsA.{IsPlainValue};
 ghost use Rattle.fact_values.specs.Lift.{bits_of as bits_of_core};
-ghost use Rattle.fact_values.specs.Numbers.{plain_of, text};
+ghost use Rattle.fact_values.specs.Numbers.{plain_of};
 ghost use Rattle.fact_lowering.specs.Lowerings.{IsNumberFor, core_of, numbers_of_core};
 
 use fact_abi::Value;
@@ -53,19 +50,6 @@ pub fn number_of_value(ty: &InterfaceType, value: &Value) -> Option<u64>
         Value::Char(c) => Some(u64::from(u32::from(*c))),
         Value::Handle { number, .. } => Some(u64::from(*number)),
         _ => None,
-    }
-}
-
-/// The bytes of a value of a type without members and no text.
-pub fn plain_size(ty: &InterfaceType) -> usize
-    ensures value { (w : MemoryWidth) → (plain_of ty.now ≡ text → ⊥) → result ≡ (extent w (plain_layout ty.now)).size }
-    ensures few { result ≤ 8 }
-{
-    match *ty {
-        InterfaceType::Bool | InterfaceType::S8 | InterfaceType::U8 => 1,
-        InterfaceType::S16 | InterfaceType::U16 => 2,
-        InterfaceType::S64 | InterfaceType::U64 | InterfaceType::Float64 => 8,
-        _ => 4,
     }
 }
 

@@ -21,11 +21,11 @@ ghost use Rattle.fact_lowering.specs.Lowered.{CanStore, IsPut, IsStored, IsWritt
 ghost use Rattle.fact_lowering.specs.Lowerings.{AreFlagBytes, own_entries};
 ghost use Rattle.fact_lowering.specs.Storings.{AreBits, AreElements, AreEntries, AreEntryMembers, AreLiveMembers, AreStorable, HasSpace, IsBehindPair, IsCaseStorable, IsCaseStored, IsNodeStorable, IsStorable, PutOr, own_case_of, pair_of, set_at, tagged_count, text_align};
 
-use crate::numbers::{number_of_value, plain_size};
+use crate::numbers::number_of_value;
 use crate::places::{Lowering, Pair, case_number};
 use crate::spelling::{spelled, stored_encoding, unit_bytes};
 use crate::store::Store;
-use fact_abi::{Node, NodeKind, Value, case_bytes, member_type, node_of_type};
+use fact_abi::{Node, NodeKind, Value, case_bytes, member_type, node_of_type, plain_size};
 use fact_types::{FixedEncoding, InterfaceType, StringEncoding};
 use fact_wasm::{OutOfMemory, Text};
 use std::alloc::{AllocError, Global};

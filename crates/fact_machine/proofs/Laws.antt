@@ -12,7 +12,7 @@ use Rattle.fact_machine.specs.declared.types.Outcome.{Outcome}
 use Rattle.fact_machine.specs.World.{World}
 use Rattle.fact_machine.specs.Machine.{Around, Config, At, Did, Goes, Ends, Next, Begins, Finished, Breaks, act, next, begin, at_rest, after, exec, start, run_of}
 use Rattle.fact_machine.specs.Trace.{Reached, reached, outcome_of, reached_at_rest, reached_after, reach, run_reach}
-use Rattle.fact_machine.specs.RunLaws.{ComesTo}
+use Rattle.fact_machine.specs.RunLaws.{LeadsTo}
 use Rattle.fact_machine.specs.Exits.{Exit, Falls, Branches, Throws, Halts, leads, Leaves, IsEarly}
 
 -- ---- an outcome is what is reached, without the trace
@@ -116,16 +116,16 @@ was_going M n m d le h =
 -- ---- steps add up
 
 -- no step
-pub comes_none : {M : WasmModule} {c : Config} → ComesTo M 0 c c
+pub comes_none : {M : WasmModule} {c : Config} → LeadsTo M 0 c c
 comes_none {M} {c} = record { by = λ j. ap (λ n. reach M n c) (omega arith) }
 
 -- steps after steps
-pub comes_on : {M : WasmModule} {m n : ℕ} {a b c : Config} → ComesTo M m a b → ComesTo M n b c → ComesTo M (m + n) a c
+pub comes_on : {M : WasmModule} {m n : ℕ} {a b c : Config} → LeadsTo M m a b → LeadsTo M n b c → LeadsTo M (m + n) a c
 comes_on {M} {m} {n} {a} p q =
     record { by = λ j. let e : m + n + j ≡ m + (n + j) = omega arith in ap (λ k. reach M k a) e ∙ p.by (n + j) ∙ q.by j }
 
 -- one step
-pub comes_one : {M : WasmModule} {a b : Config} → begin M (next a) ≡ Goes b → ComesTo M 1 a b
+pub comes_one : {M : WasmModule} {a b : Config} → begin M (next a) ≡ Goes b → LeadsTo M 1 a b
 comes_one {M} {a} h =
     record { by = λ j. let e : 1 + j ≡ suc j = omega arith in ap (λ k. reach M k a) e ∙ ap (reached_after (reach M j)) h }
 
@@ -135,11 +135,11 @@ same_next M zero a b h = ap reached_at_rest h
 same_next M (suc j) a b h = ap (λ x. reached_after (reach M j) (begin M x)) h
 
 -- so nothing but silent ends lies between the two
-pub comes_silent : {M : WasmModule} {a b : Config} → next a ≡ next b → ComesTo M 0 a b
+pub comes_silent : {M : WasmModule} {a b : Config} → next a ≡ next b → LeadsTo M 0 a b
 comes_silent {M} {a} {b} h = record { by = λ j. ap (λ n. reach M n a) (omega arith) ∙ same_next M j a b h }
 
 -- outcomes follow
-pub comes_exec : {M : WasmModule} {m : ℕ} {c c' : Config} → ComesTo M m c c' → (j : ℕ) → exec M (m + j) c ≡ exec M j c'
+pub comes_exec : {M : WasmModule} {m : ℕ} {c c' : Config} → LeadsTo M m c c' → (j : ℕ) → exec M (m + j) c ≡ exec M j c'
 comes_exec {M} {m} {c} {c'} p j = exec_is M (m + j) c ∙ ap outcome_of (p.by j) ∙ sym (exec_is M j c')
 
 -- ---- how a stretch of code is left
@@ -263,5 +263,5 @@ module _ {M : WasmModule} {w : World} {vs : List CoreValue} {ls : List (Option C
 
   -- what a stretch that falls through says of steps
   pub leaves_comes : {m : ℕ} {code : List Instr} {w' : World} {vs' : List CoreValue} {ls' : List (Option CoreValue)}
-      → Leaves M m code w vs ls (Falls w' vs' ls') → (rest : List Instr) (k : Around) → ComesTo M m (At w vs ls (code ++ rest) k) (At w' vs' ls' rest k)
+      → Leaves M m code w vs ls (Falls w' vs' ls') → (rest : List Instr) (k : Around) → LeadsTo M m (At w vs ls (code ++ rest) k) (At w' vs' ls' rest k)
   leaves_comes p rest k = record { by = p.by rest k }

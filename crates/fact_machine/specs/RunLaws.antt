@@ -59,20 +59,20 @@ OneEnd =
 -- ---- steps
 
 -- exactly m steps lead from one configuration to another, up to ends of bodies, which are no steps
-pub record ComesTo (M : WasmModule) (m : ℕ) (c c' : Config) : Type 0 where
+pub record LeadsTo (M : WasmModule) (m : ℕ) (c c' : Config) : Type 0 where
   pub by : (j : ℕ) → reach M (m + j) c ≡ reach M j c'
 
 -- Configurations between which lie ends of bodies alone are no step apart.
 abbrev pub NoStep : Type 0
-NoStep = (M : WasmModule) (a b : Config) → next a ≡ next b → ComesTo M 0 a b
+NoStep = (M : WasmModule) (a b : Config) → next a ≡ next b → LeadsTo M 0 a b
 
 -- What an instruction leads to is one step away.
 abbrev pub OneStep : Type 0
-OneStep = (M : WasmModule) (a b : Config) → begin M (next a) ≡ Goes b → ComesTo M 1 a b
+OneStep = (M : WasmModule) (a b : Config) → begin M (next a) ≡ Goes b → LeadsTo M 1 a b
 
 -- Steps add up.
 abbrev pub StepsAdd : Type 0
-StepsAdd = (M : WasmModule) (m n : ℕ) (a b c : Config) → ComesTo M m a b → ComesTo M n b c → ComesTo M (m + n) a c
+StepsAdd = (M : WasmModule) (m n : ℕ) (a b c : Config) → LeadsTo M m a b → LeadsTo M n b c → LeadsTo M (m + n) a c
 
 -- ---- traces
 

@@ -8,7 +8,8 @@ use Rattle.fact_machine.specs.declared.types.Event.{Event}
 use Rattle.fact_machine.specs.declared.types.TraceEntry.{TraceEntry}
 use Rattle.fact_machine.specs.declared.types.TraceEntry.TheVariants.{Called, Stored, GlobalSet}
 
--- The state, the answers that are left, and all that happened so far: outside calls, memory writes and global sets, in order.
+-- The state, the answers that are left, and all that happened so far: outside calls, memory writes and global sets, in order. A load is not in the
+-- trace: it changes nothing that the outside could see.
 pub record World : Type 0 where
   pub state : MachineState
   pub answers : List Answer

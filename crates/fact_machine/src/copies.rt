@@ -1,4 +1,4 @@
-//! Equal copies.
+//! Equal copies of states of the machine and of answers of the outside, which fail where there is no memory for them.
 
 ghost use Rattle.std.specs.Prelude.{◌≡◌, IfOk};
 

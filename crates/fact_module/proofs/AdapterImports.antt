@@ -15,6 +15,7 @@ use Rattle.fact_wasm.specs.declared.module.WasmModule.{WasmModule}
 use Rattle.fact_machine.specs.Typed.{type_of_memory}
 use Rattle.fact_types.specs.Adapters.{LinkedAdapter}
 use Rattle.fact_types.specs.ImportTypes.{realloc_type}
+use Rattle.fact_types.specs.TranscoderNames.{transcode_name, transcoder_name}
 use Rattle.fact_types.specs.declared.import.Import.{Import}
 use Rattle.fact_types.specs.declared.import.Import.TheVariants as known
 use Rattle.fact_types.specs.declared.outside.CoreDef.{CoreDef}
@@ -30,7 +31,6 @@ use Rattle.fact_emit.specs.declared.imported.RuntimeFunction.{RuntimeFunction}
 use Rattle.fact_emit.specs.declared.imported.RuntimeFunction.TheVariants as runtime
 use Rattle.fact_emit.specs.ImportSection.{AreNamed, Callback, Callee, Flags, IsImportedFunction, IsNamed, IsPrepareNamed, IsRuntime, IsStartNamed, IsTranscoderNamed, Mention, NamesImports, PostReturn, Realloc, Role, StandsFor, Storage, a_function, a_memory, custom_page_size, if_prepare, imported_type, imports_of, is_awaited, is_of, mentions, prepares_in, same_sort, sort_of}
 use Rattle.fact_emit.specs.Runtime.{trap_number}
-use Rattle.fact_emit.specs.TranscoderNames.{transcode_name, transcoder_name}
 use Rattle.fact_check.specs.Accepted.{IsAccepted}
 use Rattle.fact_check.specs.Imports.{IsAdapterImport, IsFunctionIn, IsFunctionRow, IsNamedFunction, IsPageSize, IsRow, fixed_signature, functions_in, memories_in, operation_of, origin_of, type_of_function, type_of_signature, width_of_memory}
 use Rattle.fact_check.specs.Imports.{realloc_type as realloc_row, transcoder_type as transcoder_row}

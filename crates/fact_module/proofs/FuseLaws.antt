@@ -13,7 +13,7 @@ use Rattle.fact_builder.specs.Builder.{Builder}
 use Rattle.fact_plan.specs.declared.plan.FusePlan.{FusePlan}
 use Rattle.fact_plan.specs.declared.plan.PlanAdapter.{PlanAdapter}
 use Rattle.fact_plan_types.specs.declared.plan_types.PlanTypes.{PlanTypes}
-use Rattle.fact_plan_types.specs.PlanTypes.{AreFaultless, AreTypesOf}
+use Rattle.fact_plan_types.specs.PlanTypes.{HasFaultlessTypes, AreTypesOf}
 use Rattle.fact_plan_types.specs.Faults.{Fault, too_large}
 use Rattle.fact_plan_types.specs.TypeRules.{most_entries}
 use Rattle.fact_plan_types.specs.declared.error.Place.{Place}
@@ -23,7 +23,7 @@ use Rattle.fact_adapter_rules.specs.Adapters.{adapter_of, adapters_before, adapt
 use Rattle.fact_adapter_rules.specs.AdapterRules.{AdapterHas, AdapterLacks, HasAdapterFault, LinkedHas}
 use Rattle.fact_adapter_rules.specs.FirstFault.{IsFaultlessPlan, IsFirstAt}
 use Rattle.fact_adapter_rules.specs.Linked.{HasSides, IsLinked, NamesTypesOf}
-use Rattle.fact_adapter_rules.specs.Links.{IsFirstHere, LinksAdapter}
+use Rattle.fact_adapter_rules.specs.PlanLinks.{IsFirstHere, LinksAdapter}
 use Rattle.fact_adapter_rules.proofs.LinkLaws.{sides-typed, some_and}
 use Rattle.fact_adapter_rules.proofs.PlanLaws.{before-next, first-linked, none-here}
 use Rattle.fact_assembly.specs.Sound.{HasValidSides}
@@ -142,12 +142,12 @@ pub taken-first : (p : FusePlan) (b : Builder) (c : Collected) → IsFor p b c �
 taken-first p b c is_for whole none = record { is_for = is_for; whole = whole; taken = rw none tt; count = ap length none; tuples = λ j below. absurd (omega (arith, below)); sound = λ j f below h. absurd (omega (arith, below)); few = omega arith }
 
 -- the first fault at a place is the plan's, where none was before
-pub first-taken : (p : FusePlan) (b : Builder) (c : Collected) (k : ℕ) (f : Fault) (place : Place) → AreFaultless p → HasTakenTo p b c k → IsFirstHere p k f place → IsFirstAt p f place
+pub first-taken : (p : FusePlan) (b : Builder) (c : Collected) (k : ℕ) (f : Fault) (place : Place) → HasFaultlessTypes p → HasTakenTo p b c k → IsFirstHere p k f place → IsFirstAt p f place
 first-taken p b c k f place types at first =
     subst (IsFirstAt p f) (sym first.is_here) (types, record { has = first.has; no_rule_before = first.no_rule_before; no_entry_before = λ j g below h. at.sound j g below h })
 
 -- no place is left
-pub none-faulty : (p : FusePlan) (b : Builder) (c : Collected) (k : ℕ) → AreFaultless p → HasTakenTo p b c k → length p.adapters ≤ k → IsFaultlessPlan p
+pub none-faulty : (p : FusePlan) (b : Builder) (c : Collected) (k : ℕ) → HasFaultlessTypes p → HasTakenTo p b c k → length p.adapters ≤ k → IsFaultlessPlan p
 none-faulty p b c k types at end = record {
   types = types;
   adapters = λ j f h.

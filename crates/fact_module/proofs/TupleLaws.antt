@@ -7,7 +7,7 @@ use Rattle.fact_plan.specs.declared.plan.PlanFunc.{PlanFunc}
 use Rattle.fact_plan_types.specs.declared.plan_types.PlanTypes.{PlanTypes}
 use Rattle.fact_plan_types.specs.PlanTypes.{AreTypesOf, tuple_number}
 use Rattle.fact_adapter_rules.specs.declared.adapter.Adapter.{Adapter}
-use Rattle.fact_adapter_rules.specs.Links.{LinksAdapter}
+use Rattle.fact_adapter_rules.specs.PlanLinks.{LinksAdapter}
 use Rattle.fact_adapter_rules.proofs.LinkLaws.{beside}
 use Rattle.fact_compound.specs.Entries.{tuple_of_results}
 use Rattle.fact_module.specs.Fused.{result_tuple}

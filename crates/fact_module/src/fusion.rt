@@ -1,10 +1,10 @@
 //! The fused module of a plan: [`fuse`].
 
 ghost use Rattle.std.specs.Prelude.{◌≡◌, ◌≤◌, ◌+◌, Some, slice_get, IfErr, IfOk, IfSome, OnOk};
-ghost use Rattle.fact_plan_types.specs.PlanTypes.{AreFaultless, AreTypesOf, told};
+ghost use Rattle.fact_plan_types.specs.PlanTypes.{HasFaultlessTypes, AreTypesOf, told};
 ghost use Rattle.fact_check.specs.Accepted.{IsAccepted};
 ghost use Rattle.fact_adapter_rules.specs.FirstFault.{IsFaultlessPlan, IsFirstAt};
-ghost use Rattle.fact_adapter_rules.specs.Links.{IsFirstHere};
+ghost use Rattle.fact_adapter_rules.specs.PlanLinks.{IsFirstHere};
 ghost use Rattle.fact_module.specs.Fusing.{HasTakenAll, HasTakenTo};
 ghost use Rattle.fact_module.specs.Fused.{IsFused};
 ghost use Rattle.fact_wasm.specs.Ranges.{InRange};
@@ -53,7 +53,7 @@ fn take_adapter(
 /// Takes the adapters of a plan.
 fn take_adapters(made: &mut Module<'_>, plan: &FusePlan, types: &PlanTypes) -> Result<(), FuseError>
     requires types { AreTypesOf plan.now types.now }
-    requires faultless { AreFaultless plan.now }
+    requires faultless { HasFaultlessTypes plan.now }
     requires at { HasTakenTo plan.now types.now.builder made.old 0 }
     ensures faultless { OnOk result (IsFaultlessPlan plan.now) }
     ensures taken { OnOk result (HasTakenAll plan.now made.new) }
@@ -85,7 +85,7 @@ fn spelled(alloc: Global, module: WasmModule, imports: Seq<Import>) -> Result<Fu
 /// The adapters of a plan, over its types, in one module.
 fn fuse_over(alloc: Global, plan: &FusePlan, types: &PlanTypes) -> Result<Fused, FuseError>
     requires types { AreTypesOf plan.now types.now }
-    requires faultless { AreFaultless plan.now }
+    requires faultless { HasFaultlessTypes plan.now }
     requires fuel { 1 ≤ plan.now.tunables.fuel }
     ensures fused { IfOk result (λ f. IsFused f plan.now) }
     ensures faultless { OnOk result (IsFaultlessPlan plan.now) }

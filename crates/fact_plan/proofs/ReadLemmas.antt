@@ -11,7 +11,7 @@ use Rattle.fact_plan.specs.declared.fault.PlanFault.{PlanFault}
 use Rattle.fact_plan.specs.declared.fault.PlanFault.TheVariants.{OutOfMemory, Missing, UnknownKey, WrongKind, OutOfRange}
 use Rattle.fact_plan.specs.Fault.{UnlessMemory, ◌>>=◌}
 use Rattle.fact_plan.specs.Entries.{one_key, one_member}
-use Rattle.fact_plan.specs.Read.{items_from, is_known, first_unknown, known_keys, no_unknown}
+use Rattle.fact_plan.specs.Parts.{items_from, is_known, first_unknown, known_keys, no_unknown}
 
 -- these items, and then those of the result
 abbrev pub prepend : {T : Type 0} → List T → Result (List T) PlanFault → Result (List T) PlanFault

@@ -9,7 +9,7 @@ use Rattle.fact_plan.specs.declared.plan.PlanType.TheVariants as ty
 use Rattle.fact_plan.specs.declared.fault.PlanFault.{PlanFault}
 use Rattle.fact_plan.specs.declared.fault.PlanFault.TheVariants.{WrongKind, Missing}
 use Rattle.fact_plan.specs.Fault.{at_step, key_step, ◌>>=◌}
-use Rattle.fact_plan.specs.Read.{known_keys, u32_in, text_in, list_in, nullable, pair_in}
+use Rattle.fact_plan.specs.Parts.{known_keys, u32_in, text_in, list_in, nullable, pair_in}
 use Rattle.fact_plan.specs.Words.{ref_in}
 
 -- exactly one member: none is a missing key, more are the wrong kind

@@ -51,14 +51,14 @@ IsNotMemory (UnknownKey path) = Unit {0}
 IsNotMemory (WrongKind path) = Unit {0}
 IsNotMemory (OutOfRange path) = Unit {0}
 
--- `bad plan: KIND at PATH` and a newline
-abbrev pub told_line : List ℕ → List ℕ → List ℕ
-told_line kind path = codes "bad plan: " ++ (kind ++ (codes " at " ++ (path ++ 10 ∷ [])))
+-- `bad WHAT: KIND at PATH` and a newline
+abbrev pub told_line : (what kind path : List ℕ) → List ℕ
+told_line what kind path = codes "bad " ++ (what ++ (codes ": " ++ (kind ++ (codes " at " ++ (path ++ 10 ∷ [])))))
 
--- the line that tells a fault; want of memory has none
-abbrev pub fault_line : PlanFault → List ℕ
-fault_line OutOfMemory = []
-fault_line (Missing path) = told_line (codes "Missing") path
-fault_line (UnknownKey path) = told_line (codes "UnknownKey") path
-fault_line (WrongKind path) = told_line (codes "WrongKind") path
-fault_line (OutOfRange path) = told_line (codes "OutOfRange") path
+-- the line that tells a fault of a plan or of a value, which of the two is said by the first word; want of memory has none
+abbrev pub fault_line : (what : List ℕ) → PlanFault → List ℕ
+fault_line what OutOfMemory = []
+fault_line what (Missing path) = told_line what (codes "Missing") path
+fault_line what (UnknownKey path) = told_line what (codes "UnknownKey") path
+fault_line what (WrongKind path) = told_line what (codes "WrongKind") path
+fault_line what (OutOfRange path) = told_line what (codes "OutOfRange") path

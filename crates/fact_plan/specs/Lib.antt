@@ -1,6 +1,7 @@
 pub mod Entries
 pub mod Fault
+pub mod Inputs
+pub mod Parts
 pub mod Plan
-pub mod Read
 pub mod Reading
 pub mod Words

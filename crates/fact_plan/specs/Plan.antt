@@ -12,7 +12,7 @@ use Rattle.fact_plan.specs.declared.plan.PlanTunables.{PlanTunables}
 use Rattle.fact_plan.specs.declared.plan.FusePlan.{FusePlan}
 use Rattle.fact_plan.specs.declared.fault.PlanFault.{PlanFault}
 use Rattle.fact_plan.specs.Fault.{at_step, ◌>>=◌}
-use Rattle.fact_plan.specs.Read.{known_keys, required_keys, field, field_or, u8_in, u32_in, bool_in, text_in, list_in, nullable, pair_in}
+use Rattle.fact_plan.specs.Parts.{known_keys, required_keys, field, field_or, u8_in, u32_in, bool_in, text_in, list_in, nullable, pair_in}
 use Rattle.fact_plan.specs.Words.{ref_in, val_type_in, encoding_in}
 use Rattle.fact_plan.specs.Entries.{entry_in, core_def_in}
 

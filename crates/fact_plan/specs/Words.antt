@@ -13,7 +13,7 @@ use Rattle.fact_plan.specs.declared.plan.PlanRef.TheVariants.{Word, Entry}
 use Rattle.fact_plan.specs.declared.fault.PlanFault.{PlanFault}
 use Rattle.fact_plan.specs.declared.fault.PlanFault.TheVariants.{WrongKind, OutOfRange}
 use Rattle.fact_plan.specs.Fault.{◌>>=◌}
-use Rattle.fact_plan.specs.Read.{u32_from, text_in}
+use Rattle.fact_plan.specs.Parts.{u32_from, text_in}
 
 -- the word of a scalar type or of a string; no other text is a type
 unfoldable pub word_of : List ℕ → Result PrimitiveValType PlanFault

@@ -135,23 +135,23 @@ pub fn at_place<T>(alloc: Global, place: usize, inner: Result<T, PlanFault>) -> 
     }
 }
 
-/// The line that tells a fault, with its newline.
-pub fn fault_line(alloc: Global, fault: &PlanFault) -> Result<String, OutOfMemory>
+/// The line that tells a fault of `what`, which is `plan` or `value`, with its newline.
+pub fn fault_line(alloc: Global, what: &str, fault: &PlanFault) -> Result<String, OutOfMemory>
     requires { IsNotMemory fault.now }
-    ensures { IfOk result (λ line. string_bytes line ≡ fault_line fault.now) }
+    ensures { IfOk result (λ line. string_bytes line ≡ fault_line what.now fault.now) }
 {
     match fault {
         PlanFault::OutOfMemory => unreachable!(),
-        PlanFault::Missing { path } => told_line(alloc, "Missing", path),
-        PlanFault::UnknownKey { path } => told_line(alloc, "UnknownKey", path),
-        PlanFault::WrongKind { path } => told_line(alloc, "WrongKind", path),
-        PlanFault::OutOfRange { path } => told_line(alloc, "OutOfRange", path),
+        PlanFault::Missing { path } => told_line(alloc, what, "Missing", path),
+        PlanFault::UnknownKey { path } => told_line(alloc, what, "UnknownKey", path),
+        PlanFault::WrongKind { path } => told_line(alloc, what, "WrongKind", path),
+        PlanFault::OutOfRange { path } => told_line(alloc, what, "OutOfRange", path),
     }
 }
 
-fn told_line(alloc: Global, kind: &str, path: &Text) -> Result<String, OutOfMemory>
-    ensures { IfOk result (λ line. string_bytes line ≡ told_line kind.now path.now) }
+fn told_line(alloc: Global, what: &str, kind: &str, path: &Text) -> Result<String, OutOfMemory>
+    ensures { IfOk result (λ line. string_bytes line ≡ told_line what.now kind.now path.now) }
 {
     let path = path.as_str();
-    format!(in alloc; "bad plan: {kind} at {path}\n")
+    format!(in alloc; "bad {what}: {kind} at {path}\n")
 }

@@ -2,7 +2,7 @@
 ghost use Rattle.serde_json.specs.View.{view};
 ghost use Rattle.fact_plan.specs.Fault.{Gives};
 ghost use Rattle.fact_plan.specs.Plan.{adapter_in, core_type_in, func_in, memory_in, plan_in, plan_of, rest_of_plan, side_in, tunables_in};
-ghost use Rattle.fact_plan.specs.Read.{field as field_in};
+ghost use Rattle.fact_plan.specs.Parts.{field as field_in};
 
 use crate::fault::PlanFault;
 use crate::parts::{FromJson, check_known, check_required, field, field_or};

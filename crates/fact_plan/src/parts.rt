@@ -7,7 +7,7 @@ ghost use Rattle.serde_json.specs.Data.{Data};
 ghost use Rattle.serde_json.specs.View.{view};
 ghost use Rattle.fact_plan.specs.declared.fault.PlanFault.{PlanFault};
 ghost use Rattle.fact_plan.specs.Fault.{Gives, at_step, key_step, place_step};
-ghost use Rattle.fact_plan.specs.Read.{bool_in, field, field_or, nullable, pair_in, known_keys, list_in, required_keys, text_in, u8_in, u32_in};
+ghost use Rattle.fact_plan.specs.Parts.{bool_in, field, field_or, nullable, pair_in, known_keys, list_in, required_keys, text_in, u8_in, u32_in};
 
 use crate::fault::{PlanFault, at_key, at_place};
 use fact_wasm::{Seq, Text};
@@ -26,7 +26,7 @@ pub trait FromJson: Sized + Drop {
 impl FromJson for u8 {
     ghost reads = { u8_in };
 
-    #[tactic(auto, unfolding(crate::specs::Read::u8_in))]
+    #[tactic(auto, unfolding(crate::specs::Parts::u8_in))]
     fn from_json(alloc: Global, value: &Value) -> Result<u8, PlanFault> {
         let Some(number) = value.as_u64() else {
             return Err(PlanFault::wrong_kind(alloc));
@@ -38,7 +38,7 @@ impl FromJson for u8 {
 impl FromJson for u32 {
     ghost reads = { u32_in };
 
-    #[tactic(auto, unfolding(crate::specs::Read::u32_in))]
+    #[tactic(auto, unfolding(crate::specs::Parts::u32_in))]
     fn from_json(alloc: Global, value: &Value) -> Result<u32, PlanFault> {
         let Some(number) = value.as_u64() else {
             return Err(PlanFault::wrong_kind(alloc));
@@ -50,7 +50,7 @@ impl FromJson for u32 {
 impl FromJson for bool {
     ghost reads = { bool_in };
 
-    #[tactic(auto, unfolding(crate::specs::Read::bool_in))]
+    #[tactic(auto, unfolding(crate::specs::Parts::bool_in))]
     fn from_json(alloc: Global, value: &Value) -> Result<bool, PlanFault> {
         value.as_bool().ok_or_else(|| PlanFault::wrong_kind(alloc))
     }
@@ -59,7 +59,7 @@ impl FromJson for bool {
 impl FromJson for Text {
     ghost reads = { text_in };
 
-    #[tactic(auto, unfolding(crate::specs::Read::text_in))]
+    #[tactic(auto, unfolding(crate::specs::Parts::text_in))]
     fn from_json(alloc: Global, value: &Value) -> Result<Text, PlanFault> {
         match value.as_str() {
             Some(text) => Ok(Text::from_str(alloc, text)?),
@@ -72,7 +72,7 @@ impl FromJson for Text {
 impl<T: FromJson> FromJson for Seq<T> {
     ghost reads = { list_in T.reads };
 
-    #[tactic(auto, unfolding(crate::specs::Read::list_in))]
+    #[tactic(auto, unfolding(crate::specs::Parts::list_in))]
     fn from_json(alloc: Global, value: &Value) -> Result<Seq<T>, PlanFault> {
         let Some(list) = value.as_array() else {
             return Err(PlanFault::wrong_kind(alloc));
@@ -89,7 +89,7 @@ impl<T: FromJson> FromJson for Seq<T> {
 impl<T: FromJson> FromJson for Option<T> {
     ghost reads = { nullable T.reads };
 
-    #[tactic(auto, unfolding(crate::specs::Read::nullable))]
+    #[tactic(auto, unfolding(crate::specs::Parts::nullable))]
     fn from_json(alloc: Global, value: &Value) -> Result<Option<T>, PlanFault> {
         if value.is_null() {
             return Ok(None);
@@ -102,7 +102,7 @@ impl<T: FromJson> FromJson for Option<T> {
 impl<S: FromJson, T: FromJson> FromJson for (S, T) {
     ghost reads = { pair_in S.reads T.reads };
 
-    #[tactic(auto, unfolding(crate::specs::Read::pair_in))]
+    #[tactic(auto, unfolding(crate::specs::Parts::pair_in))]
     fn from_json(alloc: Global, value: &Value) -> Result<(S, T), PlanFault> {
         let Some(first) = value.get(0usize) else {
             return Err(PlanFault::wrong_kind(alloc));

@@ -37,7 +37,7 @@ fn word_of(alloc: Global, word: &str) -> Result<PrimitiveValType, PlanFault>
 impl FromJson for PlanRef {
     ghost reads = { ref_in };
 
-    #[tactic(auto, unfolding(crate::specs::Words::ref_in, crate::specs::Read::u32_in))]
+    #[tactic(auto, unfolding(crate::specs::Words::ref_in, crate::specs::Parts::u32_in))]
     fn from_json(alloc: Global, value: &Value) -> Result<PlanRef, PlanFault> {
         if let Some(word) = value.as_str() {
             return Ok(PlanRef::Word(word_of(alloc, word)?));
@@ -49,7 +49,7 @@ impl FromJson for PlanRef {
 impl FromJson for ValType {
     ghost reads = { val_type_in };
 
-    #[tactic(auto, unfolding(crate::specs::Words::val_type_in, crate::specs::Read::text_in))]
+    #[tactic(auto, unfolding(crate::specs::Words::val_type_in, crate::specs::Parts::text_in))]
     fn from_json(alloc: Global, value: &Value) -> Result<ValType, PlanFault> {
         match value.as_str() {
             Some("i32") => Ok(ValType::I32),
@@ -65,7 +65,7 @@ impl FromJson for ValType {
 impl FromJson for StringEncoding {
     ghost reads = { encoding_in };
 
-    #[tactic(auto, unfolding(crate::specs::Words::encoding_in, crate::specs::Read::text_in))]
+    #[tactic(auto, unfolding(crate::specs::Words::encoding_in, crate::specs::Parts::text_in))]
     fn from_json(alloc: Global, value: &Value) -> Result<StringEncoding, PlanFault> {
         match value.as_str() {
             Some("utf8") => Ok(StringEncoding::Utf8),

@@ -15,7 +15,7 @@ use Rattle.fact_plan_types.specs.Adding.{AreTuplesTooWide, IsTooWide}
 use Rattle.fact_plan_types.specs.Faults.{Fault, rank, unknown_index, bad_type, too_large, bad_options, type_mismatch, bad_memory, bad_signature, import_conflict, duplicate_name, IsFirstFault}
 use Rattle.fact_plan_types.specs.PlanShapes.{HandleTables, entry_shape, plan_shapes, shapes_from, tables_with}
 use Rattle.fact_plan_types.specs.Reached.{FuncBreaksFirst}
-use Rattle.fact_plan_types.specs.Rule.{Breaks, fault_of}
+use Rattle.fact_plan_types.specs.BrokenRules.{Breaks, fault_of}
 use Rattle.fact_plan_types.specs.TypeRules.{HasFuncFault, HasTypeFault, IsTooLarge, IsUnknown, LacksTable, FuncHas, TypeHas, param_shapes, result_shapes}
 
 -- ---- the shapes of entries

@@ -26,9 +26,9 @@ use Rattle.fact_plan_types.specs.Adding.{AddsEntry, AddsFunc, AreFirst, IsFilled
 use Rattle.fact_plan_types.specs.Faults.{too_large}
 use Rattle.fact_plan_types.specs.PlanShapes.{HandleTables, entry_shape, plan_shapes, shapes_from, tables_with, tuples_among}
 use Rattle.fact_plan_types.specs.declared.plan_types.PlanTypes.{PlanTypes}
-use Rattle.fact_plan_types.specs.PlanTypes.{AreFaultless, AreTypesOf, HasTupleNumbers, HasTuples, IsFirstOfTypes, IsFuncOf, func_tuples, plan_tuples, resource_table, tables_named, tables_up_to}
+use Rattle.fact_plan_types.specs.PlanTypes.{HasFaultlessTypes, AreTypesOf, HasTupleNumbers, HasTuples, IsFirstOfTypes, IsFuncOf, func_tuples, plan_tuples, resource_table, tables_named, tables_up_to}
 use Rattle.fact_plan_types.specs.Reached.{FuncBreaksFirst, HasFuncs, HasTypes}
-use Rattle.fact_plan_types.specs.Rule.{Breaks, fault_of}
+use Rattle.fact_plan_types.specs.BrokenRules.{Breaks, fault_of}
 use Rattle.fact_plan_types.specs.Standing.{Stand}
 use Rattle.fact_plan_types.specs.TypeRules.{HasFuncFault, HasTypeFault, IsFrom, IsLongEntry, IsLongFunc, IsTooLarge, most_entries, result_shapes, table_in, types_in}
 use Rattle.fact_plan_types.proofs.AddLaws.{stand_kept}
@@ -267,7 +267,7 @@ all_types p b types t e f h funcs numbers core = record {
   resource_tables = ap (λ (c : Builder). c.tables.resource_tables) e ∙ h.first ∙ ap (λ (n : ℕ). map resource_table (take n p.tables)) h.named;
 }
 
-pub all_faultless : (p : FusePlan) (b : Builder) (types : List InterfaceType) → HasFuncs p (length p.funcs) b types → AreFaultless p
+pub all_faultless : (p : FusePlan) (b : Builder) (types : List InterfaceType) → HasFuncs p (length p.funcs) b types → HasFaultlessTypes p
 all_faultless p b types h = record {
   types = h.typed;
   funcs = λ j g f. elim (cases_lt j (length p.funcs)) [ inl l ↦ h.faultless j g l f | inr l ↦ none_past p.funcs _ j l f ];

@@ -1,3 +1,4 @@
+-- Cited by private clauses alone.
 -- What adding the types and the functions of a plan does to a builder.
 use Rattle.std.specs.Prelude.{◌⊎◌, ◌≡◌, ℕ, ◌+◌, ◌<◌, ◌≤◌, List, [], ◌∷◌, All, Any, length, map, take, slice_get, Some, Result, Err, IfOk, IfSome}
 use Rattle.fact_entity.specs.declared.error.PushError.{PushError}

@@ -101,7 +101,7 @@ told (error.ImportConflict place) = Some (import_conflict, place)
 told (error.DuplicateName place) = Some (duplicate_name, place)
 
 -- The types and functions of a plan have no fault.
-pub record AreFaultless (p : FusePlan) : Type 0 where
+pub record HasFaultlessTypes (p : FusePlan) : Type 0 where
   pub types : HaveNoFault (HasTypeFault p)
   pub funcs : HaveNoFault (HasFuncFault p)
 

@@ -1,3 +1,4 @@
+-- Cited by private clauses alone.
 -- What stands of a plan in a builder when its entries, or its functions, before a place have been added.
 use Rattle.std.specs.Prelude.{◌⊎◌, ◌≡◌, ℕ, ◌+◌, ◌*◌, ◌<◌, ◌≤◌, List, [], ◌++◌, All, Any, length, drop, take, Option, Some, None, IsTrue}
 use Rattle.fact_types.specs.declared.interface.InterfaceType.{InterfaceType}

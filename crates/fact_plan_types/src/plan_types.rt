@@ -3,7 +3,7 @@
 ghost use Rattle.std.specs.Prelude.{◌≡◌, IfOk, IfErr, IfSome, Some, length, slice_get};
 ghost use Rattle.std.specs.List.{AllZip};
 ghost use Rattle.fact_builder.specs.Builder.{no_types};
-ghost use Rattle.fact_plan_types.specs.PlanTypes.{AreFaultless, AreTypesOf, HasTupleNumbers, IsFirstOfTypes, IsFuncOf, told};
+ghost use Rattle.fact_plan_types.specs.PlanTypes.{HasFaultlessTypes, AreTypesOf, HasTupleNumbers, IsFirstOfTypes, IsFuncOf, told};
 ghost use Rattle.fact_plan_types.specs.Reached.{HasFuncs};
 
 use crate::core_types::intern_all;
@@ -47,7 +47,7 @@ impl PlanTypes {
     /// first one is told.
     pub fn new(alloc: Global, plan: &FusePlan) -> Result<PlanTypes, FuseError>
         ensures stand { IfOk result (λ t. AreTypesOf plan.now t) }
-        ensures faultless { IfOk result (λ t. AreFaultless plan.now) }
+        ensures faultless { IfOk result (λ t. HasFaultlessTypes plan.now) }
         ensures refused { IfErr result (λ e. IfSome (told e) (λ x. IsFirstOfTypes plan.now x.0 x.1)) }
     {
         let mut builder = ComponentTypesBuilder::new(alloc, 0);

@@ -3,7 +3,7 @@
 ghost use Rattle.std.specs.Prelude.{◌≡◌, ◌↔◌, ◌≤◌, ◌<◌, ◌⊎◌, ◌++◌, Any, IsTrue, IsSomeAnd, IfOk, OnOk, length, map, slice_get};
 ghost use Rattle.std.specs.List.{flat_map};
 ghost use Rattle.fact_plan_types.specs.PlanTypes.{told};
-ghost use Rattle.fact_plan_types.specs.Rule.{Breaks, FuncBreaks, fault_of};
+ghost use Rattle.fact_plan_types.specs.BrokenRules.{Breaks, FuncBreaks, fault_of};
 ghost use Rattle.fact_plan_types.specs.TypeRules.{IsBadFunc, IsBadType, IsLongEntry, IsLongFunc, NamesNoType, NamesUnknown, HasManyCases, HasManyFlags, IsEmpty, IsErrorContext, IsFrom, IsRepeated, LacksTable, instance_in, list_length, most_entries, names_in, optional, param_types, table_in, types_in};
 
 use crate::error::{FuseError, Place};

@@ -1,6 +1,6 @@
 -- How the ends of a run that calls an adapter follow from what was read.
 use Rattle.std.proofs.Common.{◌≡◌, ℕ, zero, suc, ◌≤◌, Bool, true, false, List, length, Option, None, Some, Result, Ok, Err, IfSome, ◌⊎◌, inl, inr, refl, sym, subst, ap, ◌∙◌, arith, string_bytes}
-use Rattle.std.specs.Prelude.{IsSomeAnd, nat_lt}
+use Rattle.std.specs.Prelude.{IsSomeAnd, codes, nat_lt}
 use Rattle.std.proofs.lemmas.Bool.{false≢true, lt-ltb, le-ltb}
 use Rattle.std.specs.Io.KnownBytes.{Appends}
 use Rattle.serde_json.specs.Data.{Data}
@@ -9,33 +9,34 @@ use Rattle.fact_io.specs.Faults.{Rose}
 use Rattle.fact_types.proofs.ShapeLaws.{none_some, same_some}
 use Rattle.fact_types.specs.Adapters.{LinkedAdapter}
 use Rattle.fact_plan.specs.declared.fault.PlanFault.{PlanFault}
+use Rattle.fact_plan.specs.Fault.{fault_line}
 use Rattle.fact_plan.specs.Reading.{value_in}
+use Rattle.fact_plan.specs.Inputs.{HasInput, HoldsFaultyInput, HoldsInput, HoldsNoJson, IsTooLong, limit}
 use Rattle.fact_plan_types.specs.declared.error.Place.{Place}
 use Rattle.fact_plan_types.specs.Faults.{Fault}
 use Rattle.fact_adapter_rules.specs.Adapters.{adapters_of}
 use Rattle.fact_adapter_rules.specs.FirstFault.{IsFaultlessPlan, IsFirstAt}
 use Rattle.fact_adapter_rules.proofs.FaultLaws.{faultless-first}
 use Rattle.fact_values.specs.declared.value.Value.{Value}
-use Rattle.fact_value_json.specs.Lines.{bad_value_line}
 use Rattle.fact_call_mode.specs.declared.reply.CallReply.{CallReply}
 use Rattle.fact_call_mode.specs.declared.reply.CallReply.TheVariants as call_reply
-use Rattle.fact_call_mode.specs.Calls.{AreFaulty, AreOver, HasBadValue, HasCall, HasInput, HoldsFaultyInput, HoldsInput, HoldsNoJson, IsNotCallable, IsOverLimit, NamesCallable, args_of, callable_named, fits_args, fits_results, results_of}
+use Rattle.fact_call_mode.specs.Calls.{AreBadCallValues, AreOver, HasBadValue, HasCall, IsNotCallable, IsOverLimit, NamesCallable, args_of, callable_named, fits_args, fits_results, results_of}
 use Rattle.fact_call_mode.specs.Inputs.{CallInput, call_input}
 use Rattle.fact_call_mode.specs.Replies.{IsReplyToCall}
 use Rattle.fact_command.specs.declared.command.CommandOptions.{CommandOptions}
 use Rattle.fact_command.specs.declared.status.Status.{Status}
 use Rattle.fact_command.specs.declared.status.Status.TheVariants as status
 use Rattle.fact_command.specs.Command.{HasOneMode, reading}
-use Rattle.fact_run.specs.declared.answer.Reply.{Reply}
-use Rattle.fact_run.specs.declared.answer.Reply.TheVariants as reply
-use Rattle.fact_run.specs.Answer.{IsCallReply, IsEnding, IsReplyToCalled, IsReplyToFault, IsReplyToRefusal, IsReplyToValue, IsReplyUnder, IsToldReply, TellsBadValue, TellsFault, TellsRefusalIn}
-use Rattle.fact_run.specs.Run.{AsksCall, EndsAsCall, HoldsBadValueBy, HoldsOverLimitBy, IsCallMode, IsOrMemory, IsTooLong, IsUndisturbedCall, Read, Sends, SendsBy, SendsCall, TellsLine, limit}
+use Rattle.fact_run.specs.declared.reply.Reply.{Reply}
+use Rattle.fact_run.specs.declared.reply.Reply.TheVariants as reply
+use Rattle.fact_run.specs.Replies.{IsCallReply, IsEnding, IsReplyToCalled, IsReplyToBadPlan, IsReplyToRefusal, IsReplyToBadValue, IsReplyUnder, IsToldReply, TellsBadValue, TellsBadPlan, TellsRefusalIn}
+use Rattle.fact_run.specs.Run.{AsksCall, EndsAsCall, HoldsBadValueBy, HoldsOverLimitBy, IsCallMode, IsOrMemory, IsUndisturbedCall, Read, Sends, SendsBy, SendsCall, TellsLine}
 use Rattle.fact_run.proofs.Ends.{fault-by, over-by, over-in, past, refusal-by, refused-in, sends-in, so, told-in, value-by, value-in}
 
 -- ---- from what was read to a reply
 
 -- the line of a fault in the input
-told-bad : (fuel : ℕ) (name bytes : List ℕ) (f : PlanFault) (r : Reply) → HoldsFaultyInput call_input bytes f → IsReplyToFault f r → IsReplyToCalled fuel name bytes r
+told-bad : (fuel : ℕ) (name bytes : List ℕ) (f : PlanFault) (r : Reply) → HoldsFaultyInput call_input bytes f → IsReplyToBadPlan f r → IsReplyToCalled fuel name bytes r
 told-bad fuel name bytes f (reply.BadPlan line) h e = record { fault = f; holds = h; is_line = e.1 }
 told-bad fuel name bytes f reply.OutOfMemory h e = tt
 told-bad fuel name bytes f (reply.Page text) h e = absurd e
@@ -67,7 +68,7 @@ told-refused fuel name bytes f place (reply.BadValue line) h e = absurd e
 told-refused fuel name bytes f place reply.OverLimit h e = absurd e
 
 -- and of its values
-told-value : (fuel : ℕ) (name bytes : List ℕ) (f : PlanFault) (r : Reply) → HasInput call_input bytes (λ i. HasBadValue name i f) → IsReplyToValue f r → IsReplyToCalled fuel name bytes r
+told-value : (fuel : ℕ) (name bytes : List ℕ) (f : PlanFault) (r : Reply) → HasInput call_input bytes (λ i. HasBadValue name i f) → IsReplyToBadValue f r → IsReplyToCalled fuel name bytes r
 told-value fuel name bytes f (reply.BadValue line) h e = record { fault = f; holds = h; is_line = e.1 }
 told-value fuel name bytes f reply.OutOfMemory h e = tt
 told-value fuel name bytes f (reply.Page text) h e = absurd e
@@ -191,7 +192,7 @@ call-end-of words name bytes left' read old new write status.WriteFault line h g
 call-end-of words name bytes left' read old new write status.TooLong line h given none = inl (past bytes left' h.2.0)
 call-end-of words name bytes left' read old new write status.NotJson line h given none = inl (so bytes left' HoldsNoJson h.2.1)
 call-end-of words name bytes left' read old new write status.BadPlan line h given none =
-    let t = so bytes left' (λ b. TellsFault h.0.chain h.0.call b line) h.2.1 in
+    let t = so bytes left' (λ b. TellsBadPlan h.0.chain h.0.call b line) h.2.1 in
     let mode = options-call words h.0 name h.1 given in
     inl (t.fault, fault-by h.0 false (Some name) bytes t.fault mode.not_chained mode.called t.holds)
 call-end-of words name bytes left' read old new write status.Refused line h given none =
@@ -276,7 +277,7 @@ module _ (name bytes : List ℕ) where
   stage-callable : (i : CallInput) (a : LinkedAdapter) → HoldsInput call_input bytes i → NamesCallable name i a → stage_of name bytes ≡ values_stage a (args_of a i) (results_of a i)
   stage-callable i a h c = stage-input i h ∙ ap (adapter_stage i) c.named
 
-  faulty : (i : CallInput) (a : LinkedAdapter) (f : PlanFault) → AreFaulty a i f → values_stage a (args_of a i) (results_of a i) ≡ 4
+  faulty : (i : CallInput) (a : LinkedAdapter) (f : PlanFault) → AreBadCallValues a i f → values_stage a (args_of a i) (results_of a i) ≡ 4
   faulty i a f (inl e) = ap (λ r. values_stage a r (results_of a i)) e
   faulty i a f (inr e) = ap (λ r. values_stage a r (results_of a i)) e.1 ∙ ap (values_stage a (Ok e.0)) e.2
 
@@ -411,7 +412,7 @@ complete-call words name (Some bytes) left' before now old new write s line clea
 
 -- What is no value was told, where its line was.
 pub told-bad-value : (chain : Bool) (call : Option (List ℕ)) (left left' : Option (List ℕ)) (line : List ℕ) (old new : Option (List ℕ)) (before now : ℕ) → Read left left' (λ bytes. TellsBadValue chain call bytes line) → TellsLine old new before now line
-    → Read left left' (λ bytes. (f : PlanFault) × HoldsBadValueBy chain call bytes f × TellsLine old new before now (bad_value_line f))
+    → Read left left' (λ bytes. (f : PlanFault) × HoldsBadValueBy chain call bytes f × TellsLine old new before now (fault_line (codes "value") f))
 told-bad-value chain call left left' line old new before now r h = record {
   bytes = r.bytes;
   all = r.all;

@@ -11,6 +11,7 @@ use Rattle.fact_types.specs.Adapters.{LinkedAdapter}
 use Rattle.fact_types.specs.Shapes.{Shape}
 use Rattle.fact_plan.specs.declared.fault.PlanFault.{PlanFault}
 use Rattle.fact_plan.specs.Reading.{value_in}
+use Rattle.fact_plan.specs.Inputs.{HasInput, HoldsFaultyInput, HoldsInput, HoldsNoJson, IsTooLong, limit}
 use Rattle.fact_plan_types.specs.declared.error.Place.{Place}
 use Rattle.fact_plan_types.specs.Faults.{Fault}
 use Rattle.fact_adapter_rules.specs.Adapters.{adapters_of}
@@ -22,7 +23,7 @@ use Rattle.fact_host.specs.Rules.{CallShapes}
 use Rattle.fact_chain_laws.specs.Chains.{FitBothWays, IsOverOneWay, passed_back, passed_on}
 use Rattle.fact_call_mode.specs.declared.reply.CallReply.{CallReply}
 use Rattle.fact_call_mode.specs.declared.reply.CallReply.TheVariants as call_reply
-use Rattle.fact_call_mode.specs.Calls.{HasInput, HoldsFaultyInput, HoldsInput, callable_named}
+use Rattle.fact_call_mode.specs.Calls.{callable_named}
 use Rattle.fact_call_mode.specs.Replies.{shapes_of}
 use Rattle.fact_chain_mode.specs.ChainInputs.{ChainInput, chain_input}
 use Rattle.fact_chain_mode.specs.ChainReplies.{IsReplyToChain}
@@ -31,16 +32,16 @@ use Rattle.fact_command.specs.declared.command.CommandOptions.{CommandOptions}
 use Rattle.fact_command.specs.declared.status.Status.{Status}
 use Rattle.fact_command.specs.declared.status.Status.TheVariants as status
 use Rattle.fact_command.specs.Command.{HasOneMode, reading}
-use Rattle.fact_run.specs.declared.answer.Reply.{Reply}
-use Rattle.fact_run.specs.declared.answer.Reply.TheVariants as reply
-use Rattle.fact_run.specs.Answer.{IsChainReply, IsEnding, IsReplyToChained, IsReplyToFault, IsReplyToRefusal, IsReplyToValue, IsReplyUnder, IsToldChainReply, TellsBadValue, TellsFault, TellsRefusalIn}
-use Rattle.fact_run.specs.Run.{AsksChain, EndsAsChain, HoldsNoJson, HoldsOverLimitBy, IsChainMode, IsOrMemory, IsTooLong, IsUndisturbedChain, Read, Sends, SendsBy, SendsChain, limit}
+use Rattle.fact_run.specs.declared.reply.Reply.{Reply}
+use Rattle.fact_run.specs.declared.reply.Reply.TheVariants as reply
+use Rattle.fact_run.specs.Replies.{IsChainReply, IsEnding, IsReplyToChained, IsReplyToBadPlan, IsReplyToRefusal, IsReplyToBadValue, IsReplyUnder, IsToldChainReply, TellsBadValue, TellsBadPlan, TellsRefusalIn}
+use Rattle.fact_run.specs.Run.{AsksChain, EndsAsChain, HoldsOverLimitBy, IsChainMode, IsOrMemory, IsUndisturbedChain, Read, Sends, SendsBy, SendsChain}
 use Rattle.fact_run.proofs.Ends.{fault-by, over-by, over-in, past, refusal-by, refused-in, sends-in, so, told-in, value-by, value-in}
 
 -- ---- from what was read to a reply
 
 -- the line of a fault in the input
-told-bad : (fuel : ℕ) (bytes : List ℕ) (f : PlanFault) (r : Reply) → HoldsFaultyInput chain_input bytes f → IsReplyToFault f r → IsReplyToChained fuel bytes r
+told-bad : (fuel : ℕ) (bytes : List ℕ) (f : PlanFault) (r : Reply) → HoldsFaultyInput chain_input bytes f → IsReplyToBadPlan f r → IsReplyToChained fuel bytes r
 told-bad fuel bytes f (reply.BadPlan line) h e = record { fault = f; holds = h; is_line = e.1 }
 told-bad fuel bytes f reply.OutOfMemory h e = tt
 told-bad fuel bytes f (reply.Page text) h e = absurd e
@@ -72,7 +73,7 @@ told-refused fuel bytes f place (reply.BadValue line) h e = absurd e
 told-refused fuel bytes f place reply.OverLimit h e = absurd e
 
 -- and of its values
-told-value : (fuel : ℕ) (bytes : List ℕ) (f : PlanFault) (r : Reply) → HasInput chain_input bytes (λ i. HasBadChainValue i f) → IsReplyToValue f r → IsReplyToChained fuel bytes r
+told-value : (fuel : ℕ) (bytes : List ℕ) (f : PlanFault) (r : Reply) → HasInput chain_input bytes (λ i. HasBadChainValue i f) → IsReplyToBadValue f r → IsReplyToChained fuel bytes r
 told-value fuel bytes f (reply.BadValue line) h e = record { fault = f; holds = h; is_line = e.1 }
 told-value fuel bytes f reply.OutOfMemory h e = tt
 told-value fuel bytes f (reply.Page text) h e = absurd e
@@ -191,7 +192,7 @@ chain-end-of words bytes left' read old new write status.WriteFault line h given
 chain-end-of words bytes left' read old new write status.TooLong line h given none = inl (past bytes left' h.2.0)
 chain-end-of words bytes left' read old new write status.NotJson line h given none = inl (so bytes left' HoldsNoJson h.2.1)
 chain-end-of words bytes left' read old new write status.BadPlan line h given none =
-    let t = so bytes left' (λ b. TellsFault h.0.chain h.0.call b line) h.2.1 in
+    let t = so bytes left' (λ b. TellsBadPlan h.0.chain h.0.call b line) h.2.1 in
     let mode = options-chain words h.0 h.1 given in
     inl (t.fault, fault-by h.0 true None bytes t.fault mode.chained mode.not_called t.holds)
 chain-end-of words bytes left' read old new write status.Refused line h given none =

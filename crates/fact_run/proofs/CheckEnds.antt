@@ -6,17 +6,18 @@ use Rattle.std.specs.Io.KnownBytes.{Appends}
 use Rattle.fact_io.specs.Transfers.{AppendsFront, TakesAll}
 use Rattle.fact_io.specs.Faults.{Rose}
 use Rattle.fact_wasm.specs.declared.module.WasmModule.{WasmModule}
+use Rattle.fact_plan.specs.Inputs.{IsTooLong, limit}
 use Rattle.fact_check.specs.Accepted.{AcceptedHasNoCause, IsCause}
 use Rattle.fact_check.specs.declared.error.CheckError.{CheckError}
 use Rattle.fact_command.specs.declared.status.Status.{Status}
 use Rattle.fact_command.specs.declared.status.Status.TheVariants as status
-use Rattle.fact_run.specs.declared.answer.Reply.{Reply}
-use Rattle.fact_run.specs.declared.answer.Reply.TheVariants as reply
+use Rattle.fact_run.specs.declared.reply.Reply.{Reply}
+use Rattle.fact_run.specs.declared.reply.Reply.TheVariants as reply
 use Rattle.fact_command.specs.declared.command.CommandOptions.{CommandOptions}
 use Rattle.fact_command.specs.Command.{reading}
 use Rattle.fact_run.specs.Check.{HoldsAccepted, HoldsHex, HoldsNoHex, HoldsRejected, rejected_line}
-use Rattle.fact_run.specs.Answer.{IsCheckReply, IsEnding, IsReplyToBytes, IsReplyToCause, IsReplyToCheck, IsReplyUnder, TellsRejection}
-use Rattle.fact_run.specs.Run.{ChecksBytes, IsCallMode, IsChainMode, IsJsonMode, IsOrMemory, IsTooLong, IsUndisturbedCheck, Read, Sends, SendsAccepted, SendsBy, TellsLine, limit}
+use Rattle.fact_run.specs.Replies.{IsCheckReply, IsEnding, IsReplyToBytes, IsReplyToCause, IsReplyToCheck, IsReplyUnder, TellsRejection}
+use Rattle.fact_run.specs.Run.{ChecksBytes, IsCallMode, IsChainMode, IsJsonMode, IsOrMemory, IsUndisturbedCheck, Read, Sends, SendsAccepted, SendsBy, TellsLine}
 use Rattle.fact_run.proofs.Ends.{past, so}
 
 -- ---- from what was read to a reply

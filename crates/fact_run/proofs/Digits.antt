@@ -3,7 +3,8 @@ use Rattle.std.proofs.Common.{◌≡◌, ◌≢◌, ℕ, zero, suc, ◌≤◌, L
 use Rattle.std.proofs.lemmas.Bool.Decides.{nat_tests}
 use Rattle.hex.specs.Hex.{decode_of}
 use Rattle.hex.specs.declared.error.FromHexError.{FromHexError}
-use Rattle.fact_run.specs.Check.{HoldsNoHex, digits_in, limit}
+use Rattle.fact_plan.specs.Inputs.{limit}
+use Rattle.fact_run.specs.Check.{HoldsNoHex, digits_in}
 
 -- of an input that ends in a newline
 pub digits-of-line : (input : List ℕ) (k : ℕ) → length input ≡ suc k → get_or input k 0 ≡ 10 → take k input ≡ digits_in input

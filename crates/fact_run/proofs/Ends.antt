@@ -1,6 +1,6 @@
 -- How the ends of a run follow from what was read and written.
 use Rattle.std.proofs.Common.{◌≡◌, ◌≢◌, ℕ, zero, suc, ◌≤◌, ◌<◌, Bool, true, false, List, [], ◌++◌, length, Option, None, Some, Result, Ok, Err, OnOk, OnErr, IfSome, ◌⊎◌, inl, inr, refl, sym, subst, ap, ◌∙◌, arith, append-nil, length-append, string_bytes}
-use Rattle.std.specs.Prelude.{⊤, IsSome, IsSomeAnd, nat_lt}
+use Rattle.std.specs.Prelude.{⊤, IsSome, IsSomeAnd, codes, nat_lt}
 use Rattle.std.proofs.lemmas.Bool.{false≢true, lt-ltb, le-ltb}
 use Rattle.std.specs.Io.KnownBytes.{Appends}
 use Rattle.std.proofs.KnownBytes.{Consumes-nil}
@@ -13,21 +13,23 @@ use Rattle.fact_plan.specs.declared.fault.PlanFault.TheVariants as fault
 use Rattle.fact_plan.specs.Fault.{IsNotMemory, UnlessMemory, fault_line}
 use Rattle.fact_plan.specs.Plan.{plan_of}
 use Rattle.fact_plan.specs.Reading.{value_in}
+use Rattle.fact_plan.specs.Inputs.{HoldsBadPlan, HoldsNoJson, HoldsPlan, IsTooLong, limit}
 use Rattle.fact_plan_types.specs.declared.error.Place.{Place}
 use Rattle.fact_plan_types.specs.Faults.{Fault}
 use Rattle.fact_adapter_rules.specs.FirstFault.{IsFaultlessPlan, IsFirstAt}
 use Rattle.fact_adapter_rules.proofs.FaultLaws.{faultless-first}
+use Rattle.fact_adapter_rules.specs.Inputs.{HoldsFaultless, HoldsRefusal}
 use Rattle.fact_command.specs.declared.status.Status.{Status}
 use Rattle.fact_command.specs.declared.status.Status.TheVariants as status
-use Rattle.fact_run.specs.declared.answer.Reply.{Reply}
-use Rattle.fact_run.specs.declared.answer.Reply.TheVariants as reply
-use Rattle.fact_run.specs.Answer.{IsEnding, IsReply, IsReplyTo, IsReplyToFault, IsReplyToPlan, IsReplyUnder, IsReplyUnread, TellsBadValue, TellsFault, TellsRefusalIn, ending_with}
+use Rattle.fact_run.specs.declared.reply.Reply.{Reply}
+use Rattle.fact_run.specs.declared.reply.Reply.TheVariants as reply
+use Rattle.fact_run.specs.Replies.{IsEnding, IsReply, IsReplyTo, IsReplyToBadPlan, IsReplyToPlan, IsReplyUnder, IsReplyUnread, TellsBadValue, TellsBadPlan, TellsRefusalIn, ending_with}
 use Rattle.fact_command.specs.declared.command.CommandOptions.{CommandOptions}
 use Rattle.fact_command.specs.Command.{reading}
 use Rattle.fact_command.specs.Refusal.{refusal_line}
 use Rattle.fact_command.specs.Status.{line_of}
 use Rattle.fact_types.proofs.ShapeLaws.{none_some}
-use Rattle.fact_run.specs.Run.{Counts, GeneratesPlan, HoldsBadValueBy, HoldsFault, HoldsFaultBy, HoldsFaultless, HoldsNoJson, HoldsOverLimitBy, HoldsPlan, HoldsRefusal, HoldsRefusalBy, IsCallMode, IsChainMode, IsEndUnread, IsJsonMode, IsOrMemory, IsPlanMode, IsTooLong, IsUndisturbed, Read, ReadsJson, ReadsPlan, Sends, SendsAccepted, SendsBy, SendsCall, SendsChain, SendsCounts, SendsPage, TellsLine, limit}
+use Rattle.fact_run.specs.Run.{Counts, GeneratesPlan, HoldsBadValueBy, HoldsBadPlanBy, HoldsOverLimitBy, HoldsRefusalBy, IsCallMode, IsChainMode, IsEndUnread, IsJsonMode, IsOrMemory, IsPlanMode, IsUndisturbedPlan, Read, ReadsJson, ReadsPlan, Sends, SendsAccepted, SendsBy, SendsCall, SendsChain, SendsCounts, SendsPage, TellsLine}
 
 -- ---- from what was read to a reply
 
@@ -40,7 +42,7 @@ unless (fault.WrongKind path) P n h = h
 unless (fault.OutOfRange path) P n h = h
 
 -- a fault that the bytes hold
-pub replied-fault : (o : CommandOptions) (bytes : List ℕ) (v : Data) (f : PlanFault) (r : Reply) → length bytes ≤ limit → value_in bytes ≡ Some v → UnlessMemory f (plan_of v ≡ Err f) → IsReplyToFault f r → IsReplyTo o bytes r
+pub replied-fault : (o : CommandOptions) (bytes : List ℕ) (v : Data) (f : PlanFault) (r : Reply) → length bytes ≤ limit → value_in bytes ≡ Some v → UnlessMemory f (plan_of v ≡ Err f) → IsReplyToBadPlan f r → IsReplyTo o bytes r
 replied-fault o bytes v f (reply.BadPlan line) within j h e = record {
   fault = f;
   holds = record { within = within; value = v; is_json = j; is_fault = unless f (plan_of v ≡ Err f) e.0 h };
@@ -152,11 +154,11 @@ sends-in check chain call m o left left' Sent c l n g h =
     subst Q (sym g) (subst N (sym n) (subst L (sym l) (subst P (sym c) h)))
 
 -- a fault and a refusal that were told of a plan that was read
-pub told-in : (chain : Bool) (call : Option (List ℕ)) (o : CommandOptions) (left left' : Option (List ℕ)) (line : List ℕ) → o.chain ≡ chain → o.call ≡ call → Read left left' (λ bytes. TellsFault chain call bytes line)
-    → Read left left' (λ bytes. TellsFault o.chain o.call bytes line)
+pub told-in : (chain : Bool) (call : Option (List ℕ)) (o : CommandOptions) (left left' : Option (List ℕ)) (line : List ℕ) → o.chain ≡ chain → o.call ≡ call → Read left left' (λ bytes. TellsBadPlan chain call bytes line)
+    → Read left left' (λ bytes. TellsBadPlan o.chain o.call bytes line)
 told-in chain call o left left' line l n h =
-    let L : Bool → Type 0 = λ b. Read left left' (λ bytes. TellsFault b call bytes line) in
-    let P : Option (List ℕ) → Type 0 = λ x. Read left left' (λ bytes. TellsFault o.chain x bytes line) in
+    let L : Bool → Type 0 = λ b. Read left left' (λ bytes. TellsBadPlan b call bytes line) in
+    let P : Option (List ℕ) → Type 0 = λ x. Read left left' (λ bytes. TellsBadPlan o.chain x bytes line) in
     subst P (sym n) (subst L (sym l) h)
 
 pub refused-in : (chain : Bool) (call : Option (List ℕ)) (o : CommandOptions) (left left' : Option (List ℕ)) (line : List ℕ) → o.chain ≡ chain → o.call ≡ call → Read left left' (λ bytes. TellsRefusalIn chain call bytes line)
@@ -283,7 +285,7 @@ stage-value bytes v within e = ap (λ b. stage b (value_in bytes)) (le-ltb limit
 stage-json : (bytes : List ℕ) → HoldsNoJson bytes → stage_of bytes ≡ 1
 stage-json bytes h = stage-value bytes None h.within h.no_json
 
-stage-fault : (bytes : List ℕ) (f : PlanFault) → HoldsFault bytes f → stage_of bytes ≡ 2
+stage-fault : (bytes : List ℕ) (f : PlanFault) → HoldsBadPlan bytes f → stage_of bytes ≡ 2
 stage-fault bytes f h = stage-value bytes (Some h.value) h.within h.is_json ∙ ap plan_stage h.is_fault
 
 stage-plan : (bytes : List ℕ) (p : FusePlan) → HoldsPlan bytes p → stage_of bytes ≡ 3
@@ -299,7 +301,7 @@ one-plan bytes p q h k =
 abbrev pub IsOf : Status → List ℕ → Type 0
 IsOf status.TooLong bytes = IsTooLong bytes
 IsOf status.NotJson bytes = HoldsNoJson bytes
-IsOf status.BadPlan bytes = (f : PlanFault) × HoldsFault bytes f
+IsOf status.BadPlan bytes = (f : PlanFault) × HoldsBadPlan bytes f
 IsOf status.Refused bytes = (f : Fault) × (place : Place) × HoldsRefusal bytes f place
 IsOf status.Done bytes = HoldsFaultless bytes
 IsOf status.WriteFault bytes = HoldsFaultless bytes
@@ -331,10 +333,10 @@ unchained : (words : List (List ℕ)) (o : CommandOptions) → reading words ≡
 unchained words o e given mode = false≢true (sym (options-read words o e given).not_chained ∙ mode.chained)
 
 -- what the bytes hold is what they hold in this mode
-pub fault-by : (o : CommandOptions) (chain : Bool) (call : Option (List ℕ)) (bytes : List ℕ) (f : PlanFault) → o.chain ≡ chain → o.call ≡ call → HoldsFaultBy o.chain o.call bytes f → HoldsFaultBy chain call bytes f
+pub fault-by : (o : CommandOptions) (chain : Bool) (call : Option (List ℕ)) (bytes : List ℕ) (f : PlanFault) → o.chain ≡ chain → o.call ≡ call → HoldsBadPlanBy o.chain o.call bytes f → HoldsBadPlanBy chain call bytes f
 fault-by o chain call bytes f l n h =
-    let L : Bool → Type 0 = λ b. HoldsFaultBy b o.call bytes f in
-    let P : Option (List ℕ) → Type 0 = λ x. HoldsFaultBy chain x bytes f in
+    let L : Bool → Type 0 = λ b. HoldsBadPlanBy b o.call bytes f in
+    let P : Option (List ℕ) → Type 0 = λ x. HoldsBadPlanBy chain x bytes f in
     subst P n (subst L l h)
 
 pub refusal-by : (o : CommandOptions) (chain : Bool) (call : Option (List ℕ)) (bytes : List ℕ) (f : Fault) (place : Place) → o.chain ≡ chain → o.call ≡ call → HoldsRefusalBy o.chain o.call bytes f place → HoldsRefusalBy chain call bytes f place
@@ -365,7 +367,7 @@ end-of words bytes left' read old new write status.WriteFault line h given none 
 end-of words bytes left' read old new write status.TooLong line h given none = inl (past bytes left' h.2.0)
 end-of words bytes left' read old new write status.NotJson line h given none = inl (so bytes left' HoldsNoJson h.2.1)
 end-of words bytes left' read old new write status.BadPlan line h given none =
-    let t = so bytes left' (λ b. TellsFault h.0.chain h.0.call b line) h.2.1 in
+    let t = so bytes left' (λ b. TellsBadPlan h.0.chain h.0.call b line) h.2.1 in
     let mode = options-read words h.0 h.1 given in
     inl (t.fault, fault-by h.0 false None bytes t.fault mode.not_chained mode.not_called t.holds)
 end-of words bytes left' read old new write status.Refused line h given none =
@@ -435,7 +437,7 @@ long-end s bytes h = at-stage 0 s bytes (omega arith) (stage-long bytes h)
 pub json-end : (s : Status) (bytes : List ℕ) → HoldsNoJson bytes → IsOf s bytes ⊎ (s ≡ status.OutOfMemory) → IsOrMemory status.NotJson s
 json-end s bytes h = at-stage 1 s bytes (omega arith) (stage-json bytes h)
 
-pub fault-end : (s : Status) (bytes : List ℕ) → ((f : PlanFault) × HoldsFault bytes f) → IsOf s bytes ⊎ (s ≡ status.OutOfMemory) → IsOrMemory status.BadPlan s
+pub fault-end : (s : Status) (bytes : List ℕ) → ((f : PlanFault) × HoldsBadPlan bytes f) → IsOf s bytes ⊎ (s ≡ status.OutOfMemory) → IsOrMemory status.BadPlan s
 fault-end s bytes h = at-stage 2 s bytes (omega arith) (stage-fault bytes h.0 h.1)
 
 -- the bytes hold no plan that has a fault and one that has none
@@ -487,7 +489,7 @@ faultless-end status.OutOfMemory bytes unfaulted b (inl h) = absurd h
 -- Where the words are read, what holds of a source's bytes decides the end.
 pub exactly : (words : List (List ℕ)) (left left' : Option (List ℕ)) (before now : ℕ) (old new : Option (List ℕ)) (write : Type 0) (s wanted : Status) (line : List ℕ) (P : List ℕ → Type 0)
     → ((bytes : List ℕ) → P bytes → IsOf s bytes ⊎ (s ≡ status.OutOfMemory) → IsOrMemory wanted s)
-    → IsEnding words left left' (Rose before now) old new write s line → IsUndisturbed words before now → IfSome left (λ bytes. P bytes → IsOrMemory wanted s)
+    → IsEnding words left left' (Rose before now) old new write s line → IsUndisturbedPlan words before now → IfSome left (λ bytes. P bytes → IsOrMemory wanted s)
 exactly words None left' before now old new write s wanted line P decides h calm = tt
 exactly words (Some bytes) left' before now old new write s wanted line P decides h calm =
     λ p. decides bytes p (end-of words bytes left' (Rose before now) old new write s line h calm.reads calm.no_fault)
@@ -518,8 +520,8 @@ plain-line words left left' read old new write status.OverLimit line h bad refus
 plain-line words left left' read old new write status.OutOfMemory line h bad refused rejected value = h.1
 
 -- The fault of a plan was told, where its line was.
-pub told-fault : (chain : Bool) (call : Option (List ℕ)) (left left' : Option (List ℕ)) (line : List ℕ) (old new : Option (List ℕ)) (before now : ℕ) → Read left left' (λ bytes. TellsFault chain call bytes line) → TellsLine old new before now line
-    → Read left left' (λ bytes. (f : PlanFault) × HoldsFaultBy chain call bytes f × TellsLine old new before now (fault_line f))
+pub told-fault : (chain : Bool) (call : Option (List ℕ)) (left left' : Option (List ℕ)) (line : List ℕ) (old new : Option (List ℕ)) (before now : ℕ) → Read left left' (λ bytes. TellsBadPlan chain call bytes line) → TellsLine old new before now line
+    → Read left left' (λ bytes. (f : PlanFault) × HoldsBadPlanBy chain call bytes f × TellsLine old new before now (fault_line (codes "plan") f))
 told-fault chain call left left' line old new before now r h = record {
   bytes = r.bytes;
   all = r.all;

@@ -3,12 +3,12 @@ use Rattle.std.specs.Prelude.{◌≡◌, ◌≢◌, ℕ, ◌≤◌, ◌==◌, Li
 use Rattle.std.specs.Fmt.{decimal}
 use Rattle.hex.specs.Hex.{decode_of}
 use Rattle.fact_wasm.specs.declared.module.WasmModule.{WasmModule}
+use Rattle.fact_plan.specs.Inputs.{limit}
 use Rattle.fact_check.specs.Accepted.{IsAccepted, IsCause}
 use Rattle.fact_check.specs.declared.error.CheckError.{CheckError}
 use Rattle.fact_check.specs.declared.error.CheckError.TheVariants as error
 use Rattle.fact_check.specs.declared.error.CheckPlace.{CheckPlace}
 use Rattle.fact_check.specs.declared.error.CheckPlace.TheVariants as place
-pub use Rattle.fact_call_mode.specs.Calls.{limit}
 
 -- ---- what an input holds
 

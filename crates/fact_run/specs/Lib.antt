@@ -1,3 +1,3 @@
-pub mod Answer
 pub mod Check
+pub mod Replies
 pub mod Run

@@ -1,6 +1,6 @@
 -- What a run reads and writes. That it wrote the module of a plan, with all that this promises, is `SendsPage`, by `Prints`; that it counted, checked,
 -- called or chained, the other records of `SendsBy`.
-use Rattle.std.specs.Prelude.{ℕ, ◌≡◌, ◌<◌, List, [], ◌∷◌, ◌++◌, length, Bool, true, false, ◌||◌, if◌then◌else◌, Option, Some, None, IsSome, IsSomeAnd, ◌⊎◌, codes}
+use Rattle.std.specs.Prelude.{ℕ, ◌≡◌, List, [], ◌∷◌, ◌++◌, length, Bool, true, false, if◌then◌else◌, Option, Some, None, IsSome, IsSomeAnd, ◌⊎◌, codes}
 use Rattle.std.specs.Io.KnownBytes.{Appends}
 use Rattle.std.specs.Fmt.{decimal}
 use Rattle.hex.specs.Hex.{encode_lower}
@@ -11,10 +11,11 @@ use Rattle.fact_io.specs.Faults.{Rose}
 use Rattle.fact_io.specs.Transfers.{AppendsFront, TakesAll}
 use Rattle.fact_plan.specs.declared.plan.FusePlan.{FusePlan}
 use Rattle.fact_plan.specs.declared.fault.PlanFault.{PlanFault}
-use Rattle.fact_plan.specs.Plan.{plan_of}
+use Rattle.fact_plan.specs.Inputs.{HasInput, HoldsBadPlan, HoldsFaultyInput, HoldsInput, HoldsNoJson, IsTooLong, tuned}
 use Rattle.fact_plan_types.specs.declared.error.Place.{Place}
 use Rattle.fact_plan_types.specs.Faults.{Fault}
-use Rattle.fact_adapter_rules.specs.FirstFault.{IsFaultlessPlan, IsFirstAt}
+use Rattle.fact_adapter_rules.specs.FirstFault.{IsFirstAt}
+use Rattle.fact_adapter_rules.specs.Inputs.{HoldsFaultless, HoldsRefusal}
 use Rattle.fact_generate.specs.Generated.{generated}
 use Rattle.fact_module.specs.declared.fusion.Fused.{Fused}
 use Rattle.fact_types.specs.declared.import.Import.{Import}
@@ -23,8 +24,7 @@ use Rattle.fact_command.specs.declared.command.CommandOptions.{CommandOptions}
 use Rattle.fact_command.specs.declared.status.Status.{Status}
 use Rattle.fact_command.specs.declared.status.Status.TheVariants as status
 use Rattle.fact_command.specs.Command.{reading}
-pub use Rattle.fact_call_mode.specs.Calls.{HoldsNoJson, limit}
-use Rattle.fact_call_mode.specs.Calls.{HasBadValue, HasInput, HoldsFaultyInput, HoldsInput, IsNotCallable, IsOverLimit, TellsInput}
+use Rattle.fact_call_mode.specs.Calls.{HasBadValue, IsNotCallable, IsOverLimit, TellsCallInput}
 use Rattle.fact_call_mode.specs.Inputs.{CallInput, call_input}
 use Rattle.fact_chain_mode.specs.ChainInputs.{ChainInput, chain_input}
 use Rattle.fact_chain_mode.specs.ChainTexts.{HasBadChainValue, IsChainOverLimit, IsNotChained, TellsChainInput}
@@ -33,35 +33,12 @@ use Rattle.fact_command.specs.ImportLines.{import_lines}
 
 -- ---- what an input of some bytes comes to: each input comes to one of these
 
--- The bytes are more than an input may have.
-abbrev pub IsTooLong : List ℕ → Type 0
-IsTooLong bytes = limit < length bytes
-
--- They are a JSON text whose value has this first fault as a plan, or is this plan.
-abbrev pub HoldsFault : List ℕ → PlanFault → Type 0
-HoldsFault bytes f = HoldsFaultyInput plan_of bytes f
-
-abbrev pub HoldsPlan : List ℕ → FusePlan → Type 0
-HoldsPlan bytes p = HoldsInput plan_of bytes p
-
--- a plan whose first fault is this one, at this place
-pub record HoldsRefusal (bytes : List ℕ) (f : Fault) (place : Place) : Type 0 where
-  pub plan : FusePlan
-  pub is_plan : HoldsPlan bytes plan
-  pub is_first : IsFirstAt plan f place
-
--- a plan that has no fault
-pub record HoldsFaultless (bytes : List ℕ) : Type 0 where
-  pub plan : FusePlan
-  pub is_plan : HoldsPlan bytes plan
-  pub faultless : IsFaultlessPlan plan
-
 -- Where two adapters are chained, or one of some name is called, the bytes hold an input in place of a plan: its first fault, and the first fault of
 -- its plan.
-abbrev pub HoldsFaultBy : (chain : Bool) → (call : Option (List ℕ)) → List ℕ → PlanFault → Type 0
-HoldsFaultBy true call bytes f = HoldsFaultyInput chain_input bytes f
-HoldsFaultBy false None bytes f = HoldsFault bytes f
-HoldsFaultBy false (Some name) bytes f = HoldsFaultyInput call_input bytes f
+abbrev pub HoldsBadPlanBy : (chain : Bool) → (call : Option (List ℕ)) → List ℕ → PlanFault → Type 0
+HoldsBadPlanBy true call bytes f = HoldsFaultyInput chain_input bytes f
+HoldsBadPlanBy false None bytes f = HoldsBadPlan bytes f
+HoldsBadPlanBy false (Some name) bytes f = HoldsFaultyInput call_input bytes f
 
 abbrev pub HoldsRefusalBy : (chain : Bool) → (call : Option (List ℕ)) → List ℕ → Fault → Place → Type 0
 HoldsRefusalBy true call bytes f place = HasInput chain_input bytes (λ i. IsFirstAt i.plan f place)
@@ -89,7 +66,7 @@ pub record Read (left left' : Option (List ℕ)) (P : List ℕ → Type 0) : Typ
 
 -- the plan with the tunables of the run: debug checks where the plan or the words ask for them, and the words' fuel
 abbrev pub configured : CommandOptions → FusePlan → FusePlan
-configured o p = record p { tunables = record p.tunables { debug = p.tunables.debug || o.debug; fuel = o.fuel } }
+configured o p = tuned o.debug o.fuel p
 
 -- bytes in lower-case hex and a newline
 abbrev pub hex_line : List ℕ → List ℕ
@@ -148,7 +125,7 @@ pub record SendsCall (fuel : ℕ) (name bytes : List ℕ) (Sent : List ℕ → T
   pub input : CallInput
   pub holds : HoldsInput call_input bytes input
   pub text : List ℕ
-  pub tells : TellsInput fuel name input text
+  pub tells : TellsCallInput fuel name input text
   pub sent : Sent text
 
 -- The bytes hold an input, and of the text that tells the chain of two adapters of it this was sent.
@@ -233,7 +210,7 @@ pub record TellsLine (old new : Option (List ℕ)) (before now : ℕ) (line : Li
   pub whole : (Rose before now → ⊥) → Appends old new line
 
 -- The command takes the words, a plan is read, and no read failed.
-pub record IsUndisturbed (words : List (List ℕ)) (before now : ℕ) : Type 0 where
+pub record IsUndisturbedPlan (words : List (List ℕ)) (before now : ℕ) : Type 0 where
   pub reads : ReadsPlan words
   pub no_fault : Rose before now → ⊥
 

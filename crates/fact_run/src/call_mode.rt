@@ -1,26 +1,25 @@
 //! The mode that calls an adapter (`--call`): what an input comes to.
 
 ghost use Rattle.std.specs.Prelude.{◌≡◌, ◌≢◌, ◌≤◌, ◌+◌, length};
+ghost use Rattle.fact_plan.specs.Inputs.{limit};
 ghost use Rattle.fact_io.specs.Faults.{Rose};
 ghost use Rattle.fact_io.specs.Transfers.{TakesUpTo};
-ghost use Rattle.fact_run.specs.Answer.{IsCallReply, IsReplyToCalled, IsReplyToValue, IsToldReply};
-ghost use Rattle.fact_run.specs.Run.{limit};
+ghost use Rattle.fact_run.specs.Replies.{IsCallReply, IsReplyToCalled, IsReplyToBadValue, IsToldReply};
 
-use crate::answer::{Reply, reply_to_fault, reply_to_refusal};
+use crate::reply::{Reply, reply_to_fault, reply_to_refusal};
 use fact_call_mode::{CallReply, reply_to_call};
 use fact_io::{InputError, Source, read_all};
-use fact_plan::PlanFault;
-use fact_value_json::value_fault_line;
+use fact_plan::{PlanFault, fault_line};
 use std::alloc::Global;
 
 /// What a fault of values comes to.
 fn reply_to_value(alloc: Global, fault: &PlanFault) -> Reply
-    ensures { IsReplyToValue fault.now result }
+    ensures { IsReplyToBadValue fault.now result }
 {
     if matches!(fault, PlanFault::OutOfMemory) {
         return Reply::OutOfMemory;
     }
-    match value_fault_line(alloc, fault) {
+    match fault_line(alloc, "value", fault) {
         Ok(line) => Reply::BadValue(line),
         Err(_) => Reply::OutOfMemory,
     }

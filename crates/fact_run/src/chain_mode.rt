@@ -1,13 +1,13 @@
 //! The mode that chains two adapters (`--chain`): what an input comes to.
 
 ghost use Rattle.std.specs.Prelude.{◌≡◌, ◌≢◌, ◌≤◌, ◌+◌, length};
+ghost use Rattle.fact_plan.specs.Inputs.{limit};
 ghost use Rattle.fact_io.specs.Faults.{Rose};
 ghost use Rattle.fact_io.specs.Transfers.{TakesUpTo};
-ghost use Rattle.fact_run.specs.Answer.{IsChainReply, IsReplyToChained, IsToldChainReply};
-ghost use Rattle.fact_run.specs.Run.{limit};
+ghost use Rattle.fact_run.specs.Replies.{IsChainReply, IsReplyToChained, IsToldChainReply};
 
-use crate::answer::Reply;
 use crate::call_mode::told_reply;
+use crate::reply::Reply;
 use fact_call_mode::CallReply;
 use fact_chain_mode::reply_to_chain;
 use fact_io::{InputError, Source, read_all};

@@ -3,11 +3,12 @@
 ghost use Rattle.std.specs.Prelude.{◌≡◌, ◌≢◌, ◌≤◌, ◌+◌, length, string_bytes, IfOk, MatchResult};
 ghost use Rattle.fact_io.specs.Faults.{Rose};
 ghost use Rattle.fact_io.specs.Transfers.{TakesUpTo};
+ghost use Rattle.fact_plan.specs.Inputs.{limit};
 ghost use Rattle.fact_check.specs.declared.error.CheckError.TheVariants as CheckError;
-ghost use Rattle.fact_run.specs.Answer.{IsCheckReply, IsReplyToBytes, IsReplyToCause, IsReplyToCheck};
-ghost use Rattle.fact_run.specs.Check.{HoldsHex, accepted_line, digits_in, limit, rejected_line};
+ghost use Rattle.fact_run.specs.Replies.{IsCheckReply, IsReplyToBytes, IsReplyToCause, IsReplyToCheck};
+ghost use Rattle.fact_run.specs.Check.{HoldsHex, accepted_line, digits_in, rejected_line};
 
-use crate::answer::Reply;
+use crate::reply::Reply;
 use fact_check::{CheckError, CheckPlace, check};
 use fact_io::{InputError, Source, read_all};
 use fact_wasm::{OutOfMemory, WasmModule};

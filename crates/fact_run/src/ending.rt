@@ -1,7 +1,7 @@
 //! An end of a run with its line.
 
 ghost use Rattle.std.specs.Prelude.{◌≡◌, Some, option_map, string_bytes};
-ghost use Rattle.fact_run.specs.Answer.{line_in};
+ghost use Rattle.fact_run.specs.Replies.{line_in};
 
 use fact_command::Status;
 

@@ -1,57 +1,22 @@
-//! Which mode the words ask for ([`reply_under`]), and the mode that makes a plan (`--generate`).
+//! Which mode the words ask for ([`reply_under`]).
 
-ghost use Rattle.std.specs.Prelude.{◌≡◌, ◌≢◌, ◌≤◌, ◌+◌, IfOk, IfSome, IsSome, false, string_bytes};
+ghost use Rattle.std.specs.Prelude.{◌≡◌, ◌≢◌, ◌≤◌, ◌+◌, IfSome, IsSome, false};
+ghost use Rattle.fact_plan.specs.Inputs.{limit};
 ghost use Rattle.fact_io.specs.Faults.{Rose};
 ghost use Rattle.fact_io.specs.Transfers.{TakesUpTo};
 ghost use Rattle.fact_command.specs.Command.{HasOneMode};
-ghost use Rattle.fact_generate.specs.Generated.{generated, most_generated};
-ghost use Rattle.fact_run.specs.Answer.{IsReplyUnder, IsReplyUnread};
-ghost use Rattle.fact_run.specs.Run.{Counts, configured, counts, limit};
+ghost use Rattle.fact_generate.specs.Generated.{most_generated};
+ghost use Rattle.fact_run.specs.Replies.{IsReplyUnder, IsReplyUnread};
 
-use crate::answer::{Reply, configure, reply_of};
 use crate::call_mode::call_reply;
 use crate::chain_mode::chain_reply;
 use crate::check_mode::check_reply;
-use crate::counts::counts_text;
+use crate::generate_mode::generated_counts;
+use crate::plan_mode::plan_reply;
+use crate::reply::Reply;
 use fact_command::CommandOptions;
-use fact_generate::generate;
 use fact_io::Source;
-use fact_module::{FusePlan, fuse};
-use fact_wasm::OutOfMemory;
-use std::alloc::{AllocError, Global};
-
-/// The counts of a plan that was generated and is configured, and of its module.
-fn fused_counts(
-    alloc: Global,
-    plan: &FusePlan,
-    options: &CommandOptions,
-    n: u32,
-) -> Result<String, OutOfMemory>
-    requires fuel { 1 ≤ options.now.fuel }
-    requires plan { plan.now ≡ configured options.now (generated n) }
-    ensures { IfOk result (λ text. Counts options.now n (string_bytes text)) }
-{
-    match fuse(alloc, plan) {
-        Ok(fused) => {
-            let text = counts_text(alloc, plan, &fused);
-            drop(fused);
-            text
-        }
-        Err(_) => Err(AllocError),
-    }
-}
-
-/// The counts of the plan of so many adapters, and of its module.
-fn generated_counts(alloc: Global, n: u32, options: &CommandOptions) -> Result<String, OutOfMemory>
-    requires number { n ≤ most_generated }
-    requires fuel { 1 ≤ options.now.fuel }
-    ensures { IfOk result (λ text. Counts options.now n (string_bytes text)) }
-{
-    let configured = configure(generate(alloc, n)?, options);
-    let text = fused_counts(alloc, &configured, options, n);
-    drop(configured);
-    text
-}
+use std::alloc::Global;
 
 /// What a run with these options comes to that neither checks bytes nor calls adapters: where a plan is generated nothing is read.
 fn reply_uncalled<S: Source>(alloc: Global, source: &mut S, options: &CommandOptions) -> Reply
@@ -70,7 +35,7 @@ fn reply_uncalled<S: Source>(alloc: Global, source: &mut S, options: &CommandOpt
             Ok(text) => Reply::Page(text),
             Err(_) => Reply::OutOfMemory,
         },
-        None => reply_of(alloc, source, options),
+        None => plan_reply(alloc, source, options),
     }
 }
 

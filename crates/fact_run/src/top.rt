@@ -1,32 +1,33 @@
 //! The top call, [`run`]: the words are read, the reply of their mode is written, and the line of the end is told.
 
-ghost use Rattle.std.specs.Prelude.{◌≡◌, ◌≢◌, ◌≤◌, ◌+◌, ℕ, List, IfSome, IsSome, None, Some, map, option_map, string_bytes};
+ghost use Rattle.std.specs.Prelude.{◌≡◌, ◌≢◌, ◌≤◌, ◌+◌, ℕ, List, IfSome, IsSome, None, Some, codes, map, option_map, string_bytes};
 ghost use Rattle.std.specs.Io.KnownBytes.{Appends, Keeps};
 ghost use Rattle.fact_io.specs.Faults.{Rose};
 ghost use Rattle.fact_io.specs.Transfers.{AppendsFront, TakesPast, TakesUpTo};
 ghost use Rattle.fact_plan.specs.Fault.{fault_line};
 ghost use Rattle.fact_plan.specs.declared.fault.PlanFault.{PlanFault};
+ghost use Rattle.fact_plan.specs.Inputs.{HasInput, HoldsBadPlan, HoldsNoJson, IsTooLong, limit};
 ghost use Rattle.fact_generate.specs.Generated.{most_generated};
 ghost use Rattle.fact_plan_types.specs.declared.error.Place.{Place};
 ghost use Rattle.fact_plan_types.specs.Faults.{Fault};
 ghost use Rattle.fact_command.specs.declared.command.CommandOptions.{CommandOptions};
 ghost use Rattle.fact_command.specs.Command.{HasOneMode, reading};
 ghost use Rattle.fact_command.specs.Refusal.{refusal_line};
-ghost use Rattle.fact_run.specs.Answer.{IsEndUnder, IsEnding, ending_with, line_in};
+ghost use Rattle.fact_run.specs.Replies.{IsEndUnder, IsEnding, ending_with, line_in};
 ghost use Rattle.fact_wasm.specs.declared.module.WasmModule.{WasmModule};
+ghost use Rattle.fact_adapter_rules.specs.Inputs.{HoldsFaultless, HoldsRefusal};
 ghost use Rattle.fact_check.specs.declared.error.CheckError.{CheckError};
 ghost use Rattle.fact_run.specs.Check.{HoldsAccepted, HoldsNoHex, HoldsRejected, rejected_line};
-ghost use Rattle.fact_value_json.specs.Lines.{bad_value_line};
-ghost use Rattle.fact_call_mode.specs.Calls.{HasCall, HasInput, IsNotCallable};
+ghost use Rattle.fact_call_mode.specs.Calls.{HasCall, IsNotCallable};
 ghost use Rattle.fact_call_mode.specs.Inputs.{call_input};
 ghost use Rattle.fact_chain_mode.specs.ChainInputs.{chain_input};
 ghost use Rattle.fact_chain_mode.specs.ChainTexts.{HasChain, IsNotChained};
-ghost use Rattle.fact_run.specs.Run.{AsksCall, AsksChain, ChecksBytes, EndsAsCall, EndsAsChain, GeneratesPlan, HoldsBadValueBy, HoldsFault, HoldsFaultBy, HoldsFaultless, HoldsNoJson, HoldsOverLimitBy, HoldsRefusal, HoldsRefusalBy, IsEndUnread, IsJsonMode, IsOrMemory, IsTooLong, IsUndisturbed, IsUndisturbedCall, IsUndisturbedChain, IsUndisturbedCheck, Read, ReadsJson, Sends, TellsLine, limit};
+ghost use Rattle.fact_run.specs.Run.{AsksCall, AsksChain, ChecksBytes, EndsAsCall, EndsAsChain, GeneratesPlan, HoldsBadValueBy, HoldsBadPlanBy, HoldsOverLimitBy, HoldsRefusalBy, IsEndUnread, IsJsonMode, IsOrMemory, IsUndisturbedPlan, IsUndisturbedCall, IsUndisturbedChain, IsUndisturbedCheck, Read, ReadsJson, Sends, TellsLine};
 ghost use Rattle.fact_command.specs.Status.{line_of};
 
-use crate::answer::Reply;
 use crate::ending::Ending;
 use crate::mode::reply_under;
+use crate::reply::Reply;
 use fact_check::accepted_bytes_have_no_cause;
 use fact_command::{CommandOptions, Status, command_of};
 use fact_io::{Sink, Source, write_text};
@@ -135,7 +136,7 @@ pub fn run<S: Source, K: Sink, E: Sink>(
     ensures too_long { result ≡ Status.TooLong → TakesPast (S.left source.old) (S.left source.new) limit }
     ensures not_json { result ≡ Status.NotJson → ReadsJson (map string_bytes words.now) × Read (S.left source.old) (S.left source.new) HoldsNoJson }
     ensures bad_plan { result ≡ Status.BadPlan → (o : CommandOptions) × (reading (map string_bytes words.now) ≡ Some o) × IsJsonMode o × Read (S.left source.old) (S.left source.new) (λ bytes. (f : PlanFault)
-        × HoldsFaultBy o.chain o.call bytes f × TellsLine (E.written err.old) (E.written err.new) (E.faults err.old) (E.faults err.new) (fault_line f)) }
+        × HoldsBadPlanBy o.chain o.call bytes f × TellsLine (E.written err.old) (E.written err.new) (E.faults err.old) (E.faults err.new) (fault_line (codes "plan") f)) }
     ensures refused { result ≡ Status.Refused → (o : CommandOptions) × (reading (map string_bytes words.now) ≡ Some o) × IsJsonMode o × Read (S.left source.old) (S.left source.new) (λ bytes. (f : Fault) × (place : Place)
         × HoldsRefusalBy o.chain o.call bytes f place × TellsLine (E.written err.old) (E.written err.new) (E.faults err.old) (E.faults err.new) (refusal_line f place)) }
     ensures not_hex { result ≡ Status.NotHex → ChecksBytes (map string_bytes words.now) × Read (S.left source.old) (S.left source.new) HoldsNoHex }
@@ -144,7 +145,7 @@ pub fn run<S: Source, K: Sink, E: Sink>(
     ensures not_callable { result ≡ Status.NotCallable → (name : List ℕ) × AsksCall (map string_bytes words.now) name × Read (S.left source.old) (S.left source.new) (λ bytes. HasInput call_input bytes (IsNotCallable name)) }
     ensures not_chained { result ≡ Status.NotChained → AsksChain (map string_bytes words.now) × Read (S.left source.old) (S.left source.new) (λ bytes. HasInput chain_input bytes IsNotChained) }
     ensures bad_value { result ≡ Status.BadValue → (o : CommandOptions) × (reading (map string_bytes words.now) ≡ Some o) × IsJsonMode o × Read (S.left source.old) (S.left source.new) (λ bytes. (f : PlanFault)
-        × HoldsBadValueBy o.chain o.call bytes f × TellsLine (E.written err.old) (E.written err.new) (E.faults err.old) (E.faults err.new) (bad_value_line f)) }
+        × HoldsBadValueBy o.chain o.call bytes f × TellsLine (E.written err.old) (E.written err.new) (E.faults err.old) (E.faults err.new) (fault_line (codes "value") f)) }
     ensures over_limit { result ≡ Status.OverLimit → (o : CommandOptions) × (reading (map string_bytes words.now) ≡ Some o) × IsJsonMode o
         × Read (S.left source.old) (S.left source.new) (λ bytes. HoldsOverLimitBy o.chain o.call bytes) }
     ensures write_fault { result ≡ Status.WriteFault → Rose (K.faults out.old) (K.faults out.new) }
@@ -161,15 +162,15 @@ pub fn run<S: Source, K: Sink, E: Sink>(
 
     // The other way round: of the words, and where the source is read, it tells its bytes and no read failed, of the bytes.
     ensures exactly_usage { reading (map string_bytes words.now) ≡ None → IsOrMemory Status.Usage result }
-    ensures exactly_too_long { IsUndisturbed (map string_bytes words.now) (S.faults source.old) (S.faults source.new)
+    ensures exactly_too_long { IsUndisturbedPlan (map string_bytes words.now) (S.faults source.old) (S.faults source.new)
         → IfSome (S.left source.old) (λ bytes. IsTooLong bytes → IsOrMemory Status.TooLong result) }
-    ensures exactly_not_json { IsUndisturbed (map string_bytes words.now) (S.faults source.old) (S.faults source.new)
+    ensures exactly_not_json { IsUndisturbedPlan (map string_bytes words.now) (S.faults source.old) (S.faults source.new)
         → IfSome (S.left source.old) (λ bytes. HoldsNoJson bytes → IsOrMemory Status.NotJson result) }
-    ensures exactly_bad_plan { IsUndisturbed (map string_bytes words.now) (S.faults source.old) (S.faults source.new)
-        → IfSome (S.left source.old) (λ bytes. ((f : PlanFault) × HoldsFault bytes f) → IsOrMemory Status.BadPlan result) }
-    ensures exactly_refused { IsUndisturbed (map string_bytes words.now) (S.faults source.old) (S.faults source.new)
+    ensures exactly_bad_plan { IsUndisturbedPlan (map string_bytes words.now) (S.faults source.old) (S.faults source.new)
+        → IfSome (S.left source.old) (λ bytes. ((f : PlanFault) × HoldsBadPlan bytes f) → IsOrMemory Status.BadPlan result) }
+    ensures exactly_refused { IsUndisturbedPlan (map string_bytes words.now) (S.faults source.old) (S.faults source.new)
         → IfSome (S.left source.old) (λ bytes. ((f : Fault) × (place : Place) × HoldsRefusal bytes f place) → IsOrMemory Status.Refused result) }
-    ensures complete { IsUndisturbed (map string_bytes words.now) (S.faults source.old) (S.faults source.new)
+    ensures complete { IsUndisturbedPlan (map string_bytes words.now) (S.faults source.old) (S.faults source.new)
         → (Rose (K.faults out.old) (K.faults out.new) → ⊥)
         → IfSome (S.left source.old) (λ bytes. HoldsFaultless bytes → IsOrMemory Status.Done result) }
     ensures exactly_not_hex { IsUndisturbedCheck (map string_bytes words.now) (S.faults source.old) (S.faults source.new)

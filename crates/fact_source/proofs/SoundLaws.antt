@@ -2,8 +2,8 @@
 use Rattle.std.proofs.Common.{◌≡◌, ◌<◌, ◌≤◌, ◌+◌, ℕ, zero, suc, List, [], ◌∷◌, ◌++◌, length, get_or, Option, Some, None, refl, sym, ◌∙◌, ap, subst, arith, All, length-append}
 use Rattle.std.specs.Prelude.{slice_get, IfSome, Result, Ok, Err, OnOk, OnErr}
 use Rattle.std.proofs.lemmas.List.Elements.{All-push}
-use Rattle.fact_entity.specs.declared.source.ComponentAnyTypeId.{ComponentAnyTypeId}
-use Rattle.fact_entity.specs.declared.source.ComponentAnyTypeId.TheVariants as any
+use Rattle.fact_entity.specs.declared.source_ids.ComponentAnyTypeId.{ComponentAnyTypeId}
+use Rattle.fact_entity.specs.declared.source_ids.ComponentAnyTypeId.TheVariants as any
 use Rattle.fact_source.specs.declared.defined.ComponentValType.{ComponentValType}
 use Rattle.fact_source.specs.declared.defined.ComponentValType.TheVariants as val
 use Rattle.fact_source.specs.declared.defined.ComponentDefinedType.{ComponentDefinedType}

@@ -1,7 +1,7 @@
 -- Which ids an entry names, that they are live, and that they were there before it.
 use Rattle.std.specs.Prelude.{ℕ, ◌≡◌, ◌+◌, ◌<◌, ◌≤◌, suc, List, length, All, Option, Some, None, slice_get}
-use Rattle.fact_entity.specs.declared.source.ComponentAnyTypeId.{ComponentAnyTypeId}
-use Rattle.fact_entity.specs.declared.source.ComponentAnyTypeId.TheVariants as any
+use Rattle.fact_entity.specs.declared.source_ids.ComponentAnyTypeId.{ComponentAnyTypeId}
+use Rattle.fact_entity.specs.declared.source_ids.ComponentAnyTypeId.TheVariants as any
 use Rattle.fact_source.specs.declared.defined.ComponentValType.{ComponentValType}
 use Rattle.fact_source.specs.declared.defined.ComponentValType.TheVariants as val
 use Rattle.fact_source.specs.declared.defined.ComponentDefinedType.{ComponentDefinedType}

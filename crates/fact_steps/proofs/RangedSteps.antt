@@ -7,7 +7,7 @@ use Rattle.fact_wasm.specs.Ranges.{AreRanged}
 use Rattle.fact_code_laws.specs.Places.{Slot}
 use Rattle.fact_emit.proofs.NamedLaws.{ranged_append, ranged_more, ranged_none}
 use Rattle.fact_emit.proofs.RangedCode.{get_ranged, set_ranged}
-use Rattle.fact_steps.specs.Code.{back_code, call_code, popped_code, pushed_code, saved_code, started_code, zero_code}
+use Rattle.fact_steps.specs.Code.{back_code, call_code, popped_code, pushed_code, saved_code, started_code, zero_flags_code}
 
 pub pushed_ranged : (ss : List Slot) → AreRanged 0 0 (pushed_code ss)
 pushed_ranged [] = tt
@@ -21,15 +21,15 @@ saved_ranged : (flags saved : ℕ) → AreRanged 0 0 (saved_code flags saved)
 saved_ranged flags saved = ranged_none 0 0 (saved_code flags saved) (simp the_lemmas)
 
 -- flags are set to 0, and to what a local holds
-pub zero_ranged : (flags : ℕ) → AreRanged 0 0 (zero_code flags)
-zero_ranged flags = ranged_none 0 0 (zero_code flags) (simp the_lemmas)
+pub zero_ranged : (flags : ℕ) → AreRanged 0 0 (zero_flags_code flags)
+zero_ranged flags = ranged_none 0 0 (zero_flags_code flags) (simp the_lemmas)
 
 pub back_ranged : (flags saved : ℕ) → AreRanged 0 0 (back_code flags saved)
 back_ranged flags saved = ranged_none 0 0 (back_code flags saved) (simp the_lemmas)
 
 -- flags are kept, and 0 from then on
 pub started_ranged : (flags saved : ℕ) → AreRanged 0 0 (started_code flags saved)
-started_ranged flags saved = ranged_append 0 0 (saved_code flags saved) (zero_code flags) (saved_ranged flags saved) (zero_ranged flags)
+started_ranged flags saved = ranged_append 0 0 (saved_code flags saved) (zero_flags_code flags) (saved_ranged flags saved) (zero_ranged flags)
 
 -- flags are kept and stand on the stack
 pub kept_ranged : (flags saved : ℕ) → AreRanged 0 0 (I.GlobalGet flags ∷ I.LocalTee saved ∷ [])

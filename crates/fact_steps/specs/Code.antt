@@ -28,12 +28,12 @@ abbrev pub may_leave_code : (flags saved trap : ℕ) → List Instr
 may_leave_code flags saved trap = guard_code (I.GlobalGet flags ∷ I.LocalTee saved ∷ []) trap
 
 -- they are set to 0
-abbrev pub zero_code : (flags : ℕ) → List Instr
-zero_code flags = I.I32Const 0 ∷ I.GlobalSet flags ∷ []
+abbrev pub zero_flags_code : (flags : ℕ) → List Instr
+zero_flags_code flags = I.I32Const 0 ∷ I.GlobalSet flags ∷ []
 
 -- kept in a local, they are 0 from then on
 abbrev pub started_code : (flags saved : ℕ) → List Instr
-started_code flags saved = saved_code flags saved ++ zero_code flags
+started_code flags saved = saved_code flags saved ++ zero_flags_code flags
 
 -- they are set to what a local holds
 abbrev pub back_code : (flags saved : ℕ) → List Instr

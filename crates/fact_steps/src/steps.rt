@@ -6,7 +6,7 @@ ghost use Rattle.fact_emit.specs.Emits.{Emits};
 ghost use Rattle.fact_emit.specs.Places.{slots_of_locals};
 ghost use Rattle.fact_emit.specs.States.{functions_of};
 ghost use Rattle.fact_emit.specs.Writers.{Wrote};
-ghost use Rattle.fact_steps.specs.Code.{back_code, call_code, popped_code, pushed_code, started_code, zero_code};
+ghost use Rattle.fact_steps.specs.Code.{back_code, call_code, popped_code, pushed_code, started_code, zero_flags_code};
 ghost use Rattle.fact_steps.specs.Steps.{ChecksMayLeave, EntersCall, ExitsCall, FinishesCall, RestoresAndFinishes, ReturnsPost};
 
 use fact_emit::{
@@ -50,7 +50,7 @@ pub fn check_may_leave(w: &mut Writer, flags: u32, saved: u32) -> Result<(), Out
 
 /// Sets the flags of an instance to 0.
 pub fn clear_flags(w: &mut Writer, flags: u32) -> Result<(), OutOfMemory>
-    ensures { OnOk result (Wrote w.old w.new (zero_code flags)) }
+    ensures { OnOk result (Wrote w.old w.new (zero_flags_code flags)) }
 {
     w.put(Instr::I32Const(0))?;
     w.put(Instr::GlobalSet(flags))?;
@@ -107,7 +107,7 @@ pub fn enter_call(w: &mut Writer, told: bool, instance: u32) -> Result<(), OutOf
     Ok(())
 }
 
-/// Tells it that the instance is left again.
+/// Where the runtime is told of a call, tells it that the instance is left again.
 pub fn exit_call(w: &mut Writer, told: bool) -> Result<(), OutOfMemory>
     ensures { OnOk result (Emits w.old w.new (ExitsCall told)) }
 {

@@ -29,12 +29,12 @@ use Rattle.fact_actions.specs.Moves.{padded, write_case, move}
 use Rattle.fact_actions.specs.Running.{ImportPlaces}
 use Rattle.fact_actions.specs.Sides.{write_number}
 use Rattle.fact_actions.specs.Outlining.{translates_case, translates_if}
-use Rattle.fact_code_laws.specs.Cases.{tag_code, zero_code}
+use Rattle.fact_code_laws.specs.Cases.{discriminant_code, zero_code}
 use Rattle.fact_code_laws.specs.Places.{From, To, Setting, Number, to_past, read_code}
 use Rattle.fact_emit.specs.declared.places.Sides.{Sides}
 use Rattle.fact_emit.specs.declared.writer.Writer.{Writer}
 use Rattle.fact_emit.specs.Asked.{AskedHelper, HasHelper}
-use Rattle.fact_emit.specs.Bodies.{ChoosesCase, WroteChoice}
+use Rattle.fact_emit.specs.Choices.{ChoosesCase, WroteChoice}
 use Rattle.fact_emit.specs.Emits.{GrewAsking, GrewAsideAsking, Emits, EmitsAsking, Later}
 use Rattle.fact_emit.specs.Fitting.{FitsShapes, node_moves, MovesNode}
 use Rattle.fact_emit.specs.Movable.{CanMove}
@@ -155,7 +155,7 @@ same_locals_taken : (a b : Writer) → b.locals ≡ a.locals → taken_in b ≡ 
 same_locals_taken a b e = ap (λ v. λ i. is_local_in_use (slice_get v.items i)) e
 
 module _ {t : Tables} {source destination : VariantInfo} {sides : Sides} {src : From} {dst : To} {a b c : Writer} {before after : Fuel} (paired : PairedCase) (found : NumberedCase) {size : Number} (found_is : paired.found ≡ Some found) (size_is : size ≡ discriminant_number_of destination.size) (below : found.number < 2 ^ 32)
-    (w : Wrote a b (tag_code size found.number dst)) (m : MovedPayload t source destination paired.payload found.payload sides src dst before after b c) where
+    (w : Wrote a b (discriminant_code size found.number dst)) (m : MovedPayload t source destination paired.payload found.payload sides src dst before after b c) where
   module _ (ms ns : Members) (k : CaseType) (source_is : source ≡ variant_info (layouts_of ms)) (destination_is : destination ≡ variant_info (layouts_of ns)) (is : IsCaseOf t ms ns paired k) (cs : AreCounted ms) (cu : AreCounted ns) where
     size_at : size ≡ discriminant_number_of (discriminant_size (count_of_members ns))
     size_at = size_is ∙ ap (λ (i : VariantInfo). discriminant_number_of i.size) destination_is
@@ -164,8 +164,8 @@ module _ {t : Tables} {source destination : VariantInfo} {sides : Sides} {src : 
     moved_bare f =
         let it : found ≡ numbered_case f.number None = same_some paired.found found (numbered_case f.number None) found_is f.is in
         let number_is : f.number ≡ found.number = ap (λ (n : NumberedCase). n.number) (sym it) in
-        emits_then {P = Is (tag_code size found.number dst)} {Q = Is (zero_code (to_past 1 dst))} (λ M q locals x k' e e'.
-        let all : tag_code size found.number dst ++ zero_code (to_past 1 dst) ≡ x ++ k' = sym (λ i. e i ++ e' i) in
+        emits_then {P = Is (discriminant_code size found.number dst)} {Q = Is (zero_code (to_past 1 dst))} (λ M q locals x k' e e'.
+        let all : discriminant_code size found.number dst ++ zero_code (to_past 1 dst) ≡ x ++ k' = sym (λ i. e i ++ e' i) in
         subst (MovesCaseOf sides src dst (taken_in a) ms ns k M q locals) all
         (bare_case sides src dst (taken_in a) ms ns k size found.number size_at below M q locals (λ tr ms s d. f.moves tr ms s d ∙ ap (λ z. write_number tr.to (case_bytes ns) d z >>= (λ tag. Give (padded d tag))) number_is)))
         (emits_wrote (tag_ranged size found.number dst) w) (m.none (no_payload t paired.payload k.payload is.payload f.none) (ap (λ (n : NumberedCase). n.payload) it))
@@ -179,7 +179,7 @@ module _ {t : Tables} {source destination : VariantInfo} {sides : Sides} {src : 
         let from : IsPayload ms f.from = record { place = is.place; case = k; there = is.there; payload = f.some } in
         let same : taken_in b ≡ taken_in a = same_locals_taken a b w.locals in
         let Payload : (ℕ → Bool) → Piece = λ u. MovesPayload sides f.from f.to e.from_count (bytes_by (width sides.from.memory64) source.payload_offset32 source.payload_offset64) e.to_count (bytes_by (width sides.to.memory64) destination.payload_offset32 destination.payload_offset64) src dst u in
-        emits_then {P = Is (tag_code size found.number dst)} {Q = Payload (taken_in a)} (λ M q locals x k' is' mp.
+        emits_then {P = Is (discriminant_code size found.number dst)} {Q = Payload (taken_in a)} (λ M q locals x k' is' mp.
         subst (λ x. MovesCaseOf sides src dst (taken_in a) ms ns k M q locals (x ++ k')) (sym is')
         (some_case sides src dst (taken_in a) ms ns k size found.number size_at below M q locals {source_info = source} {destination_info = destination} e.from_count e.to_count from f.among source_is destination_is e.from_count_is e.to_count_is
         (λ tr ms s d. f.moves tr ms s d ∙ ap (λ z. write_case tr ms ns s d z (Some f.from) (Some f.to) (λ p s' d'. move tr p f.to s' d')) number_is) mp))

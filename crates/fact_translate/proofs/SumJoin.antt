@@ -8,8 +8,8 @@ use Rattle.fact_wasm.specs.declared.types.ValType.TheVariants as val
 use Rattle.fact_wasm.specs.declared.instr.Instr.{Instr}
 use Rattle.fact_wasm.specs.declared.module.WasmModule.{WasmModule}
 use Rattle.fact_types.specs.declared.variants.VariantInfo.{VariantInfo}
-use Rattle.fact_types.specs.declared.widths.MemoryWidth.{MemoryWidth}
-use Rattle.fact_types.specs.declared.widths.MemoryWidth.TheVariants.{Memory32, Memory64}
+use Rattle.fact_types.specs.declared.extents.MemoryWidth.{MemoryWidth}
+use Rattle.fact_types.specs.declared.extents.MemoryWidth.TheVariants.{Memory32, Memory64}
 use Rattle.fact_types.specs.FlatShapes.{flat}
 use Rattle.fact_types.specs.Layout.{extents, payloads, payload_offset, variant_info, discriminant_size}
 use Rattle.fact_types.specs.Shapes.{k_variant, Shape, s_node, Members, no_members, bare, typed, layouts_of}
@@ -21,7 +21,7 @@ use Rattle.fact_actions.specs.Actions.{Give, ◌>>=◌}
 use Rattle.fact_actions.specs.Moves.{flat_length, padded, move, move_case, payload_part, payload_spot, write_case}
 use Rattle.fact_actions.specs.Running.{ImportPlaces}
 use Rattle.fact_actions.specs.Sides.{LiftLowerOptions, Transfer, Source, Values, AtAddress, Target, Slots, Into, side_abi, width_of_side, write_number}
-use Rattle.fact_code_laws.specs.Cases.{tag_code, zero_code}
+use Rattle.fact_code_laws.specs.Cases.{discriminant_code, zero_code}
 use Rattle.fact_code_laws.specs.Places.{From, To, Rooms, Setting, transfer, Moves, Number, N64, size_of, to_past}
 use Rattle.fact_code_laws.specs.Typed.{OnStack}
 use Rattle.fact_code_laws.proofs.CaseMoves.{IsTag, moves_bare_case, moves_some_case}
@@ -29,7 +29,7 @@ use Rattle.fact_code_laws.proofs.FieldMoves.{from_part, source_part, to_spot, ta
 use Rattle.fact_code_laws.proofs.SumMoves.{moves_sum, tagged_code}
 use Rattle.fact_code_laws.proofs.TypedShapes.{IsClosedCode}
 use Rattle.fact_emit.specs.declared.places.Sides.{Sides}
-use Rattle.fact_emit.specs.Bodies.{ChoosesCase}
+use Rattle.fact_emit.specs.Choices.{ChoosesCase}
 use Rattle.fact_emit.specs.Fitting.{bytes_of_shape, FitsShapes, node_moves}
 use Rattle.fact_emit.specs.MovesValue.{MovesValue, except, HasLocal}
 use Rattle.fact_emit.specs.Numbers.{HasUpperAt}
@@ -78,7 +78,7 @@ module _ (sides : Sides) (src : From) (dst : To) (taken : ℕ → Bool) (ms ns :
     tag_is : IsTag S used dst size number
     tag_is = let w = tag_writable M q locals b S.to64 ns size short dst fit.writes in record { narrow = narrow_of size short; number = below; writable = w.0; typed = w.1 }
 
-    bare_moves : ((s : Source) (d : Target) → move_case (transfer S) ms ns c ns 0 s d ≡ write_number b (case_bytes ns) d number >>= (λ tag. Give (padded d tag))) → Moves S used 300 0 src dst (λ s d. move_case (transfer S) ms ns c ns 0 s d) (tag_code size number dst ++ zero_code (to_past 1 dst))
+    bare_moves : ((s : Source) (d : Target) → move_case (transfer S) ms ns c ns 0 s d ≡ write_number b (case_bytes ns) d number >>= (λ tag. Give (padded d tag))) → Moves S used 300 0 src dst (λ s d. move_case (transfer S) ms ns c ns 0 s d) (discriminant_code size number dst ++ zero_code (to_past 1 dst))
     bare_moves is =
         moves_same (λ s d. ap (λ z. write_number b z d number >>= (λ tag. Give (padded d tag))) bytes_of_size ∙ sym (is s d))
         (moves_bare_case S used src dst size number tag_is using.to (apart_dst 1 dst using.distinct) (zeros_behind M q locals b S.to64 ns dst fit.writes using.distinct))
@@ -117,7 +117,7 @@ module _ (sides : Sides) (src : From) (dst : To) (taken : ℕ → Bool) (ms ns :
 
       some_moves : {code : List Instr} → MovesHelped sides part spot taken p u M q locals code
           → ((s : Source) (d : Target) → move_case (transfer S) ms ns c ns 0 s d ≡ write_case (transfer S) ms ns s d number (Some p) (Some u) (λ p s' d'. move (transfer S) p u s' d'))
-          → Moves S used 300 0 src dst (λ s d. move_case (transfer S) ms ns c ns 0 s d) (tag_code size number dst ++ (code ++ zero_code rest))
+          → Moves S used 300 0 src dst (λ s d. move_case (transfer S) ms ns c ns 0 s d) (discriminant_code size number dst ++ (code ++ zero_code rest))
       some_moves m is =
           moves_same (λ s d.
           ap (λ z. write_number b z d number >>= (λ tag. move (transfer S) p u (source_part (flat_length a p) 1 from_place s) (target_spot (flat_length b u) to_place (target_past 1 d)) >>= (λ vs. Give (padded d (tag ++ vs))))) bytes_of_size
@@ -129,7 +129,7 @@ module _ (sides : Sides) (src : From) (dst : To) (taken : ℕ → Bool) (ms ns :
           (m.moves a b rooms (with_to used (to_spot 1 0 dst)) (using_spot (using_past using 1 0) (flat_length a p) 1 from_place (flat_length b u) to_place) fits_payload))
 
   -- a case that carries nothing
-  pub bare_case : ((tr : Transfer) (ms : Members) (s : Source) (d : Target) → move_case tr ms ns c ns 0 s d ≡ write_number tr.to (case_bytes ns) d number >>= (λ tag. Give (padded d tag))) → MovesCaseOf sides src dst taken ms ns c M q locals (tag_code size number dst ++ zero_code (to_past 1 dst))
+  pub bare_case : ((tr : Transfer) (ms : Members) (s : Source) (d : Target) → move_case tr ms ns c ns 0 s d ≡ write_number tr.to (case_bytes ns) d number >>= (λ tag. Give (padded d tag))) → MovesCaseOf sides src dst taken ms ns c M q locals (discriminant_code size number dst ++ zero_code (to_past 1 dst))
   bare_case is = record { moves = λ a b rooms used using fit. bare_moves a b rooms used using fit (λ s d. is (transfer (setting_of sides a b rooms M q locals)) ms s d) }
 
   -- a case with a payload
@@ -138,7 +138,7 @@ module _ (sides : Sides) (src : From) (dst : To) (taken : ℕ → Bool) (ms ns :
       → ((w : MemoryWidth) → length (flat w p) ≤ 16 → from_count ≡ length (flat w p)) → ((w : MemoryWidth) → length (flat w u) ≤ 16 → to_count ≡ length (flat w u))
       → ((tr : Transfer) (ms : Members) (s : Source) (d : Target) → move_case tr ms ns c ns 0 s d ≡ write_case tr ms ns s d number (Some p) (Some u) (λ p s' d'. move tr p u s' d'))
       → MovesPayload sides p u from_count (bytes_by (width sides.from.memory64) source_info.payload_offset32 source_info.payload_offset64) to_count (bytes_by (width sides.to.memory64) destination_info.payload_offset32 destination_info.payload_offset64) src dst taken M q locals code
-      → MovesCaseOf sides src dst taken ms ns c M q locals (tag_code size number dst ++ code)
+      → MovesCaseOf sides src dst taken ms ns c M q locals (discriminant_code size number dst ++ code)
   some_case {p} {u} {source_info} {destination_info} {code} from_count to_count source destination source_is destination_is from_is to_is is m = record {
     moves = λ a b rooms used using fit.
         let from_bytes = bytes_by (width sides.from.memory64) source_info.payload_offset32 source_info.payload_offset64 in
@@ -151,7 +151,7 @@ module _ (sides : Sides) (src : From) (dst : To) (taken : ℕ → Bool) (ms ns :
         let moved = subst (λ s. MovesHelped sides s (to_spot (flat_length b u) (payload_place (side_abi b) ns) (to_past 1 dst)) taken p u M q locals m.payload) part_at (subst (λ d. MovesHelped sides (from_behind 1 from_count from_bytes src) d taken p u M q locals m.payload) spot_at m.moves) in
         let code_is : m.payload ++ zero_code (to_past (flat_length b u) (to_past 1 dst)) ≡ code = ap (λ r. m.payload ++ zero_code r) (sym rest_at) ∙ sym m.is in
         let S = setting_of sides a b rooms M q locals in
-        subst (λ k. Moves S used 300 0 src dst (λ s d. move_case (transfer S) ms ns c ns 0 s d) (tag_code size number dst ++ k)) code_is
+        subst (λ k. Moves S used 300 0 src dst (λ s d. move_case (transfer S) ms ns c ns 0 s d) (discriminant_code size number dst ++ k)) code_is
         (some_moves a b rooms used using fit p u source destination moved (λ s d. is (transfer S) ms s d));
   }
 

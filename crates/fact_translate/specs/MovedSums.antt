@@ -6,7 +6,7 @@ use Rattle.fact_wasm.specs.declared.instr.Instr.{Instr}
 use Rattle.fact_wasm.specs.declared.module.WasmModule.{WasmModule}
 use Rattle.fact_types.specs.declared.interface.InterfaceType.{InterfaceType}
 use Rattle.fact_types.specs.declared.variants.VariantInfo.{VariantInfo}
-use Rattle.fact_types.specs.declared.widths.MemoryWidth.{MemoryWidth}
+use Rattle.fact_types.specs.declared.extents.MemoryWidth.{MemoryWidth}
 use Rattle.fact_types.specs.FlatShapes.{flat, IsCounted, AreCounted}
 use Rattle.fact_types.specs.Heights.{height}
 use Rattle.fact_types.specs.Layout.{variant_info}
@@ -23,7 +23,7 @@ use Rattle.fact_code_laws.specs.Places.{From, To, Rooms, transfer, Moves, to_pas
 use Rattle.fact_emit.specs.declared.places.Sides.{Sides}
 use Rattle.fact_emit.specs.declared.writer.Writer.{Writer}
 use Rattle.fact_emit.specs.Asked.{AskedHelper, HasHelpers}
-use Rattle.fact_emit.specs.Bodies.{code_of_bodies}
+use Rattle.fact_emit.specs.Choices.{code_of_bodies}
 use Rattle.fact_emit.specs.Emits.{GrewAsking, GrewAsideAsking, EmitsAsking, Later}
 use Rattle.fact_emit.specs.Fitting.{FitsShapes, node_moves, MovesNode}
 use Rattle.fact_emit.specs.Movable.{CanMoveMember, CanMoveCase, CanMoveCases}

@@ -3,6 +3,6 @@
 //! has written.
 #![tactic(auto)]
 
-mod products;
+mod translate;
 
-pub use products::{move_tuple, translate_in_place};
+pub use translate::{move_tuple, translate_in_place};

@@ -12,7 +12,7 @@ use Rattle.fact_types.specs.declared.flats.FlatType.TheVariants.{I32}
 use Rattle.fact_types.specs.declared.interface.InterfaceType.{InterfaceType}
 use Rattle.fact_types.specs.declared.interface.InterfaceType.TheVariants.{Bool as t_bool, S8 as t_s8, U8 as t_u8, S16 as t_s16, U16 as t_u16, S64 as t_s64, U64 as t_u64, Float32 as t_float32, Float64 as t_float64, String as t_string}
 use Rattle.fact_types.specs.declared.sizes.FlagsSize.TheVariants.{Size0, Size1, Size2, Size4Plus}
-use Rattle.fact_types.specs.declared.widths.MemoryWidth.{MemoryWidth}
+use Rattle.fact_types.specs.declared.extents.MemoryWidth.{MemoryWidth}
 use Rattle.fact_types.specs.Flat.{flat_within, add_flat, times_flat, flat_sum, greater_flat, flat_greatest}
 use Rattle.fact_types.specs.FlatShapes.{joined, times, flat_plain, flat_by, flat, flat_members, flat_any, IsCountedBy, IsCounted, AreCounted}
 use Rattle.fact_types.specs.Layout.{payloads, flags_size, flags_flat}

@@ -13,7 +13,7 @@ use Rattle.fact_types.specs.declared.interface.InterfaceType.{InterfaceType}
 use Rattle.fact_types.specs.declared.interface.InterfaceType.TheVariants.{Record as t_record}
 use Rattle.fact_types.specs.declared.kinds.RecordField.{RecordField}
 use Rattle.fact_types.specs.declared.kinds.TypeRecord.{TypeRecord}
-use Rattle.fact_types.specs.declared.widths.MemoryWidth.TheVariants.{Memory32, Memory64}
+use Rattle.fact_types.specs.declared.extents.MemoryWidth.TheVariants.{Memory32, Memory64}
 use Rattle.fact_types.specs.Fields.{Field, find, field_of, Finds}
 use Rattle.fact_types.specs.Fits.{FieldFits}
 use Rattle.fact_types.specs.Flat.{flat_within, add_flat}

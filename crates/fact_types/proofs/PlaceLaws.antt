@@ -1,8 +1,8 @@
 -- Members that stand one after another: they end no earlier than the place that they stand behind, and within the record
 -- or tuple that they make.
 use Rattle.std.proofs.Common.{◌≡◌, ℕ, ◌≤◌, ◌<◌, refl, arith}
-use Rattle.fact_types.specs.declared.widths.MemoryWidth.{MemoryWidth}
-use Rattle.fact_types.specs.declared.widths.MemoryWidth.TheVariants.{Memory32, Memory64}
+use Rattle.fact_types.specs.declared.extents.MemoryWidth.{MemoryWidth}
+use Rattle.fact_types.specs.declared.extents.MemoryWidth.TheVariants.{Memory32, Memory64}
 use Rattle.fact_types.specs.Layout.{extent, extents, aligned, greatest_align, end_of_fields, payloads}
 use Rattle.fact_types.specs.Shapes.{k_record, Shape, s_node, Members, no_members, bare, typed, layout_of, layouts_of, next_of, ends_of}
 use Rattle.fact_types.specs.Sound.{IsSoundExtent}

@@ -12,9 +12,9 @@ use Rattle.fact_types.specs.declared.sizes.DiscriminantSize.{DiscriminantSize}
 use Rattle.fact_types.specs.declared.sizes.DiscriminantSize.TheVariants.{Size1 as one_byte, Size2 as two_bytes, Size4 as four_bytes}
 use Rattle.fact_types.specs.declared.sizes.FlagsSize.{FlagsSize}
 use Rattle.fact_types.specs.declared.sizes.FlagsSize.TheVariants.{Size0, Size1, Size2, Size4Plus}
-use Rattle.fact_types.specs.declared.widths.Extent.{Extent}
-use Rattle.fact_types.specs.declared.widths.MemoryWidth.{MemoryWidth}
-use Rattle.fact_types.specs.declared.widths.MemoryWidth.TheVariants.{Memory32, Memory64}
+use Rattle.fact_types.specs.declared.extents.Extent.{Extent}
+use Rattle.fact_types.specs.declared.extents.MemoryWidth.{MemoryWidth}
+use Rattle.fact_types.specs.declared.extents.MemoryWidth.TheVariants.{Memory32, Memory64}
 use Rattle.fact_types.specs.Layout.{extent, extents, aligned, greatest_align, greatest_size, end_of_fields, record_extent, record_layout, payloads, payload_offset, discriminant_size, discriminant_bytes, variant_extent, variant_layout, enum_layout, fixed_list_extent, fixed_list_layout, flags_size, flags_extent, flags_layout, zero_layout, scalar_layout, pointer_pair_layout}
 use Rattle.fact_types.specs.Sound.{IsSoundExtent, IsSoundLayout, TakesBytes}
 use Rattle.fact_types.proofs.AlignLaws.{aligned_bounds, aligned_multiple}

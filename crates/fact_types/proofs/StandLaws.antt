@@ -10,7 +10,7 @@ use Rattle.fact_types.specs.declared.kinds.TypeResult.{TypeResult}
 use Rattle.fact_types.specs.declared.kinds.TypeList.{TypeList}
 use Rattle.fact_types.specs.declared.kinds.TypeMap.{TypeMap}
 use Rattle.fact_types.specs.declared.kinds.TypeFixedLengthList.{TypeFixedLengthList}
-use Rattle.fact_types.specs.declared.widths.MemoryWidth.TheVariants.{Memory32, Memory64}
+use Rattle.fact_types.specs.declared.extents.MemoryWidth.TheVariants.{Memory32, Memory64}
 use Rattle.fact_types.specs.Ordered.{VariantType, FlagsType, EnumType}
 use Rattle.fact_types.specs.Layout.{payloads, record_layout, variant_layout, variant_info, enum_layout, flags_layout, fixed_list_layout}
 use Rattle.fact_types.specs.Shapes.{second_place, case_parts, entry_parts}

@@ -24,7 +24,7 @@ pub record Side : Type 0 where
   pub callback : Option CoreDef
   pub post_return : Option CoreDef
 
--- the lift side gives the function that the lower side calls
+-- the lift side (the callee's) gives the function that the lower side (the caller's) calls
 pub record LinkedAdapter : Type 0 where
   pub name : List ℕ
   pub callee : CoreDef
@@ -32,10 +32,11 @@ pub record LinkedAdapter : Type 0 where
   pub lift : Side
   pub lower : Side
 
--- an adapter is async where a side is or either function type is marked so, and crossing where its instances differ
+-- an adapter is async where a side is or either function type is marked so
 abbrev pub is_async : LinkedAdapter → Bool
 is_async a = a.lift.async_side || a.lower.async_side || a.lift.async_type || a.lower.async_type
 
+-- an adapter between two instances; one that is async too is `is_awaited` (fact_emit)
 abbrev pub is_crossing : LinkedAdapter → Bool
 is_crossing a = not (nat_eq a.lift.instance a.lower.instance)
 

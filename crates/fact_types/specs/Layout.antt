@@ -8,9 +8,9 @@ use Rattle.fact_types.specs.declared.sizes.DiscriminantSize.TheVariants.{Size1 a
 use Rattle.fact_types.specs.declared.sizes.FlagsSize.{FlagsSize}
 use Rattle.fact_types.specs.declared.sizes.FlagsSize.TheVariants.{Size0, Size1, Size2, Size4Plus}
 use Rattle.fact_types.specs.declared.variants.VariantInfo.{VariantInfo}
-use Rattle.fact_types.specs.declared.widths.Extent.{Extent}
-use Rattle.fact_types.specs.declared.widths.MemoryWidth.{MemoryWidth}
-use Rattle.fact_types.specs.declared.widths.MemoryWidth.TheVariants.{Memory32, Memory64}
+use Rattle.fact_types.specs.declared.extents.Extent.{Extent}
+use Rattle.fact_types.specs.declared.extents.MemoryWidth.{MemoryWidth}
+use Rattle.fact_types.specs.declared.extents.MemoryWidth.TheVariants.{Memory32, Memory64}
 use Rattle.fact_types.specs.Flat.{add_flat, times_flat, flat_sum, flat_greatest}
 
 -- The bytes and the alignment that a layout has in a width of memory.

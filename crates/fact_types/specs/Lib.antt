@@ -23,5 +23,6 @@ pub mod Signatures
 pub mod Sound
 pub mod Tables
 pub mod Traces
+pub mod TranscoderNames
 pub mod Tuples
 pub mod Valid

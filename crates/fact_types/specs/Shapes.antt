@@ -4,8 +4,8 @@ use Rattle.fact_types.specs.declared.abi.CanonicalAbiInfo.{CanonicalAbiInfo}
 use Rattle.fact_types.specs.declared.interface.InterfaceType.{InterfaceType}
 use Rattle.fact_types.specs.declared.interface.InterfaceType.TheVariants.{Bool as t_bool, S8 as t_s8, U8 as t_u8, S16 as t_s16, U16 as t_u16, S64 as t_s64, U64 as t_u64, Float64 as t_float64, String as t_string}
 use Rattle.fact_types.specs.declared.variants.VariantInfo.{VariantInfo}
-use Rattle.fact_types.specs.declared.widths.MemoryWidth.{MemoryWidth}
-use Rattle.fact_types.specs.declared.widths.MemoryWidth.TheVariants.{Memory32, Memory64}
+use Rattle.fact_types.specs.declared.extents.MemoryWidth.{MemoryWidth}
+use Rattle.fact_types.specs.declared.extents.MemoryWidth.TheVariants.{Memory32, Memory64}
 use Rattle.fact_types.specs.Layout.{extent, aligned, payloads, record_layout, variant_layout, variant_info, enum_layout, flags_layout, fixed_list_layout, zero_layout, scalar_layout, pointer_pair_layout}
 
 -- The kinds of types that have members. A list of fixed length has its length; a future or a stream has the number of

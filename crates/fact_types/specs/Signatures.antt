@@ -6,8 +6,8 @@ use Rattle.fact_wasm.specs.declared.types.ValType.TheVariants as V
 use Rattle.fact_types.specs.declared.flats.FlatType.{FlatType}
 use Rattle.fact_types.specs.declared.signature.Signature.{Signature}
 use Rattle.fact_types.specs.declared.signature.SideSig.{SideSig}
-use Rattle.fact_types.specs.declared.widths.MemoryWidth.{MemoryWidth}
-use Rattle.fact_types.specs.declared.widths.MemoryWidth.TheVariants.{Memory32, Memory64}
+use Rattle.fact_types.specs.declared.extents.MemoryWidth.{MemoryWidth}
+use Rattle.fact_types.specs.declared.extents.MemoryWidth.TheVariants.{Memory32, Memory64}
 use Rattle.fact_types.specs.Flat.{value_type}
 use Rattle.fact_types.specs.FlatShapes.{pointer, flat_all}
 use Rattle.fact_types.specs.Shapes.{Shape}

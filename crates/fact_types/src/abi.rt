@@ -2,9 +2,9 @@
 
 ghost use Rattle.std.specs.Prelude.{◌≡◌, ◌+◌, ◌<◌, ◌≤◌, ◌↔◌, IsTrue, IfSome};
 
+use crate::extents::{Extent, MemoryWidth};
 use crate::flats::times_flat_count;
 use crate::sizes::FlagsSize;
-use crate::widths::{Extent, MemoryWidth};
 
 /// How values of a type are stored, in 32-bit and in 64-bit memories, and in how many flat types they are passed
 /// (canonical ABI, "Alignment", "Element Size", "Flattening").
@@ -89,7 +89,7 @@ impl Default for CanonicalAbiInfo {
 }
 
 impl CanonicalAbiInfo {
-    ghost use Rattle.fact_types.specs.declared.widths.MemoryWidth.TheVariants.{Memory32, Memory64};
+    ghost use Rattle.fact_types.specs.declared.extents.MemoryWidth.TheVariants.{Memory32, Memory64};
     ghost use Rattle.fact_types.specs.Layout.{aligned, extent, layout, fixed_list_layout, flags_layout, enum_layout};
     ghost use Rattle.fact_types.specs.Fits.{FieldFits, FixedListFits};
 

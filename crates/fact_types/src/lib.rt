@@ -3,9 +3,16 @@
 //!
 //! Layout follows the Component Model's canonical ABI ("Alignment", "Element Size", "Flattening"). Each call takes the
 //! exact numbers to fit 32 bits, and stands beside a test of that condition. None of them takes memory.
+//!
+//! - Tables: `tables`, of the types of `interface`, `kinds`, `ordered` and `externs`; what is added (`pushes`), looked up (`lookup`, `fields`), known to be
+//!   there (`live`), and visited (`trace`); the core function types of modules beside them (`module_types`).
+//! - Layout in memory: `abi`, of records (`records`) and of variants (`variants`, with `sizes`), by the sizes and alignments of `extents`.
+//! - Core values: `flats`, `signature`, and how many of them a side passes (`limits`).
+//! - What adapters use of the outside: `outside`, and what their modules import (`import`).
 #![tactic(auto)]
 
 mod abi;
+mod extents;
 mod externs;
 mod fields;
 mod flats;
@@ -25,7 +32,6 @@ mod sizes;
 mod tables;
 mod trace;
 mod variants;
-mod widths;
 
 pub use abi::CanonicalAbiInfo;
 pub use externs::{

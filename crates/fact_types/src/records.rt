@@ -5,8 +5,8 @@ ghost use Rattle.fact_types.specs.Layout.{extents, record_extent, record_layout}
 ghost use Rattle.fact_types.specs.Fits.{FieldsFit, RecordFits};
 
 use crate::abi::CanonicalAbiInfo;
+use crate::extents::{Extent, MemoryWidth, align_fits, align_to};
 use crate::flats::sum_of_flat_counts;
-use crate::widths::{Extent, MemoryWidth, align_fits, align_to};
 
 impl CanonicalAbiInfo {
     /// A record or tuple of these fields, each at the next multiple of its alignment (canonical ABI,

@@ -4,7 +4,7 @@ ghost use Rattle.std.specs.Prelude.{◌≡◌, ◌≤◌, ◌<◌, List, length,
 ghost use Rattle.fact_entity.specs.declared.id.Id.{Id};
 ghost use Rattle.fact_entity.specs.declared.table.TypeFuncs.{TypeFuncs};
 ghost use Rattle.std.specs.Borrow.{sem};
-ghost use Rattle.fact_types.specs.declared.widths.MemoryWidth.{MemoryWidth};
+ghost use Rattle.fact_types.specs.declared.extents.MemoryWidth.{MemoryWidth};
 ghost use Rattle.fact_types.specs.Flat.{flat_within};
 ghost use Rattle.fact_types.specs.FlatShapes.{flat};
 ghost use Rattle.fact_types.specs.Lending.{LendsTypes};

@@ -6,9 +6,9 @@ ghost use Rattle.fact_types.specs.Layout.{aligned, extent, extents, greatest_ali
 ghost use Rattle.fact_types.specs.Fits.{CasesFit};
 
 use crate::abi::CanonicalAbiInfo;
+use crate::extents::{Extent, MemoryWidth, align_fits, align_to, is_power};
 use crate::flats::{add_flat_counts, greatest_flat_count};
 use crate::sizes::DiscriminantSize;
-use crate::widths::{Extent, MemoryWidth, align_fits, align_to, is_power};
 
 /// Where the parts of a variant stand.
 #[derive(Clone, Copy, PartialEq, Eq, Hash)]

@@ -18,7 +18,7 @@ use Rattle.fact_types.specs.Valid.{AreDistinct}
 use Rattle.fact_types.proofs.ShapeLaws.{none_some}
 use Rattle.fact_plan.specs.declared.fault.PlanFault.TheVariants.{OutOfRange}
 use Rattle.fact_plan.specs.Fault.{at_step, place_step, ◌>>=◌}
-use Rattle.fact_plan.specs.Read.{is_known, first_unknown, known_keys, no_unknown, required_keys, required_value, text_in}
+use Rattle.fact_plan.specs.Parts.{is_known, first_unknown, known_keys, no_unknown, required_keys, required_value, text_in}
 use Rattle.fact_values.specs.declared.value.Value.{Value}
 use Rattle.fact_values.specs.IsA.{IsA, AreMembers}
 use Rattle.fact_values.specs.Places.{typed_names}

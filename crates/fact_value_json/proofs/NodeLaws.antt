@@ -8,7 +8,7 @@ use Rattle.fact_types.specs.Tables.{Tables, HasShape}
 use Rattle.fact_types.proofs.ShapeLaws.{same_some, none_some}
 use Rattle.fact_plan.specs.declared.fault.PlanFault.{PlanFault}
 use Rattle.fact_plan.specs.Fault.{Gives, ◌>>=◌}
-use Rattle.fact_plan.specs.Read.{list_in, items_from}
+use Rattle.fact_plan.specs.Parts.{list_in, items_from}
 use Rattle.fact_values.specs.declared.value.HandleKind.TheVariants.{Future, Stream}
 use Rattle.fact_values.specs.declared.value.Value.{Value}
 use Rattle.fact_values.specs.declared.value.Value.TheVariants as value

@@ -20,7 +20,7 @@ use Rattle.fact_types.proofs.ShapeLaws.{same_some, none_some}
 use Rattle.fact_plan.specs.declared.fault.PlanFault.{PlanFault}
 use Rattle.fact_plan.specs.declared.fault.PlanFault.TheVariants.{OutOfRange}
 use Rattle.fact_plan.specs.Fault.{at_step, key_step, place_step, ◌>>=◌}
-use Rattle.fact_plan.specs.Read.{bool_in, field, is_known, items_from, known_keys, list_in, required_keys, required_value, text_in, u32_in}
+use Rattle.fact_plan.specs.Parts.{bool_in, field, is_known, items_from, known_keys, list_in, required_keys, required_value, text_in, u32_in}
 use Rattle.fact_values.specs.declared.value.HandleKind.{HandleKind}
 use Rattle.fact_values.specs.declared.value.HandleKind.TheVariants.{Future, Stream}
 use Rattle.fact_values.specs.declared.value.Value.{Value, out-Value}

@@ -10,7 +10,7 @@ use Rattle.serde_json.specs.declared.value.Value.{Value}
 use Rattle.fact_types.proofs.ShapeLaws.{same_some, none_some}
 use Rattle.fact_plan.specs.declared.fault.PlanFault.{PlanFault}
 use Rattle.fact_plan.specs.Fault.{UnlessMemory, ◌>>=◌}
-use Rattle.fact_plan.specs.Read.{is_known, first_unknown, items_from, known_keys, list_in, no_unknown, required_keys}
+use Rattle.fact_plan.specs.Parts.{is_known, first_unknown, items_from, known_keys, list_in, no_unknown, required_keys}
 use Rattle.fact_plan.specs.declared.fault.PlanFault.TheVariants.{WrongKind}
 use Rattle.fact_value_json.specs.Reading.{count_items, items_in, of_length, counted_items, only_of, only_member, fields_in, places_in, flags_given}
 use Rattle.fact_values.specs.declared.value.Value.{Value as Read}

@@ -16,7 +16,7 @@ use Rattle.fact_types.specs.Valid.{AreDistinct, IsRuled, AreRuled}
 use Rattle.fact_plan.specs.declared.fault.PlanFault.{PlanFault}
 use Rattle.fact_plan.specs.declared.fault.PlanFault.TheVariants.{WrongKind, OutOfRange}
 use Rattle.fact_plan.specs.Fault.{at_step, key_step, place_step, ◌>>=◌}
-use Rattle.fact_plan.specs.Read.{bool_in, is_known, items_from, list_in, required_keys, required_value, text_in, u32_in}
+use Rattle.fact_plan.specs.Parts.{bool_in, is_known, items_from, list_in, required_keys, required_value, text_in, u32_in}
 use Rattle.fact_values.specs.declared.value.HandleKind.{HandleKind}
 use Rattle.fact_values.specs.declared.value.HandleKind.TheVariants.{Future, Stream}
 use Rattle.fact_values.specs.declared.value.Value.{Value, out-Value, roll-Value, ind-Value, out-roll-Value}

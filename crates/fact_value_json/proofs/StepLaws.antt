@@ -8,7 +8,7 @@ use Rattle.serde_json.specs.declared.value.Value.{Value as Json}
 use Rattle.fact_plan.specs.declared.fault.PlanFault.{PlanFault}
 use Rattle.fact_plan.specs.declared.fault.PlanFault.TheVariants.{OutOfMemory, Missing, UnknownKey, WrongKind, OutOfRange}
 use Rattle.fact_plan.specs.Fault.{Gives, UnlessMemory, at_step, place_step, under, ◌>>=◌}
-use Rattle.fact_plan.specs.Read.{items_from}
+use Rattle.fact_plan.specs.Parts.{items_from}
 use Rattle.fact_plan.proofs.ReadLemmas.{prepend}
 use Rattle.fact_abi.proofs.BelongLaws.{slice_front}
 

@@ -19,7 +19,7 @@ use Rattle.fact_plan.specs.declared.fault.PlanFault.{PlanFault}
 use Rattle.fact_plan.specs.declared.fault.PlanFault.TheVariants.{UnknownKey}
 use Rattle.fact_plan.specs.Fault.{Gives, UnlessMemory, at_step, key_step, place_step, ◌>>=◌}
 use Rattle.fact_plan.proofs.ReadLemmas.{prepend}
-use Rattle.fact_plan.specs.Read.{field}
+use Rattle.fact_plan.specs.Parts.{field}
 use Rattle.fact_abi.specs.declared.nodes.Node.{Node}
 use Rattle.fact_abi.specs.declared.nodes.NodeKind.{NodeKind}
 use Rattle.fact_values.specs.declared.value.Value.{Value}

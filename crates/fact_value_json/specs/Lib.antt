@@ -1,5 +1,4 @@
 pub mod JsonLaws
-pub mod Lines
 pub mod Printing
 pub mod Reading
 pub mod Walks

@@ -11,7 +11,7 @@ use Rattle.fact_types.specs.Tuples.{tuple_members}
 use Rattle.fact_plan.specs.declared.fault.PlanFault.{PlanFault}
 use Rattle.fact_plan.specs.declared.fault.PlanFault.TheVariants.{UnknownKey, WrongKind, OutOfRange}
 use Rattle.fact_plan.specs.Fault.{at_step, key_step, place_step, ◌>>=◌}
-use Rattle.fact_plan.specs.Read.{is_known, known_keys, required_keys, field, u32_in, bool_in, text_in, list_in, items_from}
+use Rattle.fact_plan.specs.Parts.{is_known, known_keys, required_keys, field, u32_in, bool_in, text_in, list_in, items_from}
 use Rattle.fact_values.specs.declared.value.HandleKind.{HandleKind}
 use Rattle.fact_values.specs.declared.value.HandleKind.TheVariants.{Future, Stream}
 use Rattle.fact_values.specs.declared.value.Value.{Value}

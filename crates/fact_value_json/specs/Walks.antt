@@ -10,7 +10,7 @@ use Rattle.fact_types.specs.Shapes.{Shape, Members, no_members, bare, typed}
 use Rattle.fact_types.specs.Tables.{Tables, HasShape}
 use Rattle.fact_plan.specs.declared.fault.PlanFault.{PlanFault}
 use Rattle.fact_plan.specs.Fault.{Gives, at_step, place_step, ◌>>=◌}
-use Rattle.fact_plan.specs.Read.{field, list_in, items_from}
+use Rattle.fact_plan.specs.Parts.{field, list_in, items_from}
 use Rattle.fact_abi.specs.declared.nodes.Node.{Node}
 use Rattle.fact_values.specs.declared.value.Value.{Value, out-Value}
 use Rattle.fact_values.specs.declared.value.Value.TheOpen.{Value-F}

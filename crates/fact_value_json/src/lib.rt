@@ -6,7 +6,6 @@
 //! are an object of one key, the case, whose value is the payload, or null where there is none.
 #![tactic(auto)]
 
-mod fault;
 mod laws;
 mod parts;
 mod plain;
@@ -14,7 +13,6 @@ mod printing;
 mod reading;
 mod scalars;
 
-pub use fault::value_fault_line;
 pub use laws::laws_of_json_values;
 pub use printing::values_text;
 pub use reading::read_values;

@@ -1,10 +1,9 @@
 //! What values are made of in JSON: names, and the keys of objects.
-ghost use Rattle.std.specs.Prelude.{◌≡◌, IfOk, find, not, option_map, slice_get, string_bytes};
+ghost use Rattle.std.specs.Prelude.{◌≡◌, IfOk, find, not, option_map, string_bytes};
 ghost use Rattle.std.specs.BTreeMap.{keys};
 ghost use Rattle.serde_json.specs.View.{view};
-ghost use Rattle.fact_abi.specs.Finding.{IsIndexOf, name_is};
 ghost use Rattle.fact_plan.specs.Fault.{Gives};
-ghost use Rattle.fact_plan.specs.Read.{is_known, known_keys, required_keys};
+ghost use Rattle.fact_plan.specs.Parts.{is_known, known_keys, required_keys};
 ghost use Rattle.fact_value_json.specs.Reading.{enum_in, flags_given, flags_in, names_in, new_name_in, null_in};
 
 use fact_abi::Value;
@@ -28,7 +27,7 @@ fn first_unknown<'a>(members: &'a Map<String, Json>, names: &[Text]) -> Option<&
     members.keys().find(|key| !is_named(names, key.as_str()))
 }
 
-/// Refuses the least key that is none of these, and what is no object.
+/// Refuses the least key that is none of these, and what is no object. `fact_plan` does so over literals; the names here are texts of a type.
 pub(crate) fn check_known(alloc: Global, json: &Json, names: &[Text]) -> Result<(), PlanFault>
     ensures { Gives (known_keys names.now (view json.now)) result }
 {
@@ -64,7 +63,7 @@ pub(crate) fn check_null(alloc: Global, json: &Json) -> Result<(), PlanFault>
 }
 
 /// A name that is one of these, and not among those that were given before.
-#[tactic(auto, unfolding(fact_plan::specs::Read::text_in))]
+#[tactic(auto, unfolding(fact_plan::specs::Parts::text_in))]
 fn new_name(alloc: Global, names: &[Text], given: &[Text], json: &Json) -> Result<Text, PlanFault>
     ensures { Gives (new_name_in names.now given.now (view json.now)) result }
 {
@@ -119,7 +118,7 @@ pub(crate) fn read_flags(alloc: Global, names: &Seq<Text>, json: &Json) -> Resul
 }
 
 /// A case of these names, none of which has a payload.
-#[tactic(auto, unfolding(fact_plan::specs::Read::text_in))]
+#[tactic(auto, unfolding(fact_plan::specs::Parts::text_in))]
 pub(crate) fn read_enum(alloc: Global, names: &Seq<Text>, json: &Json) -> Result<Value, PlanFault>
     ensures { Gives (enum_in names.now (view json.now)) result }
 {
@@ -133,26 +132,4 @@ pub(crate) fn read_enum(alloc: Global, names: &Seq<Text>, json: &Json) -> Result
         name: Text::from_str(alloc, name)?,
         payload: Seq::new(alloc),
     })
-}
-
-/// Whether the one of some names at a place is a name.
-fn is_name_at(names: &Seq<Text>, place: usize, name: &str) -> bool
-    ensures { result ≡ name_is name.now (slice_get names.now place) }
-{
-    match names.get(place) {
-        Some(other) => other.as_str() == name,
-        None => false,
-    }
-}
-
-/// The place of the first of some names that is a name, or `None` where none is.
-pub(crate) fn index_of_name(names: &Seq<Text>, name: &str) -> Option<usize>
-    ensures { IsIndexOf name.now names.now result }
-{
-    for place in 0..names.len() {
-        if is_name_at(names, place, name) {
-            return Some(place);
-        }
-    }
-    None
 }

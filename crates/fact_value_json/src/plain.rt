@@ -79,7 +79,7 @@ fn chars_of(alloc: Global, text: &str) -> Result<Seq<char>, OutOfMemory>
 }
 
 /// A text of one scalar value.
-#[tactic(auto, unfolding(fact_plan::specs::Read::text_in))]
+#[tactic(auto, unfolding(fact_plan::specs::Parts::text_in))]
 fn read_char(alloc: Global, json: &Json) -> Result<Value, PlanFault>
     ensures { Gives (plain_in character (view json.now)) result }
 {
@@ -93,7 +93,7 @@ fn read_char(alloc: Global, json: &Json) -> Result<Value, PlanFault>
     }
 }
 
-#[tactic(auto, unfolding(fact_plan::specs::Read::text_in))]
+#[tactic(auto, unfolding(fact_plan::specs::Parts::text_in))]
 fn read_string(alloc: Global, json: &Json) -> Result<Value, PlanFault>
     ensures { Gives (plain_in text (view json.now)) result }
 {
@@ -103,7 +103,7 @@ fn read_string(alloc: Global, json: &Json) -> Result<Value, PlanFault>
     Ok(Value::Str(chars_of(alloc, text)?))
 }
 
-#[tactic(auto, unfolding(fact_plan::specs::Read::bool_in))]
+#[tactic(auto, unfolding(fact_plan::specs::Parts::bool_in))]
 fn read_bool(alloc: Global, json: &Json) -> Result<Value, PlanFault>
     ensures { Gives (plain_in boolean (view json.now)) result }
 {
@@ -114,7 +114,7 @@ fn read_bool(alloc: Global, json: &Json) -> Result<Value, PlanFault>
 }
 
 /// A handle of a kind in a table, by its number.
-#[tactic(auto, unfolding(fact_plan::specs::Read::u32_in))]
+#[tactic(auto, unfolding(fact_plan::specs::Parts::u32_in))]
 pub(crate) fn read_handle(
     alloc: Global,
     kind: HandleKind,

@@ -14,9 +14,8 @@ ghost use Rattle.fact_abi.specs.Nodes.{AreLower, HasNode};
 ghost use Rattle.fact_value_json.specs.Printing.{data_places, values_data, values_text as text_of};
 ghost use Rattle.fact_value_json.specs.Walks.{PrintsCase, PrintsEntries, PrintsEntry, PrintsFields, PrintsItems, PrintsList, PrintsMap, PrintsMember, PrintsPayload, PrintsPlaces, PrintsRecord, PrintsTuple, PrintsValue};
 
-use crate::parts::index_of_name;
 use crate::scalars::{print_enum, print_flags, print_plain};
-use fact_abi::{Node, NodeKind, Value, member_type, node_of_type};
+use fact_abi::{Node, NodeKind, Value, index_of_name, member_type, node_of_type};
 use fact_types::{ComponentTypes, InterfaceType};
 use fact_wasm::{OutOfMemory, Seq, Text};
 use serde_json::{Map, Value as Json, put};
@@ -345,7 +344,7 @@ fn print_payload(
     requires { AreLower types.now owner.now node.now.types }
     ensures { IfOk result (λ json. PrintsPayload types.now node.now name.now payload.now (view json)) }
 {
-    let Some(place) = index_of_name(&node.names, name.as_str()) else {
+    let Some(place) = index_of_name(&node.names, name) else {
         return Ok(Json::Null);
     };
     match payload.get(0) {

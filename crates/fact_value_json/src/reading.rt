@@ -12,9 +12,9 @@ ghost use Rattle.fact_plan.specs.Fault.{Gives, UnlessMemory};
 ghost use Rattle.fact_value_json.specs.Reading.{counted_items as counted, entry_from, items_in, only_member as only_member_in, values_at, values_in as values_read};
 ghost use Rattle.fact_value_json.specs.Walks.{ReadsValue, ReadsItem, ReadsMember, ReadsField, ReadsFields, ReadsPlaces, ReadsCase, ReadsRecord, ReadsTuple, ReadsItems, ReadsList, ReadsFixedList, ReadsMap, ReadsEntry, ReadsChoice, ReadsPayload};
 
-use crate::parts::{check_known, check_null, check_required, index_of_name, read_enum, read_flags};
+use crate::parts::{check_known, check_null, check_required, read_enum, read_flags};
 use crate::plain::{read_handle, read_plain};
-use fact_abi::{HandleKind, Node, NodeKind, Value, member_type, named, node_of_type};
+use fact_abi::{HandleKind, Node, NodeKind, Value, index_of_str, member_type, named, node_of_type};
 use fact_plan::{PlanFault, at_key, at_place};
 use fact_types::{ComponentTypes, InterfaceType};
 use fact_wasm::{Seq, Text};
@@ -324,7 +324,7 @@ fn read_choice(
     requires { AreLower types.now owner.now node.now.types }
     ensures { ReadsChoice types.now node.now name.now (view json.now) result }
 {
-    let Some(place) = index_of_name(&node.names, name) else {
+    let Some(place) = index_of_str(&node.names, name) else {
         return Err(PlanFault::unknown_key(alloc, name)?);
     };
     let payload = read_payload(alloc, types, owner, node, place, json);

@@ -9,9 +9,9 @@ use Rattle.std.proofs.Common.{replicate}
 use Rattle.std.proofs.Math.Nat.{mul_comm}
 use Rattle.fact_types.specs.declared.abi.CanonicalAbiInfo.{CanonicalAbiInfo}
 use Rattle.fact_types.specs.declared.interface.InterfaceType.{InterfaceType}
-use Rattle.fact_types.specs.declared.widths.Extent.{Extent}
-use Rattle.fact_types.specs.declared.widths.MemoryWidth.{MemoryWidth}
-use Rattle.fact_types.specs.declared.widths.MemoryWidth.TheVariants.{Memory32, Memory64}
+use Rattle.fact_types.specs.declared.extents.Extent.{Extent}
+use Rattle.fact_types.specs.declared.extents.MemoryWidth.{MemoryWidth}
+use Rattle.fact_types.specs.declared.extents.MemoryWidth.TheVariants.{Memory32, Memory64}
 use Rattle.fact_types.specs.Agrees.{names_of}
 use Rattle.fact_types.specs.Layout.{extent, extents, payloads, payload_offset, greatest_size, greatest_align, variant_extent, variant_layout, scalar_layout}
 use Rattle.fact_types.specs.Shapes.{Kind, k_record, k_tuple, k_variant, k_option, k_result, k_enum, k_list, k_map, k_fixed, k_flags, k_future, k_stream, Shape, s_plain, s_node, Members, no_members, bare, typed, layout_of, layouts_of, place_of, next_of, ends_of}

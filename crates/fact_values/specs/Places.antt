@@ -2,8 +2,8 @@
 -- Component Model, canonical ABI, "Loading" and "Element Size".
 use Rattle.std.specs.Prelude.{ℕ, zero, suc, ◌+◌, List, [], ◌∷◌, length, Option, Some}
 use Rattle.fact_types.specs.declared.abi.CanonicalAbiInfo.{CanonicalAbiInfo}
-use Rattle.fact_types.specs.declared.widths.Extent.{Extent}
-use Rattle.fact_types.specs.declared.widths.MemoryWidth.{MemoryWidth}
+use Rattle.fact_types.specs.declared.extents.Extent.{Extent}
+use Rattle.fact_types.specs.declared.extents.MemoryWidth.{MemoryWidth}
 use Rattle.fact_types.specs.Layout.{extent, extents, record_layout, zero_layout, discriminant_size, discriminant_bytes, payloads, payload_offset, flags_size, flags_extent}
 use Rattle.fact_types.specs.Shapes.{Kind, k_map, Shape, Members, no_members, bare, typed, layout_of, layouts_of}
 use Rattle.fact_types.specs.Signatures.{pointer_bytes, width}

@@ -5,7 +5,7 @@ use Rattle.std.specs.Prelude.{ℕ, zero, suc, ◌*◌, ◌<◌, List, [], ◌∷
 use Rattle.fact_machine.specs.declared.types.CoreValue.{CoreValue}
 use Rattle.fact_types.specs.declared.flats.FlatType.{FlatType}
 use Rattle.fact_types.specs.declared.flats.FlatType.TheVariants.{I32}
-use Rattle.fact_types.specs.declared.widths.MemoryWidth.{MemoryWidth}
+use Rattle.fact_types.specs.declared.extents.MemoryWidth.{MemoryWidth}
 use Rattle.fact_types.specs.FlatShapes.{flat, flat_members}
 use Rattle.fact_types.specs.Shapes.{Kind, k_record, k_variant, k_tuple, k_option, k_result, k_fixed, Shape, s_plain, s_node, Members, no_members, bare, typed}
 use Rattle.fact_values.specs.Canonical.{IsNarrow}

@@ -1,4 +1,4 @@
-//! Equal copies.
+//! Equal copies of modules and of what they are made of, which fail where there is no memory for them.
 
 ghost use Rattle.std.specs.Prelude.{◌≡◌, true, Some, IfOk};
 ghost use Rattle.fact_wasm.specs.declared.instr.Instr.{out-Instr};

@@ -13,8 +13,8 @@ use Rattle.fact_machine.proofs.TypingRows.{row_of, typing_is}
 use Rattle.fact_check.specs.Accepted.{IsAdapterModule}
 use Rattle.fact_check.specs.Imports.{IsAdapterImport, IsFunctionRow, fixed_signature, origin_of}
 use Rattle.fact_host.specs.declared.calling.HostSide.{HostSide}
-use Rattle.fact_host.specs.Contract.{AreLive, HasMeans, HasSyncTypes, HaveNeeds, IsCallable, IsNameable, NamesEachOnce}
-use Rattle.fact_chain.specs.Between.{CanBeCalled}
+use Rattle.fact_host.specs.Contract.{AreTypesLive, HasSideMeans, HasSyncTypes, HaveNeeds, IsCallable, IsNameable, NamesEachOnce}
+use Rattle.fact_chain.specs.Between.{CanBeRun}
 use Rattle.host_tests.specs.Samples.{callee_import, calling_function, calling_module, no_numbers, no_shapes, plain_call, plain_side, returning_function}
 
 -- ---- an adapter module
@@ -45,7 +45,7 @@ is_adapter = record { imports = imports_there; typed = is_typed }
 no_place : {P : Type 0} (n : ℕ) → ◌≡◌ {A = Option ℕ} None (Some n) → P
 no_place n e = absurd cc
 
-means : (flags : ℕ) → HasMeans calling_module (plain_side flags)
+means : (flags : ℕ) → HasSideMeans calling_module (plain_side flags)
 means flags = record { memory = λ n e. no_place n e; realloc = λ n e. no_place n e; with_memory = λ e. refl }
 
 needs : (n : ℕ) → HaveNeeds (plain_call n) no_shapes
@@ -85,9 +85,9 @@ sample_callable t n h = record {
   results_agree = tt;
 }
 
-pub sample_live : (t : Tables) (n : ℕ) → AreLive t (plain_call n)
+pub sample_live : (t : Tables) (n : ℕ) → AreTypesLive t (plain_call n)
 sample_live t n = record { lower_params = All-nil (IsLive t); lower_results = All-nil (IsLive t); lift_params = All-nil (IsLive t); lift_results = All-nil (IsLive t) }
 
 -- so each can be one of a chain
-pub can_be_called : (t : Tables) (n : ℕ) → n ≤ 1 → CanBeCalled calling_module t (plain_call n)
+pub can_be_called : (t : Tables) (n : ℕ) → n ≤ 1 → CanBeRun calling_module t (plain_call n)
 can_be_called t n h = record { shapes = no_shapes; callable = sample_callable t n h; live = sample_live t n }

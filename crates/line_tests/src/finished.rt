@@ -3,7 +3,7 @@
 
 ghost use Rattle.std.specs.Prelude.{IfOk};
 ghost use Rattle.fact_types.specs.Tables.{Tables, AreLiveExterns};
-ghost use Rattle.fact_convert.specs.Finished.{IsLiveComponent};
+ghost use Rattle.fact_convert.specs.Finished.{NamesLiveItems};
 
 use crate::sources::SOURCE;
 use crate::words::yes_or_no;
@@ -56,7 +56,7 @@ fn imports_of(alloc: Global) -> Result<Seq<(Text, ComponentExtern)>, OutOfMemory
 
 /// A component that imports a number, twice under one name, and exports one.
 fn component_of(alloc: Global) -> Result<Component, BuildError>
-    ensures { IfOk result (λ c. (t : Tables) → IsLiveComponent t c) }
+    ensures { IfOk result (λ c. (t : Tables) → NamesLiveItems t c) }
 {
     let import_types = imports_of(alloc)?;
     let mut export_items = PrimaryMap::new(alloc);

@@ -7,9 +7,9 @@ use crate::told_values::add_value;
 use crate::words::add_text;
 use fact_abi::Value;
 use fact_builder::ComponentTypesBuilder;
-use fact_plan::{PlanFault, read_value};
+use fact_plan::{PlanFault, fault_line, read_value};
 use fact_types::InterfaceType;
-use fact_value_json::{read_values, value_fault_line, values_text};
+use fact_value_json::{read_values, values_text};
 use fact_wasm::Seq;
 use std::alloc::{AllocError, Global};
 
@@ -36,7 +36,7 @@ fn add_fault(page: &mut String, alloc: Global, fault: &PlanFault) -> Result<(), 
     if matches!(fault, PlanFault::OutOfMemory) {
         return page.push_str("out of memory");
     }
-    let line = value_fault_line(alloc, fault)?;
+    let line = fault_line(alloc, "value", fault)?;
     add_text(page, line.as_str())
 }
 

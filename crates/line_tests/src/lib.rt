@@ -1,4 +1,4 @@
-//! Lines of the table of `rows` that speak of modules by their bytes, of types and of sources, and what comes of them; `rows` has those of plans,
+//! Lines of the table of `row_tests` that speak of modules by their bytes, of types and of sources, and what comes of them; `row_tests` has those of plans,
 //! and of what the command answers. Apart from it, they are proved beside all that only the command needs.
 #![tactic(auto)]
 

@@ -1,4 +1,4 @@
-"""Runs the assertions of the .wast files beside this one on an engine, and compares the table of the program `rows` with them.
+"""Runs the assertions of the .wast files beside this one on an engine, and compares the table of the program `row_tests` with them.
 
 It needs wat2wasm, wast2json and spectest-interp of wabt 1.0.32. Of each .wast file the last module is tested; those before
 it export what it imports. The lines `call` of the block of its name are its assertions in order, each with the state that those

@@ -1,4 +1,4 @@
-//! Tests of what the libraries offer and no program calls, each a call that answers whether all is as it should be; the program `rows`
+//! Tests of what the libraries offer and no program calls, each a call that answers whether all is as it should be; the program `row_tests`
 //! makes them. All else stands in its table.
 //!
 //! Of keys and plain types: keys and tables (`entities`), tables of types that no builder fills (`tables`), sizes (`sizes`), what is told of

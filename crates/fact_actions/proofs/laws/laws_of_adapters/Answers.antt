@@ -7,8 +7,8 @@ use Rattle.fact_actions.proofs.ValidTypes.{valid_types_serve}
 use Rattle.fact_actions.proofs.Sources.{sources_are_left}
 use Rattle.fact_actions.proofs.Stays.{typed_runs_stay, typed_same_instance_stays}
 use Rattle.fact_actions.proofs.CheckedMoves.{sync_checked, start_checked, return_checked}
-use Rattle.fact_actions.proofs.Confines.{confined, requests_give_up_live}
-use Rattle.fact_actions.proofs.Ordered.{ordered_calls}
+use Rattle.fact_actions.proofs.Confines.{writes_are_confined, requests_give_up_live}
+use Rattle.fact_actions.proofs.Ordered.{calls_are_ordered}
 use Rattle.fact_actions.proofs.NamedPlain.{sync_is_named}
 use Rattle.fact_actions.proofs.laws.laws_of_adapters.Goals as goal
 
@@ -16,11 +16,11 @@ pub returns : goal.returns
 returns c = record {
   calls_are_few = few_calls;
   sync_runs_follow = sync_runs_follow;
-  calls_are_ordered = ordered_calls;
+  calls_are_ordered = calls_are_ordered;
   callee_is_called_once = called_once;
   sources_are_left = sources_are_left;
   typed_runs_stay = typed_runs_stay;
-  writes_are_own = confined;
+  writes_are_confined = writes_are_confined;
   requests_give_up_live = requests_give_up_live;
   outcomes_are_named = sync_is_named;
   same_instance_traps = same_instance_traps;

@@ -1,7 +1,7 @@
 use Rattle.std.proofs.Common.{true, ◌≡◌, ◌++◌}
 use Rattle.std.specs.Vec.Iter.{into_iter_items}
 use Rattle.fact_adapter_rules.specs.Fronts.{IsFront}
-use Rattle.fact_adapter_rules.specs.Binding.{AddsNames}
+use Rattle.fact_adapter_rules.specs.AddedBindings.{AddsNames}
 use Rattle.fact_adapter_rules.proofs.names.add_all.Given as goal
 
 abbrev pub invariant-loop-name : goal.invariant-loop-name

@@ -1,4 +1,4 @@
-use Rattle.fact_adapter_rules.specs.Links.{IsAt}
+use Rattle.fact_adapter_rules.specs.PlanLinks.{IsAt}
 use Rattle.fact_adapter_rules.proofs.plan.check_each.Given as goal
 
 abbrev pub invariant-loop-k : goal.invariant-loop-k

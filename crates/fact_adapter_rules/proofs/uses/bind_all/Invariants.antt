@@ -1,7 +1,7 @@
 use Rattle.std.proofs.Common.{true, ◌≡◌, ◌++◌}
 use Rattle.std.specs.Vec.Iter.{into_iter_items}
 use Rattle.fact_adapter_rules.specs.Fronts.{IsFront}
-use Rattle.fact_adapter_rules.specs.Binding.{Binds}
+use Rattle.fact_adapter_rules.specs.AddedBindings.{Binds}
 use Rattle.fact_adapter_rules.proofs.uses.bind_all.Given as goal
 
 abbrev pub invariant-loop-def : goal.invariant-loop-def

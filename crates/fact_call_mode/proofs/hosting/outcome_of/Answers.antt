@@ -1,5 +1,5 @@
 use Rattle.std.proofs.Common.{◌≡◌, ◌∙◌, ◌≤◌, None, arith, refl, subst}
-use Rattle.fact_host.specs.Contract.{HasNoCause, IsCause, IsOutcomeOf}
+use Rattle.fact_host.specs.Contract.{HasNoCause, IsHostCause, IsOutcomeOf}
 use Rattle.fact_call_mode.specs.Replies.{answered}
 use Rattle.fact_call_mode.proofs.WantsOfMemory.{call_wants}
 use Rattle.fact_call_mode.proofs.hosting.outcome_of.Goals as goal
@@ -27,4 +27,4 @@ out_of_memory-requires c =
     let same : callee.results ≡ c.args.results = stays.results ∙ c.new-callee.ensures.results in
     let few : callee.last ≤ 1 = stays.wants_memory (omega (arith, c.new-callee.ensures.last)) in
     call_wants s c.args.args.now c.args.results callee.last callee.asked c.requires.callable.2 few c.in-Err.error
-    (subst (λ vs. IsCause s c.args.args.now callee.last (answered callee.asked vs) c.in-Err.error) same (c.in-Err.ensures.cause s c.requires.callable.1.shapes))
+    (subst (λ vs. IsHostCause s c.args.args.now callee.last (answered callee.asked vs) c.in-Err.error) same (c.in-Err.ensures.cause s c.requires.callable.1.shapes))

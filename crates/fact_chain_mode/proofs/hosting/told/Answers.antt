@@ -11,8 +11,8 @@ chain-outcomes-requires-clause-second c =
     let h = c.requires.hosted in
     second_can h.0 h.1 h.2 h.3 c.args.types.now c.args.fused.now c.args.first.now c.args.second.now c.args.values h.4 c.requires.second_live
 
-pub chain-outcomes-requires-clause-fit : goal.chain-outcomes-requires-clause-fit
-chain-outcomes-requires-clause-fit c = c.requires.hosted.4.fit
+pub chain-outcomes-requires-clause-joined : goal.chain-outcomes-requires-clause-joined
+chain-outcomes-requires-clause-joined c = c.requires.hosted.4.joined
 
 pub reply_to_outcomes-reply-requires-clause-there : goal.reply_to_outcomes-reply-requires-clause-there
 reply_to_outcomes-reply-requires-clause-there c =

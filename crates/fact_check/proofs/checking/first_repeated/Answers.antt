@@ -8,7 +8,7 @@ use Rattle.std.specs.BTreeMap.{is_at}
 use Rattle.std.specs.BTreeSet.{contains_by}
 use Rattle.std.proofs.lemmas.Bool.{not-false, not-true}
 use Rattle.std.proofs.lemmas.Option.{slice_get_read, slice_get_within}
-use Rattle.fact_check.specs.Accepted.{IsFirstRepeated, IsRepeated}
+use Rattle.fact_check.specs.Accepted.{IsFirstRepeated, IsRepeatedExport}
 use Rattle.fact_check.proofs.Loops.{below_more, repeated, not_repeated, names_more}
 use Rattle.fact_check.proofs.checking.first_repeated.Goals as goal
 
@@ -43,7 +43,7 @@ loop-export-preserved c =
       names = names_more es n e (λ q. contains_by (λ k. slice_cmp nat_cmp q k.now) c.loop-export.names) (λ q. contains_by (λ k. slice_cmp nat_cmp q k.now) c.insert.new.self) there
           (λ q. subst (λ t. contains_by (λ k. slice_cmp nat_cmp q k.now) c.insert.new.self ≡ cond (is_eq (slice_cmp nat_cmp t q)) true (contains_by (λ k. slice_cmp nat_cmp q k.now) c.loop-export.names)) c.as_str.ensures (c.in_ok-is_new.ensures.updates.0 (record { ref_ptr = (0, 0); now = q })))
           c.loop-export.invariant.names;
-      before = below_more (λ k. IsRepeated es k → ⊥) n (n + 1) refl c.loop-export.invariant.before (not_repeated es n e there none);
+      before = below_more (λ k. IsRepeatedExport es k → ⊥) n (n + 1) refl c.loop-export.invariant.before (not_repeated es n e there none);
     }
 
 pub returns : goal.returns

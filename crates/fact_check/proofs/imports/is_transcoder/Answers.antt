@@ -1,7 +1,7 @@
 use Rattle.std.proofs.Common.{Some, None, sym, ◌∙◌, arith}
 use Rattle.std.proofs.lemmas.Bool.{false≢true}
 use Rattle.std.proofs.lemmas.Str.Pattern.{split_parts}
-use Rattle.fact_check.specs.Plain.{memories_text}
+use Rattle.fact_check.specs.NameNumbers.{memories_text}
 use Rattle.fact_check.proofs.ImportRows.{transcoder_parts, transcoder_decided, no_operation, no_memory}
 use Rattle.fact_check.proofs.Transcoders.{unsplit}
 use Rattle.fact_check.proofs.imports.is_transcoder.Goals as goal

@@ -1,5 +1,5 @@
 use Rattle.std.proofs.Common.{◌≡◌, true, sym, ap, ◌∙◌}
-use Rattle.fact_check.specs.Plain.{is_plain}
+use Rattle.fact_check.specs.NameNumbers.{is_plain}
 use Rattle.fact_check.proofs.Numbers.{not_plain, number_ok, number_err}
 use Rattle.fact_check.proofs.imports.number.Goals as goal
 

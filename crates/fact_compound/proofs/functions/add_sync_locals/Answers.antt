@@ -6,7 +6,7 @@ use Rattle.fact_compound.proofs.functions.add_sync_locals.Goals as goal
 pub returns : goal.returns
 returns c =
     let args = rw c.as_slice.ensures at c.in_ok-args.ensures in
-    let types = c.core_types.ensures ∙ ap (unless_passed c.args.passed) c.as_slice-2.ensures in
+    let types = c.types_unless_passed.ensures ∙ ap (unless_passed c.args.passed) c.as_slice-2.ensures in
     let core = rw types at c.in_ok-core.ensures in
     let given = rw c.as_slice-3.ensures at c.in_ok-given.ensures in
     let results = rw c.as_slice-4.ensures at c.in_ok-results.ensures in

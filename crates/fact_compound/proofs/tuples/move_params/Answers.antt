@@ -23,4 +23,4 @@ move_tuple-requires c = record {
 
 pub returns : goal.returns
 returns c = moved_params c.args.adapter.now c.args.debug c.args.concurrency c.params_sides-sides.ensures _ _ _ _ _ _ c.last_of.ensures c.last_of-2.ensures (c.tuple_source-source.ensures c.params_sides-sides.result.from) (c.tuple_target-target.ensures c.params_sides-sides.result.to)
-    c.are_flat_params-given_flat.ensures c.are_flat_values-flat.ensures c.tuples_of.ensures.params c.tuples_of-2.ensures.params c.in_ok-check_tuple_area.ensures c.in_ok-ask_tuple_area.ensures c.in_ok-move_tuple.ensures
+    c.are_flat_params-source_flat.ensures c.are_flat_values-flat.ensures c.tuples_of.ensures.params c.tuples_of-2.ensures.params c.in_ok-check_tuple_area.ensures c.in_ok-ask_tuple_area.ensures c.in_ok-move_tuple.ensures

@@ -3,8 +3,8 @@ use Rattle.std.specs.Prelude.{Err}
 use Rattle.std.proofs.lemmas.Result.{err_from_is_err_and}
 use Rattle.fact_convert.specs.Progress.{Comes}
 use Rattle.fact_source.specs.declared.items.ComponentEntityType.TheVariants as entity
-use Rattle.fact_entity.specs.declared.source.ComponentAnyTypeId.{ComponentAnyTypeId}
-use Rattle.fact_entity.specs.declared.source.ComponentAnyTypeId.TheVariants as any
+use Rattle.fact_entity.specs.declared.source_ids.ComponentAnyTypeId.{ComponentAnyTypeId}
+use Rattle.fact_entity.specs.declared.source_ids.ComponentAnyTypeId.TheVariants as any
 use Rattle.fact_source.specs.Live.{IsLiveAny}
 use Rattle.fact_source.specs.SourceTables.{SourceTables}
 use Rattle.fact_types.specs.declared.interface.TypeDef.{TypeDef}

@@ -2,7 +2,7 @@ use Rattle.std.proofs.Common.{◌≡◌, ◌∙◌, ap, subst, sym}
 use Rattle.fact_types.specs.Functions.{HaveShapes}
 use Rattle.fact_lowering.specs.TupleSteps.{IsTupleLowerable}
 use Rattle.fact_host.specs.Hosts.{left_state}
-use Rattle.fact_host.specs.Rules.{AreBytes}
+use Rattle.fact_host.specs.Rules.{AreWrittenBytes}
 use Rattle.fact_host.proofs.Starting.{area_storable, arguments_lowerable, begun, never_lacks}
 use Rattle.fact_host.proofs.beginning.begin.Goals as goal
 
@@ -43,5 +43,5 @@ returns c = λ s shapes.
     let lowered = rw c.in-Some.is at (c.in_ok-core.ensures s.lower_params have) in
     let same : high.bytes.items ≡ low.bytes.items = ap (λ v. v.items) c.with_area.ensures.bytes in
     begun c.args.call.now s c.args.args.now c.args.state.now (c.requires.can s shapes) c.in-Some.core c.in_ok-args.args store.bytes.items store.cursor low.cursor high.cursor low.bytes.items c.in_ok-state.state c.in_ok-store.ensures.cursor
-    (c.in_ok-store.ensures.bytes ∙ c.memory_of.ensures) lowered (subst AreBytes same c.with_bytes.ensures.bytes) (c.in_ok-args.ensures.area s.lower_results results)
+    (c.in_ok-store.ensures.bytes ∙ c.memory_of.ensures) lowered (subst AreWrittenBytes same c.with_bytes.ensures.bytes) (c.in_ok-args.ensures.area s.lower_results results)
     (c.in_ok-state.ensures.state ∙ ap (left_state c.args.call.now.lower.memory c.args.state.now) same)

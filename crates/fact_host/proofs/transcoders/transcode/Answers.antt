@@ -1,7 +1,7 @@
 use Rattle.std.proofs.Common.{ap, arith, subst}
 use Rattle.std.specs.Prelude.{is_some}
 use Rattle.fact_host.specs.Hosts.{IsMadeOf, both_listed}
-use Rattle.fact_host.specs.Rules.{AreBytes}
+use Rattle.fact_host.specs.Rules.{AreWrittenBytes}
 use Rattle.fact_host.proofs.Transcoded.{stops_outside, stops_widening}
 use Rattle.fact_host.proofs.Transcoding.{made_is}
 use Rattle.fact_host.proofs.transcoders.transcode.Goals as goal
@@ -31,4 +31,4 @@ returns-clause-makes c =
     let numbers = both_listed c.in-Some-2.made.first c.in-Some-2.made.second in
     made_is c.args.op c.args.source.now c.args.destination.now c.args.told.now c.in-Some.text c.in-Some-2.made.bytes.items numbers spelled.0 spelled.1 decodes there
     (subst (λ s. IsMadeOf c.args.op s c.args.destination.now c.args.told.now c.in-Some-2.made.bytes.items numbers) c.as_slice.ensures made) within (omega (arith, c.from.ensures, c.len.ensures, c.if-end-destination.false))
-    (subst AreBytes c.as_slice-2.ensures.value c.read_bytes.ensures)
+    (subst AreWrittenBytes c.as_slice-2.ensures.value c.read_bytes.ensures)

@@ -1,6 +1,6 @@
 use Rattle.std.proofs.Common.{◌≡◌, map, drop}
 use Rattle.serde_json.specs.View.{view}
-use Rattle.fact_plan.specs.Read.{required_keys}
+use Rattle.fact_plan.specs.Parts.{required_keys}
 use Rattle.fact_plan.proofs.parts.check_required.Given as goal
 
 abbrev pub invariant-loop-key : goal.invariant-loop-key

@@ -1,6 +1,6 @@
 use Rattle.std.proofs.Common.{◌∙◌, ap, inr, subst, Some}
 use Rattle.fact_plan_types.specs.PlanShapes.{plan_shapes}
-use Rattle.fact_plan_types.specs.Rule.{FuncBreaks}
+use Rattle.fact_plan_types.specs.BrokenRules.{FuncBreaks}
 use Rattle.fact_plan_types.proofs.FuncLaws.{borrows, no_func_none, results_known}
 use Rattle.fact_plan_types.proofs.funcs.broken_by.Goals as goal
 

@@ -2,7 +2,7 @@ use Rattle.std.proofs.Common.{◌∙◌, ap, inl, inr, subst, sym, Err, Option}
 use Rattle.std.specs.Prelude.{IfSome}
 use Rattle.fact_plan_types.specs.Adding.{AddsEntry}
 use Rattle.fact_plan_types.specs.PlanTypes.{IsFirstOfTypes}
-use Rattle.fact_plan_types.specs.Rule.{Breaks}
+use Rattle.fact_plan_types.specs.BrokenRules.{Breaks}
 use Rattle.fact_plan_types.specs.TypeRules.{table_in}
 use Rattle.fact_plan_types.proofs.FaultLaws.{table_there}
 use Rattle.fact_plan_types.proofs.StepLaws.{deep_told, nests_beyond, nests_within, ready, rule_told, types_next, wide_told}

@@ -1,5 +1,5 @@
 use Rattle.std.proofs.Common.{arith, sym, ◌∙◌, subst}
-use Rattle.fact_types.specs.declared.widths.Extent.{Extent}
+use Rattle.fact_types.specs.declared.extents.Extent.{Extent}
 use Rattle.fact_types.specs.Fits.{FieldFits}
 use Rattle.fact_types.proofs.FieldLaws.{walk_start, walk_on, walk_fits, walk_end, record_told}
 use Rattle.fact_types.proofs.records.extent_of_fields.Goals as goal

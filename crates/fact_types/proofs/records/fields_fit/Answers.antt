@@ -1,6 +1,6 @@
 use Rattle.std.proofs.Common.{arith, sym, subst, below_more}
 use Rattle.std.specs.Int.{IsPowerOfTwo}
-use Rattle.fact_types.specs.declared.widths.Extent.{Extent}
+use Rattle.fact_types.specs.declared.extents.Extent.{Extent}
 use Rattle.fact_types.specs.Fits.{FieldFits}
 use Rattle.fact_types.proofs.FieldLaws.{walk_start, walk_on, walk_fits, fields_told}
 use Rattle.fact_types.proofs.TestLaws.{refused, told_as}

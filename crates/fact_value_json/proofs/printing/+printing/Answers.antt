@@ -188,12 +188,12 @@ print_entry-returns t c =
 
 pub print_payload-returns-in_default : goal.print_payload-returns-in_default
 print_payload-returns-in_default t c =
-    λ ms of names h. absurd (no_such_case ms c.args.name.now c.args.payload.now (subst (λ (ns : List (List ℕ)). IsNowhere c.args.name.now ns) names (subst (λ (x : List ℕ). IsNowhere x c.args.node.now.names) c.as_str.ensures (subst (IsIndexOf c.as_str.result.now c.args.node.now.names) c.in_default.is c.index_of_name.ensures))) h)
+    λ ms of names h. absurd (no_such_case ms c.args.name.now c.args.payload.now (subst (λ (ns : List (List ℕ)). IsNowhere c.args.name.now ns) names (subst (IsIndexOf c.args.name.now c.args.node.now.names) c.in_default.is c.index_of_name.ensures)) h)
 
 pub print_payload-returns-in-None : goal.print_payload-returns-in-None
 print_payload-returns-in-None t c =
-    λ ms of names h. view-Null ∙ no_payload_printed c.args.types.now c.args.node.now.types ms c.in-Some.place c.args.name.now c.args.payload.now of (subst (λ (ns : List (List ℕ)). IsFirstNamed c.args.name.now ns c.in-Some.place) names (subst (λ (x : List ℕ). IsFirstNamed x c.args.node.now.names c.in-Some.place) c.as_str.ensures (subst (IsIndexOf c.as_str.result.now c.args.node.now.names) c.in-Some.is c.index_of_name.ensures))) h (sym c.get.ensures.value ∙ ap option_copied c.in-None.is)
+    λ ms of names h. view-Null ∙ no_payload_printed c.args.types.now c.args.node.now.types ms c.in-Some.place c.args.name.now c.args.payload.now of (subst (λ (ns : List (List ℕ)). IsFirstNamed c.args.name.now ns c.in-Some.place) names (subst (IsIndexOf c.args.name.now c.args.node.now.names) c.in-Some.is c.index_of_name.ensures)) h (sym c.get.ensures.value ∙ ap option_copied c.in-None.is)
 
 pub print_payload-returns-in-Some-get : goal.print_payload-returns-in-Some-get
 print_payload-returns-in-Some-get t c =
-    if_ok _ _ c.print_member.result (λ j e ms of names h. payload_printed c.args.types.now c.args.node.now.types ms c.in-Some.place c.args.name.now c.args.payload.now c.in-Some-get.value.now (view j) of (subst (λ (ns : List (List ℕ)). IsFirstNamed c.args.name.now ns c.in-Some.place) names (subst (λ (x : List ℕ). IsFirstNamed x c.args.node.now.names c.in-Some.place) c.as_str.ensures (subst (IsIndexOf c.as_str.result.now c.args.node.now.names) c.in-Some.is c.index_of_name.ensures))) h (sym c.get.ensures.value ∙ ap option_copied c.in-Some-get.is) e) c.print_member.ensures
+    if_ok _ _ c.print_member.result (λ j e ms of names h. payload_printed c.args.types.now c.args.node.now.types ms c.in-Some.place c.args.name.now c.args.payload.now c.in-Some-get.value.now (view j) of (subst (λ (ns : List (List ℕ)). IsFirstNamed c.args.name.now ns c.in-Some.place) names (subst (IsIndexOf c.args.name.now c.args.node.now.names) c.in-Some.is c.index_of_name.ensures)) h (sym c.get.ensures.value ∙ ap option_copied c.in-Some-get.is) e) c.print_member.ensures

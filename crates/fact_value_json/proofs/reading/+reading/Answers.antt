@@ -10,7 +10,7 @@ use Rattle.fact_abi.specs.Nodes.{IsNodeOf, AreOf}
 use Rattle.fact_abi.proofs.BelongLaws.{item_at, place_within}
 use Rattle.fact_abi.proofs.LoadLaws.{of_kind}
 use Rattle.fact_plan.specs.Fault.{Gives, place_step, ◌>>=◌}
-use Rattle.fact_plan.specs.Read.{known_keys, required_keys}
+use Rattle.fact_plan.specs.Parts.{known_keys, required_keys}
 use Rattle.fact_value_json.specs.Reading.{read, read_fields, read_places, entry_in, enum_in, flags_in, places_in}
 use Rattle.fact_value_json.proofs.NodeLaws.{record_reads, tuple_reads, variant_reads, option_reads, result_reads, enum_reads, flags_reads, list_reads, fixed_list_reads, map_reads, future_reads, stream_reads}
 use Rattle.fact_value_json.proofs.ReadLaws.{list_read, list_failed, no_list, places_by, no_places, no_known, no_required, no_fields, fields_read}
@@ -187,16 +187,16 @@ read_places-returns t c =
 
 pub read_choice-returns-in_default : goal.read_choice-returns-in_default
 read_choice-returns-in_default t c =
-    λ ms of names. rw c.in_ok-unknown_key.ensures (case_unknown ms c.args.name.now (view c.args.json.now) (subst (λ (ns : List (List ℕ)). IsNowhere c.args.name.now ns) names (subst (IsIndexOf c.args.name.now c.args.node.now.names) c.in_default.is c.index_of_name.ensures)))
+    λ ms of names. rw c.in_ok-unknown_key.ensures (case_unknown ms c.args.name.now (view c.args.json.now) (subst (λ (ns : List (List ℕ)). IsNowhere c.args.name.now ns) names (subst (IsIndexOf c.args.name.now c.args.node.now.names) c.in_default.is c.index_of_str.ensures)))
 
 pub read_choice-returns-in_err-at_key : goal.read_choice-returns-in_err-at_key
 read_choice-returns-in_err-at_key t c =
     let p = err_from_is_err_and c.from_residual-in_err-at_key.result c.from_residual-in_err-at_key.ensures.1 in
-    λ ms of names. rw (p.1, p.2) (case_failed (case_at c.args.types.now c.args.node.now.types ms c.in-Some.place c.args.name.now (view c.args.json.now) of (subst (λ (ns : List (List ℕ)). IsFirstNamed c.args.name.now ns c.in-Some.place) names (subst (IsIndexOf c.args.name.now c.args.node.now.names) c.in-Some.is c.index_of_name.ensures))) c.read_payload-payload.result c.in_err-at_key.field-0.0 c.read_payload-payload.ensures c.in_err-at_key.ensures)
+    λ ms of names. rw (p.1, p.2) (case_failed (case_at c.args.types.now c.args.node.now.types ms c.in-Some.place c.args.name.now (view c.args.json.now) of (subst (λ (ns : List (List ℕ)). IsFirstNamed c.args.name.now ns c.in-Some.place) names (subst (IsIndexOf c.args.name.now c.args.node.now.names) c.in-Some.is c.index_of_str.ensures))) c.read_payload-payload.result c.in_err-at_key.field-0.0 c.read_payload-payload.ensures c.in_err-at_key.ensures)
 
 pub read_choice-returns : goal.read_choice-returns
 read_choice-returns t c =
-    λ ms of names. case_read (case_at c.args.types.now c.args.node.now.types ms c.in-Some.place c.args.name.now (view c.args.json.now) of (subst (λ (ns : List (List ℕ)). IsFirstNamed c.args.name.now ns c.in-Some.place) names (subst (IsIndexOf c.args.name.now c.args.node.now.names) c.in-Some.is c.index_of_name.ensures))) c.read_payload-payload.result c.in_ok-at_key.field-0 c.in_ok-from_str.field-0 c.read_payload-payload.ensures c.in_ok-at_key.ensures c.in_ok-from_str.ensures
+    λ ms of names. case_read (case_at c.args.types.now c.args.node.now.types ms c.in-Some.place c.args.name.now (view c.args.json.now) of (subst (λ (ns : List (List ℕ)). IsFirstNamed c.args.name.now ns c.in-Some.place) names (subst (IsIndexOf c.args.name.now c.args.node.now.names) c.in-Some.is c.index_of_str.ensures))) c.read_payload-payload.result c.in_ok-at_key.field-0 c.in_ok-from_str.field-0 c.read_payload-payload.ensures c.in_ok-at_key.ensures c.in_ok-from_str.ensures
 
 pub read_record-returns-in_err-check_known : goal.read_record-returns-in_err-check_known
 read_record-returns-in_err-check_known t c =

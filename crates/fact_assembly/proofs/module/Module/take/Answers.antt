@@ -12,22 +12,22 @@ use Rattle.fact_assembly.proofs.module.Module.take.Goals as goal
 pub returns-else-is_memory-clause-refused : goal.returns-else-is_memory-clause-refused
 returns-else-is_memory-clause-refused c = refused-behind _ _ _ c.self.inside.state.sections _ _ (told _) c.self.view_is c.self.invariant.0 c.requires.whole c.in-Err.ensures.refused
 
-pub emit-requires-clause-importable : goal.emit-requires-clause-importable
-emit-requires-clause-importable c =
+pub take_checked-requires-clause-importable : goal.take_checked-requires-clause-importable
+take_checked-requires-clause-importable c =
     let whole = ap (λ (v : Collected). v.whole) c.self.view_is ∙ c.requires.whole in
     let typed = subst (λ (v : Collected). NamesTypesOf v.builder c.args.candidate.now.adapter.now) (sym c.self.view_is) c.requires.typed in
     let valid = subst (λ (v : Collected). (a : LinkedAdapter) → IsLinked v.builder c.args.candidate.now a → HasValidSides a) (sym c.self.view_is) c.requires.valid in
     let sound = subst (λ (t : Tables). IsSound t) c.component_types.ensures c.reveal-2.ensures.sound in
     importable-here _ c.self.inside.checks c.check.new.self c.self.inside.state.sections c.self.inside.state.sections c.args.candidate.now c.self.invariant.0 whole sound typed valid c.in_default.ensures.sound
 
-pub emit-requires-clause-linked : goal.emit-requires-clause-linked
-emit-requires-clause-linked c =
+pub take_checked-requires-clause-linked : goal.take_checked-requires-clause-linked
+take_checked-requires-clause-linked c =
     let typed = subst (λ (v : Collected). NamesTypesOf v.builder c.args.candidate.now.adapter.now) (sym c.self.view_is) c.requires.typed in
     let sound = subst (λ (t : Tables). IsSound t) c.component_types.ensures c.reveal-2.ensures.sound in
     linked-of c.self.inside.state.builder.now sound c.args.candidate.now typed
 
-pub emit-requires-clause-helpers : goal.emit-requires-clause-helpers
-emit-requires-clause-helpers c =
+pub take_checked-requires-clause-helpers : goal.take_checked-requires-clause-helpers
+take_checked-requires-clause-helpers c =
     let whole = ap (λ (v : Collected). v.whole) c.self.view_is ∙ c.requires.whole in
     helpers-here _ c.self.inside.checks c.self.inside.state.sections c.self.invariant.0 whole
 
@@ -37,8 +37,8 @@ invariant_of-self-in-Ok c =
     let typed = subst (λ (v : Collected). NamesTypesOf v.builder c.args.candidate.now.adapter.now) (sym c.self.view_is) c.requires.typed in
     let valid = subst (λ (v : Collected). (a : LinkedAdapter) → IsLinked v.builder c.args.candidate.now a → HasValidSides a) (sym c.self.view_is) c.requires.valid in
     let sound = subst (λ (t : Tables). IsSound t) c.component_types.ensures c.reveal-2.ensures.sound in
-    let kept = c.emit.ensures.keeps in
-    let made = made-more _ c.self.inside.checks c.check.new.self c.self.inside.state.sections c.emit.new.state.sections c.args.candidate.now c.self.invariant.0 whole sound typed valid c.in_default.ensures.sound
+    let kept = c.take_checked.ensures.keeps in
+    let made = made-more _ c.self.inside.checks c.check.new.self c.self.inside.state.sections c.take_checked.new.state.sections c.args.candidate.now c.self.invariant.0 whole sound typed valid c.in_default.ensures.sound
     _ kept.builder kept.tunables kept.features c.in-Ok.ensures.taken c.in_default.ensures.builder c.in_default.ensures.concurrency c.in-Ok.ensures.emitted in
     (made, c.self.invariant.1 ∙ sym kept.builder)
 
@@ -56,7 +56,7 @@ returns-in-Ok-clause-extends c =
     let valid = subst (λ (v : Collected). (a : LinkedAdapter) → IsLinked v.builder c.args.candidate.now a → HasValidSides a) (sym c.self.view_is) c.requires.valid in
     let sound = subst (λ (t : Tables). IsSound t) c.component_types.ensures c.reveal-2.ensures.sound in
     rw (← c.self.view_is)
-    (extends-more _ c.self.inside.checks c.check.new.self c.self.inside.state.sections c.emit.new.state.sections c.args.candidate.now c.self.invariant.0 whole sound typed valid c.in_default.ensures.sound
+    (extends-more _ c.self.inside.checks c.check.new.self c.self.inside.state.sections c.take_checked.new.state.sections c.args.candidate.now c.self.invariant.0 whole sound typed valid c.in_default.ensures.sound
     _ _ refl refl refl refl c.in-Ok.ensures.emitted)
 
 pub returns-in-Ok-clause-sound : goal.returns-in-Ok-clause-sound
@@ -85,24 +85,24 @@ returns-else-is_memory-clause-keeps c = record {
   features = ap (λ (v : Collected). v.features) c.self.view_is;
 }
 
-pub returns-in-Err-emit-clause-keeps : goal.returns-in-Err-emit-clause-keeps
-returns-in-Err-emit-clause-keeps c = record {
-  builder = c.emit.ensures.keeps.builder ∙ ap (λ (v : Collected). v.builder) c.self.view_is;
-  tunables = c.emit.ensures.keeps.tunables ∙ ap (λ (v : Collected). v.tunables) c.self.view_is;
-  features = c.emit.ensures.keeps.features ∙ ap (λ (v : Collected). v.features) c.self.view_is;
+pub returns-in-Err-take_checked-clause-keeps : goal.returns-in-Err-take_checked-clause-keeps
+returns-in-Err-take_checked-clause-keeps c = record {
+  builder = c.take_checked.ensures.keeps.builder ∙ ap (λ (v : Collected). v.builder) c.self.view_is;
+  tunables = c.take_checked.ensures.keeps.tunables ∙ ap (λ (v : Collected). v.tunables) c.self.view_is;
+  features = c.take_checked.ensures.keeps.features ∙ ap (λ (v : Collected). v.features) c.self.view_is;
 }
 
-pub returns-in-Err-emit-clause-lost : goal.returns-in-Err-emit-clause-lost
-returns-in-Err-emit-clause-lost c = λ e. refl
+pub returns-in-Err-take_checked-clause-lost : goal.returns-in-Err-take_checked-clause-lost
+returns-in-Err-take_checked-clause-lost c = λ e. refl
 
-pub returns-in-Err-emit-clause-refused : goal.returns-in-Err-emit-clause-refused
-returns-in-Err-emit-clause-refused c = tt
+pub returns-in-Err-take_checked-clause-refused : goal.returns-in-Err-take_checked-clause-refused
+returns-in-Err-take_checked-clause-refused c = tt
 
 pub returns-in-Ok-clause-keeps : goal.returns-in-Ok-clause-keeps
 returns-in-Ok-clause-keeps c = record {
-  builder = c.emit.ensures.keeps.builder ∙ ap (λ (v : Collected). v.builder) c.self.view_is;
-  tunables = c.emit.ensures.keeps.tunables ∙ ap (λ (v : Collected). v.tunables) c.self.view_is;
-  features = c.emit.ensures.keeps.features ∙ ap (λ (v : Collected). v.features) c.self.view_is;
+  builder = c.take_checked.ensures.keeps.builder ∙ ap (λ (v : Collected). v.builder) c.self.view_is;
+  tunables = c.take_checked.ensures.keeps.tunables ∙ ap (λ (v : Collected). v.tunables) c.self.view_is;
+  features = c.take_checked.ensures.keeps.features ∙ ap (λ (v : Collected). v.features) c.self.view_is;
 }
 
 pub returns-in-Ok-clause-refused : goal.returns-in-Ok-clause-refused

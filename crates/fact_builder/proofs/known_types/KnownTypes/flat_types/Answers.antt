@@ -1,6 +1,6 @@
 use Rattle.std.proofs.Common.{◌≡◌, sym, ◌∙◌, ap, subst, length}
 use Rattle.std.specs.Prelude.{Some, option_map, unwrap_or}
-use Rattle.fact_types.specs.declared.widths.MemoryWidth.TheVariants.{Memory32, Memory64}
+use Rattle.fact_types.specs.declared.extents.MemoryWidth.TheVariants.{Memory32, Memory64}
 use Rattle.fact_types.specs.Tables.{Tables, IsLive}
 use Rattle.fact_builder.specs.declared.information.TypeInformation.{TypeInformation}
 use Rattle.fact_builder.specs.Information.{plain_information}

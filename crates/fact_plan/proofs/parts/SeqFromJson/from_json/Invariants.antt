@@ -1,6 +1,6 @@
 use Rattle.std.proofs.Common.{◌≡◌}
 use Rattle.serde_json.specs.View.{items_view}
-use Rattle.fact_plan.specs.Read.{items_from}
+use Rattle.fact_plan.specs.Parts.{items_from}
 use Rattle.fact_plan.proofs.ReadLemmas.{prepend, rest_of}
 use Rattle.fact_plan.proofs.parts.SeqFromJson.from_json.Given as goal
 

@@ -1,6 +1,0 @@
-use Rattle.fact_emit.specs.contracts.state.ModuleSections.{the_view}
-use Rattle.fact_emit.proofs.StateLaws.{callees-indexed}
-use Rattle.fact_emit.proofs.state.ModuleSections.export_callee.Goals as goal
-
-pub invariant_of-self-2 : goal.invariant_of-self-2
-invariant_of-self-2 c = callees-indexed (the_view c.self.inside) _ _ _ c.self.invariant _

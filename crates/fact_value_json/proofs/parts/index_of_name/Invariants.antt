@@ -1,5 +1,0 @@
-use Rattle.fact_abi.proofs.BelongLaws.{IsNotBefore}
-use Rattle.fact_value_json.proofs.parts.index_of_name.Given as goal
-
-abbrev pub invariant-loop-place : goal.invariant-loop-place
-invariant-loop-place l = IsNotBefore l.name l.names l.place
