@@ -1,11 +1,15 @@
 // The page: picks a module and values, runs the adapter, and shows what crosses.
 import { paramTypes, typeText } from './abi/types.js';
-import { allFromJson, allToJson } from './abi/values.js';
+import { valuesGiven } from './abi/given.js';
+import { allToJson } from './abi/values.js';
 import { runAdapter } from './host/adapter.js';
 import { judge, sampleFor } from './host/checks.js';
 import { judgeCase, loadCases, placeOf, prepare } from './host/conformance.js';
+import { callAdapter } from './compiler/call.js';
+import { bytesOf } from './host/definitions.js';
 import { frameOf } from './host/expectation.js';
 import { TRAPS } from './host/traps.js';
+import { offerCompiler, planText } from './own.js';
 
 const element = id => document.getElementById(id);
 const json = value => JSON.stringify(value);
@@ -19,22 +23,30 @@ function made(tag, text, className = '') {
 
 // What can be run: a name, a module, and perhaps the values of a conformance case.
 const runs = new Map();
+const OWN = 'own';
+let turns = 0; // how often there was something else to show
 
 async function fetchJson(path) {
   const answer = await fetch(path);
   return answer.ok ? answer.json() : null;
 }
 
+async function fetchBytes(path) {
+  const answer = await fetch(path);
+  return answer.ok ? answer.arrayBuffer() : null;
+}
+
+function group(label, entries) {
+  const options = document.createElement('optgroup');
+  options.label = label;
+  for (const entry of entries) {
+    runs.set(entry.key, entry);
+    options.append(new Option(entry.entry.name, entry.key));
+  }
+  if (entries.length) element('pick').append(options);
+}
+
 async function fill() {
-  const group = (label, entries) => {
-    const options = document.createElement('optgroup');
-    options.label = label;
-    for (const entry of entries) {
-      runs.set(entry.key, entry);
-      options.append(new Option(entry.entry.name, entry.key));
-    }
-    if (entries.length) element('pick').append(options);
-  };
   const examples = await fetchJson('out/modules.json') ?? [];
   const cases = await loadCases(fetchJson);
   group('Examples', examples.filter(entry => entry.plan.adapters.length).map(entry => ({ key: entry.name, entry })));
@@ -79,11 +91,28 @@ function showEvents(events) {
   element('events').tBodies[0].replaceChildren(...rows);
 }
 
-function showImports(run, { module, imports }) {
+function showModule(entry) {
+  const { module } = entry;
+  showImports(entry);
   element('size').textContent = `(${module.length / 2} bytes)`;
-  element('imports').tBodies[0].replaceChildren(...run.entries.map((entry, place) => {
+  element('hex').textContent = module;
+  const link = element('save');
+  URL.revokeObjectURL(link.href);
+  link.href = URL.createObjectURL(new Blob([bytesOf(module)], { type: 'application/wasm' }));
+  link.download = 'adapter.wasm';
+}
+
+// Of a module that the browser does not take the lines are known alone.
+function importsOf({ module, imports }) {
+  if (!WebAssembly.validate(bytesOf(module))) return imports.map(line => ['', '', '', line]);
+  const entries = WebAssembly.Module.imports(new WebAssembly.Module(bytesOf(module)));
+  return entries.map((entry, place) => [entry.module, entry.name, entry.kind, imports[place]]);
+}
+
+function showImports(entry) {
+  element('imports').tBodies[0].replaceChildren(...importsOf(entry).map(texts => {
     const row = document.createElement('tr');
-    row.append(...[entry.module, entry.name, entry.kind, imports[place]].map(text => made('td', text)));
+    row.append(...texts.map(text => made('td', text)));
     return row;
   }));
 }
@@ -104,8 +133,15 @@ function show(entry, place, given) {
   const seen = run.calleeArguments ? json(allToJson(paramTypes(run.lift), run.calleeArguments)) : 'it was not called';
   element('callee').querySelector('output').textContent = seen;
   showEvents(run.events);
-  showImports(run, entry);
   showVerdict(run, entry);
+}
+
+// What the program tells of the same call, on a host of its own.
+async function tellCall({ plan }, place, given) {
+  const turn = turns;
+  if (!program || !given.arguments) return;
+  const { status, lines, told } = await callAdapter(program, plan, plan.adapters[place], given);
+  if (turn === turns) element('called').textContent = status === 0 ? lines.join('\n') : `status ${status}: ${told}`;
 }
 
 // What a conformance case gives, or the values of the two forms.
@@ -113,19 +149,33 @@ function givenNow(chosen, place) {
   if (chosen.given) return chosen.given;
   const { plan } = chosen.entry;
   const { lower, lift } = frameOf(plan, plan.adapters[place]);
-  const [first, second] = ['caller', 'callee'].map(id => JSON.parse(element(id).querySelector('textarea').value));
-  return { arguments: allFromJson(paramTypes(lower), first), results: allFromJson(lift.results, second) };
+  const [first, second] = ['caller', 'callee'].map(id => element(id).querySelector('textarea').value);
+  return { arguments: valuesGiven('arguments', paramTypes(lower), first), results: valuesGiven('results', lift.results, second) };
+}
+
+// Takes away what an earlier run showed, or is to show.
+function clear() {
+  turns++;
+  for (const output of document.querySelectorAll('#caller output, #callee output, #called')) output.textContent = '';
+  element('events').tBodies[0].replaceChildren();
+  element('verdict').textContent = '';
+  element('verdict').className = '';
+  element('note').textContent = '';
 }
 
 function runNow() {
   const chosen = runs.get(element('pick').value);
   const place = Number(element('adapter').value);
+  clear();
   try {
-    show(chosen.entry, place, givenNow(chosen, place));
+    const given = givenNow(chosen, place);
+    tellCall(chosen.entry, place, given);
+    show(chosen.entry, place, given);
   } catch (error) {
+    const isNotTaken = error instanceof WebAssembly.CompileError;
     element('verdict').className = 'bad';
     element('verdict').textContent = 'it did not run';
-    element('note').textContent = String(error);
+    element('note').textContent = isNotTaken ? `This browser does not take the module. ${error.message}` : error.message;
   }
 }
 
@@ -159,12 +209,25 @@ function choose() {
   const key = [name, 'greet'].find(one => runs.has(one)) ?? runs.keys().next().value;
   element('pick').value = key;
   const { entry, given } = runs.get(key);
+  if (key !== OWN) element('plan').value = planText(entry.plan);
+  showModule(entry);
   element('adapter').replaceChildren(...entry.plan.adapters.map((adapter, place) => new Option(adapter.name, place)));
   element('adapter').value = given ? placeOf(entry) : 0;
   element('adapters').hidden = !!given || entry.plan.adapters.length < 2;
-  chooseAdapter();
+  element('call').hidden = entry.plan.adapters.length === 0;
+  if (element('call').hidden) clear();
+  else chooseAdapter();
 }
 
+// Shows a plan that was compiled in the page, with its module.
+function showOwn(entry) {
+  if (runs.has(OWN)) runs.get(OWN).entry = entry;
+  else group('Your own', [{ key: OWN, entry }]);
+  if (location.hash === `#${OWN}`) choose();
+  else location.hash = OWN;
+}
+
+const program = await offerCompiler(fetchBytes, showOwn);
 await fill();
 if (runs.size) {
   element('pick').onchange = () => { location.hash = encodeURIComponent(element('pick').value); };
@@ -173,5 +236,6 @@ if (runs.size) {
   window.onhashchange = choose;
   choose();
 } else {
-  element('note').textContent = 'There is no module: web/build makes those of the examples.';
+  element('verdict').textContent = 'There is no module: web/build makes those of the examples.';
 }
+element('loading').hidden = true;

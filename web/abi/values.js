@@ -7,8 +7,8 @@ import { caseOf, fieldsOf } from './store.js';
 import { ofFields } from './load.js';
 
 const isWide = type => type.kind === 'u64' || type.kind === 's64';
-const isFloat = type => type.kind === 'f32' || type.kind === 'f64';
-const FLOATS = { nan: NaN, inf: Infinity, '-inf': -Infinity, '-0': -0 };
+export const isFloat = type => type.kind === 'f32' || type.kind === 'f64';
+export const FLOATS = { nan: NaN, inf: Infinity, '-inf': -Infinity, '-0': -0 };
 
 function mapped(type, value, change) {
   if (type.element) return value.map(part => change(type.element, part));
@@ -26,9 +26,12 @@ export function toJson(type, value) {
   return mapped(type, value, toJson);
 }
 
+// The nearest number of the type.
+const inFloat = (type, value) => type.kind === 'f32' ? Math.fround(value) : value;
+
 export function fromJson(type, value) {
   if (isWide(type)) return BigInt(value);
-  if (isFloat(type)) return FLOATS[value] ?? value;
+  if (isFloat(type)) return inFloat(type, FLOATS[value] ?? value);
   return mapped(type, value, fromJson);
 }
 

@@ -22,7 +22,6 @@ import { listed } from './tasks.js';
 export function runAdapter({ plan, module, imports }, place, given) {
   const run = startRun(plan, plan.adapters[place], given);
   const compiled = new WebAssembly.Module(bytesOf(module));
-  run.entries = WebAssembly.Module.imports(compiled);
   const instance = new WebAssembly.Instance(compiled, bindImports(run, compiled, imports));
   try {
     call(run, instance.exports[run.adapter.name]);

@@ -1,6 +1,7 @@
 // Runs many adapters, and tells what differs from what their plans and values call for.
 import { area } from '../abi/layout.js';
-import { drawFrom, drawValue, sampleValue } from '../abi/values.js';
+import { valuesGiven } from '../abi/given.js';
+import { allToJson, drawFrom, drawValue, sampleValue } from '../abi/values.js';
 import { functionsOf, paramTypes } from '../abi/types.js';
 import { runAdapter } from './adapter.js';
 import { frameOf, isAsync, isWithin, judgeReturn, judgeTrap, plainTrap } from './expectation.js';
@@ -27,10 +28,22 @@ export function judge(run) {
   return trap === null || trap === undefined ? judgeReturn(run) : judgeTrap(run, trap);
 }
 
+// Values that are written as JSON are read as they were.
+function judgeText(what, types, values) {
+  const text = JSON.stringify(allToJson(types, values));
+  const again = JSON.stringify(allToJson(types, valuesGiven(what, types, text)));
+  return again === text ? [] : [`${what}: ${again} is read from ${text}`.slice(0, 2000)];
+}
+
 // A run with these values, and what is wrong with it.
 function checked(entry, place, given) {
+  const { lower, lift } = frameOf(entry.plan, entry.plan.adapters[place]);
   try {
-    return judge(runAdapter(entry, place, given));
+    return [
+      ...judgeText('arguments', paramTypes(lower), given.arguments),
+      ...judgeText('results', lift.results, given.results),
+      ...judge(runAdapter(entry, place, given)),
+    ];
   } catch (error) {
     return [String(error.stack ?? error)];
   }

@@ -2,7 +2,7 @@
 import { flatTypes, MOST_FLAT_PARAMS, pointerSizeOf } from '../abi/layout.js';
 import { functionsOf, holds, paramTypes, tupleOf, typesOf } from '../abi/types.js';
 import { allToJson, carry } from '../abi/values.js';
-import { TRANSFERRED } from './transfers.js';
+import { transferred } from './transfers.js';
 
 // A run, and what is known of it before it is one: the plan, the adapter, and the functions of its two sides.
 export function frameOf(plan, adapter) {
@@ -32,7 +32,7 @@ export function arrive(plan, from, to, values) {
   const transfers = [];
   const arrived = from.map((type, place) => carry(type, to[place], values[place], (source, target, handle) => {
     transfers.push({ kind: source.kind, handle, source: tableNumber(plan, source), target: tableNumber(plan, target) });
-    return handle + TRANSFERRED;
+    return transferred(handle);
   }));
   return { arrived, transfers };
 }

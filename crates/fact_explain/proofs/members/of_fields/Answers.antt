@@ -1,0 +1,11 @@
+use Rattle.std.proofs.Common.{ap, map, refl, ◌∙◌, Some}
+use Rattle.std.proofs.lemmas.List.{take_all}
+use Rattle.fact_plan_types.proofs.LoopLaws.{map_both_next}
+use Rattle.fact_explain.proofs.members.of_fields.Goals as goal
+
+pub loop-name-preserved : goal.loop-name-preserved
+loop-name-preserved c =
+    map_both_next (λ m. m.ty) (λ x. Some x.1) c.args.fields.now c.loop-name.name-index c.loop-name-item.result _ _ _ c.loop-name-test.true c.loop-name-item.is c.loop-name.invariant c.in_ok-push.ensures.items refl
+
+pub returns : goal.returns
+returns c = c.loop-name.invariant ∙ ap (map (λ x. Some x.1)) (take_all c.loop-name.name-index c.args.fields.now c.loop-name-test.false)

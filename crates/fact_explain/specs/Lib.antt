@@ -1,0 +1,11 @@
+pub mod Concatenations
+pub mod CoreTypes
+pub mod Endings
+pub mod Explained
+pub mod Imports
+pub mod Layouts
+pub mod Needs
+pub mod Pages
+pub mod Roles
+pub mod Shown
+pub mod Sides
