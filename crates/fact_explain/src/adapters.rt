@@ -7,7 +7,7 @@ use crate::agreement::{Known, push_mismatch};
 use crate::named::{core_use, push_conflicts, push_unknown};
 use crate::names::{func_text, names_of_types};
 use crate::sides::{Needs, Role, core_type_text, needs_of};
-use crate::texts::push_reason;
+use crate::texts::{push_line, push_reason};
 use fact_plan::{FusePlan, PlanAdapter, PlanSide};
 use fact_plan_types::{FuseError, PlanTypes};
 use fact_types::TypeFuncIndex;
@@ -52,23 +52,35 @@ fn push_options(
     push_reason(alloc, text, path.as_str(), wanted, "true")
 }
 
-/// What is wrong with the memory or the realloc of a side with some needs: a key, what is wanted there, and what is there.
-fn memory_fault(
-    needs: Needs,
-    side: &PlanSide,
-) -> Option<(&'static str, &'static str, &'static str)> {
-    let needed = "one, as the function's values need it";
-    match side.memory {
-        None if needs.memory => Some(("memory", needed, "none")),
-        None if side.realloc.is_some() => {
-            Some(("realloc", "none, as the side has no memory", "one"))
-        }
-        Some(memory) if memory.shared => Some(("memory.shared", "false", "true")),
-        Some(memory) if memory.page_size_log2 != 0 && memory.page_size_log2 != 16 => {
-            Some(("memory.page_size_log2", "0 or 16", "another number"))
-        }
-        _ if needs.realloc && side.realloc.is_none() => Some(("realloc", needed, "none")),
-        _ => None,
+/// A key, what is wanted there, and what is there.
+type Reason = (&'static str, &'static str, &'static str);
+
+const NEEDED: &str = "one, as the function's values need it";
+
+/// What is wrong with a side with some needs that has no memory.
+fn fault_without_memory(needs: Needs, side: &PlanSide) -> Option<Reason> {
+    if needs.memory {
+        Some(("memory", NEEDED, "none"))
+    } else if side.realloc.is_some() {
+        Some(("realloc", "none, as the side has no memory", "one"))
+    } else {
+        None
+    }
+}
+
+/// What is wrong with the memory or the realloc of a side with some needs.
+fn memory_fault(needs: Needs, side: &PlanSide) -> Option<Reason> {
+    let Some(memory) = side.memory else {
+        return fault_without_memory(needs, side);
+    };
+    if memory.shared {
+        Some(("memory.shared", "false", "true"))
+    } else if memory.page_size_log2 != 0 && memory.page_size_log2 != 16 {
+        Some(("memory.page_size_log2", "0 or 16", "another number"))
+    } else if needs.realloc && side.realloc.is_none() {
+        Some(("realloc", NEEDED, "none"))
+    } else {
+        None
     }
 }
 
@@ -86,8 +98,8 @@ fn push_memory(
 {
     let needs = needs_of(&types.builder, ty, role, side)?;
     if let Some((key, wanted, found)) = memory_fault(needs, side) {
-        let path = format!(in alloc; "{place}.{key}")?;
-        push_reason(alloc, text, path.as_str(), wanted, found)?;
+        let line = format!(in alloc; "{place}.{key}: wanted {wanted}, found {found}")?;
+        push_line(alloc, text, &line)?;
     }
     Ok(())
 }
@@ -107,11 +119,11 @@ fn push_signature(
 {
     let wanted = core_type_text(alloc, &types.builder, ty, role, side)?;
     let found = core_use(alloc, plan, side.core_type, false)?;
-    if wanted.as_str() != found.as_str() {
-        let path = format!(in alloc; "{place}.core_type")?;
-        push_reason(alloc, text, path.as_str(), wanted.as_str(), found.as_str())?;
+    if wanted.as_str() == found.as_str() {
+        return Ok(());
     }
-    Ok(())
+    let line = format!(in alloc; "{place}.core_type: wanted {wanted}, found {found}")?;
+    push_line(alloc, text, &line)
 }
 
 /// Appends what is wrong with a side, where its memory or its core type has the fault.
@@ -185,6 +197,16 @@ fn push_types(
     push_reason(alloc, text, path.as_str(), wanted.as_str(), found.as_str())
 }
 
+/// The first adapter before a place that has a name.
+fn same_before(plan: &FusePlan, k: usize, name: &str) -> Option<usize> {
+    for (j, before) in plan.adapters.as_slice().iter().enumerate() {
+        if j < k && before.name.as_str() == name {
+            return Some(j);
+        }
+    }
+    None
+}
+
 /// Appends where the name of the adapter at a place is that of one before it.
 fn push_name(
     alloc: Global,
@@ -193,23 +215,16 @@ fn push_name(
     k: usize,
     adapter: &PlanAdapter,
 ) -> Result<(), OutOfMemory> {
-    let path = format!(in alloc; "plan.adapters.{k}.name")?;
     let name = adapter.name.as_str();
-    let name_text = format!(in alloc; "{name:?}")?;
-    for (j, before) in plan.adapters.as_slice().iter().enumerate() {
-        if j < k && before.name.as_str() == name {
-            let wanted = format!(in alloc; "another name than plan.adapters.{j}.name")?;
-            return push_reason(
-                alloc,
-                text,
-                path.as_str(),
-                wanted.as_str(),
-                name_text.as_str(),
-            );
-        }
-    }
-    let wanted = "a name of which no adapter before exports a part";
-    push_reason(alloc, text, path.as_str(), wanted, name_text.as_str())
+    let line = match same_before(plan, k, name) {
+        Some(j) => format!(in alloc;
+            "plan.adapters.{k}.name: wanted another name than plan.adapters.{j}.name, found {name:?}"
+        )?,
+        None => format!(in alloc;
+            "plan.adapters.{k}.name: wanted a name of which no adapter before exports a part, found {name:?}"
+        )?,
+    };
+    push_line(alloc, text, &line)
 }
 
 /// Appends why the adapter at a place is refused, over the types of its plan.

@@ -58,20 +58,25 @@ fn is_carried(
     }
 }
 
-/// The type of the member that pairs up with one of a name at a place: that of its name, or where it has none that at its place.
-fn counterpart(members: &[Member<'_>], place: usize, name: &str) -> Option<PlanRef> {
-    if name.is_empty() {
-        return match members.get(place) {
-            Some(member) => member.ty,
-            None => None,
-        };
-    }
+/// The type of the first member of a name.
+fn type_of(members: &[Member<'_>], name: &str) -> Option<PlanRef> {
     for member in members {
         if member.name == name {
             return member.ty;
         }
     }
     None
+}
+
+/// The type of the member that pairs up with one of a name at a place: that of its name, or where it has none that at its place.
+fn counterpart(members: &[Member<'_>], place: usize, name: &str) -> Option<PlanRef> {
+    if !name.is_empty() {
+        return type_of(members, name);
+    }
+    match members.get(place) {
+        Some(member) => member.ty,
+        None => None,
+    }
 }
 
 /// The first members of two lists that pair up, by their names or by their places, and do not agree, with the place of the source's.

@@ -2,7 +2,7 @@
 
 use crate::core_types::core_text;
 use crate::sides::is_wide;
-use crate::texts::push_reason;
+use crate::texts::push_line;
 use fact_plan::{FusePlan, PlanAdapter, PlanSide};
 use fact_wasm::OutOfMemory;
 use std::alloc::Global;
@@ -142,6 +142,25 @@ fn named_of(
     Ok(named)
 }
 
+/// Appends that a key names what is not there, where it is so.
+fn push_absent(
+    alloc: Global,
+    text: &mut String,
+    plan: &FusePlan,
+    each: &Named,
+) -> Result<(), OutOfMemory> {
+    let (list, count) = list_of(plan, each.key);
+    let number = each.number;
+    if (number as usize) < count {
+        return Ok(());
+    }
+    let path = each.path.as_str();
+    let line = format!(in alloc;
+        "{path}: wanted a number below {count}, of {list}, found {number}"
+    )?;
+    push_line(alloc, text, &line)
+}
+
 /// Appends what the adapter at a place names that is not there.
 pub(crate) fn push_unknown(
     alloc: Global,
@@ -152,19 +171,7 @@ pub(crate) fn push_unknown(
 ) -> Result<(), OutOfMemory> {
     let named = named_of(alloc, plan, k, adapter)?;
     for each in named.as_slice() {
-        let (list, count) = list_of(plan, each.key);
-        if count <= each.number as usize {
-            let wanted = format!(in alloc; "a number below {count}, of {list}")?;
-            let number = each.number;
-            let found = format!(in alloc; "{number}")?;
-            push_reason(
-                alloc,
-                text,
-                each.path.as_str(),
-                wanted.as_str(),
-                found.as_str(),
-            )?;
-        }
+        push_absent(alloc, text, plan, each)?;
     }
     Ok(())
 }
@@ -224,23 +231,14 @@ fn push_conflict(
     item: &Named,
     other: &Named,
 ) -> Result<(), OutOfMemory> {
-    let path = other.path.as_str();
-    let used_as = other.used_as.as_str();
-    let instance = other.instance;
-    let wanted = format!(in alloc;
-        "another core item than {path}, {used_as} of instance {instance}"
-    )?;
+    let (at, path) = (item.path.as_str(), other.path.as_str());
+    let (its_use, used_as) = (item.used_as.as_str(), other.used_as.as_str());
+    let (its_instance, instance) = (item.instance, other.instance);
     let number = item.number;
-    let used_as = item.used_as.as_str();
-    let instance = item.instance;
-    let found = format!(in alloc; "core_defs.{number}, {used_as} of instance {instance}")?;
-    push_reason(
-        alloc,
-        text,
-        item.path.as_str(),
-        wanted.as_str(),
-        found.as_str(),
-    )
+    let line = format!(in alloc;
+        "{at}: wanted another core item than {path}, {used_as} of instance {instance}, found core_defs.{number}, {its_use} of instance {its_instance}"
+    )?;
+    push_line(alloc, text, &line)
 }
 
 /// Appends the first conflict of some keys with others. Answers whether there is one.

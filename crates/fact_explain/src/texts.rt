@@ -15,6 +15,12 @@ pub(crate) fn push_all(text: &mut String, parts: &[&str]) -> Result<(), OutOfMem
     Ok(())
 }
 
+/// Appends a line, as it is shown.
+pub(crate) fn push_line(alloc: Global, text: &mut String, line: &str) -> Result<(), OutOfMemory> {
+    let line = shown_text(alloc, line)?;
+    push_all(text, &["  ", &line, "\n"])
+}
+
 /// Appends a line that says what is wanted at a place, and what is there.
 pub(crate) fn push_reason(
     alloc: Global,
@@ -23,11 +29,8 @@ pub(crate) fn push_reason(
     wanted: &str,
     found: &str,
 ) -> Result<(), OutOfMemory> {
-    let place = shown_text(alloc, place)?;
-    let wanted = shown_text(alloc, wanted)?;
-    let found = shown_text(alloc, found)?;
-    let line = format!(in alloc; "  {place}: wanted {wanted}, found {found}\n")?;
-    text.push_str(&line)
+    let line = format!(in alloc; "{place}: wanted {wanted}, found {found}")?;
+    push_line(alloc, text, &line)
 }
 
 /// The first characters of a text, and two dots where it has more.
